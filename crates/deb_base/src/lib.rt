@@ -1,13 +1,22 @@
-// A library with one function.
+//! The ground that every crate of this repository stands on: the codes of refusals, the faults of a
+//! call, the devices that bytes are read from and written to, and names without ASCII case.
+//!
+//! - A refusal has one of 23 codes and the number of a line, and is printed as `line 3: 7 DuplicateField`.
+//! - A [`Source`] and a [`Sink`] count their failed calls, so that a caller can tell whether a read or
+//!   a write failed; [`Input`] and [`Output`] make them of std's readers and writers.
+//! - [`put_all`] writes all of its bytes, or says that a write failed and has then written a front of them.
+//!
+//! Nothing in this crate takes memory.
 #![tactic(auto)]
 
-ghost use Rattle.std.specs.Prelude.{◌≡◌};
-ghost use Rattle.deb_base.specs.Echo.{echo_of};
+mod code;
+mod device;
+mod fault;
+mod put;
+mod refusal;
 
-// The `ensures` clause is the contract: what `echo` returns is `echo_of` of its argument, a definition
-// in `specs/Echo.antt`, which a caller's clause can cite too.
-pub fn echo(x: usize) -> usize
-    ensures { result ≡ echo_of x }
-{
-    x
-}
+pub use code::Code;
+pub use device::{Failed, Sink, Source};
+pub use fault::Fault;
+pub use put::put_all;
+pub use refusal::Refusal;

@@ -1,0 +1,31 @@
+-- The numbers of the codes of refusals: the first nine are about the text of a file (Debian Policy 5.1),
+-- 10 to 12 about its paragraphs (5.2 to 5.4), 13 to 21 about a value (5.6 and 7), 22 and 23 about a query.
+use Rattle.std.specs.Prelude.{ℕ}
+use Rattle.deb_base.specs.declared.code.Code.{Code}
+use Rattle.deb_base.specs.declared.code.Code.TheVariants.{NotUtf8, Armour, Comment, StrayContinuation, BadFieldName, NoColon, DuplicateField, ParagraphTooLong, FileTooLong, NoParagraph, TooManyParagraphs, MissingField, NotOneLine, BadName, BadNumber, BadWord, BadArchitecture, BadVersion, BadRelation, AlternativesNotAllowed, ProvidesBound, Wildcard, BadEnvironment}
+
+-- the number of a code, from 1 to 23
+abbrev pub number_of : Code → ℕ
+number_of NotUtf8 = 1
+number_of Armour = 2
+number_of Comment = 3
+number_of StrayContinuation = 4
+number_of BadFieldName = 5
+number_of NoColon = 6
+number_of DuplicateField = 7
+number_of ParagraphTooLong = 8
+number_of FileTooLong = 9
+number_of NoParagraph = 10
+number_of TooManyParagraphs = 11
+number_of MissingField = 12
+number_of NotOneLine = 13
+number_of BadName = 14
+number_of BadNumber = 15
+number_of BadWord = 16
+number_of BadArchitecture = 17
+number_of BadVersion = 18
+number_of BadRelation = 19
+number_of AlternativesNotAllowed = 20
+number_of ProvidesBound = 21
+number_of Wildcard = 22
+number_of BadEnvironment = 23

@@ -1,0 +1,51 @@
+-- What a call of a device does to its bytes and to the count of its failed calls, and what a call that
+-- writes several times leaves. The rules are this project's own; the words on bytes are those of std.
+use Rattle.std.specs.Prelude.{◌≡◌, ℕ, ◌+◌, ◌-◌, ◌^◌, ◌<◌, ◌≤◌, min, List, length, take, IfOk, Result, Ok, Err, Option, MatchResult}
+use Rattle.std.specs.Io.KnownBytes.{Appends}
+use Rattle.deb_base.specs.declared.fault.Fault.{Fault}
+use Rattle.deb_base.specs.declared.fault.Fault.TheVariants.{Refused, Memory, Read, Write}
+
+-- the last value of a count of failed calls
+abbrev pub last_count : ℕ
+last_count = 2 ^ 64 - 1
+
+-- one failed call more, up to the last value
+abbrev pub one_more : ℕ → ℕ
+one_more n = min (n + 1) last_count
+
+-- a device's count after one call of it
+abbrev pub failures_after : {T E : Type 0} → ℕ → Result T E → ℕ
+failures_after n (Ok _) = n
+failures_after n (Err _) = one_more n
+
+-- a read gave no more bytes than the buffer has
+abbrev pub ReadsWithin : {E : Type 0} → Result ℕ E → List ℕ → Type 0
+ReadsWithin r buffer = IfOk r (λ n. n ≤ length buffer)
+
+-- a write took no more bytes than it was given, and at least one if it was given any
+abbrev pub TakesSome : {E : Type 0} → Result ℕ E → List ℕ → Type 0
+TakesSome r bytes = IfOk r (λ n. (n ≤ length bytes) × (0 < length bytes → 0 < n))
+
+-- a source's count after a call that reads it and has this answer: one more exactly where that is Read
+abbrev pub read_failures_after : {T : Type 0} → ℕ → Result T Fault → ℕ
+read_failures_after n (Ok _) = n
+read_failures_after n (Err (Refused _)) = n
+read_failures_after n (Err Memory) = n
+read_failures_after n (Err Read) = one_more n
+read_failures_after n (Err Write) = n
+
+-- a sink's count after a call that writes to it and has this answer: one more exactly where that is Write
+abbrev pub write_failures_after : {T : Type 0} → ℕ → Result T Fault → ℕ
+write_failures_after n (Ok _) = n
+write_failures_after n (Err (Refused _)) = n
+write_failures_after n (Err Memory) = n
+write_failures_after n (Err Read) = n
+write_failures_after n (Err Write) = one_more n
+
+-- a front of the bytes was written: told bytes stay, and grow by that front
+abbrev pub AppendsFront : Option (List ℕ) → Option (List ℕ) → List ℕ → Type 0
+AppendsFront old new bytes = (n : ℕ) × Appends old new (take n bytes)
+
+-- Ok: all of the bytes were written. An error: a front of them was
+abbrev pub Puts : {T E : Type 0} → Option (List ℕ) → Option (List ℕ) → Result T E → List ℕ → Type 0
+Puts old new r bytes = MatchResult r (λ _. Appends old new bytes) (λ _. AppendsFront old new bytes)

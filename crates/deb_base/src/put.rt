@@ -1,0 +1,25 @@
+//! Writing all of some bytes.
+
+ghost use Rattle.std.specs.Prelude.{◌≡◌, IfErr};
+ghost use Rattle.deb_base.specs.Devices.{write_failures_after, Puts};
+
+use crate::{Failed, Fault, Sink};
+
+/// Writes all of the bytes, by as many writes as that takes.
+///
+/// The only error is `Fault::Write`. It is answered exactly where a write to `out` failed in this
+/// call, which is then the last one, and a front of the bytes, perhaps empty, was written before it.
+pub fn put_all<W: Sink>(out: &mut W, bytes: &[u8]) -> Result<(), Fault>
+    ensures written { Puts (W.held out.old) (W.held out.new) result bytes.now }
+    ensures fault { IfErr result (λ fault. fault ≡ Fault.Write) }
+    ensures counted { W.failures out.new ≡ write_failures_after (W.failures out.old) result }
+{
+    let mut written = 0;
+    while written < bytes.len() {
+        match out.write(&bytes[written..]) {
+            Ok(taken) => written += taken,
+            Err(Failed) => return Err(Fault::Write),
+        }
+    }
+    Ok(())
+}

@@ -1,0 +1,75 @@
+-- What spells a version, and which one. Debian Policy 5.6.12; deb-version(7).
+use Rattle.std.specs.Prelude.{◌≡◌, ◌≢◌, ℕ, ◌+◌, ◌≤◌, ◌==◌, ◌&&◌, ◌||◌, Bool, true, false, List, [], ◌∷◌, ◌++◌, Option, Some, None, is_some, IfSome, IfNone, MatchOption, IsTrue}
+use Rattle.std.specs.List.{AllByRecursion}
+use Rattle.std.specs.Char.{is_ascii_alphanumeric}
+use Rattle.deb_version.specs.Parts.{IsDigits, value_of, Part, HasParts, parts_of, Meaning, no_revision}
+
+-- the largest epoch that is accepted
+abbrev pub epoch_limit : ℕ
+epoch_limit = 2147483647
+
+-- letters, digits, `+`, `.` and `~`
+abbrev pub is_revision_byte : ℕ → Bool
+is_revision_byte b = is_ascii_alphanumeric b || (b == 43) || (b == 46) || (b == 126)
+
+-- the same and `-`, and `:` where there is an epoch
+abbrev pub is_upstream_byte : Bool → ℕ → Bool
+is_upstream_byte has_epoch b = is_revision_byte b || (b == 45) || (has_epoch && (b == 58))
+
+-- the texts of a version: the epoch's digits, if any, the upstream version, and the revision, if any
+pub record Components : Type 0 where
+  pub epoch : Option (List ℕ)
+  pub upstream : List ℕ
+  pub revision : Option (List ℕ)
+
+abbrev pub epoch_text : Option (List ℕ) → List ℕ
+epoch_text None = []
+epoch_text (Some digits) = digits ++ 58 ∷ []
+
+abbrev pub revision_text : Option (List ℕ) → List ℕ
+revision_text None = []
+revision_text (Some revision) = 45 ∷ revision
+
+-- `[epoch:]upstream[-revision]`
+abbrev pub spelling : Components → List ℕ
+spelling c = epoch_text c.epoch ++ (c.upstream ++ revision_text c.revision)
+
+-- one or more digits, of a value within the limit
+abbrev pub IsEpoch : List ℕ → Type 0
+IsEpoch digits = (digits ≢ []) × IsDigits digits × (value_of digits ≤ epoch_limit)
+
+abbrev pub IsRevision : List ℕ → Type 0
+IsRevision revision = (revision ≢ []) × AllByRecursion (λ b. IsTrue (is_revision_byte b)) revision
+
+-- what the texts of a version may be: the upstream version has no hyphen where there is no revision
+pub record AreComponents (c : Components) : Type 0 where
+  pub epoch : IfSome c.epoch IsEpoch
+  pub upstream_some : c.upstream ≢ []
+  pub upstream_bytes : AllByRecursion (λ b. IsTrue (is_upstream_byte (is_some c.epoch) b)) c.upstream
+  pub upstream_hyphen : IfNone c.revision (AllByRecursion (λ b. b ≢ 45) c.upstream)
+  pub revision : IfSome c.revision IsRevision
+
+-- what the texts mean: an absent epoch is 0, an absent revision is the revision 0
+pub record HasMeaning (c : Components) (m : Meaning) : Type 0 where
+  pub epoch : MatchOption c.epoch (m.epoch ≡ 0) (λ digits. m.epoch ≡ value_of digits)
+  pub upstream : HasParts c.upstream m.upstream
+  pub revision : MatchOption c.revision (m.revision ≡ no_revision) (λ revision. HasParts revision m.revision)
+
+-- the one meaning of the texts of a version
+abbrev pub epoch_value : Option (List ℕ) → ℕ
+epoch_value None = 0
+epoch_value (Some digits) = value_of digits
+
+abbrev pub revision_parts : Option (List ℕ) → List Part
+revision_parts None = no_revision
+revision_parts (Some revision) = parts_of revision
+
+abbrev pub meaning_of_components : Components → Meaning
+meaning_of_components c = record { epoch = epoch_value c.epoch; upstream = parts_of c.upstream; revision = revision_parts c.revision }
+
+-- The text spells the version.
+pub record SpellsVersion (text : List ℕ) (m : Meaning) : Type 0 where
+  pub components : Components
+  pub spelt : text ≡ spelling components
+  pub allowed : AreComponents components
+  pub means : HasMeaning components m

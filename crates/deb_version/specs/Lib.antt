@@ -1,0 +1,4 @@
+pub mod Parts
+pub mod Order
+pub mod Grammar
+pub mod Version

@@ -1,0 +1,91 @@
+-- The parts of an upstream version or a revision: texts without digits and numbers, in turns.
+-- deb-version(7), "Sorting algorithm"; Debian Policy 5.6.12.
+use Rattle.std.specs.Prelude.{◌≡◌, ◌≢◌, ℕ, ◌+◌, ◌-◌, ◌*◌, Bool, true, false, cond, List, [], ◌∷◌, ◌++◌, map, refl, IsTrue, IsFalse, codes}
+use Rattle.std.specs.Char.{is_ascii_digit}
+use Rattle.std.specs.List.{AllByRecursion}
+
+-- a text without digits, and the run of digits that follows it
+abbrev pub Cut : Type 0
+Cut = List ℕ × List ℕ
+
+-- a text without digits, and the number that follows it
+abbrev pub Part : Type 0
+Part = List ℕ × ℕ
+
+-- the value of a run of decimal digits behind digits of value n, the most significant first
+abbrev pub value_after : ℕ → List ℕ → ℕ
+value_after n [] = n
+value_after n (digit ∷ digits) = value_after (10 * n + (digit - 48)) digits
+
+-- the value of a run of decimal digits; of an empty run it is 0
+abbrev pub value_of : List ℕ → ℕ
+value_of digits = value_after 0 digits
+
+-- the text that cuts are cuts of
+abbrev pub joined : List Cut → List ℕ
+joined [] = []
+joined (cut ∷ cuts) = cut.0 ++ (cut.1 ++ joined cuts)
+
+-- no byte of the text is a digit; each is one
+abbrev pub HasNoDigit : List ℕ → Type 0
+HasNoDigit text = AllByRecursion (λ b. IsFalse (is_ascii_digit b)) text
+
+abbrev pub IsDigits : List ℕ → Type 0
+IsDigits run = AllByRecursion (λ b. IsTrue (is_ascii_digit b)) run
+
+-- texts and runs in turns: at least one of each; each text but the first is nonempty, and so is each run but the last
+abbrev pub AreCuts : List Cut → Type 0
+AreCuts [] = ⊥
+AreCuts (cut ∷ []) = HasNoDigit cut.0 × IsDigits cut.1
+AreCuts (cut ∷ next ∷ cuts) = HasNoDigit cut.0 × IsDigits cut.1 × (cut.1 ≢ []) × (next.0 ≢ []) × AreCuts (next ∷ cuts)
+
+-- a run of digits counts as its number
+abbrev pub part_of : Cut → Part
+part_of cut = (cut.0, value_of cut.1)
+
+abbrev pub parts_of_cuts : List Cut → List Part
+parts_of_cuts cuts = map part_of cuts
+
+-- The text has these parts.
+abbrev pub HasParts : List ℕ → List Part → Type 0
+HasParts text parts = (cuts : List Cut) × AreCuts cuts × (text ≡ joined cuts) × (parts ≡ parts_of_cuts cuts)
+
+-- a digit in front of a cut and more cuts: it joins the run of a cut without text, and else makes a cut of its own
+abbrev pub with_digit : ℕ → List ℕ → List ℕ → List Cut → List Cut
+with_digit b [] run cuts = ([], b ∷ run) ∷ cuts
+with_digit b (c ∷ text) run cuts = ([], b ∷ []) ∷ (c ∷ text, run) ∷ cuts
+
+-- a byte in front of cuts: one that isn't a digit joins the first text
+abbrev pub with_byte : ℕ → List Cut → List Cut
+with_byte b [] = (b ∷ [], []) ∷ []
+with_byte b (cut ∷ cuts) = cond (is_ascii_digit b) (with_digit b cut.0 cut.1 cuts) ((b ∷ cut.0, cut.1) ∷ cuts)
+
+-- the one way to cut a text
+abbrev pub cuts_of : List ℕ → List Cut
+cuts_of [] = ([], []) ∷ []
+cuts_of (b ∷ bs) = with_byte b (cuts_of bs)
+
+-- the parts of a text: the one list that HasParts holds of
+abbrev pub parts_of : List ℕ → List Part
+parts_of text = parts_of_cuts (cuts_of text)
+
+-- The meaning of a version: the epoch's value, and the parts of its upstream version and of its revision.
+-- Debian Policy 5.6.12.
+pub record Meaning : Type 0 where
+  pub epoch : ℕ
+  pub upstream : List Part
+  pub revision : List Part
+
+-- what an absent revision means, and the revision 0
+abbrev pub no_revision : List Part
+no_revision = ([], 0) ∷ []
+
+-- 1.0~rc01, 1a, the empty text
+worked-dots : parts_of (codes "1.0~rc01") ≡ ([], 1) ∷ (codes ".", 0) ∷ (codes "~rc", 1) ∷ []
+worked-dots = refl
+
+worked-letter : parts_of (codes "1a") ≡ ([], 1) ∷ (codes "a", 0) ∷ []
+worked-letter = refl
+
+worked-empty : parts_of [] ≡ no_revision
+worked-empty = refl
