@@ -1,6 +1,6 @@
--- The numbers of the codes of refusals: the first nine are about the text of a file (Debian Policy 5.1),
+-- The numbers and names of the codes of refusals: the first nine are about the text of a file (Debian Policy 5.1),
 -- 10 to 12 about its paragraphs (5.2 to 5.4), 13 to 21 about a value (5.6 and 7), 22 and 23 about a query.
-use Rattle.std.specs.Prelude.{ℕ}
+use Rattle.std.specs.Prelude.{ℕ, List, codes}
 use Rattle.deb_base.specs.declared.code.Code.{Code}
 use Rattle.deb_base.specs.declared.code.Code.TheVariants.{NotUtf8, Armour, Comment, StrayContinuation, BadFieldName, NoColon, DuplicateField, ParagraphTooLong, FileTooLong, NoParagraph, TooManyParagraphs, MissingField, NotOneLine, BadName, BadNumber, BadWord, BadArchitecture, BadVersion, BadRelation, AlternativesNotAllowed, ProvidesBound, Wildcard, BadEnvironment}
 
@@ -29,3 +29,29 @@ number_of AlternativesNotAllowed = 20
 number_of ProvidesBound = 21
 number_of Wildcard = 22
 number_of BadEnvironment = 23
+
+-- the name of a code, as it is told
+abbrev pub name_of : Code → List ℕ
+name_of NotUtf8 = codes "NotUtf8"
+name_of Armour = codes "Armour"
+name_of Comment = codes "Comment"
+name_of StrayContinuation = codes "StrayContinuation"
+name_of BadFieldName = codes "BadFieldName"
+name_of NoColon = codes "NoColon"
+name_of DuplicateField = codes "DuplicateField"
+name_of ParagraphTooLong = codes "ParagraphTooLong"
+name_of FileTooLong = codes "FileTooLong"
+name_of NoParagraph = codes "NoParagraph"
+name_of TooManyParagraphs = codes "TooManyParagraphs"
+name_of MissingField = codes "MissingField"
+name_of NotOneLine = codes "NotOneLine"
+name_of BadName = codes "BadName"
+name_of BadNumber = codes "BadNumber"
+name_of BadWord = codes "BadWord"
+name_of BadArchitecture = codes "BadArchitecture"
+name_of BadVersion = codes "BadVersion"
+name_of BadRelation = codes "BadRelation"
+name_of AlternativesNotAllowed = codes "AlternativesNotAllowed"
+name_of ProvidesBound = codes "ProvidesBound"
+name_of Wildcard = codes "Wildcard"
+name_of BadEnvironment = codes "BadEnvironment"

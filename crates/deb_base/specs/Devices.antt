@@ -1,6 +1,6 @@
 -- What a call of a device does to its bytes and to the count of its failed calls, and what a call that
 -- writes several times leaves. The rules are this project's own; the words on bytes are those of std.
-use Rattle.std.specs.Prelude.{◌≡◌, ℕ, ◌+◌, ◌-◌, ◌^◌, ◌<◌, ◌≤◌, min, List, length, take, IfOk, Result, Ok, Err, Option, MatchResult}
+use Rattle.std.specs.Prelude.{◌≡◌, ℕ, ◌+◌, ◌-◌, ◌^◌, ◌<◌, ◌≤◌, ◌↔◌, min, List, ◌++◌, length, IfOk, IsErrOf, Result, Ok, Err, Option, MatchResult, refl}
 use Rattle.std.specs.Io.KnownBytes.{Appends}
 use Rattle.deb_base.specs.declared.fault.Fault.{Fault}
 use Rattle.deb_base.specs.declared.fault.Fault.TheVariants.{Refused, Memory, Read, Write}
@@ -42,10 +42,33 @@ write_failures_after n (Err Memory) = n
 write_failures_after n (Err Read) = n
 write_failures_after n (Err Write) = one_more n
 
+-- where the source's count is below its last value, Read is answered exactly where the count rose
+abbrev pub TellsReads : {T : Type 0} → ℕ → ℕ → Result T Fault → Type 0
+TellsReads old new r = old < last_count → (IsErrOf r Read ↔ (old < new))
+
+-- where the sink's count is below its last value, Write is answered exactly where the count rose
+abbrev pub TellsWrites : {T : Type 0} → ℕ → ℕ → Result T Fault → Type 0
+TellsWrites old new r = old < last_count → (IsErrOf r Write ↔ (old < new))
+
 -- a front of the bytes was written: told bytes stay, and grow by that front
-abbrev pub AppendsFront : Option (List ℕ) → Option (List ℕ) → List ℕ → Type 0
-AppendsFront old new bytes = (n : ℕ) × Appends old new (take n bytes)
+pub record AppendsFront (old new : Option (List ℕ)) (bytes : List ℕ) : Type 0 where
+  pub front : List ℕ
+  pub rest : List ℕ
+  pub whole : bytes ≡ front ++ rest
+  pub appended : Appends old new front
 
 -- Ok: all of the bytes were written. An error: a front of them was
 abbrev pub Puts : {T E : Type 0} → Option (List ℕ) → Option (List ℕ) → Result T E → List ℕ → Type 0
 Puts old new r bytes = MatchResult r (λ _. Appends old new bytes) (λ _. AppendsFront old new bytes)
+
+count_rises : one_more 3 ≡ 4
+count_rises = refl
+
+count_stays_at_its_last_value : one_more last_count ≡ 18446744073709551615
+count_stays_at_its_last_value = refl
+
+count_of_read_fault : read_failures_after {T = ℕ} 3 (Err Read) ≡ 4
+count_of_read_fault = refl
+
+count_of_other_faults : (read_failures_after {T = ℕ} 3 (Err Memory) ≡ 3) × (write_failures_after {T = ℕ} 3 (Err Memory) ≡ 3)
+count_of_other_faults = (refl, refl)

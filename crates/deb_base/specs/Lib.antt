@@ -1,2 +1,4 @@
 pub mod Codes
 pub mod Devices
+pub mod Lines
+pub mod Names

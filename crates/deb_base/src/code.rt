@@ -1,5 +1,8 @@
 //! The codes of refusals.
 
+ghost use Rattle.std.specs.Prelude.{◌≡◌};
+ghost use Rattle.deb_base.specs.Codes.{name_of};
+
 /// Why a file, or a word that the program was given, is refused. Each code has a number from 1 to 23.
 ///
 /// The first nine are about the text of a file (Debian Policy 5.1), 10 to 12 about its paragraphs
@@ -53,4 +56,37 @@ pub enum Code {
     Wildcard = 22,
     /// A bad target architecture or profile name.
     BadEnvironment = 23,
+}
+
+impl Code {
+    /// The code's name, as it is told.
+    pub(crate) fn name(self) -> &'static [u8]
+        ensures { result.now ≡ name_of self }
+    {
+        match self {
+            Code::NotUtf8 => b"NotUtf8",
+            Code::Armour => b"Armour",
+            Code::Comment => b"Comment",
+            Code::StrayContinuation => b"StrayContinuation",
+            Code::BadFieldName => b"BadFieldName",
+            Code::NoColon => b"NoColon",
+            Code::DuplicateField => b"DuplicateField",
+            Code::ParagraphTooLong => b"ParagraphTooLong",
+            Code::FileTooLong => b"FileTooLong",
+            Code::NoParagraph => b"NoParagraph",
+            Code::TooManyParagraphs => b"TooManyParagraphs",
+            Code::MissingField => b"MissingField",
+            Code::NotOneLine => b"NotOneLine",
+            Code::BadName => b"BadName",
+            Code::BadNumber => b"BadNumber",
+            Code::BadWord => b"BadWord",
+            Code::BadArchitecture => b"BadArchitecture",
+            Code::BadVersion => b"BadVersion",
+            Code::BadRelation => b"BadRelation",
+            Code::AlternativesNotAllowed => b"AlternativesNotAllowed",
+            Code::ProvidesBound => b"ProvidesBound",
+            Code::Wildcard => b"Wildcard",
+            Code::BadEnvironment => b"BadEnvironment",
+        }
+    }
 }

@@ -1,7 +1,6 @@
 //! The devices that bytes are read from and written to.
 
-ghost use Rattle.std.specs.Prelude.{◌≡◌, ℕ, ◌≤◌, List, IsErr};
-ghost use Rattle.std.specs.Option.{Option};
+ghost use Rattle.std.specs.Prelude.{◌≡◌, ℕ, ◌≤◌, List, Option, IsErr};
 ghost use Rattle.std.specs.Io.KnownBytes.{ReadConsumes, WriteAppends};
 ghost use Rattle.deb_base.specs.Devices.{last_count, failures_after, ReadsWithin, TakesSome};
 

@@ -1,6 +1,12 @@
 //! Faults: why a call gave no answer.
 
-use crate::Refusal;
+ghost use Rattle.std.specs.Prelude.{◌≡◌, IfErr};
+ghost use Rattle.deb_base.specs.Devices.{write_failures_after, Puts, TellsWrites};
+ghost use Rattle.deb_base.specs.Lines.{fault_line};
+ghost use Rattle.deb_base.specs.declared.fault.Fault.TheVariants.{Refused, Memory};
+
+use crate::{Refusal, Sink, put_all};
+use std::alloc::{AllocError, AllocFailed};
 
 /// Why a call that reads, writes or takes memory gave no answer.
 #[derive(Clone, Copy, Debug, PartialEq, Eq)]
@@ -13,4 +19,49 @@ pub enum Fault {
     Read,
     /// A write to the sink failed.
     Write,
+}
+
+impl Fault {
+    /// Writes the line of the fault, with its LF: that of the refusal, or `fault: memory`,
+    /// `fault: read` or `fault: write`.
+    ///
+    /// The only error is `Fault::Write`. It is answered exactly where a write to `out` failed in
+    /// this call, and a front of the line, perhaps empty, was written before it.
+    pub fn write_line<W: Sink>(&self, out: &mut W) -> Result<(), Fault>
+        ensures written { Puts (W.held out.old) (W.held out.new) result (fault_line self.now) }
+        ensures fault { IfErr result (λ fault. fault ≡ Fault.Write) }
+        ensures counted { W.failures out.new ≡ write_failures_after (W.failures out.old) result }
+        ensures told { TellsWrites (W.failures out.old) (W.failures out.new) result }
+    {
+        match self {
+            Fault::Refused(refusal) => refusal.write_line(out),
+            Fault::Memory => put_all(out, b"fault: memory\n"),
+            Fault::Read => put_all(out, b"fault: read\n"),
+            Fault::Write => put_all(out, b"fault: write\n"),
+        }
+    }
+}
+
+impl From<Refusal> for Fault {
+    ghost from_gives = { λ refusal fault. fault ≡ Refused refusal };
+
+    fn from(refusal: Refusal) -> Fault {
+        Fault::Refused(refusal)
+    }
+}
+
+impl From<AllocError> for Fault {
+    ghost from_gives = { λ _ fault. fault ≡ Memory };
+
+    fn from(_: AllocError) -> Fault {
+        Fault::Memory
+    }
+}
+
+impl<T: Drop> From<AllocFailed<T>> for Fault {
+    ghost from_gives = { λ _ fault. fault ≡ Memory };
+
+    fn from(_: AllocFailed<T>) -> Fault {
+        Fault::Memory
+    }
 }

@@ -7,16 +7,34 @@
 //! - [`put_all`] writes all of its bytes, or says that a write failed and has then written a front of them.
 //!
 //! Nothing in this crate takes memory.
+//!
+//! ```text
+//! let mut out = Output::new(io::writer(&rt));
+//! let refusal = Refusal { code: Code::DuplicateField, line: 3 };
+//! refusal.write_line(&mut out)?; // line 3: 7 DuplicateField
+//! put_all(&mut out, b"ok 2\n")?;
+//! ```
 #![tactic(auto)]
 
 mod code;
+mod decimal;
 mod device;
 mod fault;
+mod input;
+pub mod laws;
+mod names;
+mod output;
 mod put;
 mod refusal;
 
 pub use code::Code;
 pub use device::{Failed, Sink, Source};
 pub use fault::Fault;
+pub use input::Input;
+pub use names::same_name;
+pub use output::Output;
 pub use put::put_all;
 pub use refusal::Refusal;
+
+#[cfg(test)]
+mod tests;

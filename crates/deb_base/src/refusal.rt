@@ -1,9 +1,13 @@
 //! Refusals: a code and a line.
 
-ghost use Rattle.std.specs.Prelude.{◌≡◌};
+ghost use Rattle.std.specs.Prelude.{◌≡◌, IfErr};
 ghost use Rattle.deb_base.specs.Codes.{number_of};
+ghost use Rattle.deb_base.specs.Devices.{write_failures_after, Puts, TellsWrites};
+ghost use Rattle.deb_base.specs.Lines.{refusal_line};
 
-use crate::Code;
+use crate::decimal::Decimal;
+use crate::put::put_pieces;
+use crate::{Code, Fault, Sink};
 
 /// What is refused: why, and at which line.
 ///
@@ -20,5 +24,31 @@ impl Refusal {
         ensures { result ≡ number_of self.now.code }
     {
         self.code as u8
+    }
+
+    /// Writes the line of the refusal, with its LF: `line N: CODE NAME`, as `line 3: 7 DuplicateField`.
+    ///
+    /// The only error is `Fault::Write`. It is answered exactly where a write to `out` failed in
+    /// this call, and a front of the line, perhaps empty, was written before it.
+    pub fn write_line<W: Sink>(&self, out: &mut W) -> Result<(), Fault>
+        ensures written { Puts (W.held out.old) (W.held out.new) result (refusal_line self.now) }
+        ensures fault { IfErr result (λ fault. fault ≡ Fault.Write) }
+        ensures counted { W.failures out.new ≡ write_failures_after (W.failures out.old) result }
+        ensures told { TellsWrites (W.failures out.old) (W.failures out.new) result }
+    {
+        let line = Decimal::of(self.line);
+        let number = Decimal::of(u64::from(self.number()));
+        put_pieces(
+            out,
+            &[
+                b"line ",
+                line.as_bytes(),
+                b": ",
+                number.as_bytes(),
+                b" ",
+                self.code.name(),
+                b"\n",
+            ],
+        )
     }
 }

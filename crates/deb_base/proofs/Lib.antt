@@ -1,0 +1,4 @@
+pub mod CanonicalNames
+pub mod Counts
+pub mod Digits
+pub mod Writes

@@ -1,0 +1,253 @@
+use crate::*;
+use std::alloc::Global;
+use std::io::{self, ErrorKind, Read, Write};
+use std::test::Fail;
+
+/// What a writer answers once its good calls are used up.
+#[derive(Clone, Copy)]
+enum Then {
+    Fails,
+    TakesNone,
+}
+
+/// A writer that takes a few bytes a call, for so many calls.
+#[derive(Drop)]
+struct Slow {
+    held: Vec<u8>,
+    most: usize,
+    calls: u64,
+    then: Then,
+}
+
+impl Slow {
+    fn new(alloc: Global, most: usize, calls: u64, then: Then) -> Slow {
+        Slow {
+            held: Vec::new(alloc),
+            most,
+            calls,
+            then,
+        }
+    }
+}
+
+impl Write for Slow {
+    fn write(&mut self, bytes: &[u8]) -> io::Result<usize> {
+        if self.calls == 0 {
+            return match self.then {
+                Then::Fails => Err(io::Error::from(ErrorKind::Interrupted)),
+                Then::TakesNone => Ok(0),
+            };
+        }
+        self.calls -= 1;
+        let taken = bytes.len().min(self.most);
+        self.held.extend_from_slice(&bytes[..taken])?;
+        Ok(taken)
+    }
+
+    fn flush(&mut self) -> io::Result<()> {
+        Ok(())
+    }
+}
+
+/// A reader that fails once, and then gives its bytes.
+#[derive(Drop)]
+struct Stutter<'a> {
+    has_failed: bool,
+    rest: &'a [u8],
+}
+
+impl Read for Stutter<'_> {
+    fn read(&mut self, buffer: &mut [u8]) -> io::Result<usize> {
+        if self.has_failed {
+            return self.rest.read(buffer);
+        }
+        self.has_failed = true;
+        Err(io::Error::from(ErrorKind::Interrupted))
+    }
+}
+
+#[test]
+fn codes_have_their_numbers_and_lines(rt: HostRuntime) -> Result<(), Fail> {
+    let rows: [(Code, u8, u64, &[u8]); 23] = [
+        (Code::NotUtf8, 1, 4, b"line 4: 1 NotUtf8\n"),
+        (Code::Armour, 2, 1, b"line 1: 2 Armour\n"),
+        (Code::Comment, 3, 2, b"line 2: 3 Comment\n"),
+        (
+            Code::StrayContinuation,
+            4,
+            1,
+            b"line 1: 4 StrayContinuation\n",
+        ),
+        (Code::BadFieldName, 5, 9, b"line 9: 5 BadFieldName\n"),
+        (Code::NoColon, 6, 10, b"line 10: 6 NoColon\n"),
+        (Code::DuplicateField, 7, 3, b"line 3: 7 DuplicateField\n"),
+        (
+            Code::ParagraphTooLong,
+            8,
+            99,
+            b"line 99: 8 ParagraphTooLong\n",
+        ),
+        (
+            Code::FileTooLong,
+            9,
+            4_294_967_296,
+            b"line 4294967296: 9 FileTooLong\n",
+        ),
+        (Code::NoParagraph, 10, 100, b"line 100: 10 NoParagraph\n"),
+        (
+            Code::TooManyParagraphs,
+            11,
+            5,
+            b"line 5: 11 TooManyParagraphs\n",
+        ),
+        (Code::MissingField, 12, 1, b"line 1: 12 MissingField\n"),
+        (Code::NotOneLine, 13, 4, b"line 4: 13 NotOneLine\n"),
+        (Code::BadName, 14, 4, b"line 4: 14 BadName\n"),
+        (Code::BadNumber, 15, 4, b"line 4: 15 BadNumber\n"),
+        (Code::BadWord, 16, 4, b"line 4: 16 BadWord\n"),
+        (
+            Code::BadArchitecture,
+            17,
+            3,
+            b"line 3: 17 BadArchitecture\n",
+        ),
+        (Code::BadVersion, 18, 4, b"line 4: 18 BadVersion\n"),
+        (Code::BadRelation, 19, 0, b"line 0: 19 BadRelation\n"),
+        (
+            Code::AlternativesNotAllowed,
+            20,
+            4,
+            b"line 4: 20 AlternativesNotAllowed\n",
+        ),
+        (
+            Code::ProvidesBound,
+            21,
+            u64::MAX,
+            b"line 18446744073709551615: 21 ProvidesBound\n",
+        ),
+        (Code::Wildcard, 22, 0, b"line 0: 22 Wildcard\n"),
+        (Code::BadEnvironment, 23, 0, b"line 0: 23 BadEnvironment\n"),
+    ];
+    for (code, number, line, text) in rows {
+        let refusal = Refusal { code, line };
+        assert_eq!(rt; refusal.number(), number, "the number of {number}");
+        let mut held = Vec::new(rt.alloc());
+        let told = refusal.write_line(&mut Output::new(&mut held));
+        assert_eq!(rt; told, Ok(()), "the line of {number}");
+        assert_eq!(rt; held.as_slice(), text, "the line of {number}");
+    }
+    Ok(())
+}
+
+#[test]
+fn faults_have_their_lines(rt: HostRuntime) -> Result<(), Fail> {
+    let refusal = Refusal {
+        code: Code::DuplicateField,
+        line: 3,
+    };
+    let rows: [(Fault, &[u8]); 4] = [
+        (Fault::Refused(refusal), b"line 3: 7 DuplicateField\n"),
+        (Fault::Memory, b"fault: memory\n"),
+        (Fault::Read, b"fault: read\n"),
+        (Fault::Write, b"fault: write\n"),
+    ];
+    for (fault, text) in rows {
+        let mut held = Vec::new(rt.alloc());
+        let told = fault.write_line(&mut Output::new(&mut held));
+        assert_eq!(rt; told, Ok(()));
+        assert_eq!(rt; held.as_slice(), text);
+    }
+    Ok(())
+}
+
+#[test]
+fn bytes_are_put_until_a_write_fails(rt: HostRuntime) -> Result<(), Fail> {
+    let rows: [(usize, u64, Then, &[u8]); 7] = [
+        (9, 9, Then::Fails, b"abcdef"),
+        (1, 6, Then::Fails, b"abcdef"),
+        (1, 5, Then::Fails, b"abcde"),
+        (4, 1, Then::Fails, b"abcd"),
+        (1, 0, Then::Fails, b""),
+        (4, 1, Then::TakesNone, b"abcd"),
+        (4, 2, Then::TakesNone, b"abcdef"),
+    ];
+    for (most, calls, then, held) in rows {
+        let mut writer = Slow::new(rt.alloc(), most, calls, then);
+        let answer = put_all(&mut Output::new(&mut writer), b"abcdef");
+        let wanted = if held.len() == 6 {
+            Ok(())
+        } else {
+            Err(Fault::Write)
+        };
+        assert_eq!(rt; answer, wanted, "at {most} bytes in {calls} calls");
+        assert_eq!(rt;
+            writer.held.as_slice(),
+            held,
+            "at {most} bytes in {calls} calls"
+        );
+    }
+
+    let mut writer = Slow::new(rt.alloc(), 1, 7, Then::Fails);
+    let refusal = Refusal {
+        code: Code::NoColon,
+        line: 12,
+    };
+    let answer = refusal.write_line(&mut Output::new(&mut writer));
+    assert_eq!(rt; answer, Err(Fault::Write), "a line that can't be written");
+    assert_eq!(rt; writer.held.as_slice(), b"line 12".as_slice());
+
+    let mut writer = Slow::new(rt.alloc(), 1, 0, Then::TakesNone);
+    let mut out = Output::new(&mut writer);
+    assert_eq!(rt; put_all(&mut out, b""), Ok(()), "nothing needs no write");
+    assert_eq!(rt; out.write(b""), Ok(0), "none of no bytes");
+    assert_eq!(rt; out.write(b"a"), Err(Failed), "none of some bytes");
+    Ok(())
+}
+
+#[test]
+fn bytes_are_read_in_pieces(rt: HostRuntime) -> Result<(), Fail> {
+    let mut room = [0u8; 7];
+    for most in [1usize, 2, 3, 7] {
+        let mut input = Input::new(b"Package".as_slice());
+        let mut given = Vec::new(rt.alloc());
+        for _ in 0..8 {
+            let piece = &mut room[..most.min(7)];
+            let count = input.read(piece).ok().ok_or("no read fails")?;
+            given.extend_from_slice(&piece[..count])?;
+        }
+        assert_eq!(rt;
+            given.as_slice(),
+            b"Package".as_slice(),
+            "in pieces of {most}"
+        );
+        assert_eq!(rt; input.read(&mut room), Ok(0), "after the end");
+    }
+
+    let mut reader = Stutter {
+        has_failed: false,
+        rest: b"ab",
+    };
+    let mut input = Input::new(&mut reader);
+    assert_eq!(rt; input.read(&mut room), Err(Failed), "an interrupted read");
+    assert_eq!(rt; input.read(&mut room), Ok(2), "the read after it");
+    assert_eq!(rt; &room[..2], b"ab".as_slice());
+    Ok(())
+}
+
+#[test]
+fn names_are_compared_without_case(rt: HostRuntime) {
+    let rows: [(&[u8], &[u8], bool); 8] = [
+        (b"Package", b"pACKAGE", true),
+        (b"Pre-Depends", b"PRE-DEPENDS", true),
+        (b"MD5sum", b"Md5sum", true),
+        (b"x--1A", b"X--1a", true),
+        (b"Package", b"Packages", false),
+        (b"X_a", b"X-a", false),
+        (b"a[", b"A{", false),
+        (b"\xc3\x89", b"\xc3\xa9", false),
+    ];
+    for (a, b, same) in rows {
+        assert_eq!(rt; same_name(a, b), same, "{a:?} and {b:?}");
+        assert_eq!(rt; same_name(b, a), same, "{b:?} and {a:?}");
+    }
+}
