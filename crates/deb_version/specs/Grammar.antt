@@ -1,7 +1,8 @@
 -- What spells a version, and which one. Debian Policy 5.6.12; deb-version(7).
-use Rattle.std.specs.Prelude.{◌≡◌, ◌≢◌, ℕ, ◌+◌, ◌≤◌, ◌==◌, ◌&&◌, ◌||◌, Bool, true, false, List, [], ◌∷◌, ◌++◌, Option, Some, None, is_some, IfSome, IfNone, MatchOption, IsTrue}
-use Rattle.std.specs.List.{AllByRecursion}
-use Rattle.std.specs.Char.{is_ascii_alphanumeric}
+use Rattle.std.specs.Prelude.{◌≡◌, ◌≢◌, ℕ, ◌≤◌, ◌==◌, nat_le, ◌&&◌, ◌||◌, not, Bool, true, false, List, [], ◌∷◌, ◌++◌, length, Option, Some, None, is_some, IfSome, IfNone, MatchOption, IsTrue, codes, refl}
+use Rattle.std.specs.List.{AllByRecursion, list_any, list_all}
+use Rattle.std.specs.Option.{option_map_or}
+use Rattle.std.specs.Char.{is_ascii_digit, is_ascii_alphanumeric}
 use Rattle.deb_version.specs.Parts.{IsDigits, value_of, Part, HasParts, parts_of, Meaning, no_revision}
 
 -- the largest epoch that is accepted
@@ -21,6 +22,9 @@ pub record Components : Type 0 where
   pub epoch : Option (List ℕ)
   pub upstream : List ℕ
   pub revision : Option (List ℕ)
+
+abbrev pub components_with : Option (List ℕ) → List ℕ → Option (List ℕ) → Components
+components_with epoch upstream revision = record { epoch = epoch; upstream = upstream; revision = revision }
 
 abbrev pub epoch_text : Option (List ℕ) → List ℕ
 epoch_text None = []
@@ -49,6 +53,24 @@ pub record AreComponents (c : Components) : Type 0 where
   pub upstream_hyphen : IfNone c.revision (AllByRecursion (λ b. b ≢ 45) c.upstream)
   pub revision : IfSome c.revision IsRevision
 
+-- the same as a test, which holds exactly where the fact does
+abbrev pub is_nonempty : List ℕ → Bool
+is_nonempty text = not (length text == 0)
+
+abbrev pub is_epoch : List ℕ → Bool
+is_epoch digits = is_nonempty digits && (list_all is_ascii_digit digits && nat_le (value_of digits) epoch_limit)
+
+abbrev pub is_revision : List ℕ → Bool
+is_revision revision = is_nonempty revision && list_all is_revision_byte revision
+
+abbrev pub is_upstream : Bool → Bool → List ℕ → Bool
+is_upstream has_epoch has_revision upstream =
+    is_nonempty upstream && (list_all (is_upstream_byte has_epoch) upstream && (has_revision || not (list_any (λ b. b == 45) upstream)))
+
+abbrev pub are_components : Components → Bool
+are_components c =
+    option_map_or is_epoch c.epoch true && (is_upstream (is_some c.epoch) (is_some c.revision) c.upstream && option_map_or is_revision c.revision true)
+
 -- what the texts mean: an absent epoch is 0, an absent revision is the revision 0
 pub record HasMeaning (c : Components) (m : Meaning) : Type 0 where
   pub epoch : MatchOption c.epoch (m.epoch ≡ 0) (λ digits. m.epoch ≡ value_of digits)
@@ -73,3 +95,22 @@ pub record SpellsVersion (text : List ℕ) (m : Meaning) : Type 0 where
   pub spelt : text ≡ spelling components
   pub allowed : AreComponents components
   pub means : HasMeaning components m
+
+-- 00:1:02-0 and 1.0
+worked-epoch : meaning_of_components (components_with (Some (codes "00")) (codes "1:02") (Some (codes "0"))) ≡ record { epoch = 0; upstream = ([], 1) ∷ (codes ":", 2) ∷ []; revision = no_revision }
+worked-epoch = refl
+
+worked-absent : meaning_of_components (components_with None (codes "1.0") None) ≡ record { epoch = 0; upstream = ([], 1) ∷ (codes ".", 0) ∷ []; revision = no_revision }
+worked-absent = refl
+
+worked-allowed : are_components (components_with (Some (codes "2147483647")) (codes "1:2-") (Some (codes "a~"))) ≡ true
+worked-allowed = refl
+
+worked-limit : are_components (components_with (Some (codes "2147483648")) (codes "1") None) ≡ false
+worked-limit = refl
+
+worked-hyphen : are_components (components_with None (codes "1-0") None) ≡ false
+worked-hyphen = refl
+
+worked-colon : are_components (components_with None (codes "1:0") None) ≡ false
+worked-colon = refl

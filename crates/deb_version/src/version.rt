@@ -1,9 +1,54 @@
 //! A version, cut into its components.
 
-/// A Debian version number, which borrows its text.
+ghost use Rattle.std.specs.Prelude.{◌^◌, ◌<◌, length, IsTrue, option_copied};
+ghost use Rattle.deb_version.specs.Grammar.{components_with, are_components, spelling};
+
+use crate::components::{cut_epoch, cut_revision, judge_epoch, judge_rest};
+use crate::fault::BadVersion;
+
+/// A Debian version number, which borrows its text (Debian Policy 5.6.12).
 #[derive(Clone, Copy, Debug)]
 pub struct Version<'a> {
     epoch: Option<&'a [u8]>,
     upstream: &'a [u8],
     revision: Option<&'a [u8]>,
+    ghost well_formed: { IsTrue (are_components (components_with (option_copied epoch) upstream.now (option_copied revision))) },
+    ghost short: { length (spelling (components_with (option_copied epoch) upstream.now (option_copied revision))) < 2 ^ 63 },
+}
+
+impl<'a> Version<'a> {
+    ghost use Rattle.std.specs.Prelude.{◌≡◌, ◌↔◌, Some, None, IfOk, IfErr, IsOk, IsOkAnd};
+    ghost use Rattle.deb_version.specs.Parts.{Meaning};
+    ghost use Rattle.deb_version.specs.Grammar.{SpellsVersion};
+    ghost use Rattle.deb_version.specs.Faults.{first_fault};
+    ghost use Rattle.deb_version.specs.Version.{components_of, meaning_of};
+
+    /// The version that a text spells: `[epoch:]upstream[-revision]` (Debian Policy 5.6.12).
+    ///
+    /// The epoch ends at the first colon, and is at most 2,147,483,647. The revision follows the
+    /// last hyphen after that. The version borrows the text, and no memory is taken.
+    ///
+    /// # Errors
+    ///
+    /// The first fault of the text, in the order of [`BadVersion`].
+    pub fn parse(text: &'a [u8]) -> Result<Version<'a>, BadVersion>
+        ensures ok { IfOk result (λ v. SpellsVersion text.now (meaning_of v)) }
+        ensures spelled { IfOk result (λ v. text.now ≡ spelling (components_of v)) }
+        ensures accepted { (m : Meaning) → SpellsVersion text.now m → IsOkAnd result (λ v. meaning_of v ≡ m) }
+        ensures refused { IfErr result (λ e. first_fault text.now ≡ Some e) }
+        ensures faultless { IsOk result ↔ (first_fault text.now ≡ None) }
+    {
+        if text.is_empty() {
+            return Err(BadVersion::Empty);
+        }
+        let (epoch, rest) = cut_epoch(text);
+        let (upstream, revision) = cut_revision(rest);
+        judge_epoch(epoch)?;
+        judge_rest(epoch, upstream, revision)?;
+        Ok(Version {
+            epoch,
+            upstream,
+            revision,
+        })
+    }
 }

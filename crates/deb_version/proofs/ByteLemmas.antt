@@ -1,0 +1,61 @@
+-- Tests of each byte of a text, as facts, and the bytes that separate components.
+use Rattle.std.proofs.Common.{◌≡◌, ◌≢◌, ℕ, All, Bool, true, false, not, ◌==◌, ◌||◌, List, [], ◌∷◌, length, refl, sym, ap, ◌∙◌, IsTrue, arith}
+use Rattle.std.specs.List.{AllByRecursion, list_any, list_all}
+use Rattle.std.proofs.lemmas.Bool.{true≢false, eqb-false, ne_eqb, and_parts, and_from, not-false, not_from_true}
+use Rattle.std.proofs.lemmas.List.Elements.{All-weaker}
+use Rattle.std.proofs.lemmas.List.Folds.{list_any_none}
+use Rattle.deb_version.proofs.CutLemmas.{or_sides}
+
+-- a byte that passes a test isn't one that fails it
+differs : (test : ℕ → Bool) (n : ℕ) → test n ≡ false → (b : ℕ) → test b ≡ true → b ≢ n
+differs test n fails b passes e = true≢false (sym passes ∙ ap test e ∙ fails)
+
+-- where each byte passes a test, no byte is one that fails it
+pub none_equal : (test : ℕ → Bool) (n : ℕ) → test n ≡ false → (text : List ℕ) → AllByRecursion (λ b. IsTrue (test b)) text → list_any (λ b. b == n) text ≡ false
+none_equal test n fails [] all = refl
+none_equal test n fails (b ∷ text) all = ap (λ v. v || list_any (λ x. x == n) text) (ne_eqb b n (differs test n fails b all.0)) ∙ none_equal test n fails text all.1
+
+-- that no byte is n, as a test and as a fact
+pub none_equal-test : (n : ℕ) (text : List ℕ) → AllByRecursion (λ b. b ≢ n) text → list_any (λ b. b == n) text ≡ false
+none_equal-test n [] all = refl
+none_equal-test n (b ∷ text) all = ap (λ v. v || list_any (λ x. x == n) text) (ne_eqb b n all.0) ∙ none_equal-test n text all.1
+
+pub none_equal-fact : (n : ℕ) (text : List ℕ) → list_any (λ b. b == n) text ≡ false → AllByRecursion (λ b. b ≢ n) text
+none_equal-fact n [] none = tt
+none_equal-fact n (b ∷ text) none =
+    let sides = or_sides (b == n) (list_any (λ x. x == n) text) none in
+    (eqb-false b n sides.0, none_equal-fact n text sides.1)
+
+-- that each byte passes, as a test and as a fact
+pub all_pass-test : (test : ℕ → Bool) (text : List ℕ) → AllByRecursion (λ b. IsTrue (test b)) text → list_all test text ≡ true
+all_pass-test test [] all = refl
+all_pass-test test (b ∷ text) all = and_from (test b) (list_all test text) all.0 (all_pass-test test text all.1)
+
+pub all_pass-fact : (test : ℕ → Bool) (text : List ℕ) → list_all test text ≡ true → AllByRecursion (λ b. IsTrue (test b)) text
+all_pass-fact test [] all = tt
+all_pass-fact test (b ∷ text) all =
+    let sides = and_parts (test b) (list_all test text) all in
+    (sides.0, all_pass-fact test text sides.1)
+
+-- the same by the test that no byte fails
+pub none_fails-test : (test : ℕ → Bool) (text : List ℕ) → AllByRecursion (λ b. IsTrue (test b)) text → list_any (λ b. not (test b)) text ≡ false
+none_fails-test test [] all = refl
+none_fails-test test (b ∷ text) all = ap (λ v. not v || list_any (λ x. not (test x)) text) all.0 ∙ none_fails-test test text all.1
+
+pub none_fails-fact : (test : ℕ → Bool) (text : List ℕ) → list_any (λ b. not (test b)) text ≡ false → AllByRecursion (λ b. IsTrue (test b)) text
+none_fails-fact test [] none = tt
+none_fails-fact test (b ∷ text) none =
+    let sides = or_sides (not (test b)) (list_any (λ x. not (test x)) text) none in
+    (not-false (test b) sides.0, none_fails-fact test text sides.1)
+
+-- that a text isn't empty, as a test and as a fact
+pub empty-test : (text : List ℕ) → text ≢ [] → (length text == 0) ≡ false
+empty-test [] some = absurd (some refl)
+empty-test (b ∷ text) some = ne_eqb (length (b ∷ text)) 0 (λ e. omega arith)
+
+pub empty-fact : (text : List ℕ) → (length text == 0) ≡ false → text ≢ []
+empty-fact text some e = true≢false (sym (ap (λ t. length t == 0) e) ∙ some)
+
+-- the same from what a search along the text gives
+pub none_fails-all : (test : ℕ → Bool) (text : List ℕ) → All (λ b. IsTrue (test b)) text → list_any (λ b. not (test b)) text ≡ false
+none_fails-all test text all = list_any_none (λ b. not (test b)) text (All-weaker (λ b. IsTrue (test b)) (λ b. not (test b) ≡ false) (λ b passes. not_from_true (test b) passes) text all)

@@ -1,0 +1,147 @@
+-- The components of a text: every text is spelled by them, and allowed components are those of their spelling.
+use Rattle.std.proofs.Common.{◌≡◌, ◌≢◌, ℕ, ◌+◌, ◌<◌, ◌≤◌, arith, All, length, get_or, take, drop, Bool, true, false, cond, ◌==◌, ◌||◌, List, [], ◌∷◌, ◌++◌, Option, Some, None, is_some, IfSome, IfNone, refl, sym, ap, ◌∙◌, subst, IsTrue, append_assoc, append-nil}
+use Rattle.std.specs.List.{AllByRecursion, list_any, before_first, after_first, before_last, after_last}
+use Rattle.std.specs.Char.{is_ascii_digit}
+use Rattle.std.proofs.lemmas.Bool.{eqb-true, ne_eqb}
+use Rattle.std.proofs.lemmas.List.{take-append-drop, drop_more, length-take-le, length-drop, get_or-take, get_or-drop}
+use Rattle.std.proofs.lemmas.List.Elements.{All-from_get_or, All-weaker}
+use Rattle.std.proofs.lemmas.List.Folds.{list_any-append, list_any_none}
+use Rattle.deb_version.specs.Grammar.{Components, AreComponents, IsEpoch, IsRevision, epoch_text, revision_text, spelling, is_upstream_byte, is_revision_byte}
+use Rattle.deb_version.specs.Places.{is_colon, is_hyphen, epoch_in, rest_in, revision_in, upstream_in, components_in}
+use Rattle.deb_version.proofs.CutLemmas.{join_first, join_last, before_first-at, after_first-at, list_any-at, before_last-at, after_last-at}
+use Rattle.deb_version.proofs.ByteLemmas.{none_equal, none_equal-test, none_equal-fact}
+
+-- the epoch and the rest join to the text
+epoch_rest : (text : List ℕ) → epoch_text (epoch_in text) ++ rest_in text ≡ text
+epoch_rest text = by_cases (list_any is_colon text) refl
+  where
+    by_cases : (v : Bool) → list_any is_colon text ≡ v → epoch_text (cond v (Some (before_first is_colon text)) None) ++ cond v (after_first is_colon text) text ≡ text
+    by_cases true e =
+        let j = join_first is_colon text e in
+        append_assoc (before_first is_colon text) (58 ∷ []) (after_first is_colon text) ∙ ap (λ b. before_first is_colon text ++ b ∷ after_first is_colon text) (sym (eqb-true j.0 58 j.1)) ∙ sym j.2
+    by_cases false e = refl
+
+-- the upstream version and the revision join to the rest
+upstream_revision : (rest : List ℕ) → upstream_in rest ++ revision_text (revision_in rest) ≡ rest
+upstream_revision rest = by_cases (list_any is_hyphen rest) refl
+  where
+    by_cases : (v : Bool) → list_any is_hyphen rest ≡ v → cond v (before_last is_hyphen rest) rest ++ revision_text (cond v (Some (after_last is_hyphen rest)) None) ≡ rest
+    by_cases true e =
+        let j = join_last is_hyphen rest e in
+        ap (λ b. before_last is_hyphen rest ++ b ∷ after_last is_hyphen rest) (sym (eqb-true j.0 45 j.1)) ∙ sym j.2
+    by_cases false e = append-nil rest
+
+-- Every text is spelled by its components.
+pub spelling-components_in : (text : List ℕ) → spelling (components_in text) ≡ text
+spelling-components_in text = ap (λ l. epoch_text (epoch_in text) ++ l) (upstream_revision (rest_in text)) ∙ epoch_rest text
+
+-- a text without colon has no epoch
+no_colon : (rest : List ℕ) → list_any is_colon rest ≡ false → (epoch_in rest ≡ None) × (rest_in rest ≡ rest)
+no_colon rest none = (ap (λ v. cond v (Some (before_first is_colon rest)) None) none, ap (λ v. cond v (after_first is_colon rest) rest) none)
+
+-- behind digits and a colon stands the rest
+with_colon : (digits rest : List ℕ) → list_any is_colon digits ≡ false → (epoch_in (digits ++ 58 ∷ rest) ≡ Some digits) × (rest_in (digits ++ 58 ∷ rest) ≡ rest)
+with_colon digits rest none = (
+  ap (λ v. cond v (Some (before_first is_colon (digits ++ 58 ∷ rest))) None) (list_any-at is_colon digits 58 rest refl) ∙ ap Some (before_first-at is_colon digits 58 rest none refl),
+  ap (λ v. cond v (after_first is_colon (digits ++ 58 ∷ rest)) (digits ++ 58 ∷ rest)) (list_any-at is_colon digits 58 rest refl) ∙ after_first-at is_colon digits 58 rest none refl,
+)
+
+-- a rest without hyphen has no revision
+no_hyphen : (upstream : List ℕ) → list_any is_hyphen upstream ≡ false → (upstream_in upstream ≡ upstream) × (revision_in upstream ≡ None)
+no_hyphen upstream none =
+    (ap (λ v. cond v (before_last is_hyphen upstream) upstream) none, ap (λ v. cond v (Some (after_last is_hyphen upstream)) None) none)
+
+with_hyphen : (upstream revision : List ℕ) → list_any is_hyphen revision ≡ false
+    → (upstream_in (upstream ++ 45 ∷ revision) ≡ upstream) × (revision_in (upstream ++ 45 ∷ revision) ≡ Some revision)
+with_hyphen upstream revision none = (
+  ap (λ v. cond v (before_last is_hyphen (upstream ++ 45 ∷ revision)) (upstream ++ 45 ∷ revision)) (list_any-at is_hyphen upstream 45 revision refl) ∙ before_last-at is_hyphen upstream 45 revision none refl,
+  ap (λ v. cond v (Some (after_last is_hyphen (upstream ++ 45 ∷ revision))) None) (list_any-at is_hyphen upstream 45 revision refl) ∙ ap Some (after_last-at is_hyphen upstream 45 revision none refl),
+)
+
+-- the upstream version and the revision of what follows the epoch
+rest_parts : (upstream : List ℕ) (revision : Option (List ℕ)) → IfNone revision (AllByRecursion (λ b. b ≢ 45) upstream) → IfSome revision IsRevision
+    → (upstream_in (upstream ++ revision_text revision) ≡ upstream) × (revision_in (upstream ++ revision_text revision) ≡ revision)
+rest_parts upstream None no_hyphens allowed =
+    let n = no_hyphen upstream (none_equal-test 45 upstream no_hyphens) in
+    (ap upstream_in (append-nil upstream) ∙ n.0, ap revision_in (append-nil upstream) ∙ n.1)
+rest_parts upstream (Some revision) no_hyphens allowed = with_hyphen upstream revision (none_equal is_revision_byte 45 refl revision allowed.1)
+
+-- without an epoch there is no colon
+rest_no_colon : (upstream : List ℕ) (revision : Option (List ℕ)) → AllByRecursion (λ b. IsTrue (is_upstream_byte false b)) upstream → IfSome revision IsRevision
+    → list_any is_colon (upstream ++ revision_text revision) ≡ false
+rest_no_colon upstream revision bytes allowed = list_any-append is_colon upstream (revision_text revision) ∙ ap (λ v. v || list_any is_colon (revision_text revision)) (none_equal (is_upstream_byte false) 58 refl upstream bytes) ∙ behind revision allowed
+  where
+    behind : (r : Option (List ℕ)) → IfSome r IsRevision → list_any is_colon (revision_text r) ≡ false
+    behind None a = refl
+    behind (Some r) a = none_equal is_revision_byte 58 refl r a.1
+
+-- the components of a text, from its pieces
+pub components_made : (text rest : List ℕ) (e : Option (List ℕ)) (u : List ℕ) (r : Option (List ℕ)) → epoch_in text ≡ e → rest_in text ≡ rest → upstream_in rest ≡ u → revision_in rest ≡ r
+    → components_in text ≡ record { epoch = e; upstream = u; revision = r }
+components_made text rest e u r is_e is_rest is_u is_r = cc
+
+-- the components of a text that an epoch and a rest join to
+with_epoch : (e : Option (List ℕ)) (rest upstream : List ℕ) (revision : Option (List ℕ)) → IfSome e IsEpoch → (is_some e ≡ false → list_any is_colon rest ≡ false) → upstream_in rest ≡ upstream → revision_in rest ≡ revision
+    → components_in (epoch_text e ++ rest) ≡ record { epoch = e; upstream = upstream; revision = revision }
+with_epoch None rest upstream revision is_epoch no_colons is_upstream is_revision =
+    let n = no_colon rest (no_colons refl) in
+    components_made rest rest None upstream revision n.0 n.1 is_upstream is_revision
+with_epoch (Some digits) rest upstream revision is_epoch no_colons is_upstream is_revision =
+    let w = with_colon digits rest (none_equal is_ascii_digit 58 refl digits is_epoch.1) in
+    ap components_in (append_assoc digits (58 ∷ []) rest) ∙ components_made (digits ++ 58 ∷ rest) rest (Some digits) upstream revision w.0 w.1 is_upstream is_revision
+
+-- Allowed components are those of their spelling.
+pub components_in-spelling : (c : Components) → AreComponents c → components_in (spelling c) ≡ c
+components_in-spelling c allowed =
+    let parts = rest_parts c.upstream c.revision allowed.upstream_hyphen allowed.revision in
+    let bytes : AllByRecursion (λ b. IsTrue (is_upstream_byte (is_some c.epoch) b)) c.upstream = allowed.upstream_bytes in
+    let no_colons : is_some c.epoch ≡ false → list_any is_colon (c.upstream ++ revision_text c.revision) ≡ false = λ e.
+    rest_no_colon c.upstream c.revision (subst (λ v. AllByRecursion (λ b. IsTrue (is_upstream_byte v b)) c.upstream) e bytes) allowed.revision in
+    with_epoch c.epoch (c.upstream ++ revision_text c.revision) c.upstream c.revision allowed.epoch no_colons parts.0 parts.1
+
+-- the upstream version of a text without revision has no hyphen
+pub upstream_in-hyphen : (rest : List ℕ) → IfNone (revision_in rest) (AllByRecursion (λ b. b ≢ 45) (upstream_in rest))
+upstream_in-hyphen rest = by_cases (list_any is_hyphen rest) refl
+  where
+    by_cases : (v : Bool) → list_any is_hyphen rest ≡ v → IfNone (cond v (Some (after_last is_hyphen rest)) None) (AllByRecursion (λ b. b ≢ 45) (cond v (before_last is_hyphen rest) rest))
+    by_cases true e = tt
+    by_cases false e = none_equal-fact 45 rest e
+
+-- a text is its front, the byte at i and the rest
+split_around : (text : List ℕ) (i n : ℕ) → i < length text → get_or text i 0 ≡ n → text ≡ take i text ++ n ∷ drop (i + 1) text
+split_around text i n inside here = sym (take-append-drop i text) ∙ ap (λ l. take i text ++ l) (drop_more text i 0 inside ∙ ap (λ b. b ∷ drop (i + 1) text) here)
+
+none_before : (n : ℕ) (text : List ℕ) (i : ℕ) → i < length text → ((k : ℕ) → k < i → get_or text k 0 ≢ n) → list_any (λ b. b == n) (take i text) ≡ false
+none_before n text i inside before =
+    list_any_none (λ b. b == n) (take i text) (All-from_get_or (λ b. (b == n) ≡ false) (take i text) 0 (λ k short.
+    let below : k < i = omega (arith, length-take-le i text (omega arith)) in ne_eqb _ n (λ e. before k below (sym (get_or-take i text k 0 below) ∙ e))))
+
+none_after : (n : ℕ) (text : List ℕ) (i : ℕ) → ((k : ℕ) → i ≤ k → k < length text → get_or text k 0 ≢ n) → list_any (λ b. b == n) (drop i text) ≡ false
+none_after n text i after =
+    list_any_none (λ b. b == n) (drop i text) (All-from_get_or (λ b. (b == n) ≡ false) (drop i text) 0 (λ k short.
+    let inside : i + k < length text = omega (arith, length-drop i text) in ne_eqb _ n (λ e. after (i + k) (omega arith) inside (sym (get_or-drop i text k 0) ∙ e))))
+
+none_at_all : (n : ℕ) (text : List ℕ) → All (λ b. b ≢ n) text → list_any (λ b. b == n) text ≡ false
+none_at_all n text none = list_any_none (λ b. b == n) text (All-weaker (λ b. b ≢ n) (λ b. (b == n) ≡ false) (λ b h. ne_eqb b n h) text none)
+
+-- the epoch and the rest of a text, by the place of the first colon
+pub epoch_at_colon : (text : List ℕ) (i : ℕ) → i < length text → get_or text i 0 ≡ 58 → ((k : ℕ) → k < i → get_or text k 0 ≢ 58)
+    → (epoch_in text ≡ Some (take i text)) × (rest_in text ≡ drop (i + 1) text)
+epoch_at_colon text i inside here before =
+    let whole = split_around text i 58 inside here in
+    let w = with_colon (take i text) (drop (i + 1) text) (none_before 58 text i inside before) in
+    (ap epoch_in whole ∙ w.0, ap rest_in whole ∙ w.1)
+
+pub epoch_at_none : (text : List ℕ) → All (λ b. b ≢ 58) text → (epoch_in text ≡ None) × (rest_in text ≡ text)
+epoch_at_none text none = no_colon text (none_at_all 58 text none)
+
+-- the upstream version and the revision of the rest, by the place of the last hyphen
+pub revision_at_hyphen : (rest : List ℕ) (i : ℕ) → i < length rest → get_or rest i 0 ≡ 45 → ((k : ℕ) → i + 1 ≤ k → k < length rest → get_or rest k 0 ≢ 45)
+    → (upstream_in rest ≡ take i rest) × (revision_in rest ≡ Some (drop (i + 1) rest))
+revision_at_hyphen rest i inside here after =
+    let whole = split_around rest i 45 inside here in
+    let w = with_hyphen (take i rest) (drop (i + 1) rest) (none_after 45 rest (i + 1) after) in
+    (ap upstream_in whole ∙ w.0, ap revision_in whole ∙ w.1)
+
+pub revision_at_none : (rest : List ℕ) → All (λ b. b ≢ 45) rest → (upstream_in rest ≡ rest) × (revision_in rest ≡ None)
+revision_at_none rest none = no_hyphen rest (none_at_all 45 rest none)

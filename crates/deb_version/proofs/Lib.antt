@@ -1,0 +1,9 @@
+pub mod PartsLemmas
+pub mod CutLemmas
+pub mod ByteLemmas
+pub mod ComponentsLemmas
+pub mod MeaningLemmas
+pub mod FaultLemmas
+pub mod ValueLemmas
+pub mod AllowedLemmas
+pub mod ParseLemmas

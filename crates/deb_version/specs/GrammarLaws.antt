@@ -1,0 +1,30 @@
+-- The laws of the grammar of versions: what the definitions of `Parts`, `Grammar`, `Places` and `Faults` amount to.
+-- Debian Policy 5.6.12; deb-version(7).
+use Rattle.std.specs.Prelude.{◌≡◌, ◌↔◌, List, ℕ, None, IsTrue}
+use Rattle.deb_version.specs.Parts.{Part, HasParts, parts_of, Meaning}
+use Rattle.deb_version.specs.Grammar.{Components, AreComponents, SpellsVersion, are_components, spelling}
+use Rattle.deb_version.specs.Places.{components_in}
+use Rattle.deb_version.specs.Faults.{first_fault}
+
+-- A text spells at most one version.
+abbrev pub SpellsOneVersion : Type 0
+SpellsOneVersion = (text : List ℕ) (m n : Meaning) → SpellsVersion text m → SpellsVersion text n → m ≡ n
+
+-- A text spells a version exactly where it has no fault.
+abbrev pub SpellsWhereFaultless : Type 0
+SpellsWhereFaultless = (text : List ℕ) → ((m : Meaning) × SpellsVersion text m) ↔ (first_fault text ≡ None)
+
+-- A text has one list of parts.
+abbrev pub HasOneListOfParts : Type 0
+HasOneListOfParts = (text : List ℕ) (parts : List Part) → HasParts text parts ↔ (parts ≡ parts_of text)
+
+-- Every text is spelled by the components that stand in it, and allowed components stand in their spelling.
+abbrev pub ComponentsSpell : Type 0
+ComponentsSpell = (text : List ℕ) → spelling (components_in text) ≡ text
+
+abbrev pub AllowedComponentsStand : Type 0
+AllowedComponentsStand = (c : Components) → AreComponents c → components_in (spelling c) ≡ c
+
+-- The test whether components are allowed passes exactly where they are.
+abbrev pub TestTellsAllowed : Type 0
+TestTellsAllowed = (c : Components) → IsTrue (are_components c) ↔ AreComponents c

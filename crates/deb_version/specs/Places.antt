@@ -1,0 +1,40 @@
+-- Where the epoch, the upstream version and the revision of a text stand, allowed or not.
+-- Debian Policy 5.6.12: the epoch ends at the first colon; the revision follows the last hyphen after that.
+use Rattle.std.specs.Prelude.{◌≡◌, ℕ, ◌==◌, Bool, List, Option, Some, None, if◌then◌else◌, codes, refl}
+use Rattle.std.specs.List.{list_any, before_first, after_first, before_last, after_last}
+use Rattle.deb_version.specs.Grammar.{Components}
+
+abbrev pub is_colon : ℕ → Bool
+is_colon b = b == 58
+
+abbrev pub is_hyphen : ℕ → Bool
+is_hyphen b = b == 45
+
+-- the epoch is what stands before the first colon, if there is a colon
+abbrev pub epoch_in : List ℕ → Option (List ℕ)
+epoch_in text = if list_any is_colon text then Some (before_first is_colon text) else None
+
+-- what follows the epoch and its colon
+abbrev pub rest_in : List ℕ → List ℕ
+rest_in text = if list_any is_colon text then after_first is_colon text else text
+
+-- in what follows the epoch, the revision is what follows the last hyphen, if there is a hyphen
+abbrev pub revision_in : List ℕ → Option (List ℕ)
+revision_in rest = if list_any is_hyphen rest then Some (after_last is_hyphen rest) else None
+
+-- and the upstream version is what stands before that hyphen
+abbrev pub upstream_in : List ℕ → List ℕ
+upstream_in rest = if list_any is_hyphen rest then before_last is_hyphen rest else rest
+
+abbrev pub components_in : List ℕ → Components
+components_in text = record { epoch = epoch_in text; upstream = upstream_in (rest_in text); revision = revision_in (rest_in text) }
+
+-- 2:1--0, 1.0 and 1:2-3:4
+worked-hyphens : components_in (codes "2:1--0") ≡ record { epoch = Some (codes "2"); upstream = codes "1-"; revision = Some (codes "0") }
+worked-hyphens = refl
+
+worked-plain : components_in (codes "1.0") ≡ record { epoch = None; upstream = codes "1.0"; revision = None }
+worked-plain = refl
+
+worked-colons : components_in (codes "1:2-3:4") ≡ record { epoch = Some (codes "1"); upstream = codes "2"; revision = Some (codes "3:4") }
+worked-colons = refl
