@@ -1,13 +1,20 @@
-// A library with one function.
+//! Syntax.
 #![tactic(auto)]
 
-ghost use Rattle.std.specs.Prelude.{◌≡◌};
-ghost use Rattle.deb_syntax.specs.Echo.{echo_of};
+mod blanks;
+mod extent;
+mod fill;
+mod folded_name;
+mod judge;
+mod judge_next;
+pub mod laws;
+mod line;
+mod name;
+mod paragraphs;
+mod place;
+mod raw;
+mod run;
+mod trim;
 
-// The `ensures` clause is the contract: what `echo` returns is `echo_of` of its argument, a definition
-// in `specs/Echo.antt`, which a caller's clause can cite too.
-pub fn echo(x: usize) -> usize
-    ensures { result ≡ echo_of x }
-{
-    x
-}
+pub use paragraphs::Paragraphs;
+pub use raw::{Raw, RawField};

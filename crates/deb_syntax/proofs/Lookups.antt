@@ -1,0 +1,23 @@
+-- A search for a field by its name, one field after another.
+use Rattle.std.proofs.Common.{◌≡◌, ℕ, ◌+◌, ◌<◌, Bool, true, false, cond, List, [], ◌∷◌, length, drop, get_or, Option, Some, ap, sym, ◌∙◌}
+use Rattle.std.proofs.lemmas.Bool.{false≢true}
+use Rattle.std.proofs.lemmas.List.{drop_more}
+use Rattle.std.proofs.lemmas.Slice.Eq.{bytes_eq-Decides}
+use Rattle.std.specs.Str.{bytes_eq}
+use Rattle.deb_base.specs.Names.{folded}
+use Rattle.deb_syntax.specs.Places.{name_at, field_at, fields_at}
+use Rattle.deb_syntax.specs.Raw.{field_named}
+use Rattle.deb_syntax.specs.declared.place.Place.{Place}
+use Rattle.deb_syntax.proofs.Pieces.{not_true}
+
+module _ (text name : List ℕ) (places : List Place) (i : ℕ) (d : Place) (within : i < length places) where
+  step : field_named name (fields_at text (drop i places)) ≡ cond (bytes_eq (folded (name_at text (get_or places i d))) (folded name)) (Some (field_at text (get_or places i d))) (field_named name (fields_at text (drop (i + 1) places)))
+  step = ap (λ l. field_named name (fields_at text l)) (drop_more places i d within)
+
+  pub field_named-found : folded (name_at text (get_or places i d)) ≡ folded name → field_named name (fields_at text (drop i places)) ≡ Some (field_at text (get_or places i d))
+  field_named-found same =
+      step ∙ ap (λ t. cond t (Some (field_at text (get_or places i d))) (field_named name (fields_at text (drop (i + 1) places)))) ((bytes_eq-Decides (folded (name_at text (get_or places i d))) (folded name)).1 same)
+
+  pub field_named-passed : (folded (name_at text (get_or places i d)) ≡ folded name → ⊥) → field_named name (fields_at text (drop i places)) ≡ field_named name (fields_at text (drop (i + 1) places))
+  field_named-passed other =
+      step ∙ ap (λ t. cond t (Some (field_at text (get_or places i d))) (field_named name (fields_at text (drop (i + 1) places)))) (not_true _ (λ e. other ((bytes_eq-Decides (folded (name_at text (get_or places i d))) (folded name)).0 e)))

@@ -1,0 +1,95 @@
+-- The paragraphs of lines that follow others, and what a refusal of one paragraph says of the whole text.
+use Rattle.std.proofs.Common.{◌≡◌, ◌≢◌, ℕ, zero, suc, ◌+◌, ◌<◌, ◌≤◌, ◌⊎◌, inl, inr, Bool, true, false, cond, List, [], ◌∷◌, ◌++◌, length, take, drop, refl, sym, ap, ◌∙◌, subst, append_assoc, arith, length-append}
+use Rattle.std.specs.List.{AllByRecursion}
+use Rattle.std.proofs.lemmas.List.{append-nil}
+use Rattle.std.proofs.lemmas.List.Sums.{sum_by-append}
+use Rattle.deb_syntax.specs.Lines.{Line, Paragraph, lines_of, is_blank, begins_blank, ends_blank, with_line, paragraphs_from, paragraphs_of, line_length, total_length, paragraph_limit}
+use Rattle.deb_syntax.specs.Fields.{Field, IsShort, SpellsParagraph}
+use Rattle.deb_syntax.specs.Meaning.{Entries, HaveMeanings}
+use Rattle.deb_syntax.specs.Extents.{AreBlank, AreNotBlank}
+use Rattle.deb_syntax.proofs.Runs.{joins, paragraphs_from-blanks, paragraphs_from-run}
+use Rattle.deb_syntax.proofs.LineSteps.{all-back}
+
+-- the length of lines, of which the first is taken apart
+pub total-cons : (line : Line) (lines : List Line) → total_length (line ∷ lines) ≡ total_length (line ∷ []) + total_length lines
+total-cons line lines = sum_by-append line_length (line ∷ []) lines
+
+-- a line that isn't blank gives a paragraph
+pub some_paragraph : (n : ℕ) (line : Line) (b : Bool) (ps : List Paragraph) → (p : Paragraph) × (qs : List Paragraph) × (with_line n line b ps ≡ p ∷ qs) × (total_length (line ∷ []) ≤ total_length p.lines)
+some_paragraph n line true ps = (record { first = n; lines = line ∷ [] }, ps, refl, omega arith)
+some_paragraph n line false [] = (record { first = n; lines = line ∷ [] }, [], refl, omega arith)
+some_paragraph n line false (p ∷ ps) = (record { first = n; lines = line ∷ p.lines }, ps, refl, omega (arith, total-cons line p.lines))
+
+-- paragraphs behind a list of paragraphs to which the line is joined
+with_line-append : (n : ℕ) (line : Line) (b : Bool) (ps qs : List Paragraph) → (b ≡ false → ps ≢ []) → with_line n line b (ps ++ qs) ≡ with_line n line b ps ++ qs
+with_line-append n line true ps qs some = refl
+with_line-append n line false [] qs some = absurd (some refl refl)
+with_line-append n line false (p ∷ ps) qs some = refl
+
+not_nil : (ps qs : List Paragraph) (p : Paragraph) → ps ≡ p ∷ qs → ps ≢ []
+not_nil ps qs p e h = let f : p ∷ qs ≡ [] = sym e ∙ h in cc
+
+not_blank-some : (m : ℕ) (line : Line) (lines : List Line) → is_blank line ≡ false → paragraphs_from m (line ∷ lines) ≢ []
+not_blank-some m line lines h =
+    let s = some_paragraph m line (begins_blank lines) (paragraphs_from (m + 1) lines) in
+    not_nil _ s.1 s.0 (rw h s.2)
+
+-- paragraphs of lines behind lines of which the last is blank
+pub paragraphs_from-append : (n : ℕ) (a b : List Line) → ends_blank a ≡ true → paragraphs_from n (a ++ b) ≡ paragraphs_from n a ++ paragraphs_from (n + length a) b
+paragraphs_from-append n [] b h = ap (λ k. paragraphs_from k b) (omega arith)
+paragraphs_from-append n (line ∷ []) b h = rw h refl
+paragraphs_from-append n (line ∷ next ∷ a) b h =
+    let count : n + 1 + length (next ∷ a) ≡ n + length (line ∷ next ∷ a) = omega arith in
+    let ih : paragraphs_from (n + 1) ((next ∷ a) ++ b) ≡ paragraphs_from (n + 1) (next ∷ a) ++ paragraphs_from (n + length (line ∷ next ∷ a)) b
+        = paragraphs_from-append (n + 1) (next ∷ a) b h ∙ ap (λ k. paragraphs_from (n + 1) (next ∷ a) ++ paragraphs_from k b) count in
+    elim (is_blank line) as (λ t. cond t (paragraphs_from (n + 1) ((next ∷ a) ++ b)) (with_line n line (is_blank next) (paragraphs_from (n + 1) ((next ∷ a) ++ b)))
+        ≡ cond t (paragraphs_from (n + 1) (next ∷ a)) (with_line n line (is_blank next) (paragraphs_from (n + 1) (next ∷ a))) ++ paragraphs_from (n + length (line ∷ next ∷ a)) b) [
+      | true ↦ ih
+      | false ↦ ap (with_line n line (is_blank next)) ih ∙ with_line-append n line (is_blank next) (paragraphs_from (n + 1) (next ∷ a)) _ (not_blank-some (n + 1) next a)
+    ]
+
+-- blank lines end blank, and begin so
+pub blank-ends : (lines : List Line) → AreBlank lines → ends_blank lines ≡ true
+blank-ends [] h = refl
+blank-ends (line ∷ []) h = h.0
+blank-ends (line ∷ next ∷ lines) h = blank-ends (next ∷ lines) h.1
+
+pub blank-begins : (lines : List Line) → AreBlank lines → begins_blank lines ≡ true
+blank-begins [] h = refl
+blank-begins (line ∷ lines) h = h.0
+
+pub ends_blank-append : (a b : List Line) → b ≢ [] → ends_blank b ≡ true → ends_blank (a ++ b) ≡ true
+ends_blank-append a [] some h = absurd (some refl)
+ends_blank-append [] (line ∷ b) some h = h
+ends_blank-append (x ∷ []) (line ∷ b) some h = h
+ends_blank-append (x ∷ y ∷ a) (line ∷ b) some h = ends_blank-append (y ∷ a) (line ∷ b) some h
+
+-- only blank lines give no paragraph
+pub no_paragraph : (n : ℕ) (lines : List Line) → AreBlank lines → paragraphs_from n lines ≡ []
+no_paragraph n lines h = ap (paragraphs_from n) (sym (append-nil lines)) ∙ paragraphs_from-blanks n lines [] h
+
+-- blank lines, a run, and what begins blank: the run's paragraph comes first
+pub next_paragraph : (n : ℕ) (blanks run rest : List Line) → AreBlank blanks → AreNotBlank run → run ≢ [] → begins_blank rest ≡ true → paragraphs_from n (blanks ++ (run ++ rest)) ≡ record { first = n + length blanks; lines = run } ∷ paragraphs_from (n + length blanks + length run) rest
+next_paragraph n blanks [] rest before not_blank some begins = absurd (some refl)
+next_paragraph n blanks (line ∷ run) rest before not_blank some begins =
+    paragraphs_from-blanks n blanks ((line ∷ run) ++ rest) before ∙ paragraphs_from-run (n + length blanks) line run rest not_blank begins
+
+-- the first paragraph of lines that begin with a run is at least as long as the run
+pub long_paragraph : (n : ℕ) (line : Line) (run rest : List Line) → AreNotBlank (line ∷ run) → (p : Paragraph) × (ps : List Paragraph) × (paragraphs_from n ((line ∷ run) ++ rest) ≡ p ∷ ps) × (total_length (line ∷ run) ≤ total_length p.lines)
+long_paragraph n line [] rest h =
+    let s = some_paragraph n line (begins_blank rest) (paragraphs_from (n + 1) rest) in
+    (s.0, s.1, rw h.0 s.2, s.3)
+long_paragraph n line (next ∷ run) rest h =
+    let ih = long_paragraph (n + 1) next run rest h.1 in
+    (record { first = n; lines = line ∷ ih.0.lines }, ih.1, joins n line (is_blank line) (is_blank next) _ _ _ _ h.0 h.1.0 ih.2, omega (arith, total-cons line (next ∷ run), total-cons line ih.0.lines, ih.3))
+
+-- a paragraph that no fields spell is none of a text that means something
+pub not_meant : (ps qs : List Paragraph) (p : Paragraph) (meaning : List Entries) → ((fields : List Field) → ¬ (SpellsParagraph p fields)) → HaveMeanings (ps ++ p ∷ qs) meaning → ⊥
+not_meant [] qs p [] unspelled h = h
+not_meant [] qs p (entries ∷ meaning) unspelled h = unspelled h.0.0 h.0.1
+not_meant (x ∷ ps) qs p [] unspelled h = h
+not_meant (x ∷ ps) qs p (entries ∷ meaning) unspelled h = not_meant ps qs p meaning unspelled h.1
+
+-- a paragraph that is too long is none of a text whose paragraphs aren't
+pub not_short : (ps qs : List Paragraph) (p : Paragraph) → paragraph_limit < total_length p.lines → AllByRecursion IsShort (ps ++ p ∷ qs) → ⊥
+not_short ps qs p long h = let short : total_length p.lines ≤ paragraph_limit = (all-back IsShort ps (p ∷ qs) h).0 in omega arith

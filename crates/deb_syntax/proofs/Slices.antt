@@ -1,0 +1,24 @@
+-- Slices of a list: joined, and cut again.
+use Rattle.std.proofs.Common.{◌≡◌, ℕ, zero, suc, ◌+◌, ◌-◌, ◌<◌, ◌≤◌, Bool, true, false, List, [], ◌∷◌, ◌++◌, length, take, drop, map, slice_index, slice_range, get_or, refl, sym, ap, ◌∙◌, arith, rules, ◌||◌}
+use Rattle.std.specs.List.{list_any}
+use Rattle.std.proofs.lemmas.List.{same_lists, places, drop_more, drop-drop}
+
+-- a slice, an element and the slice behind it are one slice
+pub slice_range-join : (xs : List ℕ) (a b c : ℕ) → a ≤ b → b < c → c ≤ length xs → slice_range xs a b ++ slice_index xs b ∷ slice_range xs (b + 1) c ≡ slice_range xs a c
+slice_range-join xs a b c ab bc le = same_lists _ _ (search (rules, places)) (λ k d h. grind (arith, places))
+
+-- the front of a slice
+pub take-slice_range : (xs : List ℕ) (a b n : ℕ) → n ≤ b - a → take n (slice_range xs a b) ≡ slice_range xs a (a + n)
+take-slice_range xs a b n le = same_lists _ _ (search (rules, places)) (λ k d h. grind (arith, places))
+
+-- what stands behind it
+pub drop-slice_range : (xs : List ℕ) (a b n : ℕ) → drop n (slice_range xs a b) ≡ slice_range xs (a + n) b
+drop-slice_range xs a b n = same_lists _ _ (search (rules, places)) (λ k d h. grind (arith, places))
+
+pub list_any-map : {X Y : Type 0} (p : X → Bool) (h : Y → X) (ys : List Y) → list_any p (map h ys) ≡ list_any (λ y. p (h y)) ys
+list_any-map p h [] = refl
+list_any-map p h (y ∷ ys) = ap (λ t. p (h y) || t) (list_any-map p h ys)
+
+pub list_any-same : {X : Type 0} (p q : X → Bool) (xs : List X) → ((x : X) → p x ≡ q x) → list_any p xs ≡ list_any q xs
+list_any-same p q [] h = refl
+list_any-same p q (x ∷ xs) h = rw (h x, list_any-same p q xs h)

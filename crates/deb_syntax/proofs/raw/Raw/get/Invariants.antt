@@ -1,0 +1,8 @@
+use Rattle.std.proofs.Common.{◌≡◌, drop}
+use Rattle.deb_syntax.specs.Places.{fields_at}
+use Rattle.deb_syntax.specs.Raw.{fields_of, field_named}
+use Rattle.deb_syntax.proofs.raw.Raw.get.Given as goal
+
+-- no field so far has the name
+abbrev pub invariant-loop-place : goal.invariant-loop-place
+invariant-loop-place l = field_named l.name (fields_at l.self.text.now (drop l.place-index l.self.places.now)) ≡ field_named l.name (fields_of l.self)

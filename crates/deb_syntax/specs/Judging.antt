@@ -1,0 +1,132 @@
+-- What is judged of a paragraph's lines, one after another: its fields, or the first refusal of a line.
+-- Debian Policy 5.1; deb822(5), "Syntax". The order of the refusals is this project's own.
+use Rattle.std.specs.Prelude.{◌≡◌, ℕ, ◌+◌, ◌==◌, ◌&&◌, Bool, true, false, cond, not, List, [], ◌∷◌, ◌++◌, length, map, drop, IsTrue, Result, Ok, Err, codes, refl}
+use Rattle.std.specs.List.{list_any, starts_with, before_first, after_first}
+use Rattle.std.specs.Str.{is_utf8, chars}
+use lib.Utf8.{encode}
+use Rattle.deb_base.specs.declared.code.Code.{Code}
+use Rattle.deb_base.specs.declared.code.Code.TheVariants.{NotUtf8, Armour, Comment, StrayContinuation, BadFieldName, NoColon, DuplicateField}
+use Rattle.deb_base.specs.declared.refusal.Refusal.{Refusal}
+use Rattle.deb_syntax.specs.Lines.{Line, newline, is_blank_byte, lines_of}
+use Rattle.deb_syntax.specs.Fields.{Field, colon, is_name, begins_with_blank, has_name}
+
+-- a text without the spaces and tabs at its front
+abbrev pub without_leading_blanks : List ℕ → List ℕ
+without_leading_blanks [] = []
+without_leading_blanks (b ∷ bs) = cond (is_blank_byte b) (without_leading_blanks bs) (b ∷ bs)
+
+-- a byte in front of a text whose trailing spaces and tabs are cut
+abbrev pub with_kept : ℕ → List ℕ → List ℕ
+with_kept b [] = cond (is_blank_byte b) [] (b ∷ [])
+with_kept b (c ∷ cs) = b ∷ c ∷ cs
+
+abbrev pub without_trailing_blanks : List ℕ → List ℕ
+without_trailing_blanks [] = []
+without_trailing_blanks (b ∷ bs) = with_kept b (without_trailing_blanks bs)
+
+-- a text without the spaces and tabs at its ends
+abbrev pub trimmed : List ℕ → List ℕ
+trimmed text = without_trailing_blanks (without_leading_blanks text)
+
+-- a field of which more lines may come: in place of its body, all that stands behind its colon so far
+abbrev pub with_text : Field → List ℕ → Field
+with_text field text = record field { body = text }
+
+-- the field that has come to its end
+abbrev pub ended : Field → Field
+ended field = with_text field (trimmed field.body)
+
+-- a continuation line goes to the last field
+abbrev pub continued : List Field → Line → List Field
+continued [] line = []
+continued (field ∷ []) line = with_text field (field.body ++ newline ∷ line) ∷ []
+continued (field ∷ next ∷ fields) line = field ∷ continued (next ∷ fields) line
+
+-- the first line of an armoured message or signature
+abbrev pub begins_armour : Line → Bool
+begins_armour line = starts_with (λ a b. a == b) line (codes "-----BEGIN PGP")
+
+-- the line's first byte is `#`
+abbrev pub begins_comment : Line → Bool
+begins_comment [] = false
+begins_comment (b ∷ bs) = b == 35
+
+abbrev pub has_colon : Line → Bool
+has_colon line = list_any (λ b. b == colon) line
+
+-- the field that a line begins
+abbrev pub begun : ℕ → Line → Field
+begun n line = record { name = before_first (λ b. b == colon) line; line = n; body = after_first (λ b. b == colon) line }
+
+-- what line n, which is no continuation line, makes of the fields before it
+abbrev pub field_line : ℕ → List Field → Line → Result (List Field) Refusal
+field_line n fields line =
+    cond (begins_armour line) (Err (record { code = Armour; line = n }))
+    (cond (begins_comment line) (Err (record { code = Comment; line = n }))
+    (cond (not (has_colon line)) (Err (record { code = NoColon; line = n }))
+    (cond (not (is_name (begun n line).name)) (Err (record { code = BadFieldName; line = n }))
+    (cond (has_name (begun n line).name fields) (Err (record { code = DuplicateField; line = n }))
+    (Ok (fields ++ begun n line ∷ []))))))
+
+-- what line n, which is a continuation line, makes of the fields before it
+abbrev pub continuation_line : ℕ → List Field → Line → Result (List Field) Refusal
+continuation_line n [] line = Err (record { code = StrayContinuation; line = n })
+continuation_line n (field ∷ fields) line = Ok (continued (field ∷ fields) line)
+
+-- what line n makes of the fields before it
+abbrev pub line_judged : ℕ → List Field → Line → Result (List Field) Refusal
+line_judged n fields line =
+    cond (not (is_utf8 line)) (Err (record { code = NotUtf8; line = n }))
+    (cond (begins_with_blank line) (continuation_line n fields line) (field_line n fields line))
+
+-- what lines make of the fields before them, of which the first has number n
+abbrev pub lines_judged : ℕ → Result (List Field) Refusal → List Line → Result (List Field) Refusal
+lines_judged n (Err refusal) lines = Err refusal
+lines_judged n (Ok fields) [] = Ok (map ended fields)
+lines_judged n (Ok fields) (line ∷ lines) = lines_judged (n + 1) (line_judged n fields line) lines
+
+-- the fields of a paragraph's lines, or the first refusal of a line
+abbrev pub judged : ℕ → List Line → Result (List Field) Refusal
+judged n lines = lines_judged n (Ok []) lines
+
+three_fields : judged 1 (lines_of (codes "vERSION: 01.0-0\npackage:hello\nArchitecture: amd64\n")) ≡ Ok (record { name = codes "vERSION"; line = 1; body = codes "01.0-0" } ∷ record { name = codes "package"; line = 2; body = codes "hello" } ∷ record { name = codes "Architecture"; line = 3; body = codes "amd64" } ∷ [])
+unfolding is_utf8 chars encode
+three_fields = refl
+
+two_bodies : judged 1 (lines_of (codes "Package: aa\nDescription:  short  \n one\t\n .\n\ttwo  \n")) ≡ Ok (record { name = codes "Package"; line = 1; body = codes "aa" } ∷ record { name = codes "Description"; line = 2; body = codes "short  \n one\t\n .\n\ttwo" } ∷ [])
+unfolding is_utf8 chars encode
+two_bodies = refl
+
+no_colon : judged 1 (lines_of (codes "Package aa")) ≡ Err (record { code = NoColon; line = 1 })
+unfolding is_utf8 chars encode
+no_colon = refl
+
+bad_name : judged 1 (lines_of (codes "Package : aa")) ≡ Err (record { code = BadFieldName; line = 1 })
+unfolding is_utf8 chars encode
+bad_name = refl
+
+duplicate : judged 1 (lines_of (codes "Package: aa\npackage: bb")) ≡ Err (record { code = DuplicateField; line = 2 })
+unfolding is_utf8 chars encode
+duplicate = refl
+
+comment : judged 1 (lines_of (codes "# x")) ≡ Err (record { code = Comment; line = 1 })
+unfolding is_utf8 chars encode
+comment = refl
+
+armour : judged 1 (lines_of (codes "-----BEGIN PGP SIGNED MESSAGE-----")) ≡ Err (record { code = Armour; line = 1 })
+unfolding is_utf8 chars encode
+armour = refl
+
+stray : judged 1 (lines_of (codes " x")) ≡ Err (record { code = StrayContinuation; line = 1 })
+unfolding is_utf8 chars encode
+stray = refl
+
+-- a line that isn't UTF-8 is no comment
+not_utf8 : judged 1 ((35 ∷ 255 ∷ []) ∷ []) ≡ Err (record { code = NotUtf8; line = 1 })
+unfolding is_utf8 chars encode
+not_utf8 = refl
+
+-- `X: caf` and half of a character, in the second line
+half_character : judged 1 (codes "A: 1" ∷ (88 ∷ 58 ∷ 32 ∷ 99 ∷ 97 ∷ 102 ∷ 195 ∷ []) ∷ []) ≡ Err (record { code = NotUtf8; line = 2 })
+unfolding is_utf8 chars encode
+half_character = refl

@@ -1,0 +1,12 @@
+pub mod Lines
+pub mod Fields
+pub mod Judging
+pub mod Meaning
+pub mod Taking
+pub mod Extents
+pub mod Laws
+pub mod Places
+pub mod Raw
+pub mod Reading
+pub mod Paragraphs
+pub mod NextJudged

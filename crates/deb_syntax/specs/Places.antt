@@ -1,0 +1,62 @@
+-- Where the fields of a paragraph stand in its bytes, and what stands there. Debian Policy 5.1; deb822(5), "Syntax".
+use Rattle.std.specs.Prelude.{◌≡◌, ℕ, ◌+◌, ◌==◌, ◌&&◌, Bool, true, List, [], ◌∷◌, length, map, nat_le, nat_lt, drop, slice_range, if◌then◌else◌, IsTrue, Result, Err}
+use Rattle.std.specs.List.{list_all}
+use Rattle.deb_base.specs.declared.fault.Fault.{Fault}
+use Rattle.deb_base.specs.declared.fault.Fault.TheVariants.{Refused, Memory, Read, Write}
+use Rattle.deb_base.specs.declared.refusal.Refusal.{Refusal}
+use Rattle.deb_syntax.specs.Lines.{Line, pieces_of}
+use Rattle.deb_syntax.specs.Fields.{Field}
+use Rattle.deb_syntax.specs.Judging.{trimmed}
+use Rattle.deb_syntax.specs.declared.folded_name.FoldedName.{FoldedName}
+use Rattle.deb_syntax.specs.declared.place.Place.{Place}
+
+abbrev pub name_at : List ℕ → Place → List ℕ
+name_at text place = slice_range text place.start place.colon
+
+-- the field at a place of a paragraph's bytes
+abbrev pub field_at : List ℕ → Place → Field
+field_at text place = record { name = name_at text place; line = place.line; body = trimmed (slice_range text (place.colon + 1) place.end) }
+
+abbrev pub fields_at : List ℕ → List Place → List Field
+fields_at text places = map (field_at text) places
+
+-- whether a place lies within a text of n bytes
+abbrev pub lies_within : ℕ → Place → Bool
+lies_within n place = nat_le place.start place.colon && nat_lt place.colon place.end && nat_le place.end n
+
+-- a field of which more lines may come: in place of its body, all that stands behind its colon so far
+abbrev pub begun_at : List ℕ → Place → Field
+begun_at text place = record { name = name_at text place; line = place.line; body = slice_range text (place.colon + 1) place.end }
+
+abbrev pub begun_fields : List ℕ → List Place → List Field
+begun_fields text places = map (begun_at text) places
+
+-- the pieces behind the one that ends at a place of the text
+abbrev pub pieces_behind : List ℕ → ℕ → List Line
+pieces_behind text end = if nat_lt end (length text) then pieces_of (drop (end + 1) text) else []
+
+-- the places, of which the last ends at `end`
+abbrev pub with_last_end : ℕ → List Place → List Place
+with_last_end end [] = []
+with_last_end end (place ∷ []) = record place { end = end } ∷ []
+with_last_end end (place ∷ next ∷ places) = place ∷ with_last_end end (next ∷ places)
+
+-- whether the last of the places ends one byte before a line's begin
+abbrev pub ends_before : ℕ → List Place → Bool
+ends_before start [] = true
+ends_before start (place ∷ []) = place.end + 1 == start
+ends_before start (place ∷ next ∷ places) = ends_before start (next ∷ places)
+
+-- What is kept of the lines before the one that begins at `start`: the places lie within the text, the last of them
+-- ends at that line, and these are their names.
+pub record StandsAt (text : List ℕ) (start : ℕ) (places : List Place) (names : List FoldedName) : Type 0 where
+  pub within : IsTrue (list_all (lies_within (length text)) places)
+  pub reached : IsTrue (ends_before start places)
+  pub named : map (λ name. name.0.now) names ≡ map (name_at text) places
+
+-- the fault is the refusal that is judged, or want of memory
+abbrev pub IsFaultOf : Result (List Field) Refusal → Fault → Type 0
+IsFaultOf judgement (Refused refusal) = judgement ≡ Err refusal
+IsFaultOf judgement Memory = Unit {0}
+IsFaultOf judgement Read = ⊥
+IsFaultOf judgement Write = ⊥

@@ -1,0 +1,22 @@
+-- What a view of a paragraph shows of it: its fields and the number of its first line. Debian Policy 5.1.
+use Rattle.std.specs.Prelude.{◌≡◌, ℕ, List, Option, find}
+use Rattle.std.specs.Str.{bytes_eq}
+use Rattle.deb_base.specs.Names.{folded}
+use Rattle.deb_syntax.specs.Fields.{Field}
+use Rattle.deb_syntax.specs.Places.{fields_at}
+use Rattle.deb_syntax.specs.declared.raw.Raw.{Raw}
+use Rattle.deb_syntax.specs.declared.raw.RawField.{RawField}
+
+abbrev pub field_of : RawField → Field
+field_of field = record { name = field.name.now; line = field.line; body = field.body.now }
+
+-- the fields of a paragraph in the order of its lines
+abbrev pub fields_of : Raw → List Field
+fields_of raw = fields_at raw.text.now raw.places.now
+
+abbrev pub first_line_of : Raw → ℕ
+first_line_of raw = raw.first_line
+
+-- the first field of the name, without ASCII case
+abbrev pub field_named : List ℕ → List Field → Option Field
+field_named name fields = find (λ field. bytes_eq (folded field.name) (folded name)) fields

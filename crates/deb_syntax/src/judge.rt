@@ -1,0 +1,199 @@
+//! Judging the bytes of one paragraph.
+
+ghost use Rattle.std.specs.Prelude.{◌≡◌, ℕ, ◌+◌, ◌-◌, ◌^◌, ◌<◌, ◌≤◌, ◌∷◌, [], List, ◌++◌, length, take, drop, IsTrue, IfOk, IfErr, OnOk, OnErr, slice_index, slice_range, if◌then◌else◌, Ok, Err};
+ghost use Rattle.deb_syntax.specs.Lines.{newline, pieces_of};
+ghost use Rattle.deb_syntax.specs.Fields.{Field, begins_with_blank, has_name};
+ghost use Rattle.deb_syntax.specs.Judging.{begins_comment, continuation_line, field_line, judged, line_judged};
+ghost use Rattle.deb_syntax.specs.Places.{begun_fields, fields_at, lies_within, pieces_behind, with_last_end, StandsAt, IsFaultOf};
+ghost use Rattle.std.specs.List.{list_all};
+
+use crate::folded_name::FoldedName;
+use crate::name::is_name;
+use crate::place::Place;
+use deb_base::{Code, Fault, Refusal};
+use indexmap::IndexSet;
+use memchr::memchr;
+use std::alloc::Global;
+
+const ARMOUR: &[u8] = b"-----BEGIN PGP";
+
+/// A line of the text.
+#[derive(Clone, Copy)]
+struct Line {
+    /// Its number.
+    number: u64,
+    /// Where it begins.
+    start: usize,
+    /// Where it ends, without its newline.
+    end: usize,
+}
+
+/// The fields of a paragraph, or the first refusal of one of its lines (Debian Policy 5.1; deb822(5), "Syntax").
+///
+/// `text` is the paragraph's lines with a newline between two of them, and `first_line` is the number of the first.
+/// After Ok `places` says where the fields stand in the text; what it held before is lost.
+/// After an error it says nothing.
+///
+/// Refused: a line isn't UTF-8 (`NotUtf8`), begins an armoured message (`Armour`) or a comment (`Comment`), continues
+/// no field (`StrayContinuation`), has no colon (`NoColon`), has no name before its colon (`BadFieldName`) or one that
+/// stood before in the paragraph (`DuplicateField`). Memory: the places or the names of the fields didn't fit.
+pub(crate) fn judge(
+    alloc: Global,
+    text: &[u8],
+    first_line: u64,
+    places: &mut Vec<Place>,
+) -> Result<(), Fault>
+    requires { first_line + length text.now < 2 ^ 64 }
+    ensures ok { OnOk result (judged first_line (pieces_of text.now) ≡ Ok (fields_at text.now places.new.items)) }
+    ensures within { OnOk result (IsTrue (list_all (lies_within (length text.now)) places.new.items)) }
+    ensures fault { IfErr result (IsFaultOf (judged first_line (pieces_of text.now))) }
+{
+    places.clear();
+    let mut names = IndexSet::new(alloc);
+    let mut number = first_line;
+    let mut start = 0;
+    loop {
+        let end = line_end(text, start);
+        judge_line(text, Line { number, start, end }, places, &mut names)?;
+        if end == text.len() {
+            return Ok(());
+        }
+        start = end + 1;
+        number += 1;
+    }
+}
+
+/// Where the line that begins at `start` ends, without its newline.
+fn line_end(text: &[u8], start: usize) -> usize
+    requires { start ≤ length text.now }
+    ensures after { start ≤ result }
+    ensures within { result ≤ length text.now }
+    ensures newline { result < length text.now → slice_index text.now result ≡ newline }
+    ensures pieces { pieces_of (drop start text.now) ≡ slice_range text.now start result ∷ pieces_behind text.now result }
+{
+    match memchr(b'\n', &text[start..]) {
+        Some(length) => start + length,
+        None => text.len(),
+    }
+}
+
+/// Judges one line after the lines before it.
+fn judge_line<'a>(
+    text: &'a [u8],
+    line: Line,
+    places: &mut Vec<Place>,
+    names: &mut IndexSet<FoldedName<'a>>,
+) -> Result<(), Fault>
+    requires after { line.start ≤ line.end }
+    requires within { line.end ≤ length text.now }
+    requires newline { 0 < line.start → slice_index text.now (line.start - 1) ≡ newline }
+    requires stands { StandsAt text.now line.start places.old.items names.old.keys }
+    ensures ok { OnOk result (line_judged line.number (begun_fields text.now places.old.items) (slice_range text.now line.start line.end)
+        ≡ Ok (begun_fields text.now places.new.items)) }
+    ensures stands { OnOk result (StandsAt text.now (line.end + 1) places.new.items names.new.keys) }
+    ensures fault { IfErr result (IsFaultOf (line_judged line.number (begun_fields text.now places.old.items) (slice_range text.now line.start line.end))) }
+{
+    let content = &text[line.start..line.end];
+    if !simdutf8::is_utf8(content) {
+        return Err(refused(Code::NotUtf8, line));
+    }
+    if begins_with_blank(content) {
+        continue_field(line, places)
+    } else {
+        begin_field(text, line, places, names)
+    }
+}
+
+fn refused(code: Code, line: Line) -> Fault
+    ensures { result ≡ Fault.Refused (record { code = code; line = line.number }) }
+{
+    Fault::Refused(Refusal {
+        code,
+        line: line.number,
+    })
+}
+
+/// Whether a space or a tab comes first.
+fn begins_with_blank(text: &[u8]) -> bool
+    ensures { result ≡ begins_with_blank text.now }
+{
+    matches!(text, [b' ' | b'\t', ..])
+}
+
+/// Gives a continuation line to the last field.
+fn continue_field(line: Line, places: &mut Vec<Place>) -> Result<(), Fault>
+    ensures ok { OnOk result ((0 < length places.old.items) × (places.new.items ≡ with_last_end line.end places.old.items)) }
+    ensures stray { IfErr result (λ fault. (places.old.items ≡ [])
+        × (fault ≡ Fault.Refused (record { code = Code.StrayContinuation; line = line.number }))) }
+{
+    let count = places.len();
+    if count == 0 {
+        return Err(refused(Code::StrayContinuation, line));
+    }
+    places[count - 1].end = line.end;
+    Ok(())
+}
+
+/// Begins the field of a line that is no continuation line.
+fn begin_field<'a>(
+    text: &'a [u8],
+    line: Line,
+    places: &mut Vec<Place>,
+    names: &mut IndexSet<FoldedName<'a>>,
+) -> Result<(), Fault>
+    requires after { line.start ≤ line.end }
+    requires within { line.end ≤ length text.now }
+    requires stands { StandsAt text.now line.start places.old.items names.old.keys }
+    ensures ok { OnOk result (field_line line.number (begun_fields text.now places.old.items) (slice_range text.now line.start line.end)
+        ≡ Ok (begun_fields text.now places.new.items)) }
+    ensures stands { OnOk result (StandsAt text.now (line.end + 1) places.new.items names.new.keys) }
+    ensures fault { IfErr result (IsFaultOf (field_line line.number (begun_fields text.now places.old.items) (slice_range text.now line.start line.end))) }
+{
+    let content = &text[line.start..line.end];
+    let colon = colon_of(content).map_err(|code| refused(code, line))?;
+    let added = names
+        .insert(FoldedName(&content[..colon]))
+        .map_err(|_| Fault::Memory)?;
+    if !added {
+        return Err(refused(Code::DuplicateField, line));
+    }
+    let place = Place {
+        line: line.number,
+        start: line.start,
+        colon: line.start + colon,
+        end: line.end,
+    };
+    places.push(place).map_err(|_| Fault::Memory)?;
+    Ok(())
+}
+
+/// Where the colon stands behind the name in a line that begins a field, which may still be a field that stood before.
+fn colon_of(content: &[u8]) -> Result<usize, Code>
+    ensures within { IfOk result (λ colon. colon < length content.now) }
+    ensures ok { IfOk result (λ colon. (n : ℕ) (fields : List Field) → field_line n fields content.now
+        ≡ (if has_name (take colon content.now) fields then Err (record { code = Code.DuplicateField; line = n })
+            else Ok (fields ++ record { name = take colon content.now; line = n; body = drop (colon + 1) content.now } ∷ []))) }
+    ensures refused { IfErr result (λ code. (n : ℕ) (fields : List Field) → field_line n fields content.now ≡ Err (record { code = code; line = n })) }
+{
+    if content.starts_with(ARMOUR) {
+        return Err(Code::Armour);
+    }
+    if begins_comment(content) {
+        return Err(Code::Comment);
+    }
+    match memchr(b':', content) {
+        None => Err(Code::NoColon),
+        Some(colon) if is_name(&content[..colon]) => Ok(colon),
+        Some(_) => Err(Code::BadFieldName),
+    }
+}
+
+/// Whether the first byte is `#`.
+fn begins_comment(line: &[u8]) -> bool
+    ensures { result ≡ begins_comment line.now }
+{
+    matches!(line, [b'#', ..])
+}
+
+#[cfg(test)]
+mod tests;

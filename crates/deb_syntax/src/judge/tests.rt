@@ -1,0 +1,200 @@
+//! Paragraphs, with their fields or their first refusal.
+
+use super::*;
+use crate::Raw;
+use std::test::Fail;
+
+/// A paragraph whose first line has number 1, and its fields: name, line and body.
+struct Accepted(
+    &'static [u8],
+    &'static [(&'static [u8], u64, &'static [u8])],
+);
+
+const ACCEPTED: [Accepted; 8] = [
+    Accepted(
+        b"vERSION: 01.0-0\npackage:hello\nArchitecture: amd64",
+        &[
+            (b"vERSION", 1, b"01.0-0"),
+            (b"package", 2, b"hello"),
+            (b"Architecture", 3, b"amd64"),
+        ],
+    ),
+    // spaces and tabs are cut at the ends of a body alone
+    Accepted(
+        b"Package: aa\nDescription:  short  \n one\t\n .\n\ttwo  ",
+        &[
+            (b"Package", 1, b"aa"),
+            (b"Description", 2, b"short  \n one\t\n .\n\ttwo"),
+        ],
+    ),
+    // a body that begins in its second line, and a field behind it
+    Accepted(
+        b"Files: \t\n aa\n bb\nX-Y:",
+        &[(b"Files", 1, b"\n aa\n bb"), (b"X-Y", 4, b"")],
+    ),
+    // the name ends at the first colon; a continuation line may hold anything
+    Accepted(
+        b"A:b:c\n #d\n -----BEGIN PGP\n e:f",
+        &[(b"A", 1, b"b:c\n #d\n -----BEGIN PGP\n e:f")],
+    ),
+    // other control bytes stay
+    Accepted(
+        b"X: a\r\n b\r\nY:\x00\x0b\x7f\x0c",
+        &[(b"X", 1, b"a\r\n b\r"), (b"Y", 3, b"\x00\x0b\x7f\x0c")],
+    ),
+    Accepted(
+        b"X: caf\xc3\xa9\n \xe2\x82\xac\xf0\x9f\x98\x80",
+        &[(b"X", 1, b"caf\xc3\xa9\n \xe2\x82\xac\xf0\x9f\x98\x80")],
+    ),
+    // names that differ in another way than case
+    Accepted(
+        b"a_b: 1\na-b: 2\n[: 3\n{: 4\n!~: 5",
+        &[
+            (b"a_b", 1, b"1"),
+            (b"a-b", 2, b"2"),
+            (b"[", 3, b"3"),
+            (b"{", 4, b"4"),
+            (b"!~", 5, b"5"),
+        ],
+    ),
+    // a line of 64 bytes and more
+    Accepted(
+        b"Long-name-of-a-field-of-more-bytes-than-are-checked-at-a-time-01: x\nB: y",
+        &[
+            (
+                b"Long-name-of-a-field-of-more-bytes-than-are-checked-at-a-time-01",
+                1,
+                b"x",
+            ),
+            (b"B", 2, b"y"),
+        ],
+    ),
+];
+
+/// A paragraph whose first line has number 1, with the code and the line of its refusal.
+struct Refused(&'static [u8], Code, u64);
+
+const REFUSED: [Refused; 24] = [
+    Refused(b"Package aa", Code::NoColon, 1),
+    Refused(b"Package : aa", Code::BadFieldName, 1),
+    Refused(b":x", Code::BadFieldName, 1),
+    Refused(b"-a: x", Code::BadFieldName, 1),
+    Refused(b"a\x7f: x", Code::BadFieldName, 1),
+    Refused(b"caf\xc3\xa9: x", Code::BadFieldName, 1),
+    Refused(b"a\r: x", Code::BadFieldName, 1),
+    Refused(
+        b"Package: aa\npackage: bb",
+        Code::DuplicateField,
+        2,
+    ),
+    Refused(
+        b"A: 1\nX-Foo: 2\n b\nx-fOO: 2",
+        Code::DuplicateField,
+        4,
+    ),
+    Refused(b"# x", Code::Comment, 1),
+    Refused(b"A: 1\n#", Code::Comment, 2),
+    Refused(b"#a: x", Code::Comment, 1),
+    Refused(
+        b"-----BEGIN PGP SIGNED MESSAGE-----",
+        Code::Armour,
+        1,
+    ),
+    Refused(b"A: 1\n-----BEGIN PGP", Code::Armour, 2),
+    Refused(b"-----BEGIN PGO: x", Code::BadFieldName, 1),
+    Refused(b"-----BEGIN PG", Code::NoColon, 1),
+    Refused(b" x", Code::StrayContinuation, 1),
+    Refused(b"\tx: y\nA: 1", Code::StrayContinuation, 1),
+    Refused(b"#\xff", Code::NotUtf8, 1),
+    Refused(b"A: 1\nX: caf\xc3", Code::NotUtf8, 2),
+    // a character of two lines is none
+    Refused(b"X: caf\xc3\n\xa9: y", Code::NotUtf8, 1),
+    Refused(b"A: 1\n \xc0\x80\nB: 2", Code::NotUtf8, 2),
+    // the first line that fails is told
+    Refused(b"A: 1\nB\nA: 2", Code::NoColon, 2),
+    Refused(b"A: 1\na: 2\nB", Code::DuplicateField, 2),
+];
+
+#[test]
+fn fields_of_paragraphs(rt: HostRuntime) -> Result<(), Fail> {
+    let mut places = Vec::new(rt.alloc());
+    for Accepted(text, fields) in &ACCEPTED {
+        let shown = text.escape_ascii();
+        assert_eq!(rt; judge(rt.alloc(), text, 1, &mut places), Ok(()), "{shown}");
+        let paragraph = Raw::new(text, places.as_slice(), 1);
+        assert_eq!(rt; paragraph.len(), fields.len(), "{shown}");
+        assert!(rt; !paragraph.is_empty(), "{shown}");
+        assert_eq!(rt; paragraph.first_line(), 1, "{shown}");
+        for (index, (name, line, body)) in fields.iter().enumerate() {
+            let field = paragraph.field(index).ok_or("no field at the index")?;
+            assert_eq!(rt; field.name, *name, "{shown}");
+            assert_eq!(rt; field.line, *line, "{shown}");
+            assert_eq!(rt; field.body, *body, "{shown}");
+            let found = paragraph.get(name).ok_or("no field of the name")?;
+            assert_eq!(rt; found.line, *line, "{shown}");
+        }
+        assert!(rt; paragraph.field(fields.len()).is_none(), "{shown}");
+        assert!(rt; paragraph.get(b"Absent").is_none(), "{shown}");
+        assert!(rt; paragraph.get(b"").is_none(), "{shown}");
+    }
+    Ok(())
+}
+
+#[test]
+fn names_are_found_without_case(rt: HostRuntime) -> Result<(), Fail> {
+    let text: &[u8] = b"Pre-Depends: a\nX_Y: b";
+    let mut places = Vec::new(rt.alloc());
+    assert_eq!(rt; judge(rt.alloc(), text, 7, &mut places), Ok(()));
+    let paragraph = Raw::new(text, places.as_slice(), 7);
+    assert_eq!(rt; paragraph.first_line(), 7);
+    let names: [(&[u8], Option<u64>); 6] = [
+        (b"Pre-Depends", Some(7)),
+        (b"pRE-dEPENDS", Some(7)),
+        (b"x_y", Some(8)),
+        (b"x\x7fy", None),
+        (b"Pre-Depend", None),
+        (b"Pre-Depends ", None),
+    ];
+    for (name, line) in &names {
+        let found = paragraph.get(name).map(|field| field.line);
+        assert_eq!(rt; found, *line, "{}", name.escape_ascii());
+    }
+    Ok(())
+}
+
+#[test]
+fn refusals_of_lines(rt: HostRuntime) {
+    let mut places = Vec::new(rt.alloc());
+    for Refused(text, code, line) in &REFUSED {
+        let want = Fault::Refused(Refusal {
+            code: *code,
+            line: *line,
+        });
+        let answer = judge(rt.alloc(), text, 1, &mut places);
+        assert_eq!(rt; answer, Err(want), "{}", text.escape_ascii());
+    }
+}
+
+#[test]
+fn a_hundred_thousand_fields(rt: HostRuntime) -> Result<(), Fail> {
+    let mut text = Vec::new(rt.alloc());
+    for i in 0..100_000u32 {
+        text.extend_from_slice(format!(in rt.alloc(); "F{i}: x\n")?.as_bytes())?;
+    }
+    text.extend_from_slice(b"last:")?;
+    let mut places = Vec::new(rt.alloc());
+    assert_eq!(rt; judge(rt.alloc(), text.as_slice(), 11, &mut places), Ok(()));
+    let paragraph = Raw::new(text.as_slice(), places.as_slice(), 11);
+    assert_eq!(rt; paragraph.len(), 100_001);
+    let last = paragraph.get(b"LAST").ok_or("no last field")?;
+    assert_eq!(rt; last.line, 100_011);
+
+    text.truncate(text.len() - 5);
+    text.extend_from_slice(b"f0: x\nlast")?;
+    let want = Fault::Refused(Refusal {
+        code: Code::DuplicateField,
+        line: 100_011,
+    });
+    assert_eq!(rt; judge(rt.alloc(), text.as_slice(), 11, &mut places), Err(want));
+    Ok(())
+}

@@ -1,0 +1,76 @@
+//! Laws of the definitions of the reader. Each function does nothing, and its contract is the law.
+
+ghost use Rattle.deb_syntax.specs.Laws.{JudgedIsSpelled, SpelledIsJudged, RefusedIsNotSpelled, ParagraphHasOneReading, TextHasOneMeaning, TextIsMeantOrRefused, ParagraphsAreRuns, ParagraphsStandInText, LinesGiveTextBack, TextGivesLinesBack, PiecesGiveTextBack, MeaningIsItsBodies, MeaningHasBodies, OrderIsNoMeaning};
+
+/// What is judged of the lines of a paragraph that is within its limit of length is what the lines spell.
+pub fn what_is_judged_is_spelled()
+    ensures { JudgedIsSpelled }
+{}
+
+/// The fields that the lines of a paragraph spell are those that are judged.
+pub fn what_is_spelled_is_judged()
+    ensures { SpelledIsJudged }
+{}
+
+/// A refusal of a paragraph's lines has the number of one of them and a code from 1 to 7, and then no fields
+/// are spelled by the lines.
+pub fn what_is_refused_is_not_spelled()
+    ensures { RefusedIsNotSpelled }
+{}
+
+/// A paragraph is spelled by at most one list of fields.
+pub fn a_paragraph_has_one_reading()
+    ensures { ParagraphHasOneReading }
+{}
+
+/// A text means at most one thing.
+pub fn a_text_has_one_meaning()
+    ensures { TextHasOneMeaning }
+{}
+
+/// A text whose paragraphs are within their limit of length means something, or it has a first refusal of a line
+/// and means nothing.
+pub fn a_text_is_meant_or_refused()
+    ensures { TextIsMeantOrRefused }
+{}
+
+/// The paragraphs of lines are the maximal runs of lines that aren't blank, and there is one such list.
+pub fn paragraphs_are_maximal_runs()
+    ensures { ParagraphsAreRuns }
+{}
+
+/// Each paragraph of a text stands among the lines of the text, at the number of its first line; it has a line,
+/// and none of its lines is blank.
+pub fn paragraphs_stand_in_their_text()
+    ensures { ParagraphsStandInText }
+{}
+
+/// The lines of a text, each with its newline, are the text, with a newline at its end where it lacked.
+pub fn lines_give_the_text_back()
+    ensures { LinesGiveTextBack }
+{}
+
+/// Lines without newlines are the lines of the text that they make.
+pub fn a_text_gives_its_lines_back()
+    ensures { TextGivesLinesBack }
+{}
+
+/// The pieces of a text between its newlines, joined by newlines, are the text.
+pub fn pieces_give_the_text_back()
+    ensures { PiecesGiveTextBack }
+{}
+
+/// Two paragraphs mean the same where the same body stands under each name.
+pub fn a_meaning_is_its_bodies()
+    ensures { MeaningIsItsBodies }
+{}
+
+/// Under the canonical spelling of a name stands the body of the field that has the name, without ASCII case.
+pub fn a_meaning_has_each_body()
+    ensures { MeaningHasBodies }
+{}
+
+/// Fields in another order mean the same.
+pub fn the_order_of_fields_means_nothing()
+    ensures { OrderIsNoMeaning }
+{}

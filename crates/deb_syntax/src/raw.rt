@@ -1,0 +1,105 @@
+//! The fields of a paragraph, as a view of its bytes.
+
+ghost use Rattle.std.specs.Prelude.{◌≡◌, ◌↔◌, [], length, slice_get, option_map, IsTrue};
+ghost use Rattle.std.specs.List.{list_all};
+ghost use Rattle.deb_syntax.specs.Places.{field_at, fields_at, lies_within};
+
+use crate::place::Place;
+use crate::trim::trimmed;
+use deb_base::same_name;
+
+/// A field of a paragraph, as slices of the paragraph's bytes (Debian Policy 5.1).
+#[derive(Clone, Copy, Debug)]
+pub struct RawField<'a> {
+    /// The name as it is spelled.
+    pub name: &'a [u8],
+    /// The number of the field's first line in its file, which is counted from 1.
+    pub line: u64,
+    /// What stands behind the colon, through the field's continuation lines, with spaces and tabs cut
+    /// at both ends alone. Line ends, and spaces and tabs beside them, stay.
+    pub body: &'a [u8],
+}
+
+/// A paragraph, as a view of its bytes: its fields, of which no two have one name (Debian Policy 5.1).
+///
+/// No call takes memory.
+#[derive(Clone, Copy)]
+pub struct Raw<'a> {
+    text: &'a [u8],
+    places: &'a [Place],
+    first_line: u64,
+    ghost within: { IsTrue (list_all (lies_within (length text.now)) places.now) },
+}
+
+impl<'a> Raw<'a> {
+    ghost use Rattle.deb_syntax.specs.Raw.{field_of, fields_of, first_line_of, field_named};
+
+    /// The paragraph of these bytes, whose fields stand at the places.
+    pub(crate) fn new(text: &'a [u8], places: &'a [Place], first_line: u64) -> Raw<'a>
+        requires { IsTrue (list_all (lies_within (length text.now)) places.now) }
+        ensures fields { fields_of result ≡ fields_at text.now places.now }
+        ensures first_line { first_line_of result ≡ first_line }
+    {
+        Raw {
+            text,
+            places,
+            first_line,
+        }
+    }
+
+    /// The number of the paragraph's first line in its file, which is counted from 1.
+    pub fn first_line(&self) -> u64
+        ensures { result ≡ first_line_of self.now }
+    {
+        self.first_line
+    }
+
+    /// How many fields the paragraph has.
+    pub fn len(&self) -> usize
+        ensures { result ≡ length (fields_of self.now) }
+    {
+        self.places.len()
+    }
+
+    /// Whether it has none.
+    pub fn is_empty(&self) -> bool
+        ensures { IsTrue result ↔ (fields_of self.now ≡ []) }
+    {
+        self.places.is_empty()
+    }
+
+    /// The field at an index from 0, in the order of the file, or `None` where there are no more.
+    pub fn field(&self, index: usize) -> Option<RawField<'a>>
+        ensures { option_map field_of result ≡ slice_get (fields_of self.now) index }
+    {
+        if index < self.places.len() {
+            Some(self.field_at(self.places[index]))
+        } else {
+            None
+        }
+    }
+
+    /// The field of a name, where names that differ in ASCII case alone are the same, or `None` where
+    /// there is no such field.
+    pub fn get(&self, name: &[u8]) -> Option<RawField<'a>>
+        ensures { option_map field_of result ≡ field_named name.now (fields_of self.now) }
+    {
+        for place in self.places {
+            if same_name(&self.text[place.start..place.colon], name) {
+                return Some(self.field_at(*place));
+            }
+        }
+        None
+    }
+
+    fn field_at(&self, place: Place) -> RawField<'a>
+        requires { IsTrue (lies_within (length self.now.text.now) place) }
+        ensures { field_of result ≡ field_at self.now.text.now place }
+    {
+        RawField {
+            name: &self.text[place.start..place.colon],
+            line: place.line,
+            body: trimmed(&self.text[place.colon + 1..place.end]),
+        }
+    }
+}
