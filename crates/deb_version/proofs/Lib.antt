@@ -7,3 +7,8 @@ pub mod FaultLemmas
 pub mod ValueLemmas
 pub mod AllowedLemmas
 pub mod ParseLemmas
+pub mod FirstPlace
+pub mod FirstCut
+pub mod NumberOrder
+pub mod ContinuedOrder
+pub mod OrderLemmas

@@ -4,4 +4,6 @@ pub mod Grammar
 pub mod Places
 pub mod Faults
 pub mod GrammarLaws
+pub mod OrderLaws
 pub mod Version
+pub mod Cuts

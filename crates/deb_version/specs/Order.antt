@@ -1,10 +1,18 @@
--- Debian's order of versions. deb-version(7), "Sorting algorithm"; Debian Policy 5.6.12.
-use Rattle.std.specs.Prelude.{◌≡◌, ℕ, ◌+◌, ◌==◌, Bool, true, false, cond, List, [], ◌∷◌, refl}
+-- Debian's order of versions: which of two versions is later.
+-- deb-version(7), "Sorting algorithm"; Debian Policy 5.6.12.
+use Rattle.std.specs.Prelude.{◌≡◌, ℕ, ◌+◌, ◌==◌, cond, List, [], ◌∷◌, map, refl, codes}
 use Rattle.std.specs.Char.{is_ascii_alphabetic}
 use Rattle.std.specs.Ordering.{nat_cmp, ordering_then}
 use Rattle.std.specs.declared.cmp.Ordering.{Ordering}
-use Rattle.std.specs.declared.cmp.Ordering.TheVariants.{Less, Equal, Greater}
-use Rattle.deb_version.specs.Parts.{Part, Meaning, no_revision}
+use Rattle.std.specs.declared.cmp.Ordering.TheVariants.{Less, Equal}
+use Rattle.deb_version.specs.Parts.{Part, Meaning, no_revision, parts_of}
+
+-- two lists: the first place at which they differ decides, where the shorter list is continued by `rest` without end
+abbrev pub continued_cmp : {K : Type 0} → (K → K → Ordering) → K → List K → List K → Ordering
+continued_cmp cmp rest [] [] = Equal
+continued_cmp cmp rest [] (y ∷ ys) = ordering_then (cmp rest y) (continued_cmp cmp rest [] ys)
+continued_cmp cmp rest (x ∷ xs) [] = ordering_then (cmp x rest) (continued_cmp cmp rest xs [])
+continued_cmp cmp rest (x ∷ xs) (y ∷ ys) = ordering_then (cmp x y) (continued_cmp cmp rest xs ys)
 
 -- the rank of the end of a text
 abbrev pub end_rank : ℕ
@@ -16,10 +24,7 @@ rank_of b = cond (b == 126) 0 (cond (is_ascii_alphabetic b) (b + 1) (b + 257))
 
 -- two texts without digits: the first place whose ranks differ decides, where each place past the end has the end's rank
 abbrev pub text_cmp : List ℕ → List ℕ → Ordering
-text_cmp [] [] = Equal
-text_cmp [] (c ∷ cs) = ordering_then (nat_cmp end_rank (rank_of c)) (text_cmp [] cs)
-text_cmp (b ∷ bs) [] = ordering_then (nat_cmp (rank_of b) end_rank) (text_cmp bs [])
-text_cmp (b ∷ bs) (c ∷ cs) = ordering_then (nat_cmp (rank_of b) (rank_of c)) (text_cmp bs cs)
+text_cmp a b = continued_cmp nat_cmp end_rank (map rank_of a) (map rank_of b)
 
 -- two parts: by their texts first, then by their numbers
 abbrev pub part_cmp : Part → Part → Ordering
@@ -31,11 +36,73 @@ empty_part = ([], 0)
 
 -- two upstream versions, or two revisions: the first parts that differ decide
 abbrev pub component_cmp : List Part → List Part → Ordering
-component_cmp [] [] = Equal
-component_cmp [] (q ∷ qs) = ordering_then (part_cmp empty_part q) (component_cmp [] qs)
-component_cmp (p ∷ ps) [] = ordering_then (part_cmp p empty_part) (component_cmp ps [])
-component_cmp (p ∷ ps) (q ∷ qs) = ordering_then (part_cmp p q) (component_cmp ps qs)
+component_cmp a b = continued_cmp part_cmp empty_part a b
 
 -- two versions: by epoch, then by upstream version, then by revision
 abbrev pub version_cmp : Meaning → Meaning → Ordering
 version_cmp a b = ordering_then (nat_cmp a.epoch b.epoch) (ordering_then (component_cmp a.upstream b.upstream) (component_cmp a.revision b.revision))
+
+-- tilde stands before the end, the end before letters, letters before the rest
+worked-tilde : text_cmp (codes "~") [] ≡ Less
+worked-tilde = refl
+
+worked-tildes : text_cmp (codes "~~") (codes "~~a") ≡ Less
+worked-tildes = refl
+
+worked-tilde-letter : text_cmp (codes "~~a") (codes "~") ≡ Less
+worked-tilde-letter = refl
+
+worked-letter : text_cmp [] (codes "a") ≡ Less
+worked-letter = refl
+
+worked-rest : text_cmp (codes "z") (codes "+") ≡ Less
+worked-rest = refl
+
+-- two versions of epoch 0 without revision
+abbrev upstream_cmp : List ℕ → List ℕ → Ordering
+upstream_cmp a b = version_cmp (record { epoch = 0; upstream = parts_of a; revision = no_revision }) (record { epoch = 0; upstream = parts_of b; revision = no_revision })
+
+-- 1~~ before 1~~a before 1~ before 1 before 1a before 1+
+worked-1~~ : upstream_cmp (codes "1~~") (codes "1~~a") ≡ Less
+worked-1~~ = refl
+
+worked-1~~a : upstream_cmp (codes "1~~a") (codes "1~") ≡ Less
+worked-1~~a = refl
+
+worked-1~ : upstream_cmp (codes "1~") (codes "1") ≡ Less
+worked-1~ = refl
+
+worked-1 : upstream_cmp (codes "1") (codes "1a") ≡ Less
+worked-1 = refl
+
+worked-1a : upstream_cmp (codes "1a") (codes "1+") ≡ Less
+worked-1a = refl
+
+-- 1.01 and 1.1 are equal, and so are 1a and 1a00; 1 is earlier than 1.0, and 1.9 than 1.10
+worked-01 : upstream_cmp (codes "1.01") (codes "1.1") ≡ Equal
+worked-01 = refl
+
+worked-1a00 : upstream_cmp (codes "1a00") (codes "1a") ≡ Equal
+worked-1a00 = refl
+
+worked-zero : upstream_cmp (codes "1") (codes "1.0") ≡ Less
+worked-zero = refl
+
+worked-ten : upstream_cmp (codes "1.9") (codes "1.10") ≡ Less
+worked-ten = refl
+
+-- 1.0~rc1 before 1.0~rc1-1 before 1.0; 1.0 and 1.0-0 are equal; the epoch goes first
+abbrev meaning : ℕ → List ℕ → List Part → Meaning
+meaning epoch upstream revision = record { epoch = epoch; upstream = parts_of upstream; revision = revision }
+
+worked-revision : version_cmp (meaning 0 (codes "1.0~rc1") no_revision) (meaning 0 (codes "1.0~rc1") (parts_of (codes "1"))) ≡ Less
+worked-revision = refl
+
+worked-upstream : version_cmp (meaning 0 (codes "1.0~rc1") (parts_of (codes "1"))) (meaning 0 (codes "1.0") no_revision) ≡ Less
+worked-upstream = refl
+
+worked-no_revision : version_cmp (meaning 0 (codes "1.0") no_revision) (meaning 0 (codes "1.0") (parts_of (codes "0"))) ≡ Equal
+worked-no_revision = refl
+
+worked-epoch : version_cmp (meaning 0 (codes "a") no_revision) (meaning 1 (codes "0") no_revision) ≡ Less
+worked-epoch = refl

@@ -1,8 +1,10 @@
-//! Laws of the grammar of versions.
+//! Laws of the grammar of versions, and of Debian's order of versions.
 //!
-//! Each function here does nothing: its contract is a law, which holds of all texts.
+//! Each function here does nothing: its contract is a law, which holds of all texts, or of the
+//! meanings of all versions.
 
 ghost use Rattle.deb_version.specs.GrammarLaws.{SpellsOneVersion, SpellsWhereFaultless, HasOneListOfParts, ComponentsSpell, AllowedComponentsStand, TestTellsAllowed};
+ghost use Rattle.deb_version.specs.OrderLaws.{EqualCompareAlike, EqualOnlyIfSame, EqualOnlyIfSameSpelled, EqualTransitive, FirstDifferenceDecides, GreaterOrEqualTransitive, LessOrEqualTransitive, LessTransitive, Reflexive, Reversed, Total, TotalOrder};
 
 /// A text spells at most one version.
 pub fn spells_one_version()
@@ -29,4 +31,42 @@ pub fn components_stand()
 /// The test of a `Version`'s components passes exactly where the grammar allows them.
 pub fn test_tells_allowed()
     ensures { TestTellsAllowed }
+{}
+
+/// Each version equals itself.
+pub fn order_is_reflexive()
+    ensures { Reflexive }
+{}
+
+/// Of two versions one is earlier than or equal to the other, and swapping them reverses the
+/// answer.
+pub fn order_is_total()
+    ensures total { Total }
+    ensures reversed { Reversed }
+    ensures total_order { TotalOrder }
+{}
+
+/// Earlier, earlier or equal, later or equal, and equal are each transitive.
+pub fn order_is_transitive()
+    ensures less { LessTransitive }
+    ensures less_or_equal { LessOrEqualTransitive }
+    ensures greater_or_equal { GreaterOrEqualTransitive }
+    ensures equal { EqualTransitive }
+{}
+
+/// Equal versions compare alike with every third version.
+pub fn equal_versions_compare_alike()
+    ensures { EqualCompareAlike }
+{}
+
+/// Versions are equal only if they mean the same.
+pub fn equal_versions_mean_the_same()
+    ensures parts_of_texts { EqualOnlyIfSame }
+    ensures spelled { EqualOnlyIfSameSpelled }
+{}
+
+/// Where two texts without digits first differ, tilde stands first, before the end of a text, then
+/// the end, then letters, then all other bytes (deb-version(7), "Sorting algorithm").
+pub fn first_difference_decides()
+    ensures { FirstDifferenceDecides }
 {}

@@ -12,11 +12,14 @@
 #![tactic(auto)]
 
 mod components;
+mod cut;
 mod fault;
 pub mod laws;
+mod order;
 mod version;
 
 pub use fault::BadVersion;
+pub use order::compare;
 pub use version::Version;
 
 #[cfg(test)]

@@ -9,9 +9,9 @@ use crate::fault::BadVersion;
 /// A Debian version number, which borrows its text (Debian Policy 5.6.12).
 #[derive(Clone, Copy, Debug)]
 pub struct Version<'a> {
-    epoch: Option<&'a [u8]>,
-    upstream: &'a [u8],
-    revision: Option<&'a [u8]>,
+    pub(crate) epoch: Option<&'a [u8]>,
+    pub(crate) upstream: &'a [u8],
+    pub(crate) revision: Option<&'a [u8]>,
     ghost well_formed: { IsTrue (are_components (components_with (option_copied epoch) upstream.now (option_copied revision))) },
     ghost short: { length (spelling (components_with (option_copied epoch) upstream.now (option_copied revision))) < 2 ^ 63 },
 }

@@ -1,0 +1,150 @@
+-- The order of the values of runs of digits, read off the runs.
+use Rattle.std.proofs.Common.{◌≡◌, ◌≢◌, ℕ, zero, suc, ◌+◌, ◌-◌, ◌*◌, ◌<◌, ◌≤◌, Bool, List, [], ◌∷◌, ◌++◌, length, replicate, drop, not, position, unwrap_or, ◌==◌, inl, inr, refl, sym, ap, ◌∙◌, IsTrue, arith}
+use Rattle.std.specs.Char.{is_ascii_digit}
+use Rattle.std.specs.List.{list_all, position_or_len}
+use Rattle.std.specs.Ordering.{nat_cmp, ordering_reverse, ordering_then, MatchOrdering}
+use Rattle.std.specs.Cmp.{ranks, nat_cmp_is, nat_cmp_total}
+use Rattle.std.specs.Cmp.Lexicographic.{slice_cmp}
+use Rattle.std.specs.declared.cmp.Ordering.{Ordering}
+use Rattle.std.specs.declared.cmp.Ordering.TheVariants.{Less, Equal, Greater}
+use Rattle.std.proofs.lemmas.List.{length-append, length-replicate}
+use Rattle.std.proofs.lemmas.Bool.{cases_Bool, cases_lt, eqb-true, true≢false}
+use Rattle.std.proofs.lemmas.Bool.Decides.{nat_tests}
+use Rattle.deb_version.proofs.ByteLemmas.{all_pass-fact}
+use Rattle.deb_version.proofs.FirstPlace.{StartsWith, first_place, from_place, place_here, place_later}
+use Rattle.deb_version.specs.Parts.{IsDigits, value_after, value_of}
+
+-- two numbers with one more digit each
+nat_cmp-digit : (n m a b : ℕ) → a < 10 → b < 10 → nat_cmp (10 * n + a) (10 * m + b) ≡ ordering_then (nat_cmp n m) (nat_cmp a b)
+nat_cmp-digit n m a b p q =
+    sym (nat_cmp_is _ _ (ordering_then (nat_cmp n m) (nat_cmp a b)) (by_ranks (nat_cmp n m) (nat_cmp a b) (ranks n m) (ranks a b)))
+  where
+    by_ranks : (r s : Ordering) → MatchOrdering r (n < m) (n ≡ m) (m < n) → MatchOrdering s (a < b) (a ≡ b) (b < a)
+        → MatchOrdering (ordering_then r s) (10 * n + a < 10 * m + b) (10 * n + a ≡ 10 * m + b) (10 * m + b < 10 * n + a)
+    by_ranks Less s h k = omega arith
+    by_ranks Equal Less h k = omega arith
+    by_ranks Equal Equal h k = omega arith
+    by_ranks Equal Greater h k = omega arith
+    by_ranks Greater s h k = omega arith
+
+-- two codes of digits stand in the order of the digits
+nat_cmp-code : (a b : ℕ) → 48 ≤ a → 48 ≤ b → nat_cmp (a - 48) (b - 48) ≡ nat_cmp a b
+nat_cmp-code a b p q =
+    sym (nat_cmp_is _ _ (nat_cmp a b) (by_ranks (nat_cmp a b) (ranks a b)))
+  where
+    by_ranks : (r : Ordering) → MatchOrdering r (a < b) (a ≡ b) (b < a) → MatchOrdering r (a - 48 < b - 48) (a - 48 ≡ b - 48) (b - 48 < a - 48)
+    by_ranks Less h = omega arith
+    by_ranks Equal h = omega arith
+    by_ranks Greater h = omega arith
+
+-- the code of a digit
+pub digit_range : (b : ℕ) → IsTrue (is_ascii_digit b) → (48 ≤ b) × (b ≤ 57)
+digit_range b d = (grind (arith, nat_tests), grind (arith, nat_tests))
+
+ordering_then_assoc : (r s t : Ordering) → ordering_then (ordering_then r s) t ≡ ordering_then r (ordering_then s t)
+ordering_then_assoc Less s t = refl
+ordering_then_assoc Equal s t = refl
+ordering_then_assoc Greater s t = refl
+
+-- runs of one length behind digits of the values n and m: these decide first, and then the bytes
+value_after_cmp : (n m : ℕ) (r s : List ℕ) → IsDigits r → IsDigits s → length r ≡ length s
+    → nat_cmp (value_after n r) (value_after m s) ≡ ordering_then (nat_cmp n m) (slice_cmp nat_cmp r s)
+value_after_cmp n m [] [] p q e = sym (then-Equal-right (nat_cmp n m))
+  where
+    then-Equal-right : (o : Ordering) → ordering_then o Equal ≡ o
+    then-Equal-right Less = refl
+    then-Equal-right Equal = refl
+    then-Equal-right Greater = refl
+value_after_cmp n m [] (b ∷ s) p q e = absurd (omega arith)
+value_after_cmp n m (a ∷ r) [] p q e = absurd (omega arith)
+value_after_cmp n m (a ∷ r) (b ∷ s) p q e =
+    let in_a = digit_range a p.0 in
+    let in_b = digit_range b q.0 in
+    value_after_cmp (10 * n + (a - 48)) (10 * m + (b - 48)) r s p.1 q.1 (omega arith)
+    ∙ ap (λ v. ordering_then v (slice_cmp nat_cmp r s))
+    (nat_cmp-digit n m (a - 48) (b - 48) (omega arith) (omega arith) ∙ ap (ordering_then (nat_cmp n m)) (nat_cmp-code a b in_a.0 in_b.0))
+    ∙ ordering_then_assoc (nat_cmp n m) (nat_cmp a b) (slice_cmp nat_cmp r s)
+
+-- Of two runs of one length the bytes decide.
+pub value_of_cmp : (r s : List ℕ) → IsDigits r → IsDigits s → length r ≡ length s → nat_cmp (value_of r) (value_of s) ≡ slice_cmp nat_cmp r s
+value_of_cmp = value_after_cmp 0 0
+
+-- leading zeros don't count
+pub value_of_zeros : (k : ℕ) (r : List ℕ) → value_of (replicate k 48 ++ r) ≡ value_of r
+value_of_zeros zero r = refl
+value_of_zeros (suc k) r = value_of_zeros k r
+
+IsDigits-zeros : (k : ℕ) (r : List ℕ) → IsDigits r → IsDigits (replicate k 48 ++ r)
+IsDigits-zeros zero r p = p
+IsDigits-zeros (suc k) r p = (refl, IsDigits-zeros k r p)
+
+-- Of two runs the longer has the greater value, if it doesn't begin with a zero.
+pub value_of_longer : (r : List ℕ) (b : ℕ) (s : List ℕ) → IsDigits r → IsDigits (b ∷ s) → b ≢ 48 → length r ≤ length s
+    → nat_cmp (value_of r) (value_of (b ∷ s)) ≡ Less
+value_of_longer r b s p q nonzero short =
+    let k = length s - length r in
+    let in_b = digit_range b q.0 in
+    ap (λ v. nat_cmp v (value_of (b ∷ s))) (sym (value_of_zeros (suc k) r))
+    ∙ value_of_cmp (48 ∷ (replicate k 48 ++ r)) (b ∷ s) (IsDigits-zeros (suc k) r p) q (simp (length-append, length-replicate) (omega arith))
+    ∙ ap (λ v. ordering_then v (slice_cmp nat_cmp (replicate k 48 ++ r) s)) (sym (nat_cmp_is 48 b Less (omega arith)))
+
+-- a run without its leading zeros
+abbrev pub is_nonzero : ℕ → Bool
+is_nonzero b = not (b == 48)
+
+abbrev pub without_zeros : List ℕ → List ℕ
+without_zeros run = drop (position_or_len is_nonzero run) run
+
+pub value_of-without_zeros : (run : List ℕ) → value_of (without_zeros run) ≡ value_of run
+value_of-without_zeros [] = refl
+value_of-without_zeros (b ∷ run) =
+    elim (cases_Bool (b == 48)) [
+      | inl zero_digit ↦
+          let is : b ≡ 48 = eqb-true b 48 zero_digit in
+          rw (place_later is_nonzero b run (ap not zero_digit)) (value_of-without_zeros run ∙ ap (λ d. value_after (10 * 0 + (d - 48)) run) (sym is))
+      | inr other ↦ rw (place_here is_nonzero b run (ap not other)) refl
+    ]
+
+IsDigits-drop : (n : ℕ) (run : List ℕ) → IsDigits run → IsDigits (drop n run)
+IsDigits-drop zero run d = d
+IsDigits-drop (suc n) [] d = tt
+IsDigits-drop (suc n) (b ∷ run) d = IsDigits-drop n run d.1
+
+-- the order of values, read off two runs without leading zeros: by length, then byte by byte
+run_cmp : (a b : List ℕ) → IsDigits a → IsDigits b → StartsWith is_nonzero a → StartsWith is_nonzero b
+    → nat_cmp (value_of a) (value_of b) ≡ ordering_then (nat_cmp (length a) (length b)) (slice_cmp nat_cmp a b)
+run_cmp a b da db za zb =
+    elim (cases_lt (length a) (length b)) [
+      | inl shorter ↦ longer_cmp a b da db zb shorter ∙ ap (λ o. ordering_then o (slice_cmp nat_cmp a b)) (nat_cmp_is (length a) (length b) Less shorter)
+      | inr no_shorter ↦ elim (cases_lt (length b) (length a)) [
+        | inl longer ↦
+            nat_cmp_total.antisymm (value_of a) (value_of b) ∙ ap ordering_reverse (longer_cmp b a db da za longer)
+            ∙ ap (λ o. ordering_then o (slice_cmp nat_cmp a b)) (nat_cmp_is (length a) (length b) Greater longer)
+        | inr no_longer ↦
+            let same : length a ≡ length b = omega arith in
+            value_of_cmp a b da db same ∙ ap (λ o. ordering_then o (slice_cmp nat_cmp a b)) (nat_cmp_is (length a) (length b) Equal same)
+      ]
+    ]
+  where
+    longer_cmp : (r s : List ℕ) → IsDigits r → IsDigits s → StartsWith is_nonzero s → length r < length s → nat_cmp (value_of r) (value_of s) ≡ Less
+    longer_cmp r [] dr ds z l = absurd (omega arith)
+    longer_cmp r (b ∷ s) dr ds z l =
+        value_of_longer r b s dr ds (λ e. true≢false (sym z ∙ ap is_nonzero e)) (omega arith)
+
+-- The order of the values of two runs of digits is that of their lengths without leading zeros, and then of their bytes.
+pub value_of-order : (a b : List ℕ) → IsDigits a → IsDigits b
+    → nat_cmp (value_of a) (value_of b) ≡ ordering_then (nat_cmp (length (without_zeros a)) (length (without_zeros b))) (slice_cmp nat_cmp (without_zeros a) (without_zeros b))
+value_of-order a b da db =
+    ap (λ v. nat_cmp v (value_of b)) (sym (value_of-without_zeros a)) ∙ ap (nat_cmp (value_of (without_zeros a))) (sym (value_of-without_zeros b))
+    ∙ run_cmp (without_zeros a) (without_zeros b) (IsDigits-drop _ a da) (IsDigits-drop _ b db) (from_place is_nonzero a) (from_place is_nonzero b)
+
+-- the same, of what is left of the runs at the first digit that isn't zero
+pub value_of-order-at : (a b x y : List ℕ) → IsTrue (list_all is_ascii_digit a) → IsTrue (list_all is_ascii_digit b)
+    → x ≡ drop (unwrap_or (position is_nonzero a) (length a)) a → y ≡ drop (unwrap_or (position is_nonzero b) (length b)) b
+    → ordering_then (nat_cmp (length x) (length y)) (slice_cmp nat_cmp x y) ≡ nat_cmp (value_of a) (value_of b)
+value_of-order-at a b x y da db x-is y-is =
+    let x-at : x ≡ without_zeros a = x-is ∙ ap (λ k. drop k a) (first_place is_nonzero a) in
+    let y-at : y ≡ without_zeros b = y-is ∙ ap (λ k. drop k b) (first_place is_nonzero b) in
+    ap (λ l. ordering_then (nat_cmp (length l) (length y)) (slice_cmp nat_cmp l y)) x-at
+    ∙ ap (λ l. ordering_then (nat_cmp (length (without_zeros a)) (length l)) (slice_cmp nat_cmp (without_zeros a) l)) y-at
+    ∙ sym (value_of-order a b (all_pass-fact is_ascii_digit a da) (all_pass-fact is_ascii_digit b db))

@@ -1,0 +1,7 @@
+-- What holds of each total order.
+use Rattle.std.specs.Cmp.{alike_right}
+use Rattle.deb_version.proofs.OrderLemmas.{version_total}
+use Rattle.deb_version.proofs.laws.equal_versions_compare_alike.Goals as goal
+
+pub returns : goal.returns
+returns c = λ a b d e. (version_total.congr a b d e, alike_right version_total a b d e)

@@ -1,0 +1,6 @@
+-- The ranks decide at the first difference.
+use Rattle.deb_version.proofs.OrderLemmas.{first_difference}
+use Rattle.deb_version.proofs.laws.first_difference_decides.Goals as goal
+
+pub returns : goal.returns
+returns c = first_difference

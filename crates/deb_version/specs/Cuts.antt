@@ -1,0 +1,14 @@
+-- What a `Cut` of the code stands for: the text and the run of digits that its slices hold.
+-- deb-version(7), "Sorting algorithm".
+use Rattle.std.specs.Prelude.{ℕ, List, [], ◌∷◌}
+use Rattle.deb_version.specs.declared.cut.Cut.{Cut as Slices}
+use Rattle.deb_version.specs.Parts.{Cut, cuts_of}
+
+-- the text and the run
+abbrev pub cut_of : Slices → Cut
+cut_of c = (c.text.now, c.run.now)
+
+-- the cuts of what follows a cut: none at the end
+abbrev pub cuts_after : List ℕ → List Cut
+cuts_after [] = []
+cuts_after (b ∷ bs) = cuts_of (b ∷ bs)
