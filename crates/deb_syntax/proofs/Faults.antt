@@ -1,5 +1,5 @@
 -- What `map_err` leaves of a result, and the fault that it makes of a code.
-use Rattle.std.proofs.Common.{◌≡◌, ℕ, List, Result, Ok, Err, MatchResult, IfErr, is_ok, refl, sym, ap, subst, ◌∙◌, true≢false}
+use Rattle.std.proofs.Common.{◌≡◌, ℕ, List, Result, Ok, Err, MatchResult, IfErr, is_ok, sym, ap, subst, ◌∙◌, true≢false}
 use Rattle.std.specs.Result.{IsErrAnd}
 use Rattle.deb_base.specs.declared.code.Code.{Code}
 use Rattle.deb_base.specs.declared.fault.Fault.{Fault}

@@ -1,5 +1,5 @@
 -- What a line that begins a field makes of the fields before it, from what a search for its colon says.
-use Rattle.std.proofs.Common.{◌≡◌, ℕ, zero, suc, ◌+◌, ◌-◌, ◌<◌, ◌≤◌, Bool, true, false, not, cond, ◌&&◌, List, [], ◌∷◌, ◌++◌, length, take, drop, map, slice_get, slice_index, slice_range, Option, Some, None, Result, Ok, Err, refl, sym, ap, ◌∙◌, arith, length-take, length-drop, min}
+use Rattle.std.proofs.Common.{◌≡◌, ℕ, suc, ◌+◌, ◌-◌, ◌<◌, ◌≤◌, Bool, true, false, not, cond, ◌&&◌, List, [], ◌∷◌, ◌++◌, length, take, drop, slice_get, slice_range, Some, None, Result, Ok, Err, refl, sym, ap, ◌∙◌, arith, length-take, length-drop}
 use Rattle.std.specs.List.{list_all, list_any, position_or_len}
 use Rattle.std.proofs.lemmas.List.{map_push}
 use Rattle.std.proofs.lemmas.List.Folds.{list_any_at}
@@ -7,16 +7,16 @@ use Rattle.std.proofs.lemmas.List.Sums.{position_or_len_is}
 use Rattle.memchr.specs.Find.{IsFirstByte, is_byte}
 use Rattle.std.specs.Str.{bytes_eq}
 use Rattle.deb_base.specs.Names.{folded}
-use Rattle.deb_base.specs.declared.code.Code.TheVariants.{Armour, Comment, BadFieldName, NoColon, DuplicateField}
+use Rattle.deb_base.specs.declared.code.Code.TheVariants.{BadFieldName, NoColon, DuplicateField}
 use Rattle.deb_base.specs.declared.refusal.Refusal.{Refusal}
 use Rattle.deb_syntax.specs.Lines.{Line}
 use Rattle.deb_syntax.specs.Fields.{Field, colon, is_name, is_name_byte, may_begin_name, has_name}
 use Rattle.deb_syntax.specs.Judging.{begins_armour, begins_comment, has_colon, begun, field_line}
-use Rattle.deb_syntax.specs.Places.{name_at, begun_at, begun_fields, StandsAt}
+use Rattle.deb_syntax.specs.Places.{begun_at, begun_fields, StandsAt}
 use Rattle.deb_syntax.specs.declared.folded_name.FoldedName.{FoldedName}
 use Rattle.deb_syntax.specs.declared.place.Place.{Place}
 use Rattle.deb_syntax.proofs.Pieces.{not_true}
-use Rattle.deb_syntax.proofs.PlaceLemmas.{LiesWithin, StandsAt-push, has_name-begun}
+use Rattle.deb_syntax.proofs.PlaceLemmas.{LiesWithin, has_name-begun}
 use Rattle.deb_syntax.proofs.Slices.{take-slice_range, drop-slice_range}
 
 at_true : {A : Type 0} (b : Bool) (x y : A) → b ≡ true → cond b x y ≡ x
@@ -40,13 +40,7 @@ has_colon-none (b ∷ bs) h =
     rw (not_true _ (h 0 (omega arith) (omega arith)), rest) refl
 
 module _ (n : ℕ) (fields : List Field) (line : Line) where
-  pub field_line-armour : begins_armour line ≡ true → field_line n fields line ≡ Err (record { code = Armour; line = n })
-  field_line-armour armour = at_true (begins_armour line) _ _ armour
-
   module _ (armour : begins_armour line ≡ false) where
-    pub field_line-comment : begins_comment line ≡ true → field_line n fields line ≡ Err (record { code = Comment; line = n })
-    field_line-comment comment = at_false (begins_armour line) _ _ armour ∙ at_true (begins_comment line) _ _ comment
-
     module _ (comment : begins_comment line ≡ false) where
       pub field_line-no_colon : IsFirstByte (is_byte colon) line None → field_line n fields line ≡ Err (record { code = NoColon; line = n })
       field_line-no_colon none =

@@ -1,17 +1,14 @@
 -- What is judged of one line, and of the lines up to it.
-use Rattle.std.proofs.Common.{◌≡◌, ℕ, ◌+◌, ◌<◌, ◌≤◌, Bool, true, false, not, cond, List, [], ◌∷◌, length, drop, map, slice_index, slice_range, Result, Ok, Err, refl, sym, ap, ◌∙◌, IsUtf8, IsTrue}
+use Rattle.std.proofs.Common.{◌≡◌, ℕ, ◌+◌, ◌≤◌, true, false, not, cond, List, [], ◌∷◌, length, drop, slice_range, Ok, Err, ap, ◌∙◌, IsUtf8, IsTrue}
 use Rattle.std.specs.Str.{is_utf8}
-use Rattle.std.proofs.lemmas.Bool.{false≢true, lt-ltb, le-ltb}
+use Rattle.std.proofs.lemmas.Bool.{false≢true, le-ltb}
 use Rattle.std.proofs.lemmas.Str.{IsUtf8-from_is_utf8, is_utf8-from_IsUtf8}
 use Rattle.std.proofs.lemmas.Simd.{map-map}
 use Rattle.deb_base.specs.declared.code.Code.TheVariants.{NotUtf8}
-use Rattle.deb_base.specs.declared.fault.Fault.{Fault}
-use Rattle.deb_base.specs.declared.fault.Fault.TheVariants.{Refused, Memory, Read, Write}
-use Rattle.deb_base.specs.declared.refusal.Refusal.{Refusal}
 use Rattle.deb_syntax.specs.Lines.{Line, pieces_of}
 use Rattle.deb_syntax.specs.Fields.{Field, begins_with_blank}
 use Rattle.deb_syntax.specs.Judging.{line_judged, lines_judged, judged, continuation_line, field_line, ended}
-use Rattle.deb_syntax.specs.Places.{begun_at, begun_fields, fields_at, pieces_behind, IsFaultOf}
+use Rattle.deb_syntax.specs.Places.{begun_at, begun_fields, fields_at, pieces_behind}
 use Rattle.deb_syntax.specs.declared.place.Place.{Place}
 use Rattle.deb_syntax.proofs.Pieces.{not_true}
 
@@ -40,21 +37,9 @@ module _ (text : List ℕ) (first n start end : ℕ) (places : List Place)
   step : judged first (pieces_of text) ≡ lines_judged (n + 1) (line_judged n (begun_fields text places) (slice_range text start end)) (pieces_behind text end)
   step = so_far ∙ ap (lines_judged n (Ok (begun_fields text places))) pieces
 
-  pub judged-more : (more : List Place) → end < length text → line_judged n (begun_fields text places) (slice_range text start end) ≡ Ok (begun_fields text more) → judged first (pieces_of text) ≡ lines_judged (n + 1) (Ok (begun_fields text more)) (pieces_of (drop (end + 1) text))
-  judged-more more lt ok =
-      step
-      ∙ ap (λ r. lines_judged (n + 1) r (pieces_behind text end)) ok
-      ∙ ap (λ t. lines_judged (n + 1) (Ok (begun_fields text more)) (cond t (pieces_of (drop (end + 1) text)) [])) (lt-ltb end (length text) lt)
-
   pub judged-whole : (more : List Place) → length text ≤ end → line_judged n (begun_fields text places) (slice_range text start end) ≡ Ok (begun_fields text more) → judged first (pieces_of text) ≡ Ok (fields_at text more)
   judged-whole more le ok =
       step
       ∙ ap (λ r. lines_judged (n + 1) r (pieces_behind text end)) ok
       ∙ ap (λ t. lines_judged (n + 1) (Ok (begun_fields text more)) (cond t (pieces_of (drop (end + 1) text)) [])) (le-ltb end (length text) le)
       ∙ ap Ok (map-map ended (begun_at text) more)
-
-  pub judged-fault : (fault : Fault) → IsFaultOf (line_judged n (begun_fields text places) (slice_range text start end)) fault → IsFaultOf (judged first (pieces_of text)) fault
-  judged-fault (Refused refusal) is = step ∙ ap (λ r. lines_judged (n + 1) r (pieces_behind text end)) is
-  judged-fault Memory is = is
-  judged-fault Read is = is
-  judged-fault Write is = is

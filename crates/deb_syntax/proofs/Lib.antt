@@ -30,3 +30,4 @@ pub mod Trims
 pub mod ReadingSteps
 pub mod PlacesWithin
 pub mod ReadingAnswers
+pub mod Callers

@@ -1,9 +1,9 @@
 -- The first piece of a text, and the pieces behind it.
-use Rattle.std.proofs.Common.{◌≡◌, ℕ, zero, suc, ◌+◌, ◌-◌, ◌<◌, ◌≤◌, Bool, true, false, cond, nat_lt, List, [], ◌∷◌, length, take, drop, slice_index, slice_range, Option, Some, None, refl, sym, ap, ◌∙◌, arith, length-drop, le_refl}
-use Rattle.std.proofs.lemmas.Bool.{true≢false, lt-ltb, le-ltb}
-use Rattle.std.proofs.lemmas.List.{take_rest, drop-drop, take_all}
+use Rattle.std.proofs.Common.{◌≡◌, ℕ, zero, suc, ◌+◌, ◌-◌, ◌<◌, ◌≤◌, Bool, true, false, cond, List, [], ◌∷◌, length, take, drop, slice_index, slice_range, Some, None, refl, sym, ap, ◌∙◌, arith, length-drop, le_refl}
+use Rattle.std.proofs.lemmas.Bool.{lt-ltb, le-ltb}
+use Rattle.std.proofs.lemmas.List.{take_rest, drop-drop}
 use Rattle.memchr.specs.Find.{IsFirstByte, is_byte}
-use Rattle.deb_syntax.specs.Lines.{Line, newline, with_byte, pieces_of}
+use Rattle.deb_syntax.specs.Lines.{newline, with_byte, pieces_of}
 use Rattle.deb_syntax.specs.Places.{pieces_behind}
 
 -- the byte that begins a text
@@ -42,7 +42,7 @@ module _ (text : List ℕ) (start : ℕ) (within : start ≤ length text) where
       let at : start + suc n ≡ start + n + 1 = omega arith in
       let count : n ≡ start + n - start = omega arith in
       let behind : pieces_of (drop (suc n) (drop start text)) ≡ pieces_behind text (start + n) =
-          ap pieces_of (drop-drop (suc n) start text ∙ ap (λ k. drop k text) at) ∙ ap (λ t. cond t (pieces_of (drop (start + n + 1) text)) []) (sym (lt-ltb (start + n) (length text) inside)) in
+      ap pieces_of (drop-drop (suc n) start text ∙ ap (λ k. drop k text) at) ∙ ap (λ t. cond t (pieces_of (drop (start + n + 1) text)) []) (sym (lt-ltb (start + n) (length text) inside)) in
       let front : take n (drop start text) ≡ slice_range text start (start + n) = ap (λ k. take k (drop start text)) count in
       base ∙ ap (λ l. l ∷ pieces_of (drop (suc n) (drop start text))) front ∙ ap (λ l. slice_range text start (start + n) ∷ l) behind
 
@@ -51,5 +51,5 @@ module _ (text : List ℕ) (start : ℕ) (within : start ≤ length text) where
       let g : IsFirstByte (is_byte newline) (drop start text) None = rw (take_rest text start) at h in
       let base = pieces_of-none (drop start text) (λ k lt. g k (omega arith) lt) in
       let behind : [] ≡ pieces_behind text (length text) =
-          ap (λ t. cond t (pieces_of (drop (length text + 1) text)) []) (sym (le-ltb (length text) (length text) (le_refl (length text)))) in
+      ap (λ t. cond t (pieces_of (drop (length text + 1) text)) []) (sym (le-ltb (length text) (length text) (le_refl (length text)))) in
       base ∙ ap (λ l. l ∷ []) (sym (take_rest text start)) ∙ ap (λ l. slice_range text start (length text) ∷ l) behind

@@ -1,5 +1,5 @@
 -- Places of fields: the last one goes on to a line's end, or a further one begins at a line.
-use Rattle.std.proofs.Common.{◌≡◌, ℕ, zero, suc, ◌+◌, ◌-◌, ◌<◌, ◌≤◌, Bool, true, false, ◌&&◌, List, [], ◌∷◌, ◌++◌, length, take, drop, map, set, nat_le, nat_lt, nat_eq, slice_index, slice_index_or, slice_range, get_or, refl, sym, ap, ◌∙◌, arith, rules, Ok, Err, le_refl}
+use Rattle.std.proofs.Common.{◌≡◌, ℕ, zero, suc, ◌+◌, ◌-◌, ◌<◌, ◌≤◌, Bool, true, ◌&&◌, List, [], ◌∷◌, ◌++◌, length, map, set, nat_le, nat_lt, slice_index, slice_index_or, slice_range, refl, sym, ap, ◌∙◌, arith, Ok}
 use Rattle.std.specs.List.{list_all, list_any}
 use Rattle.std.specs.Str.{bytes_eq}
 use Rattle.std.proofs.lemmas.Bool.{eq-eqb, eqb-true, and_parts, and_from, leb-true, ltb-true, le-leb, lt-ltb}
@@ -8,12 +8,12 @@ use Rattle.std.proofs.lemmas.List.Folds.{list_all-append}
 use Rattle.std.specs.Cmp.Lexicographic.{nat_list_eq_equiv}
 use Rattle.deb_base.specs.Names.{folded}
 use Rattle.deb_syntax.specs.Lines.{newline}
-use Rattle.deb_syntax.specs.Fields.{Field, has_name}
+use Rattle.deb_syntax.specs.Fields.{has_name}
 use Rattle.deb_syntax.specs.Judging.{continuation_line, continued, with_text}
 use Rattle.deb_syntax.specs.Places.{name_at, begun_at, begun_fields, lies_within, with_last_end, ends_before, StandsAt}
 use Rattle.deb_syntax.specs.declared.place.Place.{Place}
 use Rattle.deb_syntax.specs.declared.folded_name.FoldedName.{FoldedName}
-use Rattle.deb_syntax.proofs.Slices.{slice_range-join, take-slice_range, drop-slice_range, list_any-map, list_any-same}
+use Rattle.deb_syntax.proofs.Slices.{slice_range-join, list_any-map, list_any-same}
 
 -- the parts of `lies_within`
 pub record LiesWithin (n : ℕ) (place : Place) : Type 0 where

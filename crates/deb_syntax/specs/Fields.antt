@@ -1,9 +1,9 @@
 -- Fields: names, bodies, and what spells them. Debian Policy 5.1; deb822(5), "Syntax".
-use Rattle.std.specs.Prelude.{◌≡◌, ◌≢◌, ℕ, ◌+◌, ◌≤◌, ◌==◌, ◌&&◌, ◌||◌, Bool, true, false, cond, not, IsTrue, IsFalse, List, [], ◌∷◌, ◌++◌, length, map, drop, nat_le, IsUtf8, codes, refl}
+use Rattle.std.specs.Prelude.{◌≡◌, ℕ, ◌+◌, ◌≤◌, ◌==◌, ◌&&◌, Bool, true, false, not, IsTrue, IsFalse, List, [], ◌∷◌, ◌++◌, length, drop, nat_le, IsUtf8, codes, refl}
 use Rattle.std.specs.List.{list_all, list_any, AllByRecursion}
 use Rattle.std.specs.Str.{bytes_eq}
 use Rattle.deb_base.specs.Names.{folded}
-use Rattle.deb_syntax.specs.Lines.{Line, newline, is_blank_byte, is_all_blank, is_blank, pieces_of, joined, Paragraph, total_length, paragraph_limit}
+use Rattle.deb_syntax.specs.Lines.{Line, is_blank_byte, is_all_blank, is_blank, pieces_of, joined, Paragraph, total_length, paragraph_limit}
 
 -- a field: its name as spelled, the number of its first line, and its body
 pub record Field : Type 0 where

@@ -1,10 +1,9 @@
 -- What is judged of a paragraph's lines, one after another: its fields, or the first refusal of a line.
 -- Debian Policy 5.1; deb822(5), "Syntax". The order of the refusals is this project's own.
-use Rattle.std.specs.Prelude.{◌≡◌, ℕ, ◌+◌, ◌==◌, ◌&&◌, Bool, true, false, cond, not, List, [], ◌∷◌, ◌++◌, length, map, drop, IsTrue, Result, Ok, Err, codes, refl}
+use Rattle.std.specs.Prelude.{◌≡◌, ℕ, ◌+◌, ◌==◌, Bool, false, cond, not, List, [], ◌∷◌, ◌++◌, map, Result, Ok, Err, codes, refl}
 use Rattle.std.specs.List.{list_any, starts_with, before_first, after_first}
 use Rattle.std.specs.Str.{is_utf8, chars}
 use lib.Utf8.{encode}
-use Rattle.deb_base.specs.declared.code.Code.{Code}
 use Rattle.deb_base.specs.declared.code.Code.TheVariants.{NotUtf8, Armour, Comment, StrayContinuation, BadFieldName, NoColon, DuplicateField}
 use Rattle.deb_base.specs.declared.refusal.Refusal.{Refusal}
 use Rattle.deb_syntax.specs.Lines.{Line, newline, is_blank_byte, lines_of}

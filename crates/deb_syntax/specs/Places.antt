@@ -1,5 +1,5 @@
 -- Where the fields of a paragraph stand in its bytes, and what stands there. Debian Policy 5.1; deb822(5), "Syntax".
-use Rattle.std.specs.Prelude.{◌≡◌, ℕ, ◌+◌, ◌==◌, ◌&&◌, Bool, true, List, [], ◌∷◌, length, map, nat_le, nat_lt, drop, slice_range, if◌then◌else◌, IsTrue, Result, Err}
+use Rattle.std.specs.Prelude.{◌≡◌, ℕ, ◌+◌, ◌==◌, ◌&&◌, Bool, true, false, List, [], ◌∷◌, length, map, nat_le, nat_lt, drop, slice_range, if◌then◌else◌, IsTrue, Result, Err, codes, refl}
 use Rattle.std.specs.List.{list_all}
 use Rattle.deb_base.specs.declared.fault.Fault.{Fault}
 use Rattle.deb_base.specs.declared.fault.Fault.TheVariants.{Refused, Memory, Read, Write}
@@ -10,17 +10,18 @@ use Rattle.deb_syntax.specs.Judging.{trimmed}
 use Rattle.deb_syntax.specs.declared.folded_name.FoldedName.{FoldedName}
 use Rattle.deb_syntax.specs.declared.place.Place.{Place}
 
+-- the name of the field at a place of a paragraph's bytes
 abbrev pub name_at : List ℕ → Place → List ℕ
 name_at text place = slice_range text place.start place.colon
 
--- the field at a place of a paragraph's bytes
+-- the field at a place: its name, its line, and what stands behind its colon, trimmed
 abbrev pub field_at : List ℕ → Place → Field
 field_at text place = record { name = name_at text place; line = place.line; body = trimmed (slice_range text (place.colon + 1) place.end) }
 
 abbrev pub fields_at : List ℕ → List Place → List Field
 fields_at text places = map (field_at text) places
 
--- whether a place lies within a text of n bytes
+-- whether a place lies within a text of n bytes, and its colon before its end
 abbrev pub lies_within : ℕ → Place → Bool
 lies_within n place = nat_le place.start place.colon && nat_lt place.colon place.end && nat_le place.end n
 
@@ -60,3 +61,13 @@ IsFaultOf judgement (Refused refusal) = judgement ≡ Err refusal
 IsFaultOf judgement Memory = Unit {0}
 IsFaultOf judgement Read = ⊥
 IsFaultOf judgement Write = ⊥
+
+-- the second line belongs to the field of the first
+two_places : fields_at (codes "A: 1 \n 2\nB:") (record { line = 1; start = 0; colon = 1; end = 8 } ∷ record { line = 3; start = 9; colon = 10; end = 11 } ∷ []) ≡ record { name = codes "A"; line = 1; body = codes "1 \n 2" } ∷ record { name = codes "B"; line = 3; body = [] } ∷ []
+two_places = refl
+
+places_within : list_all (lies_within 11) (record { line = 1; start = 0; colon = 1; end = 8 } ∷ record { line = 3; start = 9; colon = 10; end = 11 } ∷ []) ≡ true
+places_within = refl
+
+place_beyond : lies_within 10 (record { line = 3; start = 9; colon = 10; end = 11 }) ≡ false
+place_beyond = refl

@@ -1,11 +1,11 @@
 //! Judging the bytes of one paragraph.
 
-ghost use Rattle.std.specs.Prelude.{◌≡◌, ℕ, ◌+◌, ◌-◌, ◌^◌, ◌<◌, ◌≤◌, ◌∷◌, [], List, ◌++◌, length, take, drop, IsTrue, IfOk, IfErr, OnOk, OnErr, slice_index, slice_range, if◌then◌else◌, Ok, Err};
+ghost use Rattle.std.specs.Prelude.{◌≡◌, ℕ, ◌+◌, ◌-◌, ◌^◌, ◌<◌, ◌≤◌, List, [], ◌∷◌, ◌++◌, length, take, drop, slice_index, slice_range, if◌then◌else◌, IsTrue, IfOk, IfErr, OnOk};
+ghost use Rattle.std.specs.List.{list_all};
 ghost use Rattle.deb_syntax.specs.Lines.{newline, pieces_of};
 ghost use Rattle.deb_syntax.specs.Fields.{Field, begins_with_blank, has_name};
-ghost use Rattle.deb_syntax.specs.Judging.{begins_comment, continuation_line, field_line, judged, line_judged};
+ghost use Rattle.deb_syntax.specs.Judging.{begins_comment, field_line, judged, line_judged};
 ghost use Rattle.deb_syntax.specs.Places.{begun_fields, fields_at, lies_within, pieces_behind, with_last_end, StandsAt, IsFaultOf};
-ghost use Rattle.std.specs.List.{list_all};
 
 use crate::folded_name::FoldedName;
 use crate::name::is_name;
@@ -15,6 +15,7 @@ use indexmap::IndexSet;
 use memchr::memchr;
 use std::alloc::Global;
 
+/// How the first line of an armoured message or signature begins.
 const ARMOUR: &[u8] = b"-----BEGIN PGP";
 
 /// A line of the text.
@@ -28,15 +29,17 @@ struct Line {
     end: usize,
 }
 
-/// The fields of a paragraph, or the first refusal of one of its lines (Debian Policy 5.1; deb822(5), "Syntax").
+/// Finds where the fields of a paragraph stand, or the first refusal of one of its lines (Debian
+/// Policy 5.1; deb822(5), "Syntax").
 ///
-/// `text` is the paragraph's lines with a newline between two of them, and `first_line` is the number of the first.
-/// After Ok `places` says where the fields stand in the text; what it held before is lost.
-/// After an error it says nothing.
+/// `text` is the paragraph's lines with a newline between two of them, and `first_line` is the number
+/// of the first. After Ok `places` holds the places of the fields in the text, and no others; after an
+/// error what it holds isn't told.
 ///
-/// Refused: a line isn't UTF-8 (`NotUtf8`), begins an armoured message (`Armour`) or a comment (`Comment`), continues
-/// no field (`StrayContinuation`), has no colon (`NoColon`), has no name before its colon (`BadFieldName`) or one that
-/// stood before in the paragraph (`DuplicateField`). Memory: the places or the names of the fields didn't fit.
+/// Refused: a line isn't UTF-8 (`NotUtf8`), begins an armoured message (`Armour`) or a comment
+/// (`Comment`), is a continuation line without a field above it (`StrayContinuation`), has no colon
+/// (`NoColon`), or no name before its colon (`BadFieldName`) or one that stood before
+/// (`DuplicateField`). Memory: a growth of `places`, or of the set of names, was refused.
 pub(crate) fn judge(
     alloc: Global,
     text: &[u8],
@@ -44,7 +47,8 @@ pub(crate) fn judge(
     places: &mut Vec<Place>,
 ) -> Result<(), Fault>
     requires { first_line + length text.now < 2 ^ 64 }
-    ensures ok { OnOk result (judged first_line (pieces_of text.now) ≡ Ok (fields_at text.now places.new.items)) }
+    ensures ok { OnOk result
+        (judged first_line (pieces_of text.now) ≡ Ok (fields_at text.now places.new.items)) }
     ensures within { OnOk result (IsTrue (list_all (lies_within (length text.now)) places.new.items)) }
     ensures fault { IfErr result (IsFaultOf (judged first_line (pieces_of text.now))) }
 {
@@ -69,7 +73,8 @@ fn line_end(text: &[u8], start: usize) -> usize
     ensures after { start ≤ result }
     ensures within { result ≤ length text.now }
     ensures newline { result < length text.now → slice_index text.now result ≡ newline }
-    ensures pieces { pieces_of (drop start text.now) ≡ slice_range text.now start result ∷ pieces_behind text.now result }
+    ensures pieces { pieces_of (drop start text.now)
+        ≡ slice_range text.now start result ∷ pieces_behind text.now result }
 {
     match memchr(b'\n', &text[start..]) {
         Some(length) => start + length,
@@ -88,10 +93,13 @@ fn judge_line<'a>(
     requires within { line.end ≤ length text.now }
     requires newline { 0 < line.start → slice_index text.now (line.start - 1) ≡ newline }
     requires stands { StandsAt text.now line.start places.old.items names.old.keys }
-    ensures ok { OnOk result (line_judged line.number (begun_fields text.now places.old.items) (slice_range text.now line.start line.end)
+    ensures ok { let content = slice_range text.now line.start line.end in
+        OnOk result (line_judged line.number (begun_fields text.now places.old.items) content
         ≡ Ok (begun_fields text.now places.new.items)) }
     ensures stands { OnOk result (StandsAt text.now (line.end + 1) places.new.items names.new.keys) }
-    ensures fault { IfErr result (IsFaultOf (line_judged line.number (begun_fields text.now places.old.items) (slice_range text.now line.start line.end))) }
+    ensures fault { let content = slice_range text.now line.start line.end in
+        IfErr result (IsFaultOf
+        (line_judged line.number (begun_fields text.now places.old.items) content)) }
 {
     let content = &text[line.start..line.end];
     if !simdutf8::is_utf8(content) {
@@ -104,6 +112,7 @@ fn judge_line<'a>(
     }
 }
 
+/// The refusal of a line.
 fn refused(code: Code, line: Line) -> Fault
     ensures { result ≡ Fault.Refused (record { code = code; line = line.number }) }
 {
@@ -122,7 +131,8 @@ fn begins_with_blank(text: &[u8]) -> bool
 
 /// Gives a continuation line to the last field.
 fn continue_field(line: Line, places: &mut Vec<Place>) -> Result<(), Fault>
-    ensures ok { OnOk result ((0 < length places.old.items) × (places.new.items ≡ with_last_end line.end places.old.items)) }
+    ensures ok { OnOk result ((0 < length places.old.items)
+        × (places.new.items ≡ with_last_end line.end places.old.items)) }
     ensures stray { IfErr result (λ fault. (places.old.items ≡ [])
         × (fault ≡ Fault.Refused (record { code = Code.StrayContinuation; line = line.number }))) }
 {
@@ -144,10 +154,13 @@ fn begin_field<'a>(
     requires after { line.start ≤ line.end }
     requires within { line.end ≤ length text.now }
     requires stands { StandsAt text.now line.start places.old.items names.old.keys }
-    ensures ok { OnOk result (field_line line.number (begun_fields text.now places.old.items) (slice_range text.now line.start line.end)
+    ensures ok { let content = slice_range text.now line.start line.end in
+        OnOk result (field_line line.number (begun_fields text.now places.old.items) content
         ≡ Ok (begun_fields text.now places.new.items)) }
     ensures stands { OnOk result (StandsAt text.now (line.end + 1) places.new.items names.new.keys) }
-    ensures fault { IfErr result (IsFaultOf (field_line line.number (begun_fields text.now places.old.items) (slice_range text.now line.start line.end))) }
+    ensures fault { let content = slice_range text.now line.start line.end in
+        IfErr result (IsFaultOf
+        (field_line line.number (begun_fields text.now places.old.items) content)) }
 {
     let content = &text[line.start..line.end];
     let colon = colon_of(content).map_err(|code| refused(code, line))?;
@@ -167,13 +180,18 @@ fn begin_field<'a>(
     Ok(())
 }
 
-/// Where the colon stands behind the name in a line that begins a field, which may still be a field that stood before.
+/// Where the colon stands behind the name in a line that begins a field, perhaps one that stood
+/// before.
 fn colon_of(content: &[u8]) -> Result<usize, Code>
     ensures within { IfOk result (λ colon. colon < length content.now) }
-    ensures ok { IfOk result (λ colon. (n : ℕ) (fields : List Field) → field_line n fields content.now
-        ≡ (if has_name (take colon content.now) fields then Err (record { code = Code.DuplicateField; line = n })
-            else Ok (fields ++ record { name = take colon content.now; line = n; body = drop (colon + 1) content.now } ∷ []))) }
-    ensures refused { IfErr result (λ code. (n : ℕ) (fields : List Field) → field_line n fields content.now ≡ Err (record { code = code; line = n })) }
+    ensures ok { IfOk result (λ colon. (n : ℕ) (fields : List Field) →
+        let name = take colon content.now in
+        field_line n fields content.now ≡ (if has_name name fields
+        then Err (record { code = Code.DuplicateField; line = n })
+        else Ok (fields
+        ++ record { name = name; line = n; body = drop (colon + 1) content.now } ∷ []))) }
+    ensures refused { IfErr result (λ code. (n : ℕ) (fields : List Field) →
+        field_line n fields content.now ≡ Err (record { code = code; line = n })) }
 {
     if content.starts_with(ARMOUR) {
         return Err(Code::Armour);

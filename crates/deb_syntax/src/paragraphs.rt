@@ -1,4 +1,4 @@
-//! The reader of paragraphs.
+//! The reader of paragraphs (Debian Policy 5.1; deb822(5)).
 
 ghost use Rattle.std.specs.Prelude.{◌≡◌, ◌<◌, ◌≤◌, ◌^◌, ◌==◌, count_by, vec_len};
 ghost use Rattle.deb_syntax.specs.Lines.{newline};
@@ -12,19 +12,28 @@ use crate::judge_next::judge_next;
 use crate::place::Place;
 use crate::raw::Raw;
 
-/// The most bytes that a file may have.
+/// The most bytes that a file may have (this project's own).
 const FILE_LIMIT: u64 = 4_294_967_295;
 
-/// Reads the paragraphs of a file, one after another.
+/// Reads the paragraphs of a file, one after another (Debian Policy 5.1).
+///
+/// A file has at most 4,294,967,295 bytes, and the lengths of a paragraph's lines, with their newlines, add up to at
+/// most 16,777,216. `next` is handed the file's reader at each call: the file is what was taken so far, followed by
+/// what that reader has left.
 #[derive(Drop)]
 pub struct Paragraphs {
     buffer: Vec<u8>,
+    /// Where the bytes that haven't passed begin in the buffer.
     start: usize,
+    /// How many bytes and lines have passed.
     bytes: u64,
     lines: u64,
+    /// Whether `None` was answered.
     finished: bool,
     fault: Option<Fault>,
+    /// Where the fields of the paragraph that was read last stand in its bytes.
     places: Vec<Place>,
+    /// Where its bytes begin and end in the buffer, and the number of its first line.
     from: usize,
     to: usize,
     first_line: u64,
@@ -42,7 +51,7 @@ impl Paragraphs {
     ghost use Rattle.deb_syntax.specs.Reading.{Passes, Advances};
     ghost use Rattle.deb_syntax.specs.Paragraphs.{state_of, seen_of, answer_of, current_of, are_within, step_answer, StepPasses, IsFound};
 
-    /// A reader that has read nothing.
+    /// A reader of paragraphs that has read nothing. Takes no memory.
     pub fn new(alloc: Global) -> Paragraphs
         ensures { state_of result ≡ record { unread = []; held = 0; bytes = 0; lines = 0; finished = false; fault = None } }
     {
@@ -61,14 +70,24 @@ impl Paragraphs {
         }
     }
 
-    /// The length of the buffer, in bytes.
+    /// The length in bytes of the buffer, the one list of bytes that is kept.
     pub fn held(&self) -> usize
         ensures { result ≡ (state_of self.now).held }
     {
         self.buffer.len()
     }
 
-    /// The next paragraph.
+    /// The next paragraph of the file, or `None` where there is no further one. After `None` it goes on answering `None`.
+    ///
+    /// # Errors
+    ///
+    /// After an error every later call answers the same error, and reads nothing.
+    ///
+    /// - `Fault::Refused`: the file isn't accepted. It has a code from 1 to 9 and a line of the file: a line isn't
+    ///   UTF-8, begins an armoured message or a comment, continues no field, has no colon, has no name of a field before
+    ///   it, or one that stood before in its paragraph; or the paragraph or the file is too long.
+    /// - `Fault::Memory`: a growth of memory was refused.
+    /// - `Fault::Read`: a read of `reader` failed in this call.
     pub fn next<'a, R: Source>(&'a mut self, reader: &mut R) -> Result<Option<Raw<'a>>, Fault>
         ensures* after { sem 𝓛 (Rests the_row self.entry (λ new. Passes (state_of self.old) (R.left reader.old) (R.failures reader.old) (answer_of result) (state_of new) (R.left reader.new) (R.failures reader.new))) }
     {
@@ -167,3 +186,6 @@ fn newlines(text: &[u8]) -> u64
 {
     text.iter().filter(|b| **b == b'\n').count() as u64
 }
+
+#[cfg(test)]
+mod tests;

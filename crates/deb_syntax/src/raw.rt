@@ -72,11 +72,8 @@ impl<'a> Raw<'a> {
     pub fn field(&self, index: usize) -> Option<RawField<'a>>
         ensures { option_map field_of result ≡ slice_get (fields_of self.now) index }
     {
-        if index < self.places.len() {
-            Some(self.field_at(self.places[index]))
-        } else {
-            None
-        }
+        let place = self.places.get(index)?;
+        Some(self.field_at(*place))
     }
 
     /// The field of a name, where names that differ in ASCII case alone are the same, or `None` where

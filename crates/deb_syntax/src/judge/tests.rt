@@ -2,6 +2,7 @@
 
 use super::*;
 use crate::Raw;
+use std::io::Write;
 use std::test::Fail;
 
 /// A paragraph whose first line has number 1, and its fields: name, line and body.
@@ -82,24 +83,12 @@ const REFUSED: [Refused; 24] = [
     Refused(b"a\x7f: x", Code::BadFieldName, 1),
     Refused(b"caf\xc3\xa9: x", Code::BadFieldName, 1),
     Refused(b"a\r: x", Code::BadFieldName, 1),
-    Refused(
-        b"Package: aa\npackage: bb",
-        Code::DuplicateField,
-        2,
-    ),
-    Refused(
-        b"A: 1\nX-Foo: 2\n b\nx-fOO: 2",
-        Code::DuplicateField,
-        4,
-    ),
+    Refused(b"Package: aa\npackage: bb", Code::DuplicateField, 2),
+    Refused(b"A: 1\nX-Foo: 2\n b\nx-fOO: 2", Code::DuplicateField, 4),
     Refused(b"# x", Code::Comment, 1),
     Refused(b"A: 1\n#", Code::Comment, 2),
     Refused(b"#a: x", Code::Comment, 1),
-    Refused(
-        b"-----BEGIN PGP SIGNED MESSAGE-----",
-        Code::Armour,
-        1,
-    ),
+    Refused(b"-----BEGIN PGP SIGNED MESSAGE-----", Code::Armour, 1),
     Refused(b"A: 1\n-----BEGIN PGP", Code::Armour, 2),
     Refused(b"-----BEGIN PGO: x", Code::BadFieldName, 1),
     Refused(b"-----BEGIN PG", Code::NoColon, 1),
@@ -179,7 +168,7 @@ fn refusals_of_lines(rt: HostRuntime) {
 fn a_hundred_thousand_fields(rt: HostRuntime) -> Result<(), Fail> {
     let mut text = Vec::new(rt.alloc());
     for i in 0..100_000u32 {
-        text.extend_from_slice(format!(in rt.alloc(); "F{i}: x\n")?.as_bytes())?;
+        write!(text, "F{i}: x\n")?;
     }
     text.extend_from_slice(b"last:")?;
     let mut places = Vec::new(rt.alloc());
@@ -195,6 +184,9 @@ fn a_hundred_thousand_fields(rt: HostRuntime) -> Result<(), Fail> {
         code: Code::DuplicateField,
         line: 100_011,
     });
-    assert_eq!(rt; judge(rt.alloc(), text.as_slice(), 11, &mut places), Err(want));
+    assert_eq!(rt;
+        judge(rt.alloc(), text.as_slice(), 11, &mut places),
+        Err(want)
+    );
     Ok(())
 }

@@ -1,4 +1,4 @@
-use Rattle.std.proofs.Common.{◌≡◌, ◌<◌, ◌+◌, slice_range, refl, sym, ap, subst, ◌∙◌, Ok}
+use Rattle.std.proofs.Common.{◌+◌, slice_range, refl, sym, ap, subst, ◌∙◌, Ok}
 use Rattle.std.proofs.lemmas.Result.{on_ok_weaker, IfErr-weaker}
 use Rattle.deb_syntax.specs.Judging.{continuation_line}
 use Rattle.deb_syntax.specs.Places.{begun_fields, StandsAt, IsFaultOf}
@@ -14,9 +14,9 @@ returns-then-begins_with_blank-clause-ok c =
     let text = c.args.text.now in
     on_ok_weaker c.continue_field.result
     (λ h.
-        line_judged-continuation _ _ _ (c.if-not-is_utf8.ensures.0 refl) (sym c.if-begins_with_blank.ensures)
-        ∙ continuation_line-begun text c.args.line.start c.args.line.end c.requires.after c.requires.within c.args.line.number c.args.places.now.items c.args.names.now.keys c.requires.newline h.0 c.requires.stands
-        ∙ ap (λ l. Ok (begun_fields text l)) (sym h.1))
+    line_judged-continuation _ _ _ (c.if-not-is_utf8.ensures.0 refl) (sym c.if-begins_with_blank.ensures)
+    ∙ continuation_line-begun text c.args.line.start c.args.line.end c.requires.after c.requires.within c.args.line.number c.args.places.now.items c.args.names.now.keys c.requires.newline h.0 c.requires.stands
+    ∙ ap (λ l. Ok (begun_fields text l)) (sym h.1))
     c.continue_field.ensures.ok
 
 pub returns-then-begins_with_blank-clause-stands : goal.returns-then-begins_with_blank-clause-stands
@@ -31,8 +31,8 @@ returns-then-begins_with_blank-clause-fault c =
     let line = slice_range text c.args.line.start c.args.line.end in
     IfErr-weaker c.continue_field.result _ _
     (λ fault h. subst (IsFaultOf _) (sym h.1)
-        (line_judged-continuation _ _ _ (c.if-not-is_utf8.ensures.0 refl) (sym c.if-begins_with_blank.ensures)
-        ∙ ap (λ l. continuation_line c.args.line.number (begun_fields text l) line) h.0))
+    (line_judged-continuation _ _ _ (c.if-not-is_utf8.ensures.0 refl) (sym c.if-begins_with_blank.ensures)
+    ∙ ap (λ l. continuation_line c.args.line.number (begun_fields text l) line) h.0))
     c.continue_field.ensures.stray
 
 pub returns-else-begins_with_blank-clause-ok : goal.returns-else-begins_with_blank-clause-ok

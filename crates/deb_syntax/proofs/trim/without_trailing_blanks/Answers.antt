@@ -11,9 +11,9 @@ loop-end-preserved c =
 pub returns : goal.returns
 returns c =
     elim c.loop-end-test.branch [
-      then-loop-end-test+else-is_blank_byte w ↦
-        sym (without_trailing_blanks-other c.args.text.now c.loop-end.end (omega arith) (omega arith) (sym w.if-is_blank_byte.ensures)) ∙ c.loop-end.invariant.1
-    | else-loop-end-test w ↦
-        let none : c.loop-end.end ≡ 0 = omega arith in
-        ap (λ n. take n c.args.text.now) none ∙ sym (ap (λ n. without_trailing_blanks (take n c.args.text.now)) none) ∙ c.loop-end.invariant.1
+      | then-loop-end-test+else-is_blank_byte w ↦
+          sym (without_trailing_blanks-other c.args.text.now c.loop-end.end (omega arith) (omega arith) (sym w.if-is_blank_byte.ensures)) ∙ c.loop-end.invariant.1
+      | else-loop-end-test w ↦
+          let none : c.loop-end.end ≡ 0 = omega arith in
+          ap (λ n. take n c.args.text.now) none ∙ sym (ap (λ n. without_trailing_blanks (take n c.args.text.now)) none) ∙ c.loop-end.invariant.1
     ]
