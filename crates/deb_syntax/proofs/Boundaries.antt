@@ -1,10 +1,10 @@
 -- Cutting a text behind whole lines.
-use Rattle.std.proofs.Common.{◌≡◌, ◌≢◌, ℕ, zero, suc, ◌+◌, ◌-◌, ◌<◌, ◌≤◌, ◌==◌, ◌⊎◌, inl, inr, Bool, true, false, cond, List, [], ◌∷◌, ◌++◌, length, take, drop, refl, sym, ap, ◌∙◌, subst, append_assoc, arith, length-drop, length-append}
+use Rattle.std.proofs.Common.{◌≡◌, ℕ, zero, suc, ◌+◌, ◌-◌, ◌<◌, ◌≤◌, ◌==◌, inl, inr, true, false, cond, List, [], ◌∷◌, ◌++◌, length, take, drop, refl, sym, ap, ◌∙◌, subst, append_assoc, arith, length-drop}
 use Rattle.std.proofs.Math.Seq.{take-add, take-nil, drop-nil}
 use Rattle.std.proofs.lemmas.List.{take_all, take-append-drop, append-nil}
 use Rattle.std.proofs.Math.ListN.{drop_of_length-le}
 use Rattle.std.proofs.lemmas.Bool.{cases_lt}
-use Rattle.std.specs.List.{AllByRecursion, slice_range}
+use Rattle.std.specs.List.{slice_range}
 use Rattle.deb_syntax.specs.Lines.{Line, newline, with_byte, lines_of, pieces_of, HasNoNewline, ends_line}
 use Rattle.deb_syntax.specs.Extents.{EndsAtLine, IsFirstLine}
 use Rattle.deb_syntax.proofs.Runs.{lines_of-line, lines_of-last, pieces_of-last}
@@ -17,7 +17,7 @@ first_line b bs =
       | false ↦ elim (lines_of bs) as (λ ls. (line : Line) × (lines : List Line) × (with_byte b ls ≡ line ∷ lines)) [
         | [] ↦ (b ∷ [], [], refl)
         | l ∷ ls ↦ (b ∷ l, ls, refl)
-        ]
+      ]
     ]
 
 with_byte-append : (b : ℕ) (ls ks : List Line) (l : Line) (rest : List Line) → ls ≡ l ∷ rest → with_byte b (ls ++ ks) ≡ with_byte b ls ++ ks
@@ -73,20 +73,22 @@ line_step text at n h whole first =
     let more = ap lines_of (take-add at (n + 1) text) ∙ lines_of-append (take at text) (take (n + 1) (drop at text)) closed in
     elim (cases_lt n (length (drop at text))) [
       | inl l ↦
-        let e = take_newline (drop at text) n (first.ended l) in
-        (more ∙ ap (λ zs. lines_of (take at text) ++ zs) (ap lines_of e ∙ lines_of-line (take n (drop at text)) [] first.line),
-         inl (ap ends_line (take-add at (n + 1) text) ∙ ap (λ zs. ends_line (take at text ++ zs)) e ∙ ends_line-append (take at text) (take n (drop at text))))
+          let e = take_newline (drop at text) n (first.ended l) in (
+            more ∙ ap (λ zs. lines_of (take at text) ++ zs) (ap lines_of e ∙ lines_of-line (take n (drop at text)) [] first.line),
+            inl (ap ends_line (take-add at (n + 1) text) ∙ ap (λ zs. ends_line (take at text ++ zs)) e ∙ ends_line-append (take at text) (take n (drop at text))),
+          )
       | inr l ↦
-        let same_length : length (drop at text) ≡ n = omega (arith, first.within, l) in
-        let rest_length : length (drop at text) ≡ length text - at = length-drop at text in
-        let long_enough : length text ≤ at + (n + 1) = omega arith in
-        let some_left : 0 < length (drop at text) = omega arith in
-        let same_more : length (drop at text) ≤ n + 1 = omega arith in
-        let all_taken = take_all n (drop at text) l in
-        let rest_taken = take_all (n + 1) (drop at text) same_more in
-        (more ∙ ap (λ zs. lines_of (take at text) ++ lines_of zs) (rest_taken ∙ sym all_taken)
-            ∙ ap (λ zs. lines_of (take at text) ++ zs) (lines_of-nonempty (take n (drop at text)) (subst (λ zs. 0 < length zs) (sym all_taken) some_left) first.line),
-         inr (drop_of_length-le text long_enough))
+          let same_length : length (drop at text) ≡ n = omega (arith, first.within, l) in
+          let rest_length : length (drop at text) ≡ length text - at = length-drop at text in
+          let long_enough : length text ≤ at + (n + 1) = omega arith in
+          let some_left : 0 < length (drop at text) = omega arith in
+          let same_more : length (drop at text) ≤ n + 1 = omega arith in
+          let all_taken = take_all n (drop at text) l in
+          let rest_taken = take_all (n + 1) (drop at text) same_more in (
+            more ∙ ap (λ zs. lines_of (take at text) ++ lines_of zs) (rest_taken ∙ sym all_taken)
+                ∙ ap (λ zs. lines_of (take at text) ++ zs) (lines_of-nonempty (take n (drop at text)) (subst (λ zs. 0 < length zs) (sym all_taken) some_left) first.line),
+            inr (drop_of_length-le text long_enough),
+          )
     ]
 
 -- the first line of a text comes first among its lines
@@ -94,12 +96,12 @@ pub lines_of-first : (rest : List ℕ) (n : ℕ) → 0 < length rest → IsFirst
 lines_of-first rest n h first =
     elim (cases_lt n (length rest)) [
       | inl l ↦
-        ap lines_of (sym (take-append-drop n rest) ∙ ap (λ zs. take n rest ++ zs) (first.ended l)) ∙ lines_of-line (take n rest) (drop (n + 1) rest) first.line
+          ap lines_of (sym (take-append-drop n rest) ∙ ap (λ zs. take n rest ++ zs) (first.ended l)) ∙ lines_of-line (take n rest) (drop (n + 1) rest) first.line
       | inr l ↦
-        let same_more : length rest ≤ n + 1 = omega arith in
-        let all_taken = take_all n rest l in
-        ap lines_of (sym all_taken) ∙ lines_of-nonempty (take n rest) (subst (λ zs. 0 < length zs) (sym all_taken) h) first.line
-        ∙ ap (λ zs. take n rest ∷ lines_of zs) (sym (drop_of_length-le rest same_more))
+          let same_more : length rest ≤ n + 1 = omega arith in
+          let all_taken = take_all n rest l in
+          ap lines_of (sym all_taken) ∙ lines_of-nonempty (take n rest) (subst (λ zs. 0 < length zs) (sym all_taken) h) first.line
+          ∙ ap (λ zs. take n rest ∷ lines_of zs) (sym (drop_of_length-le rest same_more))
     ]
 
 -- whole lines and the rest

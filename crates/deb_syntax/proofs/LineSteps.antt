@@ -1,31 +1,19 @@
 -- What one line more makes of the lines before it.
-use Rattle.std.proofs.Common.{◌≡◌, ℕ, suc, cond, min, ◌==◌, inl, inr, ◌+◌, ◌<◌, ◌≤◌, Bool, true, false, List, [], ◌∷◌, ◌++◌, length, take, drop, refl, sym, ap, ◌∙◌, subst, arith, length-append, length-drop, length-take}
+use Rattle.std.proofs.Common.{◌≡◌, ℕ, suc, cond, min, ◌==◌, inl, inr, ◌+◌, ◌<◌, ◌≤◌, Bool, true, false, List, [], ◌∷◌, length, take, drop, refl, sym, ap, ◌∙◌, subst, arith, length-append, length-drop, length-take}
 use Rattle.std.proofs.lemmas.List.{take_min, drop_min}
 use Rattle.std.proofs.lemmas.Bool.{false≢true}
 use Rattle.std.proofs.Math.ListN.{drop_of_length-le}
 use Rattle.std.proofs.lemmas.List.Sums.{sum_by-append}
-use Rattle.std.specs.List.{AllByRecursion}
 use Rattle.deb_syntax.specs.Lines.{Line, newline, with_byte, ends_line, lines_of, is_blank, begins_blank, total_length, line_length}
 use Rattle.deb_syntax.specs.Extents.{EndsAtLine, IsFirstLine, AreBlank, AreNotBlank, PassesBlanks}
+use Rattle.deb_syntax.proofs.JudgingLaws.{all_append}
 use Rattle.deb_syntax.proofs.Boundaries.{line_step, lines_of-first}
-
-pub all-append : {X : Type 0} (P : X → Type 0) (xs ys : List X) → AllByRecursion P xs → AllByRecursion P ys → AllByRecursion P (xs ++ ys)
-all-append P [] ys h k = k
-all-append P (x ∷ xs) ys h k = (h.0, all-append P xs ys h.1 k)
-
-pub all-front : {X : Type 0} (P : X → Type 0) (xs ys : List X) → AllByRecursion P (xs ++ ys) → AllByRecursion P xs
-all-front P [] ys h = tt
-all-front P (x ∷ xs) ys h = (h.0, all-front P xs ys h.1)
-
-pub all-back : {X : Type 0} (P : X → Type 0) (xs ys : List X) → AllByRecursion P (xs ++ ys) → AllByRecursion P ys
-all-back P [] ys h = h
-all-back P (x ∷ xs) ys h = all-back P xs ys h.1
 
 -- one more blank line
 pub blank_step : (text : List ℕ) (at : ℕ) (line : Line) → at < length text → EndsAtLine text at → IsFirstLine (drop at text) (length line) → line ≡ take (length line) (drop at text) → is_blank line ≡ true → AreBlank (lines_of (take at text)) → AreBlank (lines_of (take (at + (length line + 1)) text))
 blank_step text at line h whole first is blank before =
     let step = line_step text at (length line) h whole first in
-    subst AreBlank (sym step.0) (all-append _ _ _ before (subst (λ l. is_blank l ≡ true) is blank, tt))
+    subst AreBlank (sym step.0) (all_append _ _ _ before (subst (λ l. is_blank l ≡ true) is blank, tt))
 
 -- one more line is counted
 pub counted_step : (text : List ℕ) (at : ℕ) (line : Line) → at < length text → EndsAtLine text at → IsFirstLine (drop at text) (length line) → length (lines_of (take (at + (length line + 1)) text)) ≡ length (lines_of (take at text)) + 1
@@ -42,7 +30,7 @@ begins_blank-line text at line b h first is blank =
 pub not_blank_step : (text : List ℕ) (at : ℕ) (line : Line) → at < length text → EndsAtLine text at → IsFirstLine (drop at text) (length line) → line ≡ take (length line) (drop at text) → is_blank line ≡ false → AreNotBlank (lines_of (take at text)) → AreNotBlank (lines_of (take (at + (length line + 1)) text))
 not_blank_step text at line h whole first is blank before =
     let step = line_step text at (length line) h whole first in
-    subst AreNotBlank (sym step.0) (all-append _ _ _ before (subst (λ l. is_blank l ≡ false) is blank, tt))
+    subst AreNotBlank (sym step.0) (all_append _ _ _ before (subst (λ l. is_blank l ≡ false) is blank, tt))
 
 sum_one : (line : Line) → total_length (line ∷ []) ≡ length line + 1
 sum_one line = grind arith
@@ -72,8 +60,8 @@ passes_min text n count whole blank counted = record {
   within = omega arith;
   whole = elim whole [ inl e ↦ inl (ap ends_line (take_min n text) ∙ e) | inr e ↦ inr (drop_min n text ∙ e) ];
   blank = subst (λ zs. AreBlank (lines_of zs)) (sym (take_min n text)) blank;
-  counted = counted ∙ ap (λ zs. length (lines_of zs)) (sym (take_min n text))
-  }
+  counted = counted ∙ ap (λ zs. length (lines_of zs)) (sym (take_min n text));
+}
 
 -- the blank line that a text begins with
 pub passes_first : (text : List ℕ) (line : Line) → 0 < length text → IsFirstLine text (length line) → line ≡ take (length line) text → begins_blank (lines_of text) ≡ true → PassesBlanks text (min (length line + 1) (length text)) 1

@@ -1,11 +1,11 @@
 -- Blank lines, a run of lines that aren't blank, and a blank line or the end make the extent of a paragraph.
-use Rattle.std.proofs.Common.{◌≡◌, ◌≢◌, ℕ, zero, suc, ◌+◌, ◌-◌, ◌<◌, ◌≤◌, ◌⊎◌, inl, inr, true, false, List, [], ◌∷◌, ◌++◌, length, take, drop, refl, sym, ap, ◌∙◌, subst, append_assoc, arith, length-drop, length-append, length-take}
+use Rattle.std.proofs.Common.{◌≡◌, ◌≢◌, ℕ, ◌+◌, ◌-◌, ◌<◌, ◌≤◌, inl, inr, List, [], ◌∷◌, ◌++◌, length, take, drop, sym, ap, ◌∙◌, subst, arith, length-drop, length-append, length-take}
 use Rattle.std.specs.List.{slice_range}
 use Rattle.std.proofs.Math.Seq.{take-length, drop-nil}
 use Rattle.std.proofs.lemmas.Bool.{cases_lt}
 use Rattle.std.proofs.lemmas.List.{nil_from_length}
-use Rattle.deb_syntax.specs.Lines.{Line, lines_of, pieces_of, begins_blank, total_length, paragraph_limit}
-use Rattle.deb_syntax.specs.Extents.{EndsAtLine, AreBlank, AreNotBlank, PassesBlanks, PassesRun, IsExtent, paragraph_at, IsTooLong, IsTooLongBehindBlanks}
+use Rattle.deb_syntax.specs.Lines.{Line, lines_of, pieces_of, total_length, paragraph_limit}
+use Rattle.deb_syntax.specs.Extents.{AreBlank, AreNotBlank, PassesBlanks, PassesRun, IsExtent, IsTooLong, IsTooLongBehindBlanks}
 use Rattle.deb_syntax.specs.declared.extent.Extent.{Extent}
 use Rattle.deb_syntax.proofs.LineSteps.{few_lines-take}
 use Rattle.deb_syntax.proofs.Boundaries.{lines_of-pass, lines_of-cut, whole-pass, drop_drop, first_line}
@@ -31,9 +31,15 @@ module _ (before : ℕ) (text : List ℕ) (s bl r end rl k el : ℕ) (blanks : P
       run.pieces ∙ ap (λ m. pieces_of (take m (drop s text))) (sym n)
 
   counted_lines : bl + (rl + el) ≡ length (lines_of (take (s + (r + k)) text))
-  counted_lines = omega (arith, blanks.counted, run.counted, ending.counted, ap length passed_lines,
-      length-append (lines_of (take s text)) (lines_of (take r (drop s text)) ++ lines_of (take k (drop r (drop s text)))),
-      length-append (lines_of (take r (drop s text))) (lines_of (take k (drop r (drop s text)))))
+  counted_lines = omega (
+    arith,
+    blanks.counted,
+    run.counted,
+    ending.counted,
+    ap length passed_lines,
+    length-append (lines_of (take s text)) (lines_of (take r (drop s text)) ++ lines_of (take k (drop r (drop s text)))),
+    length-append (lines_of (take r (drop s text))) (lines_of (take k (drop r (drop s text)))),
+  )
 
   nothing_left : (n : ℕ) → length (drop r (drop s text)) ≤ n → n ≤ 0 → drop (s + (r + k)) text ≡ []
   nothing_left n h z =
@@ -60,11 +66,11 @@ module _ (before : ℕ) (text : List ℕ) (s bl r end rl k el : ℕ) (blanks : P
         closed = elim (cases_lt 0 (length (drop r (drop s text)))) [
           | inl h ↦ inl (nonempty_counted _ el ending.counted (closes h))
           | inr h ↦ inr (nothing_left _ h (omega arith))
-          ];
+        ];
         short = subst (λ zs. total_length zs ≤ paragraph_limit) run_lines run.short;
         ordered = omega arith;
         ends = omega arith;
-        within = omega (arith, blanks.within, ending.within, a, b)
+        within = omega (arith, blanks.within, ending.within, a, b);
       }
 
 -- the refusal behind blank lines
@@ -77,8 +83,8 @@ is_too_long before text s bl line blanks long = record {
   before_blank = blanks.blank;
   not_blank = long.not_blank;
   long = long.long;
-  at = omega (arith, long.at, blanks.counted)
-  }
+  at = omega (arith, long.at, blanks.counted);
+}
 
 -- nothing but blank lines
 pub only_blanks : (text : List ℕ) (s bl : ℕ) → PassesBlanks text s bl → s ≡ length text → AreBlank (lines_of text) × (bl ≡ length (lines_of text))

@@ -1,14 +1,14 @@
 -- The paragraphs of lines that follow others, and what a refusal of one paragraph says of the whole text.
-use Rattle.std.proofs.Common.{◌≡◌, ◌≢◌, ℕ, zero, suc, ◌+◌, ◌<◌, ◌≤◌, ◌⊎◌, inl, inr, Bool, true, false, cond, List, [], ◌∷◌, ◌++◌, length, take, drop, refl, sym, ap, ◌∙◌, subst, append_assoc, arith, length-append}
+use Rattle.std.proofs.Common.{◌≡◌, ◌≢◌, ℕ, ◌+◌, ◌<◌, ◌≤◌, Bool, true, false, cond, List, [], ◌∷◌, ◌++◌, length, refl, sym, ap, ◌∙◌, arith}
 use Rattle.std.specs.List.{AllByRecursion}
 use Rattle.std.proofs.lemmas.List.{append-nil}
 use Rattle.std.proofs.lemmas.List.Sums.{sum_by-append}
-use Rattle.deb_syntax.specs.Lines.{Line, Paragraph, lines_of, is_blank, begins_blank, ends_blank, with_line, paragraphs_from, paragraphs_of, line_length, total_length, paragraph_limit}
+use Rattle.deb_syntax.specs.Lines.{Line, Paragraph, is_blank, begins_blank, ends_blank, with_line, paragraphs_from, line_length, total_length, paragraph_limit}
 use Rattle.deb_syntax.specs.Fields.{Field, IsShort, SpellsParagraph}
 use Rattle.deb_syntax.specs.Meaning.{Entries, HaveMeanings}
 use Rattle.deb_syntax.specs.Extents.{AreBlank, AreNotBlank}
 use Rattle.deb_syntax.proofs.Runs.{joins, paragraphs_from-blanks, paragraphs_from-run}
-use Rattle.deb_syntax.proofs.LineSteps.{all-back}
+use Rattle.deb_syntax.proofs.JudgingLaws.{all_right}
 
 -- the length of lines, of which the first is taken apart
 pub total-cons : (line : Line) (lines : List Line) → total_length (line ∷ lines) ≡ total_length (line ∷ []) + total_length lines
@@ -41,9 +41,9 @@ paragraphs_from-append n (line ∷ []) b h = rw h refl
 paragraphs_from-append n (line ∷ next ∷ a) b h =
     let count : n + 1 + length (next ∷ a) ≡ n + length (line ∷ next ∷ a) = omega arith in
     let ih : paragraphs_from (n + 1) ((next ∷ a) ++ b) ≡ paragraphs_from (n + 1) (next ∷ a) ++ paragraphs_from (n + length (line ∷ next ∷ a)) b
-        = paragraphs_from-append (n + 1) (next ∷ a) b h ∙ ap (λ k. paragraphs_from (n + 1) (next ∷ a) ++ paragraphs_from k b) count in
+    = paragraphs_from-append (n + 1) (next ∷ a) b h ∙ ap (λ k. paragraphs_from (n + 1) (next ∷ a) ++ paragraphs_from k b) count in
     elim (is_blank line) as (λ t. cond t (paragraphs_from (n + 1) ((next ∷ a) ++ b)) (with_line n line (is_blank next) (paragraphs_from (n + 1) ((next ∷ a) ++ b)))
-        ≡ cond t (paragraphs_from (n + 1) (next ∷ a)) (with_line n line (is_blank next) (paragraphs_from (n + 1) (next ∷ a))) ++ paragraphs_from (n + length (line ∷ next ∷ a)) b) [
+    ≡ cond t (paragraphs_from (n + 1) (next ∷ a)) (with_line n line (is_blank next) (paragraphs_from (n + 1) (next ∷ a))) ++ paragraphs_from (n + length (line ∷ next ∷ a)) b) [
       | true ↦ ih
       | false ↦ ap (with_line n line (is_blank next)) ih ∙ with_line-append n line (is_blank next) (paragraphs_from (n + 1) (next ∷ a)) _ (not_blank-some (n + 1) next a)
     ]
@@ -92,4 +92,4 @@ not_meant (x ∷ ps) qs p (entries ∷ meaning) unspelled h = not_meant ps qs p 
 
 -- a paragraph that is too long is none of a text whose paragraphs aren't
 pub not_short : (ps qs : List Paragraph) (p : Paragraph) → paragraph_limit < total_length p.lines → AllByRecursion IsShort (ps ++ p ∷ qs) → ⊥
-not_short ps qs p long h = let short : total_length p.lines ≤ paragraph_limit = (all-back IsShort ps (p ∷ qs) h).0 in omega arith
+not_short ps qs p long h = let short : total_length p.lines ≤ paragraph_limit = (all_right IsShort ps (p ∷ qs) h).0 in omega arith

@@ -1,5 +1,5 @@
 -- Places that lie within a part of a buffer.
-use Rattle.std.proofs.Common.{◌≡◌, ◌∙◌, ℕ, ◌-◌, ◌≤◌, ◌&&◌, Bool, true, List, refl, sym, ap, subst, leb, IsTrue, arith}
+use Rattle.std.proofs.Common.{◌≡◌, ℕ, ◌-◌, ◌≤◌, ◌&&◌, true, List, subst, leb, IsTrue}
 use Rattle.std.specs.List.{list_all}
 use Rattle.std.proofs.lemmas.Bool.{and_from, le-leb}
 use Rattle.deb_syntax.specs.declared.place.Place.{Place}

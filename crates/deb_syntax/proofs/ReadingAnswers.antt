@@ -1,5 +1,5 @@
 -- What the calls of a reader of paragraphs answer, from what they find in the unread bytes.
-use Rattle.std.proofs.Common.{◌≡◌, ◌≢◌, ℕ, suc, ◌+◌, ◌-◌, ◌<◌, ◌≤◌, ◌==◌, ◌^◌, ◌⊎◌, inl, inr, Bool, true, false, cond, List, [], ◌∷◌, ◌++◌, Option, Some, None, Result, Ok, Err, IfErr, IfNone, IfSome, MatchResult, vec_len, length, take, drop, IsTrue, refl, sym, ap, ◌∙◌, subst, append_assoc, arith, length-append, length-take, length-drop}
+use Rattle.std.proofs.Common.{◌≡◌, ℕ, ◌+◌, ◌<◌, ◌≤◌, ◌==◌, ◌^◌, inl, inr, Bool, true, false, cond, List, [], ◌∷◌, ◌++◌, Option, Some, None, Result, Ok, Err, IfErr, IfNone, IfSome, length, take, drop, IsTrue, refl, sym, ap, ◌∙◌, subst, append_assoc, arith, length-append, length-drop}
 use Rattle.std.specs.List.{count_by}
 use Rattle.std.proofs.lemmas.List.{append-nil, take-append-drop}
 use Rattle.std.proofs.lemmas.Grind.{common_steps}
@@ -12,9 +12,9 @@ use Rattle.deb_base.specs.declared.fault.Fault.TheVariants.{Refused, Memory, Rea
 use Rattle.deb_base.specs.declared.refusal.Refusal.{Refusal}
 use Rattle.deb_syntax.specs.declared.paragraphs.Paragraphs.{Paragraphs}
 use Rattle.deb_syntax.specs.Lines.{newline, with_byte, lines_of, paragraphs_of, paragraph_limit, file_limit, total_length}
-use Rattle.deb_syntax.specs.Extents.{paragraph_at, IsTooLongBehindBlanks}
-use Rattle.deb_syntax.specs.NextJudged.{IsNotJudged, HasRefusedLine}
-use Rattle.deb_syntax.specs.Reading.{State, Fits, Seen, GivesNext, GivesNone, IsRefused, Answers, IsReaderFault, Advances, Passes}
+use Rattle.deb_syntax.specs.Extents.{paragraph_at}
+use Rattle.deb_syntax.specs.NextJudged.{IsNotJudged}
+use Rattle.deb_syntax.specs.Reading.{State, Fits, GivesNext, GivesNone, IsRefused, Answers, IsReaderFault, Advances, Passes}
 use Rattle.deb_syntax.specs.Paragraphs.{state_of, current_of, step_answer, IsFound}
 use Rattle.deb_syntax.proofs.JudgingLawsRefusals.{judged-refusal}
 use Rattle.deb_syntax.proofs.Boundaries.{first_line}
@@ -35,10 +35,10 @@ stays_none text passed s left fits finished small =
         bytes = fits.bytes ∙ ap length (sym same);
         lines = fits.lines ∙ ap (λ zs. length (lines_of zs)) (sym same);
         closed = inr nothing;
-        finished = λ _. nothing
+        finished = λ _. nothing;
       };
       finished = finished;
-      small = omega (arith, fits.bytes, ap length same)
+      small = omega (arith, fits.bytes, ap length same);
     }
 
 -- the newlines of a text in front of another byte, and the lines of both
@@ -75,14 +75,14 @@ refused_file text passed old left after taken unread room refusal fits c is more
     record {
       not_accepted = λ meaning accepted. absurd (omega (arith, accepted.short, lengths, fits.bytes, length-append passed (unread ++ k.0), length-append unread k.0));
       line =
-        let behind : IsBehind passed (unread ++ k.0) = elim fits.closed [
-          | inl closed ↦ inl closed
-          | inr none ↦ inr (ap (λ zs. zs ++ k.0) is ∙ append_assoc old.unread taken k.0 ∙ ap (λ zs. old.unread ++ zs) (sym k.1) ∙ none)
+          let behind : IsBehind passed (unread ++ k.0) = elim fits.closed [
+            | inl closed ↦ inl closed
+            | inr none ↦ inr (ap (λ zs. zs ++ k.0) is ∙ append_assoc old.unread taken k.0 ∙ ap (λ zs. old.unread ++ zs) (sym k.1) ∙ none)
           ] in
-        let split : unread ++ k.0 ≡ take room unread ++ (drop room unread ++ k.0) = ap (λ zs. zs ++ k.0) (sym (take-append-drop room unread)) ∙ append_assoc (take room unread) (drop room unread) k.0 in
-        let rest : 0 < length (drop room unread) = omega (arith, more, length-drop room unread) in
-        let lines : count_by (λ b. b == newline) (take room unread) + 1 ≤ length (lines_of (unread ++ k.0)) = subst (λ zs. count_by (λ b. b == newline) (take room unread) + 1 ≤ length (lines_of zs)) (sym split) (newlines_behind (take room unread) (drop room unread) k.0 rest) in
-        omega (arith, line, fits.lines, lines, ap (λ zs. length (lines_of zs)) whole, ap length (lines_behind passed (unread ++ k.0) behind), length-append (lines_of passed) (lines_of (unread ++ k.0)))
+          let split : unread ++ k.0 ≡ take room unread ++ (drop room unread ++ k.0) = ap (λ zs. zs ++ k.0) (sym (take-append-drop room unread)) ∙ append_assoc (take room unread) (drop room unread) k.0 in
+          let rest : 0 < length (drop room unread) = omega (arith, more, length-drop room unread) in
+          let lines : count_by (λ b. b == newline) (take room unread) + 1 ≤ length (lines_of (unread ++ k.0)) = subst (λ zs. count_by (λ b. b == newline) (take room unread) + 1 ≤ length (lines_of zs)) (sym split) (newlines_behind (take room unread) (drop room unread) k.0 rest) in
+          omega (arith, line, fits.lines, lines, ap (λ zs. length (lines_of zs)) whole, ap length (lines_behind passed (unread ++ k.0) behind), length-append (lines_of passed) (lines_of (unread ++ k.0)));
     }
 
 number_least : (refusal : Refusal) → refusal.code ≡ ParagraphTooLong → (1 ≤ number_of refusal.code) × (number_of refusal.code ≤ 9)
@@ -130,7 +130,7 @@ module _ (text passed : List ℕ) (old mid : State) (new : Paragraphs) (left aft
         bytes = bytes ∙ u.bytes;
         lines = lines ∙ u.lines;
         behind = subst (IsBehind passed) (sym is) u.behind;
-        told = u.told
+        told = u.told;
       }
 
   few : length text ≤ file_limit
@@ -139,7 +139,7 @@ module _ (text passed : List ℕ) (old mid : State) (new : Paragraphs) (left aft
   pub located_answers : (result : Result Bool Fault) → IsFound mid new result → Answers text passed (step_answer new result) (state_of new) after
   located_answers (Ok true) found =
       subst (λ n. GivesNext text passed (record { first = n; fields = (current_of new).fields }) (state_of new) after) (sym found.first)
-        (gives_next text passed mid (state_of new) mid.unread after found.e (current_of new).fields unread_all found.extent found.fields found.unread found.bytes found.lines (found.finished ∙ finished) few)
+      (gives_next text passed mid (state_of new) mid.unread after found.e (current_of new).fields unread_all found.extent found.fields found.unread found.bytes found.lines (found.finished ∙ finished) few)
   located_answers (Ok false) found = gives_none text passed mid (state_of new) mid.unread after unread_all found.blank found.unread found.bytes found.lines found.finished few
   located_answers (Err (Refused refusal)) (inl long) = refused_long text passed mid mid.unread after unread_all refusal long.1
   located_answers (Err (Refused refusal)) (inr h) = refused_line text passed mid mid.unread after unread_all refusal h
@@ -167,5 +167,5 @@ pub passes_err : (old new other : State) (left after : Option (List ℕ)) (n m :
 passes_err old new other left after n m fault none a kept = record {
   goes = if_none old.fault _ (advances_err old new other left after n m fault a);
   keeps = if_none old.fault _ kept;
-  repeats = if_some old.fault _ none
-  }
+  repeats = if_some old.fault _ none;
+}

@@ -1,5 +1,5 @@
 -- What the next paragraph of the unread bytes says of a text that fits.
-use Rattle.std.proofs.Common.{◌≡◌, ◌≢◌, ℕ, suc, ◌+◌, ◌-◌, ◌<◌, ◌≤◌, ◌⊎◌, inl, inr, Bool, true, false, List, [], ◌∷◌, ◌++◌, Option, Some, None, Ok, Err, length, take, drop, IsTrue, refl, sym, ap, ◌∙◌, subst, append_assoc, arith, length-append, length-take, length-drop}
+use Rattle.std.proofs.Common.{◌≡◌, ◌≢◌, ℕ, ◌+◌, ◌<◌, ◌≤◌, ◌⊎◌, inl, inr, true, false, List, [], ◌∷◌, ◌++◌, Option, Some, None, Ok, length, take, drop, refl, sym, ap, ◌∙◌, subst, append_assoc, arith, length-append}
 use Rattle.std.specs.List.{slice_range, AllByRecursion}
 use Rattle.std.proofs.lemmas.Bool.{false≢true}
 use Rattle.std.proofs.Math.Seq.{take-nil, drop-nil}
@@ -7,16 +7,15 @@ use Rattle.std.proofs.lemmas.List.{append-nil, take-append-drop, length-take-le}
 use Rattle.std.specs.Io.KnownBytes.{Consumes, IsAtEnd}
 use Rattle.deb_base.specs.declared.refusal.Refusal.{Refusal}
 use Rattle.deb_syntax.specs.declared.extent.Extent.{Extent}
-use Rattle.deb_syntax.specs.Lines.{Line, Paragraph, lines_of, ends_line, ends_blank, begins_blank, paragraphs_from, paragraphs_of, total_length, paragraph_limit, file_limit}
-use Rattle.deb_syntax.specs.Fields.{Field, IsShort, SpellsParagraph}
+use Rattle.deb_syntax.specs.Lines.{Line, Paragraph, lines_of, ends_blank, begins_blank, paragraphs_from, paragraphs_of, total_length, paragraph_limit, file_limit}
+use Rattle.deb_syntax.specs.Fields.{Field, IsShort}
 use Rattle.deb_syntax.specs.Judging.{judged}
-use Rattle.deb_syntax.specs.Meaning.{Entries, Accepted, HaveMeanings}
+use Rattle.deb_syntax.specs.Meaning.{HaveMeanings}
 use Rattle.deb_syntax.specs.NextJudged.{HasRefusedLine}
 use Rattle.deb_syntax.proofs.Runs.{paragraphs_from-blanks}
 use Rattle.deb_syntax.specs.Laws.{IsRun}
-use Rattle.deb_syntax.specs.Extents.{AreBlank, AreNotBlank, EndsAtLine, IsExtent, IsTooLongBehindBlanks, paragraph_at}
-use Rattle.deb_syntax.specs.Taking.{Takes, IsDrained}
-use Rattle.deb_syntax.specs.Reading.{State, IsClosed, Fits, Seen, GivesNext, GivesNone, IsRefused}
+use Rattle.deb_syntax.specs.Extents.{AreBlank, AreNotBlank, IsExtent, IsTooLongBehindBlanks, paragraph_at}
+use Rattle.deb_syntax.specs.Reading.{State, IsClosed, Fits, GivesNext, GivesNone, IsRefused}
 use Rattle.deb_syntax.proofs.Boundaries.{lines_of-append, lines_of-cut, ends_line-both}
 use Rattle.deb_syntax.proofs.LinesLawsTexts.{pieces_of-no_newline}
 use Rattle.deb_syntax.proofs.JudgingLawsRefusals.{judged-sound, judged-refused, judged-refusal}
@@ -66,11 +65,13 @@ module _ (passed unread : List ℕ) (before : ℕ) (counted : before ≡ length 
     pub is_next : (more : List Paragraph) × (paragraphs_of (passed ++ unread) ≡ paragraphs_of passed ++ paragraph_at unread e ∷ more)
     is_next =
         let lines : lines_of unread ≡ x.blanks ++ ((paragraph_at unread e).lines ++ (x.ending ++ lines_of (drop e.passed unread)))
-            = lines_of-cut unread e.passed x.whole ∙ ap (λ ls. ls ++ lines_of (drop e.passed unread)) x.passed
-              ∙ append_assoc x.blanks ((paragraph_at unread e).lines ++ x.ending) (lines_of (drop e.passed unread))
-              ∙ ap (λ ls. x.blanks ++ ls) (append_assoc (paragraph_at unread e).lines x.ending (lines_of (drop e.passed unread))) in
-        (_, paragraphs_behind passed unread behind ∙ ap (λ ls. paragraphs_of passed ++ paragraphs_from (1 + length (lines_of passed)) ls) lines
-            ∙ ap (λ ps. paragraphs_of passed ++ ps) (paragraphs_at (x.ending ++ lines_of (drop e.passed unread)) rest_begins))
+        = lines_of-cut unread e.passed x.whole ∙ ap (λ ls. ls ++ lines_of (drop e.passed unread)) x.passed
+        ∙ append_assoc x.blanks ((paragraph_at unread e).lines ++ x.ending) (lines_of (drop e.passed unread))
+        ∙ ap (λ ls. x.blanks ++ ls) (append_assoc (paragraph_at unread e).lines x.ending (lines_of (drop e.passed unread))) in (
+          _,
+          paragraphs_behind passed unread behind ∙ ap (λ ls. paragraphs_of passed ++ paragraphs_from (1 + length (lines_of passed)) ls) lines
+              ∙ ap (λ ps. paragraphs_of passed ++ ps) (paragraphs_at (x.ending ++ lines_of (drop e.passed unread)) rest_begins),
+        )
 
     behind_taken : IsBehind passed (take e.passed unread)
     behind_taken = elim behind [ inl closed ↦ inl closed | inr none ↦ inr (ap (take e.passed) none ∙ take-nil e.passed) ]
@@ -81,7 +82,7 @@ module _ (passed unread : List ℕ) (before : ℕ) (counted : before ≡ length 
         paragraphs_behind passed (take e.passed unread) behind_taken
         ∙ ap (λ ls. paragraphs_of passed ++ paragraphs_from (1 + length (lines_of passed)) ls) x.passed
         ∙ ap (λ ps. paragraphs_of passed ++ ps) (paragraphs_at x.ending (blank-begins x.ending x.ending_blank)
-            ∙ ap (λ ps. paragraph_at unread e ∷ ps) (no_paragraph _ x.ending x.ending_blank))
+        ∙ ap (λ ps. paragraph_at unread e ∷ ps) (no_paragraph _ x.ending x.ending_blank))
 
     pub lines_passed : before + e.lines ≡ length (lines_of (passed ++ take e.passed unread))
     lines_passed = omega (arith, counted, x.counted, ap length (lines_behind passed (take e.passed unread) behind_taken), length-append (lines_of passed) (lines_of (take e.passed unread)))
@@ -94,14 +95,14 @@ module _ (passed unread : List ℕ) (before : ℕ) (counted : before ≡ length 
         | inl ends ↦ elim behind [
           | inr nothing ↦ inr (ap (drop e.passed) nothing ∙ drop-nil e.passed)
           | inl closed ↦
-            let lines : lines_of (passed ++ take e.passed unread) ≡ ((lines_of passed ++ x.blanks) ++ (paragraph_at unread e).lines) ++ x.ending
-                = lines_of-append passed (take e.passed unread) closed.0 ∙ ap (λ ls. lines_of passed ++ ls) x.passed
-                  ∙ sym (append_assoc (lines_of passed) x.blanks ((paragraph_at unread e).lines ++ x.ending))
-                  ∙ sym (append_assoc (lines_of passed ++ x.blanks) (paragraph_at unread e).lines x.ending) in
-            inl (ends_line-both passed (take e.passed unread) closed.0 ends, ap ends_blank lines ∙ ends_blank-append ((lines_of passed ++ x.blanks) ++ (paragraph_at unread e).lines) x.ending some (blank-ends x.ending x.ending_blank))
-          ]
+              let lines : lines_of (passed ++ take e.passed unread) ≡ ((lines_of passed ++ x.blanks) ++ (paragraph_at unread e).lines) ++ x.ending
+              = lines_of-append passed (take e.passed unread) closed.0 ∙ ap (λ ls. lines_of passed ++ ls) x.passed
+              ∙ sym (append_assoc (lines_of passed) x.blanks ((paragraph_at unread e).lines ++ x.ending))
+              ∙ sym (append_assoc (lines_of passed ++ x.blanks) (paragraph_at unread e).lines x.ending) in
+              inl (ends_line-both passed (take e.passed unread) closed.0 ends, ap ends_blank lines ∙ ends_blank-append ((lines_of passed ++ x.blanks) ++ (paragraph_at unread e).lines) x.ending some (blank-ends x.ending x.ending_blank))
         ]
       ]
+    ]
 
     pub run_of : IsRun (paragraph_at unread e).lines
     run_of = record { some = x.some; no_newline = pieces_of-no_newline (slice_range unread e.start e.end); not_blank = x.not_blank }
@@ -135,7 +136,7 @@ all_unread text passed old left after taken fits c d =
       bytes = fits.bytes;
       lines = fits.lines;
       behind = elim fits.closed [ inl closed ↦ inl closed | inr none ↦ inr (ap (λ zs. old.unread ++ zs) (sym k.0) ∙ none) ];
-      told = k.1
+      told = k.1;
     }
 
 -- the answer is the next paragraph
@@ -156,12 +157,12 @@ gives_next text passed old new unread left e fields u x is new_unread new_bytes 
         bytes = omega (arith, new_bytes, u.bytes, taken, length-append passed (take e.passed unread));
         lines = new_lines ∙ lines_passed passed unread old.lines u.lines u.behind e x;
         closed = elim (closed_again passed unread old.lines u.lines u.behind e x) [ inl closed ↦ inl closed | inr none ↦ inr (append-nil new.unread ∙ new_unread ∙ none) ];
-        finished = λ f. absurd (false≢true (sym new_finished ∙ f))
+        finished = λ f. absurd (false≢true (sym new_finished ∙ f));
       };
       first = refl;
       fields = judged-sound e.first_line (paragraph_at unread e).lines fields (run_of passed unread old.lines u.lines u.behind e x) x.short is;
       short = x.short;
-      small = small
+      small = small;
     }
 
 -- the answer is that no paragraph is left
@@ -176,10 +177,10 @@ gives_none text passed old new unread left u blank new_unread new_bytes new_line
         bytes = omega (arith, new_bytes, u.bytes, ap length u.whole, length-append passed unread);
         lines = omega (arith, new_lines, u.lines, ap (λ zs. length (lines_of zs)) u.whole, ap length (lines_behind passed unread u.behind), length-append (lines_of passed) (lines_of unread));
         closed = inr (append-nil new.unread ∙ new_unread);
-        finished = λ f. append-nil new.unread ∙ new_unread
+        finished = λ f. append-nil new.unread ∙ new_unread;
       };
       finished = new_finished;
-      small = small
+      small = small;
     }
 
 -- lines in front of others are no more than all
@@ -191,12 +192,12 @@ module _ (text passed : List ℕ) (old : State) (unread : List ℕ) (left : Opti
   pub refused_long : (refusal : Refusal) → IsTooLongBehindBlanks unread old.lines refusal.line → IsRefused text refusal
   refused_long refusal long = record {
     not_accepted = λ meaning accepted.
-      let found = long_behind (1 + length (lines_of passed)) long.blanks long.run long.rest long.before_blank long.not_blank long.long in
-      let is : paragraphs_of text ≡ paragraphs_of passed ++ found.0 ∷ found.1
-          = ap paragraphs_of u.whole ∙ paragraphs_behind passed unread u.behind ∙ ap (λ ls. paragraphs_of passed ++ paragraphs_from (1 + length (lines_of passed)) ls) long.lines ∙ ap (λ ps. paragraphs_of passed ++ ps) found.2 in
-      not_short (paragraphs_of passed) found.1 found.0 found.3 (subst (AllByRecursion IsShort) is accepted.paragraphs_short);
-    line = omega (arith, all_lines, long.at, ap length long.lines, length-append long.blanks (long.run ++ long.rest), length-append long.run long.rest)
-    }
+        let found = long_behind (1 + length (lines_of passed)) long.blanks long.run long.rest long.before_blank long.not_blank long.long in
+        let is : paragraphs_of text ≡ paragraphs_of passed ++ found.0 ∷ found.1
+        = ap paragraphs_of u.whole ∙ paragraphs_behind passed unread u.behind ∙ ap (λ ls. paragraphs_of passed ++ paragraphs_from (1 + length (lines_of passed)) ls) long.lines ∙ ap (λ ps. paragraphs_of passed ++ ps) found.2 in
+        not_short (paragraphs_of passed) found.1 found.0 found.3 (subst (AllByRecursion IsShort) is accepted.paragraphs_short);
+    line = omega (arith, all_lines, long.at, ap length long.lines, length-append long.blanks (long.run ++ long.rest), length-append long.run long.rest);
+  }
 
   -- a line of the next paragraph is refused
   pub refused_line : (refusal : Refusal) → HasRefusedLine old.lines unread refusal → IsRefused text refusal
@@ -209,8 +210,8 @@ module _ (text passed : List ℕ) (old : State) (unread : List ℕ) (left : Opti
       let few : length (lines_of (take h.e.passed unread)) ≤ length (lines_of unread) = omega (arith, ap length (lines_of-cut unread h.e.passed x.whole), length-append (lines_of (take h.e.passed unread)) (lines_of (drop h.e.passed unread))) in
       record {
         not_accepted = λ meaning accepted.
-          not_meant (paragraphs_of passed) next.0 (paragraph_at unread h.e) meaning
+            not_meant (paragraphs_of passed) next.0 (paragraph_at unread h.e) meaning
             (λ fields spells. judged-refused h.e.first_line lines refusal fields run.no_newline h.refused spells)
             (subst (λ ps. HaveMeanings ps meaning) (ap paragraphs_of u.whole ∙ next.1) accepted.means);
-        line = omega (arith, all_lines, within.last, x.first, few, ap length x.passed, length-append x.blanks (lines ++ x.ending), length-append lines x.ending)
+        line = omega (arith, all_lines, within.last, x.first, few, ap length x.passed, length-append x.blanks (lines ++ x.ending), length-append lines x.ending);
       }

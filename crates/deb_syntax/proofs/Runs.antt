@@ -1,5 +1,5 @@
 -- The lines of a text that is put together from lines, and the paragraphs of lines that are put together from runs.
-use Rattle.std.proofs.Common.{◌≡◌, ℕ, ◌+◌, ◌==◌, Bool, true, false, cond, List, [], ◌∷◌, ◌++◌, length, refl, sym, ap, ◌∙◌, subst, add_assoc, arith}
+use Rattle.std.proofs.Common.{◌≡◌, ℕ, ◌+◌, Bool, true, false, cond, List, [], ◌∷◌, ◌++◌, length, refl, ap, ◌∙◌, arith}
 use Rattle.std.specs.List.{AllByRecursion}
 use Rattle.deb_syntax.specs.Lines.{Line, newline, with_byte, pieces_of, lines_of, HasNoNewline, is_blank, Paragraph, begins_blank, with_line, paragraphs_from}
 

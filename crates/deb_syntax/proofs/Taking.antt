@@ -1,5 +1,5 @@
 -- What reads take, one after another.
-use Rattle.std.proofs.Common.{◌≡◌, ℕ, zero, suc, ◌+◌, ◌≤◌, List, [], ◌∷◌, ◌++◌, Option, Some, None, length, take, drop, min, refl, sym, ap, ◌∙◌, append_assoc, arith}
+use Rattle.std.proofs.Common.{◌≡◌, ℕ, zero, suc, ◌+◌, ◌≤◌, List, [], ◌∷◌, ◌++◌, Option, Some, None, length, take, drop, refl, sym, ap, ◌∙◌, append_assoc, arith}
 use Rattle.std.proofs.Math.Seq.{take-add, take-nil}
 use Rattle.std.proofs.lemmas.List.{take-append-le, append-nil}
 use Rattle.std.specs.Io.KnownBytes.{Consumes, Keeps}
@@ -25,8 +25,8 @@ pub takes_more : (old now new : List ℕ) (a b c : Option (List ℕ)) (y : List 
 takes_more old now new a b c y t e q = record {
   taken = t.taken ++ y;
   grown = e ∙ ap (λ zs. zs ++ y) t.grown ∙ append_assoc old t.taken y;
-  consumed = consumes_then a b c t.taken y t.consumed q
-  }
+  consumed = consumes_then a b c t.taken y t.consumed q;
+}
 
 -- a read that failed
 pub takes_kept : (old now new : List ℕ) (a b c : Option (List ℕ)) → Takes old now a b → new ≡ now → Keeps b c → Takes old new a c

@@ -1,5 +1,5 @@
 -- The lines of a text, and its paragraphs. Debian Policy 5.1; deb822(5), "Description".
-use Rattle.std.specs.Prelude.{◌≡◌, ◌≢◌, ℕ, ◌+◌, ◌==◌, ◌&&◌, ◌||◌, Bool, true, false, cond, not, IsTrue, IsFalse, List, [], ◌∷◌, ◌++◌, length, sum_by, nat_le, codes, refl}
+use Rattle.std.specs.Prelude.{◌≡◌, ℕ, ◌+◌, ◌==◌, ◌&&◌, ◌||◌, Bool, true, false, cond, List, [], ◌∷◌, length, sum_by, nat_le, codes, refl}
 use Rattle.std.specs.List.{list_all, join_with_byte, AllByRecursion}
 
 abbrev pub Line : Type 0

@@ -1,5 +1,5 @@
 -- What the next paragraph of a text is judged to be. Debian Policy 5.1.
-use Rattle.std.specs.Prelude.{◌≡◌, ◌-◌, ℕ, ◌⊎◌, List, length, slice_range, IsTrue, Ok, Err}
+use Rattle.std.specs.Prelude.{◌≡◌, ◌-◌, ℕ, ◌⊎◌, List, slice_range, IsTrue, Ok, Err}
 use Rattle.std.specs.List.{list_all}
 use Rattle.deb_base.specs.declared.code.Code.TheVariants.{ParagraphTooLong}
 use Rattle.deb_base.specs.declared.fault.Fault.{Fault}

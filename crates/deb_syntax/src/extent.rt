@@ -4,10 +4,9 @@ ghost use Rattle.std.specs.Prelude.{◌≡◌, ◌+◌, ◌<◌, ◌^◌, length
 ghost use Rattle.deb_base.specs.declared.code.Code.TheVariants.{ParagraphTooLong};
 ghost use Rattle.deb_syntax.specs.Extents.{IsNext, IsTooLongBehindBlanks};
 
-use deb_base::Refusal;
-
 use crate::blanks::{first_blank, skip_blanks};
 use crate::run::take_run;
+use deb_base::Refusal;
 
 /// Where a paragraph stands in the bytes behind the one before it.
 #[derive(Clone, Copy, Debug)]

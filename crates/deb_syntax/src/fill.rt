@@ -12,7 +12,11 @@ const PIECE: usize = 65_536;
 
 /// Takes bytes of the reader behind those of the buffer, until none is left or the buffer holds more than `most`.
 /// Says whether none is left.
-pub(crate) fn fill<R: Source>(buffer: &mut Vec<u8>, most: usize, reader: &mut R) -> Result<bool, Fault>
+pub(crate) fn fill<R: Source>(
+    buffer: &mut Vec<u8>,
+    most: usize,
+    reader: &mut R,
+) -> Result<bool, Fault>
     ensures taken { Takes buffer.old.items buffer.new.items (R.left reader.old) (R.left reader.new) }
     ensures drained { IfOk result (λ ended. IsTrue ended → IsDrained (R.left reader.new)) }
     ensures passed { IfOk result (λ ended. (IsTrue ended → vec_len buffer.new ≤ most) × (IsFalse ended → most < vec_len buffer.new)) }

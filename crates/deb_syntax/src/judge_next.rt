@@ -4,12 +4,11 @@ ghost use Rattle.std.specs.Prelude.{◌≡◌, ◌+◌, ◌<◌, ◌^◌, length
 ghost use Rattle.deb_syntax.specs.Extents.{IsNext};
 ghost use Rattle.deb_syntax.specs.NextJudged.{IsJudged, IsNotJudged};
 
-use deb_base::Fault;
-use std::alloc::Global;
-
 use crate::extent::{Next, next_extent};
 use crate::judge::judge;
 use crate::place::Place;
+use deb_base::Fault;
+use std::alloc::Global;
 
 /// Finds the next paragraph of a text that has all that is left of a file, where `before` lines of the file have
 /// passed, and judges its lines. After a paragraph `places` says where its fields stand in its own bytes.

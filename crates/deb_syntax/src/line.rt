@@ -4,6 +4,7 @@ ghost use Rattle.std.specs.Prelude.{◌≡◌, ◌≤◌, length, take, drop};
 ghost use Rattle.deb_syntax.specs.Lines.{is_all_blank, is_blank};
 ghost use Rattle.deb_syntax.specs.Extents.{IsFirstLine};
 
+use crate::trim::is_blank_byte;
 use memchr::memchr;
 
 /// The most bytes that the lengths of a paragraph's lines may add up to.
@@ -13,7 +14,7 @@ pub(crate) const PARAGRAPH_LIMIT: usize = 16_777_216;
 pub(crate) fn is_only_blanks(text: &[u8]) -> bool
     ensures { result ≡ is_all_blank text.now }
 {
-    text.iter().all(|b| *b == b' ' || *b == b'\t')
+    text.iter().all(|byte| is_blank_byte(*byte))
 }
 
 /// Whether the line separates paragraphs: it holds only spaces and tabs, and is no longer than a paragraph may be.

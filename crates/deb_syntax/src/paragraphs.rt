@@ -3,14 +3,13 @@
 ghost use Rattle.std.specs.Prelude.{◌≡◌, ◌<◌, ◌≤◌, ◌^◌, ◌==◌, count_by, vec_len};
 ghost use Rattle.deb_syntax.specs.Lines.{newline};
 
-use deb_base::{Code, Fault, Refusal, Source};
-use std::alloc::Global;
-
 use crate::extent::Next;
 use crate::fill::fill;
 use crate::judge_next::judge_next;
 use crate::place::Place;
 use crate::raw::Raw;
+use deb_base::{Code, Fault, Refusal, Source};
+use std::alloc::Global;
 
 /// The most bytes that a file may have (this project's own).
 const FILE_LIMIT: u64 = 4_294_967_295;
@@ -176,7 +175,11 @@ impl Paragraphs {
         requires { IsTrue (are_within self.now) }
         ensures { seen_of result ≡ current_of self.now }
     {
-        Raw::new(&self.buffer.as_slice()[self.from..self.to], self.places.as_slice(), self.first_line)
+        Raw::new(
+            &self.buffer.as_slice()[self.from..self.to],
+            self.places.as_slice(),
+            self.first_line,
+        )
     }
 }
 

@@ -5,9 +5,8 @@ ghost use Rattle.deb_base.specs.declared.code.Code.TheVariants.{ParagraphTooLong
 ghost use Rattle.deb_syntax.specs.Lines.{lines_of, begins_blank};
 ghost use Rattle.deb_syntax.specs.Extents.{PassesRun, IsTooLong};
 
-use deb_base::{Code, Refusal};
-
 use crate::line::{PARAGRAPH_LIMIT, is_blank_line, line_at};
+use deb_base::{Code, Refusal};
 
 /// Lines at the front of a text, of which none is blank.
 #[derive(Clone, Copy, Debug)]

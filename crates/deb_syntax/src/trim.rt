@@ -32,7 +32,7 @@ fn without_trailing_blanks(text: &[u8]) -> &[u8]
 }
 
 /// Whether a byte is a space or a tab.
-fn is_blank_byte(byte: u8) -> bool
+pub(crate) fn is_blank_byte(byte: u8) -> bool
     ensures { result ≡ is_blank_byte byte }
 {
     byte == b' ' || byte == b'\t'

@@ -125,8 +125,9 @@ fn files_have_their_paragraphs(rt: HostRuntime) -> Result<(), Fail> {
     for (what, file, wanted) in rows {
         for size in SIZES {
             let mut paragraphs = Paragraphs::new(rt.alloc());
-            let read = transcript(rt.alloc(), &mut paragraphs, file, size, false)
-                .map_err(|_| "refused")?;
+            let read = transcript(rt.alloc(), &mut paragraphs, file, size, false).map_err(
+                |_| "refused",
+            )?;
             assert_eq!(rt; read.as_str(), wanted, "{what}, pieces of {size}");
         }
     }
@@ -140,11 +141,7 @@ fn refusals_have_their_lines_and_repeat(rt: HostRuntime) -> Result<(), Fail> {
         (b"Package : aa", Code::BadFieldName, 1),
         (b"\n\nPackage: aa\npackage: bb\n", Code::DuplicateField, 4),
         (b"Package: aa\n# x\n", Code::Comment, 2),
-        (
-            b"-----BEGIN PGP SIGNED MESSAGE-----\n",
-            Code::Armour,
-            1,
-        ),
+        (b"-----BEGIN PGP SIGNED MESSAGE-----\n", Code::Armour, 1),
         (b" x", Code::StrayContinuation, 1),
         (b"Package: aa\n \n y: z\n", Code::StrayContinuation, 3),
         (b"#\xFF\n", Code::NotUtf8, 1),
@@ -159,7 +156,11 @@ fn refusals_have_their_lines_and_repeat(rt: HostRuntime) -> Result<(), Fail> {
             let refused = Err(Fault::Refused(Refusal { code, line }));
             for call in 0..2 {
                 let read = transcript(rt.alloc(), &mut paragraphs, file, size, false);
-                assert_eq!(rt; read.map(|_| ()), refused, "{file:?}, pieces of {size}, call {call}");
+                assert_eq!(rt;
+                    read.map(|_| ()),
+                    refused,
+                    "{file:?}, pieces of {size}, call {call}"
+                );
             }
         }
     }

@@ -10,7 +10,7 @@ invariant-loop-bytes l = record {
   blank : AreBlank (lines_of (take l.bytes l.text));
   counted : l.lines ≡ length (lines_of (take l.bytes l.text));
   few : l.lines ≤ l.bytes;
-  within : l.bytes ≤ length l.text + 1
+  within : l.bytes ≤ length l.text + 1;
 }
 
 abbrev pub decreases-loop-bytes : goal.decreases-loop-bytes

@@ -6,7 +6,7 @@ use Rattle.deb_syntax.proofs.fill.fill.Given as goal
 abbrev pub invariant-loop-buffer : goal.invariant-loop-buffer
 invariant-loop-buffer g l = record {
   taken : Takes l.fn.buffer.items l.buffer.items (g.R.Source.left l.fn.reader) (g.R.Source.left l.reader);
-  counted : g.R.Source.failures l.reader ≡ g.R.Source.failures l.fn.reader
+  counted : g.R.Source.failures l.reader ≡ g.R.Source.failures l.fn.reader;
 }
 
 abbrev pub decreases-loop-buffer : goal.decreases-loop-buffer

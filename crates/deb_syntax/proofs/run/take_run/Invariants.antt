@@ -1,5 +1,5 @@
-use Rattle.std.proofs.Common.{◌≡◌, ◌+◌, ◌-◌, ◌<◌, ◌≤◌, ◌⊎◌, length, take}
-use Rattle.deb_syntax.specs.Lines.{lines_of, pieces_of, total_length, paragraph_limit}
+use Rattle.std.proofs.Common.{◌≡◌, ◌+◌, ◌-◌, ◌≤◌, ◌⊎◌, length, take}
+use Rattle.deb_syntax.specs.Lines.{lines_of, pieces_of, total_length}
 use Rattle.deb_syntax.specs.Extents.{EndsAtLine, AreNotBlank}
 use Rattle.deb_syntax.proofs.run.take_run.Given as goal
 
@@ -15,7 +15,7 @@ invariant-loop-bytes l = record {
   few : l.lines ≤ l.bytes;
   end : l.end ≤ l.bytes;
   within : l.bytes ≤ length l.text + 1;
-  end_within : l.end ≤ length l.text
+  end_within : l.end ≤ length l.text;
 }
 
 abbrev pub decreases-loop-bytes : goal.decreases-loop-bytes

@@ -8,5 +8,5 @@ use Rattle.deb_syntax.proofs.paragraphs.tests.count_paragraphs.Given as goal
 abbrev pub invariant-loop-count : goal.invariant-loop-count
 invariant-loop-count g l = record {
   fault : (state_of l.paragraphs).fault ≡ None;
-  text : (text : List ℕ) → g.R.Source.left l.initial.reader ≡ Some text → (passed : List ℕ) × Fits text passed (state_of l.paragraphs) (g.R.Source.left l.reader) × (l.count ≡ length (paragraphs_of passed))
+  text : (text : List ℕ) → g.R.Source.left l.initial.reader ≡ Some text → (passed : List ℕ) × Fits text passed (state_of l.paragraphs) (g.R.Source.left l.reader) × (l.count ≡ length (paragraphs_of passed));
 }
