@@ -1,7 +1,6 @@
--- The pieces of a text: they make the text again, and with a newline behind it they are its lines.
+-- The pieces of a text with a newline behind it are its lines.
 use Rattle.std.proofs.Common.{◌≡◌, ℕ, ◌==◌, Bool, true, false, cond, List, [], ◌∷◌, ◌++◌, refl, sym, ap, ◌∙◌}
-use Rattle.std.proofs.lemmas.Bool.{eqb-true}
-use Rattle.deb_syntax.specs.Lines.{Line, newline, with_byte, pieces_of, lines_of, joined}
+use Rattle.deb_syntax.specs.Lines.{Line, newline, with_byte, pieces_of, lines_of}
 
 -- there is a first one
 abbrev pub IsNonempty : {X : Type 0} → List X → Type 0
@@ -36,21 +35,3 @@ lines_of-pieces (b ∷ bs) rest =
     ap (λ lines. cond (b == newline) ([] ∷ lines) (with_byte b lines)) (lines_of-pieces bs rest)
     ∙ ap (cond (b == newline) (([] ∷ pieces_of bs) ++ lines_of rest)) (with_byte-append b (pieces_of bs) (lines_of rest) (IsNonempty-pieces_of bs))
     ∙ cond-append (b == newline) ([] ∷ pieces_of bs) (with_byte b (pieces_of bs)) (lines_of rest)
-
-joined-with_byte : (b : ℕ) (lines : List Line) → IsNonempty lines → joined (with_byte b lines) ≡ b ∷ joined lines
-joined-with_byte b [] h = absurd h
-joined-with_byte b (line ∷ []) h = refl
-joined-with_byte b (line ∷ next ∷ lines) h = refl
-
-joined-empty : (lines : List Line) → IsNonempty lines → joined ([] ∷ lines) ≡ newline ∷ joined lines
-joined-empty [] h = absurd h
-joined-empty (line ∷ lines) h = refl
-
-joined-cond : (b : ℕ) (c : Bool) (lines : List Line) → IsNonempty lines → (c ≡ true → b ≡ newline) → joined (cond c ([] ∷ lines) (with_byte b lines)) ≡ b ∷ joined lines
-joined-cond b true lines h e = joined-empty lines h ∙ ap (λ x. x ∷ joined lines) (sym (e refl))
-joined-cond b false lines h e = joined-with_byte b lines h
-
--- the pieces of a text make the text
-pub joined-pieces_of : (text : List ℕ) → joined (pieces_of text) ≡ text
-joined-pieces_of [] = refl
-joined-pieces_of (b ∷ bs) = joined-cond b (b == newline) (pieces_of bs) (IsNonempty-pieces_of bs) (eqb-true b newline) ∙ ap (λ x. b ∷ x) (joined-pieces_of bs)

@@ -91,4 +91,4 @@ pub record Advances (old : State) (left : Option (List ℕ)) (failures : ℕ) (a
 pub record Passes (old : State) (left : Option (List ℕ)) (failures : ℕ) (answer : Result (Option Seen) Fault) (new : State) (left_after : Option (List ℕ)) (failures_after : ℕ) : Type 0 where
   pub goes : IfNone old.fault (Advances old left failures answer new left_after failures_after)
   pub keeps : IfNone old.fault (MatchResult answer (λ _. new.fault ≡ None) (λ fault. new.fault ≡ Some fault))
-  pub repeats : IfSome old.fault (λ fault. (answer ≡ Err fault) × (new ≡ old) × (failures_after ≡ failures))
+  pub repeats : IfSome old.fault (λ fault. (answer ≡ Err fault) × (new ≡ old) × (left_after ≡ left) × (failures_after ≡ failures))
