@@ -1,0 +1,10 @@
+pub mod CanonicalNameBytes
+pub mod Entries
+pub mod EntryLines
+pub mod EntryMaps
+pub mod FileText
+pub mod MoreParagraphs
+pub mod ParagraphText
+pub mod ReadSoFar
+pub mod SameText
+pub mod Telling

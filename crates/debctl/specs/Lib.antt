@@ -1,0 +1,5 @@
+pub mod Canonical
+pub mod CanonicalLaws
+pub mod EntryMap
+pub mod Normalising
+pub mod Running
