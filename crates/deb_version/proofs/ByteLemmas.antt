@@ -7,7 +7,7 @@ use Rattle.std.proofs.lemmas.List.Folds.{list_any_none}
 use Rattle.deb_version.proofs.CutLemmas.{or_sides}
 
 -- a byte that passes a test isn't one that fails it
-differs : (test : ℕ → Bool) (n : ℕ) → test n ≡ false → (b : ℕ) → test b ≡ true → b ≢ n
+pub differs : (test : ℕ → Bool) (n : ℕ) → test n ≡ false → (b : ℕ) → test b ≡ true → b ≢ n
 differs test n fails b passes e = true≢false (sym passes ∙ ap test e ∙ fails)
 
 -- where each byte passes a test, no byte is one that fails it

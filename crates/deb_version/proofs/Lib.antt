@@ -12,3 +12,12 @@ pub mod FirstCut
 pub mod NumberOrder
 pub mod ContinuedOrder
 pub mod OrderLemmas
+pub mod Emptiness
+pub mod LeadingZeros
+pub mod CanonicalDigits
+pub mod CanonicalComponent
+pub mod CanonicalVersion
+pub mod CanonicalCuts
+pub mod CanonicalWritten
+pub mod CanonicalFits
+pub mod EqualTexts

@@ -1,17 +1,18 @@
 -- The order of the values of runs of digits, read off the runs.
-use Rattle.std.proofs.Common.{◌≡◌, ◌≢◌, ℕ, zero, suc, ◌+◌, ◌-◌, ◌*◌, ◌<◌, ◌≤◌, Bool, List, [], ◌∷◌, ◌++◌, length, replicate, drop, not, position, unwrap_or, ◌==◌, inl, inr, refl, sym, ap, ◌∙◌, IsTrue, arith}
+use Rattle.std.proofs.Common.{◌≡◌, ◌≢◌, ℕ, zero, suc, ◌+◌, ◌-◌, ◌*◌, ◌<◌, ◌≤◌, List, [], ◌∷◌, ◌++◌, length, replicate, drop, inl, inr, refl, sym, ap, ◌∙◌, IsTrue, arith}
 use Rattle.std.specs.Char.{is_ascii_digit}
-use Rattle.std.specs.List.{list_all, position_or_len}
+use Rattle.std.specs.List.{list_all}
 use Rattle.std.specs.Ordering.{nat_cmp, ordering_reverse, ordering_then, MatchOrdering}
 use Rattle.std.specs.Cmp.{ranks, nat_cmp_is, nat_cmp_total}
 use Rattle.std.specs.Cmp.Lexicographic.{slice_cmp}
 use Rattle.std.specs.declared.cmp.Ordering.{Ordering}
 use Rattle.std.specs.declared.cmp.Ordering.TheVariants.{Less, Equal, Greater}
 use Rattle.std.proofs.lemmas.List.{length-append, length-replicate}
-use Rattle.std.proofs.lemmas.Bool.{cases_Bool, cases_lt, eqb-true, true≢false}
+use Rattle.std.proofs.lemmas.Bool.{cases_lt, true≢false}
 use Rattle.std.proofs.lemmas.Bool.Decides.{nat_tests}
 use Rattle.deb_version.proofs.ByteLemmas.{all_pass-fact}
-use Rattle.deb_version.proofs.FirstPlace.{StartsWith, first_place, from_place, place_here, place_later}
+use Rattle.deb_version.proofs.FirstPlace.{StartsWith}
+use Rattle.deb_version.proofs.LeadingZeros.{is_nonzero, without_zeros, value_of-without_zeros, without_zeros-starts}
 use Rattle.deb_version.specs.Parts.{IsDigits, value_after, value_of}
 
 -- two numbers with one more digit each
@@ -88,23 +89,6 @@ value_of_longer r b s p q nonzero short =
     ∙ value_of_cmp (48 ∷ (replicate k 48 ++ r)) (b ∷ s) (IsDigits-zeros (suc k) r p) q (simp (length-append, length-replicate) (omega arith))
     ∙ ap (λ v. ordering_then v (slice_cmp nat_cmp (replicate k 48 ++ r) s)) (sym (nat_cmp_is 48 b Less (omega arith)))
 
--- a run without its leading zeros
-abbrev pub is_nonzero : ℕ → Bool
-is_nonzero b = not (b == 48)
-
-abbrev pub without_zeros : List ℕ → List ℕ
-without_zeros run = drop (position_or_len is_nonzero run) run
-
-pub value_of-without_zeros : (run : List ℕ) → value_of (without_zeros run) ≡ value_of run
-value_of-without_zeros [] = refl
-value_of-without_zeros (b ∷ run) =
-    elim (cases_Bool (b == 48)) [
-      | inl zero_digit ↦
-          let is : b ≡ 48 = eqb-true b 48 zero_digit in
-          rw (place_later is_nonzero b run (ap not zero_digit)) (value_of-without_zeros run ∙ ap (λ d. value_after (10 * 0 + (d - 48)) run) (sym is))
-      | inr other ↦ rw (place_here is_nonzero b run (ap not other)) refl
-    ]
-
 IsDigits-drop : (n : ℕ) (run : List ℕ) → IsDigits run → IsDigits (drop n run)
 IsDigits-drop zero run d = d
 IsDigits-drop (suc n) [] d = tt
@@ -136,15 +120,12 @@ pub value_of-order : (a b : List ℕ) → IsDigits a → IsDigits b
     → nat_cmp (value_of a) (value_of b) ≡ ordering_then (nat_cmp (length (without_zeros a)) (length (without_zeros b))) (slice_cmp nat_cmp (without_zeros a) (without_zeros b))
 value_of-order a b da db =
     ap (λ v. nat_cmp v (value_of b)) (sym (value_of-without_zeros a)) ∙ ap (nat_cmp (value_of (without_zeros a))) (sym (value_of-without_zeros b))
-    ∙ run_cmp (without_zeros a) (without_zeros b) (IsDigits-drop _ a da) (IsDigits-drop _ b db) (from_place is_nonzero a) (from_place is_nonzero b)
+    ∙ run_cmp (without_zeros a) (without_zeros b) (IsDigits-drop _ a da) (IsDigits-drop _ b db) (without_zeros-starts a) (without_zeros-starts b)
 
--- the same, of what is left of the runs at the first digit that isn't zero
-pub value_of-order-at : (a b x y : List ℕ) → IsTrue (list_all is_ascii_digit a) → IsTrue (list_all is_ascii_digit b)
-    → x ≡ drop (unwrap_or (position is_nonzero a) (length a)) a → y ≡ drop (unwrap_or (position is_nonzero b) (length b)) b
+-- the same, of what is left of the runs without their leading zeros
+pub value_of-order-at : (a b x y : List ℕ) → IsTrue (list_all is_ascii_digit a) → IsTrue (list_all is_ascii_digit b) → x ≡ without_zeros a → y ≡ without_zeros b
     → ordering_then (nat_cmp (length x) (length y)) (slice_cmp nat_cmp x y) ≡ nat_cmp (value_of a) (value_of b)
-value_of-order-at a b x y da db x-is y-is =
-    let x-at : x ≡ without_zeros a = x-is ∙ ap (λ k. drop k a) (first_place is_nonzero a) in
-    let y-at : y ≡ without_zeros b = y-is ∙ ap (λ k. drop k b) (first_place is_nonzero b) in
+value_of-order-at a b x y da db x-at y-at =
     ap (λ l. ordering_then (nat_cmp (length l) (length y)) (slice_cmp nat_cmp l y)) x-at
     ∙ ap (λ l. ordering_then (nat_cmp (length (without_zeros a)) (length l)) (slice_cmp nat_cmp (without_zeros a) l)) y-at
     ∙ sym (value_of-order a b (all_pass-fact is_ascii_digit a da) (all_pass-fact is_ascii_digit b db))

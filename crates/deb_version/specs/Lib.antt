@@ -7,3 +7,5 @@ pub mod GrammarLaws
 pub mod OrderLaws
 pub mod Version
 pub mod Cuts
+pub mod Canonical
+pub mod CanonicalLaws

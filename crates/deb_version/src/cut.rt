@@ -25,7 +25,7 @@ impl<'a> Cut<'a> {
     };
 
     /// The first cut of a component, and what follows it.
-    fn first(bytes: &'a [u8]) -> (Self, &'a [u8])
+    pub(crate) fn first(bytes: &'a [u8]) -> (Self, &'a [u8])
         ensures cuts { cuts_of bytes.now ≡ cut_of result.0 ∷ cuts_after result.1.now }
         ensures shorter { length result.1.now ≤ length bytes.now - 1 }
     {

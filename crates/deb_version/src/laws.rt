@@ -1,8 +1,9 @@
-//! Laws of the grammar of versions, and of Debian's order of versions.
+//! Laws of the grammar of versions, of Debian's order of versions, and of their canonical text.
 //!
 //! Each function here does nothing: its contract is a law, which holds of all texts, or of the
 //! meanings of all versions.
 
+ghost use Rattle.deb_version.specs.CanonicalLaws.{CanonicalTextSpells, CanonicalTextDecides, CanonicalTextStays, CanonicalTextIsShort, EqualVersionsHaveOneText};
 ghost use Rattle.deb_version.specs.GrammarLaws.{SpellsOneVersion, SpellsWhereFaultless, HasOneListOfParts, ComponentsSpell, AllowedComponentsStand, TestTellsAllowed};
 ghost use Rattle.deb_version.specs.OrderLaws.{EqualCompareAlike, EqualOnlyIfSame, EqualOnlyIfSameSpelled, EqualTransitive, FirstDifferenceDecides, GreaterOrEqualTransitive, LessOrEqualTransitive, LessTransitive, Reflexive, Reversed, Total, TotalOrder};
 
@@ -69,4 +70,29 @@ pub fn equal_versions_mean_the_same()
 /// the end, then letters, then all other bytes (deb-version(7), "Sorting algorithm").
 pub fn first_difference_decides()
     ensures { FirstDifferenceDecides }
+{}
+
+/// The canonical text of a version is accepted, and spells that version.
+pub fn canonical_text_spells()
+    ensures { CanonicalTextSpells }
+{}
+
+/// Two versions have one canonical text exactly if they mean the same.
+pub fn canonical_text_decides()
+    ensures { CanonicalTextDecides }
+{}
+
+/// The canonical text of what canonical text spells is that text.
+pub fn canonical_text_stays()
+    ensures { CanonicalTextStays }
+{}
+
+/// Canonical text is at most twice as long as each spelling of the version.
+pub fn canonical_text_is_short()
+    ensures { CanonicalTextIsShort }
+{}
+
+/// Two versions are equal in Debian's order exactly if they have one canonical text.
+pub fn equal_versions_have_one_text()
+    ensures { EqualVersionsHaveOneText }
 {}

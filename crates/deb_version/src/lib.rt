@@ -1,21 +1,30 @@
-//! Debian version numbers: which texts are versions, and what they mean.
+//! Debian version numbers: which texts are versions, their order, and their canonical text.
 //!
 //! ```
-//! let version = Version::parse(b"1:2.10-3~deb12u1")?;
+//! let installed = Version::parse(b"1:2.10-3~deb12u1")?;
+//! let offered = Version::parse(b"01:2.010-3")?;
+//! assert_eq!(rt; compare(rt.alloc(), &installed, &offered)?, Ordering::Less);
+//!
+//! let mut canonical = Vec::new(rt.alloc());
+//! offered.canon_into(&mut canonical)?;
+//! assert_eq!(rt; canonical.as_slice(), b"1:2.10-3".as_slice());
+//!
 //! let fault = Version::parse(b"1.0_2").err();
 //! assert_eq!(rt; fault, Some(BadVersion::UpstreamByte { at: 3 }));
 //! ```
 //!
-//! Accepted is exactly what spells a version (Debian Policy 5.6.12), and then with its one meaning.
-//! What is refused is answered by its first fault and that fault's place in the whole text.
-//! Parsing borrows the text and takes no memory; a run of digits may have any length.
+//! Accepted is exactly what spells a version (Debian Policy 5.6.12); all else has a first fault.
+//! The order is Debian's (deb-version(7)), a total one; a run of digits may have any length.
+//! Versions are equal in it exactly if they have one canonical text, and this text spells them.
 #![tactic(auto)]
 
+mod canonical;
 mod components;
 mod cut;
 mod fault;
 pub mod laws;
 mod order;
+mod run;
 mod version;
 
 pub use fault::BadVersion;

@@ -1,15 +1,18 @@
 //! Debian's order of versions.
 
-ghost use Rattle.std.specs.Prelude.{◌≡◌, ◌==◌, map, length, not, position, unwrap_or, drop, IfOk, IsTrue, slice_index_or};
+ghost use Rattle.std.specs.Prelude.{◌≡◌, ◌↔◌, map, IfOk, IsTrue, slice_index_or};
 ghost use Rattle.std.specs.Char.{is_ascii_digit};
 ghost use Rattle.std.specs.List.{list_all};
 ghost use Rattle.std.specs.Ordering.{nat_cmp};
+ghost use Rattle.std.specs.declared.cmp.Ordering.TheVariants.{Equal};
+ghost use Rattle.deb_version.specs.Canonical.{version_text};
 ghost use Rattle.deb_version.specs.Cuts.{cut_of};
 ghost use Rattle.deb_version.specs.Order.{component_cmp, empty_part, end_rank, part_cmp, rank_of, text_cmp, version_cmp};
 ghost use Rattle.deb_version.specs.Parts.{part_of, parts_of, parts_of_cuts, value_of};
 ghost use Rattle.deb_version.specs.Version.{meaning_of};
 
 use crate::cut::Cut;
+use crate::run::without_zeros;
 use crate::version::Version;
 use std::alloc::{AllocError, Global};
 use std::cmp::Ordering;
@@ -17,10 +20,12 @@ use std::cmp::Ordering;
 /// Which of two versions is later, in Debian's order: by epoch, then by upstream version, then by
 /// revision (Debian Policy 5.6.12; deb-version(7), "Sorting algorithm").
 ///
-/// Versions of different spelling can be equal, as `1.01` and `0:1.1-0`. Numbers have no largest
-/// length. The answer is `AllocError` only if memory for the lists of parts is refused.
+/// Versions of different spelling can be equal, as `1.01` and `0:1.1-0`: exactly those are whose
+/// canonical texts are one. Numbers have no largest length. The answer is `AllocError` only if
+/// memory for the lists of parts is refused.
 pub fn compare(alloc: Global, a: &Version<'_>, b: &Version<'_>) -> Result<Ordering, AllocError>
     ensures ok { IfOk result (λ o. o ≡ version_cmp (meaning_of a.now) (meaning_of b.now)) }
+    ensures canonical { IfOk result (λ o. (o ≡ Equal) ↔ (version_text (meaning_of a.now) ≡ version_text (meaning_of b.now))) }
 {
     let order = compare_runs(a.epoch.unwrap_or(&[]), b.epoch.unwrap_or(&[]));
     if order.is_ne() {
@@ -108,23 +113,6 @@ fn compare_runs(a: &[u8], b: &[u8]) -> Ordering
     let a = without_zeros(a);
     let b = without_zeros(b);
     a.len().cmp(&b.len()).then_with(|| a.cmp(&b))
-}
-
-/// A run of digits without its leading zeros.
-fn without_zeros(run: &[u8]) -> &[u8]
-    ensures { result.now ≡ drop (unwrap_or (position (λ b. not (b == 48)) run.now) (length run.now)) run.now }
-{
-    match first_nonzero(run) {
-        Some(place) => &run[place..],
-        None => &[],
-    }
-}
-
-/// The place of the first digit that isn't zero.
-fn first_nonzero(run: &[u8]) -> Option<usize>
-    ensures { result ≡ position (λ b. not (b == 48)) run.now }
-{
-    run.iter().position(|digit| *digit != b'0')
 }
 
 #[cfg(test)]

@@ -1,6 +1,7 @@
 //! Texts that are no versions, each with its first fault, and texts that are.
 
-use crate::{BadVersion, Version};
+use crate::{BadVersion, Version, compare};
+use std::cmp::Ordering;
 use std::test::Fail;
 
 /// A text, and the first fault that it has.
@@ -73,8 +74,15 @@ fn an_epoch_of_a_million_zeros(rt: HostRuntime) -> Result<(), Fail> {
 }
 
 #[test]
-fn the_page_of_the_crate(rt: HostRuntime) -> Result<(), BadVersion> {
-    let _version = Version::parse(b"1:2.10-3~deb12u1")?;
+fn the_page_of_the_crate(rt: HostRuntime) -> Result<(), Fail> {
+    let installed = Version::parse(b"1:2.10-3~deb12u1")?;
+    let offered = Version::parse(b"01:2.010-3")?;
+    assert_eq!(rt; compare(rt.alloc(), &installed, &offered)?, Ordering::Less);
+
+    let mut canonical = Vec::new(rt.alloc());
+    offered.canon_into(&mut canonical)?;
+    assert_eq!(rt; canonical.as_slice(), b"1:2.10-3".as_slice());
+
     let fault = Version::parse(b"1.0_2").err();
     assert_eq!(rt; fault, Some(BadVersion::UpstreamByte { at: 3 }));
     Ok(())

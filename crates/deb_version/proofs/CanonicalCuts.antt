@@ -1,0 +1,180 @@
+-- The canonical text of a component, cut by cut.
+use Rattle.std.proofs.Common.{◌≡◌, ◌≢◌, ℕ, ◌+◌, ◌-◌, ◌*◌, ◌<◌, ◌==◌, ◌&&◌, ◌||◌, Bool, true, false, cond, List, [], ◌∷◌, ◌++◌, length, refl, sym, ap, ◌∙◌, arith, IsTrue, ◌⊎◌, inl, inr}
+use Rattle.std.specs.Char.{is_ascii_digit}
+use Rattle.std.specs.List.{list_any}
+use Rattle.std.proofs.lemmas.List.{append-nil}
+use Rattle.std.proofs.lemmas.List.Folds.{list_any-append}
+use Rattle.std.proofs.lemmas.Bool.{false≢true, ne_eqb, eqb-true}
+use Rattle.std.proofs.lemmas.Bool.Decides.{Decides-eqb, nat_tests}
+use Rattle.deb_version.specs.Parts.{value_of, Cut, Part, joined, IsDigits, AreCuts, part_of, parts_of_cuts, with_digit, with_byte, cuts_of, parts_of}
+use Rattle.deb_version.specs.Cuts.{cuts_after}
+use Rattle.deb_version.specs.Canonical.{digits_of, ends_in_letter, last_digits_of, component_text, is_no_revision}
+use Rattle.deb_version.proofs.Emptiness.{nil_of_length}
+use Rattle.deb_version.proofs.ByteLemmas.{empty-fact, none_equal}
+use Rattle.deb_version.proofs.PartsLemmas.{cons_not_nil, joined-cuts_of, AreCuts-cuts_of}
+use Rattle.deb_version.proofs.ValueLemmas.{value_after-le}
+use Rattle.deb_version.proofs.LeadingZeros.{without_zeros, without_zeros-zero, without_zeros-other, value_of-zero}
+use Rattle.deb_version.proofs.CanonicalComponent.{IsDigits-last_digits_of}
+use Rattle.deb_version.proofs.CanonicalDigits.{digits_of-value_of, IsDigits-digits_of}
+
+-- the number of a cut in canonical text: of the last one, or of another
+abbrev pub number_text : Cut → Bool → List ℕ
+number_text cut is_last = cond is_last (last_digits_of (part_of cut)) (digits_of (value_of cut.1))
+
+-- the canonical text of what follows a cut
+abbrev pub rest_text : List ℕ → List ℕ
+rest_text [] = []
+rest_text (b ∷ rest) = component_text (parts_of (b ∷ rest))
+
+component_text-cons : (part : Part) (parts : List Part) → parts ≢ [] → component_text (part ∷ parts) ≡ part.0 ++ (digits_of part.1 ++ component_text parts)
+component_text-cons part [] some = absurd (some refl)
+component_text-cons part (next ∷ parts) some = refl
+
+parts_some : (cuts : List Cut) → AreCuts cuts → parts_of_cuts cuts ≢ []
+parts_some [] are = absurd are
+parts_some (cut ∷ cuts) are = cons_not_nil (part_of cut) (parts_of_cuts cuts)
+
+-- The canonical text of a component begins with its first text and the canonical number behind it.
+pub component_text-first : (bytes after : List ℕ) (cut : Cut) → cuts_of bytes ≡ cut ∷ cuts_after after
+    → component_text (parts_of bytes) ≡ cut.0 ++ (number_text cut (length after == 0) ++ rest_text after)
+component_text-first bytes [] cut e =
+    ap (λ cuts. component_text (parts_of_cuts cuts)) e ∙ ap (λ l. cut.0 ++ l) (sym (append-nil (last_digits_of (part_of cut))))
+component_text-first bytes (b ∷ after) cut e =
+    ap (λ cuts. component_text (parts_of_cuts cuts)) e
+    ∙ component_text-cons (part_of cut) (parts_of (b ∷ after)) (parts_some (cuts_of (b ∷ after)) (AreCuts-cuts_of (b ∷ after)))
+    ∙ ap (λ v. cut.0 ++ (number_text cut v ++ component_text (parts_of (b ∷ after)))) (sym (ne_eqb (length (b ∷ after)) 0 (λ h. omega arith)))
+
+pub rest_text-some : (rest : List ℕ) → rest ≢ [] → rest_text rest ≡ component_text (parts_of rest)
+rest_text-some [] some = absurd (some refl)
+rest_text-some (b ∷ rest) some = refl
+
+-- Where nothing is left without leading zeros the value is 0.
+pub without_zeros-none : (run : List ℕ) → without_zeros run ≡ [] → value_of run ≡ 0
+without_zeros-none [] e = refl
+without_zeros-none (b ∷ run) e =
+    elim (b == 48) as (λ v. (b == 48) ≡ v → value_of (b ∷ run) ≡ 0) [
+      | true ↦ λ h. let is = eqb-true b 48 h in value_of-zero b run is ∙ without_zeros-none run (sym (without_zeros-zero b run is) ∙ e)
+      | false ↦ λ h. absurd (cons_not_nil b run (sym (without_zeros-other b run (λ is. false≢true (sym h ∙ (Decides-eqb b 48).1 is))) ∙ e))
+    ] refl
+
+-- What is left without leading zeros, if anything, is the number in canonical digits.
+pub without_zeros-some : (run : List ℕ) → IsDigits run → without_zeros run ≢ [] → without_zeros run ≡ digits_of (value_of run)
+without_zeros-some [] digits some = absurd (some refl)
+without_zeros-some (b ∷ run) digits some =
+    elim (b == 48) as (λ v. (b == 48) ≡ v → without_zeros (b ∷ run) ≡ digits_of (value_of (b ∷ run))) [
+      | true ↦ λ h. let is = eqb-true b 48 h in let same = without_zeros-zero b run is in
+          same ∙ without_zeros-some run digits.1 (λ e. some (same ∙ e)) ∙ ap digits_of (sym (value_of-zero b run is))
+      | false ↦ λ h. let other = λ (is : b ≡ 48). false≢true (sym h ∙ (Decides-eqb b 48).1 is) in without_zeros-other b run other ∙ sym (digits_of-value_of b run digits other)
+    ] refl
+
+first_positive : (b : ℕ) (run : List ℕ) → IsTrue (is_ascii_digit b) → b ≢ 48 → 0 < value_of (b ∷ run)
+first_positive b run digit other =
+    let above : 48 < b = grind (arith, nat_tests) in
+    omega (arith, above, value_after-le (10 * 0 + (b - 48)) run)
+
+pub positive_of_digits : (run : List ℕ) → IsDigits run → without_zeros run ≢ [] → (value_of run == 0) ≡ false
+positive_of_digits [] digits some = absurd (some refl)
+positive_of_digits (b ∷ run) digits some =
+    elim (b == 48) as (λ v. (b == 48) ≡ v → (value_of (b ∷ run) == 0) ≡ false) [
+      | true ↦ λ h. let is = eqb-true b 48 h in
+          ap (λ n. n == 0) (value_of-zero b run is) ∙ positive_of_digits run digits.1 (λ e. some (without_zeros-zero b run is ∙ e))
+      | false ↦ λ h. let positive = first_positive b run digits.0 (λ is. false≢true (sym h ∙ (Decides-eqb b 48).1 is)) in ne_eqb (value_of (b ∷ run)) 0 (λ e. omega arith)
+    ] refl
+
+-- The three numbers that the code writes: the digits that are left, nothing, and one zero.
+module _ (cut : Cut) (left : List ℕ) (is : left ≡ without_zeros cut.1) where
+  pub number_written : (is_last : Bool) → IsDigits cut.1 → (length left == 0) ≡ false → left ≡ number_text cut is_last
+  number_written is_last digits e =
+      let some = λ (h : without_zeros cut.1 ≡ []). empty-fact left e (is ∙ h) in
+      let written = is ∙ without_zeros-some cut.1 digits some in
+      elim is_last as (λ v. left ≡ number_text cut v) [
+        | true ↦ written ∙ ap (λ v. cond (v && ends_in_letter cut.0) [] (digits_of (value_of cut.1))) (sym (positive_of_digits cut.1 digits some))
+        | false ↦ written
+      ]
+
+  zero_is : (length left == 0) ≡ true → value_of cut.1 ≡ 0
+  zero_is e = without_zeros-none cut.1 (sym is ∙ nil_of_length left e)
+
+  pub number_left_out : (is_last : Bool) → (length left == 0) ≡ true → is_last ≡ true → ends_in_letter cut.0 ≡ true → [] ≡ number_text cut is_last
+  number_left_out is_last e at_end letter =
+      sym (ap (number_text cut) at_end ∙ ap (λ n. last_digits_of (cut.0, n)) (zero_is e) ∙ ap (λ v. cond v [] (48 ∷ [])) letter)
+
+  pub number_zero : (is_last : Bool) → (length left == 0) ≡ true → (is_last ≡ false) ⊎ (ends_in_letter cut.0 ≡ false) → 48 ∷ [] ≡ number_text cut is_last
+  number_zero is_last e other =
+      elim other [
+        | inl more ↦ sym (ap (number_text cut) more ∙ ap digits_of (zero_is e))
+        | inr no_letter ↦ sym (ap (λ n. cond is_last (last_digits_of (cut.0, n)) (digits_of n)) (zero_is e) ∙ ap (λ v. cond is_last (cond v [] (48 ∷ [])) (48 ∷ [])) no_letter ∙ both_ways is_last (48 ∷ []))
+      ]
+    where
+      both_ways : (v : Bool) (l : List ℕ) → cond v l l ≡ l
+      both_ways true l = refl
+      both_ways false l = refl
+
+zero_value : (b : ℕ) (run : List ℕ) → IsTrue (is_ascii_digit b) → (value_of (b ∷ run) == 0) ≡ ((b == 48) && (value_of run == 0))
+zero_value b run digit =
+    elim (b == 48) as (λ v. (b == 48) ≡ v → (value_of (b ∷ run) == 0) ≡ (v && (value_of run == 0))) [
+      | true ↦ λ h. ap (λ n. n == 0) (value_of-zero b run (eqb-true b 48 h))
+      | false ↦ λ h. let positive = first_positive b run digit (λ is. false≢true (sym h ∙ (Decides-eqb b 48).1 is)) in ne_eqb (value_of (b ∷ run)) 0 (λ e. omega arith)
+    ] refl
+
+never : (v : Bool) → false ≡ (v && false)
+never true = refl
+never false = refl
+
+-- a byte in front of a component: the whole is the revision 0 only if the byte is a zero and the component is
+is_no_revision-with_digit : (b : ℕ) (text run : List ℕ) (cuts : List Cut) → IsTrue (is_ascii_digit b)
+    → is_no_revision (parts_of_cuts (with_digit b text run cuts)) ≡ ((b == 48) && is_no_revision (parts_of_cuts ((text, run) ∷ cuts)))
+is_no_revision-with_digit b [] run [] digit = zero_value b run digit
+is_no_revision-with_digit b [] run (next ∷ cuts) digit = never (b == 48)
+is_no_revision-with_digit b (c ∷ text) run [] digit =
+    never (b == 48) ∙ ap (λ v. (b == 48) && (v && (value_of run == 0))) (sym (ne_eqb (length (c ∷ text)) 0 (λ e. omega arith)))
+is_no_revision-with_digit b (c ∷ text) run (next ∷ cuts) digit = never (b == 48)
+
+is_no_revision-with_other : (b : ℕ) (text run : List ℕ) (cuts : List Cut) → is_no_revision (parts_of_cuts ((b ∷ text, run) ∷ cuts)) ≡ false
+is_no_revision-with_other b text run [] = ap (λ v. v && (value_of run == 0)) (ne_eqb (length (b ∷ text)) 0 (λ e. omega arith))
+is_no_revision-with_other b text run (next ∷ cuts) = refl
+
+not_zero : (b : ℕ) → is_ascii_digit b ≡ false → (b == 48) ≡ false
+not_zero b other = ne_eqb b 48 (λ e. false≢true (sym other ∙ ap is_ascii_digit e))
+
+is_no_revision-with_byte : (b : ℕ) (cuts : List Cut) → AreCuts cuts → is_no_revision (parts_of_cuts (with_byte b cuts)) ≡ ((b == 48) && is_no_revision (parts_of_cuts cuts))
+is_no_revision-with_byte b [] are = absurd are
+is_no_revision-with_byte b (cut ∷ cuts) are =
+    elim (is_ascii_digit b) as (λ v. is_ascii_digit b ≡ v → is_no_revision (parts_of_cuts (cond v (with_digit b cut.0 cut.1 cuts) ((b ∷ cut.0, cut.1) ∷ cuts))) ≡ ((b == 48) && is_no_revision (parts_of_cuts (cut ∷ cuts)))) [
+      | true ↦ λ h. is_no_revision-with_digit b cut.0 cut.1 cuts h
+      | false ↦ λ h. is_no_revision-with_other b cut.0 cut.1 cuts ∙ ap (λ v. v && is_no_revision (parts_of_cuts (cut ∷ cuts))) (sym (not_zero b h))
+    ] refl
+
+-- A revision is that of an absent one exactly if nothing is left without its leading zeros.
+pub is_no_revision-parts_of : (revision : List ℕ) → is_no_revision (parts_of revision) ≡ (length (without_zeros revision) == 0)
+is_no_revision-parts_of [] = refl
+is_no_revision-parts_of (b ∷ revision) =
+    is_no_revision-with_byte b (cuts_of revision) (AreCuts-cuts_of revision) ∙ ap (λ v. (b == 48) && v) (is_no_revision-parts_of revision) ∙ left_behind
+  where
+    left_behind : ((b == 48) && (length (without_zeros revision) == 0)) ≡ (length (without_zeros (b ∷ revision)) == 0)
+    left_behind =
+        elim (b == 48) as (λ v. (b == 48) ≡ v → (v && (length (without_zeros revision) == 0)) ≡ (length (without_zeros (b ∷ revision)) == 0)) [
+          | true ↦ λ h. ap (λ l. length l == 0) (sym (without_zeros-zero b revision (eqb-true b 48 h)))
+          | false ↦ λ h. sym (ap (λ l. length l == 0) (without_zeros-other b revision (λ is. false≢true (sym h ∙ (Decides-eqb b 48).1 is))) ∙ ne_eqb (length (b ∷ revision)) 0 (λ e. omega arith))
+        ] refl
+
+list_any-behind : (c : ℕ) (run others : List ℕ) → is_ascii_digit c ≡ false → IsDigits run → list_any (λ b. b == c) (run ++ others) ≡ list_any (λ b. b == c) others
+list_any-behind c run others other digits =
+    list_any-append (λ b. b == c) run others ∙ ap (λ v. v || list_any (λ b. b == c) others) (none_equal is_ascii_digit c other run digits)
+
+list_any-cuts : (c : ℕ) (cuts : List Cut) → is_ascii_digit c ≡ false → AreCuts cuts → list_any (λ b. b == c) (component_text (parts_of_cuts cuts)) ≡ list_any (λ b. b == c) (joined cuts)
+list_any-cuts c [] other are = absurd are
+list_any-cuts c (cut ∷ []) other are =
+    list_any-append (λ b. b == c) cut.0 (last_digits_of (part_of cut))
+    ∙ ap (λ v. list_any (λ b. b == c) cut.0 || v) (none_equal is_ascii_digit c other (last_digits_of (part_of cut)) (IsDigits-last_digits_of (part_of cut)) ∙ sym (none_equal is_ascii_digit c other cut.1 are.1) ∙ ap (list_any (λ b. b == c)) (sym (append-nil cut.1)))
+    ∙ sym (list_any-append (λ b. b == c) cut.0 (cut.1 ++ []))
+list_any-cuts c (cut ∷ next ∷ cuts) other are =
+    list_any-append (λ b. b == c) cut.0 (digits_of (value_of cut.1) ++ component_text (parts_of_cuts (next ∷ cuts)))
+    ∙ ap (λ v. list_any (λ b. b == c) cut.0 || v)
+    (list_any-behind c (digits_of (value_of cut.1)) (component_text (parts_of_cuts (next ∷ cuts))) other (IsDigits-digits_of (value_of cut.1))
+    ∙ list_any-cuts c (next ∷ cuts) other are.4 ∙ sym (list_any-behind c cut.1 (joined (next ∷ cuts)) other are.1))
+    ∙ sym (list_any-append (λ b. b == c) cut.0 (cut.1 ++ joined (next ∷ cuts)))
+
+-- Of bytes that are no digits the canonical text of a component holds those that the component holds.
+pub list_any-component_text : (c : ℕ) (text : List ℕ) → is_ascii_digit c ≡ false → list_any (λ b. b == c) (component_text (parts_of text)) ≡ list_any (λ b. b == c) text
+list_any-component_text c text other = list_any-cuts c (cuts_of text) other (AreCuts-cuts_of text) ∙ ap (list_any (λ b. b == c)) (joined-cuts_of text)

@@ -1,0 +1,246 @@
+-- The laws of canonical text.
+use Rattle.std.proofs.Common.{◌≡◌, ◌≢◌, ℕ, ◌*◌, ◌≤◌, ◌==◌, ◌&&◌, ◌||◌, Bool, true, false, not, cond, List, [], ◌∷◌, ◌++◌, length, Option, Some, None, is_some, IfSome, IfNone, MatchOption, refl, sym, ap, ◌∙◌, subst, arith, IsTrue, ◌⊎◌, inl, inr}
+use Rattle.std.specs.Char.{is_ascii_digit}
+use Rattle.std.specs.Int.{is_in_range}
+use Rattle.std.specs.List.{AllByRecursion, list_any}
+use Rattle.std.proofs.lemmas.List.{length-append}
+use Rattle.std.proofs.lemmas.Bool.Decides.{Decides-eqb}
+use Rattle.std.proofs.lemmas.Bool.{false≢true}
+use Rattle.deb_version.specs.Parts.{value_of, Part, HasParts, Meaning, no_revision}
+use Rattle.deb_version.specs.Grammar.{epoch_limit, is_revision_byte, is_upstream_byte, epoch_text, revision_text, IsEpoch, IsRevision, SpellsVersion}
+use Rattle.deb_version.specs.Canonical.{digits_of, component_text, is_no_revision, holds_colon, holds_hyphen, canonical_epoch, canonical_revision, canonical_components, version_text}
+use Rattle.deb_version.specs.CanonicalLaws.{CanonicalTextSpells, CanonicalTextDecides, CanonicalTextStays, CanonicalTextIsShort}
+use Rattle.deb_version.proofs.Emptiness.{nil_of_length, some_length}
+use Rattle.deb_version.proofs.ByteLemmas.{differs, none_equal-test, none_equal-fact}
+use Rattle.deb_version.proofs.PartsLemmas.{has_parts}
+use Rattle.deb_version.proofs.CanonicalDigits.{value_of-digits_of, IsDigits-digits_of, digits_of-some, length-digits_of-value_of}
+use Rattle.deb_version.proofs.CanonicalComponent.{HasParts-component_text, All-weaker, All-component_text, component_text-some, length-component_text}
+use Rattle.deb_version.proofs.MeaningLemmas.{one_version}
+
+revision_digit : (b : ℕ) → IsTrue (is_ascii_digit b) → IsTrue (is_revision_byte b)
+revision_digit b d = ap (λ v. ((v || is_in_range 65 90 b) || is_in_range 97 122 b) || (b == 43) || (b == 46) || (b == 126)) d
+
+upstream_digit : (has_epoch : Bool) (b : ℕ) → IsTrue (is_ascii_digit b) → IsTrue (is_upstream_byte has_epoch b)
+upstream_digit has_epoch b d = ap (λ v. v || (b == 45) || (has_epoch && (b == 58))) (revision_digit b d)
+
+-- an upstream byte may stand where there is an epoch; without one if it isn't a colon
+or_more : (x y z : Bool) → (y ≡ true → z ≡ true) → (x || y) ≡ true → (x || z) ≡ true
+or_more true y z more h = refl
+or_more false y z more h = more h
+
+upstream_with_epoch : (has_epoch : Bool) (b : ℕ) → IsTrue (is_upstream_byte has_epoch b) → IsTrue (is_upstream_byte true b)
+upstream_with_epoch true b h = h
+upstream_with_epoch false b h = or_more (is_revision_byte b || (b == 45)) false (b == 58) (λ e. absurd (false≢true e)) h
+
+upstream_without_epoch : (b : ℕ) → IsTrue (is_upstream_byte true b) × (b ≢ 58) → IsTrue (is_upstream_byte false b)
+upstream_without_epoch b h = or_more (is_revision_byte b || (b == 45)) (b == 58) false (λ e. absurd (h.1 ((Decides-eqb b 58).0 e))) h.0
+
+both : (P Q : ℕ → Type 0) (xs : List ℕ) → AllByRecursion P xs → AllByRecursion Q xs → AllByRecursion (λ b. P b × Q b) xs
+both P Q [] p q = tt
+both P Q (x ∷ xs) p q = ((p.0, q.0), both P Q xs p.1 q.1)
+
+-- the epoch is left out, or written
+epoch_cases : (m : Meaning) → ((m.epoch ≡ 0) × (holds_colon (component_text m.upstream) ≡ false) × (canonical_epoch m ≡ None)) ⊎ (canonical_epoch m ≡ Some (digits_of m.epoch))
+epoch_cases m = cases m.epoch (holds_colon (component_text m.upstream))
+  where
+    left_out : (e : ℕ) (colon : Bool) → e ≡ 0 → ((e ≡ 0) × (colon ≡ false) × (cond (not colon) None (Some (digits_of e)) ≡ None)) ⊎ (cond (not colon) None (Some (digits_of e)) ≡ Some (digits_of e))
+    left_out e true zero_is = inr refl
+    left_out e false zero_is = inl (zero_is, refl, refl)
+
+    cases : (e : ℕ) (colon : Bool) → ((e ≡ 0) × (colon ≡ false) × (cond ((e == 0) && not colon) None (Some (digits_of e)) ≡ None)) ⊎ (cond ((e == 0) && not colon) None (Some (digits_of e)) ≡ Some (digits_of e))
+    cases e colon =
+        elim (e == 0) as (λ v. (e == 0) ≡ v → ((e ≡ 0) × (colon ≡ false) × (cond (v && not colon) None (Some (digits_of e)) ≡ None)) ⊎ (cond (v && not colon) None (Some (digits_of e)) ≡ Some (digits_of e))) [
+          | true ↦ λ h. left_out e colon ((Decides-eqb e 0).0 h)
+          | false ↦ λ h. inr refl
+        ] refl
+
+no_revision_of_test : (parts : List Part) → is_no_revision parts ≡ true → parts ≡ no_revision
+no_revision_of_test [] e = absurd (false≢true e)
+no_revision_of_test (part ∷ []) e =
+    elim (length part.0 == 0) as (λ v. (length part.0 == 0) ≡ v → (v && (part.1 == 0)) ≡ true → part ∷ [] ≡ no_revision) [
+      | true ↦ λ h k. let text = nil_of_length part.0 h in let number = (Decides-eqb part.1 0).0 k in ap (λ t. (t, part.1) ∷ []) text ∙ ap (λ n. ([], n) ∷ []) number
+      | false ↦ λ h k. absurd (false≢true k)
+    ] refl e
+no_revision_of_test (part ∷ next ∷ parts) e = absurd (false≢true e)
+
+-- the revision is left out, or written
+revision_cases : (m : Meaning) → ((m.revision ≡ no_revision) × (holds_hyphen (component_text m.upstream) ≡ false) × (canonical_revision m ≡ None)) ⊎ (canonical_revision m ≡ Some (component_text m.revision))
+revision_cases m = cases m.revision (holds_hyphen (component_text m.upstream))
+  where
+    left_out : (r : List Part) (hyphen : Bool) → r ≡ no_revision → ((r ≡ no_revision) × (hyphen ≡ false) × (cond (not hyphen) None (Some (component_text r)) ≡ None)) ⊎ (cond (not hyphen) None (Some (component_text r)) ≡ Some (component_text r))
+    left_out r true none_is = inr refl
+    left_out r false none_is = inl (none_is, refl, refl)
+
+    cases : (r : List Part) (hyphen : Bool) → ((r ≡ no_revision) × (hyphen ≡ false) × (cond (is_no_revision r && not hyphen) None (Some (component_text r)) ≡ None)) ⊎ (cond (is_no_revision r && not hyphen) None (Some (component_text r)) ≡ Some (component_text r))
+    cases r hyphen =
+        elim (is_no_revision r) as (λ v. is_no_revision r ≡ v → ((r ≡ no_revision) × (hyphen ≡ false) × (cond (v && not hyphen) None (Some (component_text r)) ≡ None)) ⊎ (cond (v && not hyphen) None (Some (component_text r)) ≡ Some (component_text r))) [
+          | true ↦ λ h. left_out r hyphen (no_revision_of_test r h)
+          | false ↦ λ h. inr refl
+        ] refl
+
+-- the epoch's value is within the limit
+epoch_within : (o : Option (List ℕ)) (e : ℕ) → IfSome o IsEpoch → MatchOption o (e ≡ 0) (λ digits. e ≡ value_of digits) → e ≤ epoch_limit
+epoch_within None e allowed means = omega arith
+epoch_within (Some digits) e allowed means = omega (arith, allowed.2)
+
+-- a text that has the parts of the revision, of bytes that a revision may hold
+revision_spelt : (o : Option (List ℕ)) (parts : List Part) → IfSome o IsRevision → MatchOption o (parts ≡ no_revision) (λ revision. HasParts revision parts)
+    → (text : List ℕ) × HasParts text parts × AllByRecursion (λ b. IsTrue (is_revision_byte b)) text
+revision_spelt None parts allowed means = ([], subst (λ p. HasParts [] p) (sym means) (has_parts []), tt)
+revision_spelt (Some revision) parts allowed means = (revision, means, allowed.1)
+
+module _ (text : List ℕ) (m : Meaning) (spells : SpellsVersion text m) where
+  upstream_has_parts : HasParts (component_text m.upstream) m.upstream
+  upstream_has_parts = HasParts-component_text spells.components.upstream m.upstream spells.means.upstream
+
+  allowed_epoch : IfSome (canonical_epoch m) IsEpoch
+  allowed_epoch =
+      elim (epoch_cases m) [
+        | inl out ↦ subst (λ o. IfSome o IsEpoch) (sym out.2) tt
+        | inr written ↦ subst (λ o. IfSome o IsEpoch) (sym written)
+            (digits_of-some m.epoch, IsDigits-digits_of m.epoch, subst (λ n. n ≤ epoch_limit) (sym (value_of-digits_of m.epoch)) (epoch_within spells.components.epoch m.epoch spells.allowed.epoch spells.means.epoch))
+      ]
+
+  upstream_bytes_with_epoch : AllByRecursion (λ b. IsTrue (is_upstream_byte true b)) (component_text m.upstream)
+  upstream_bytes_with_epoch =
+      All-component_text (λ b. IsTrue (is_upstream_byte true b)) (upstream_digit true) spells.components.upstream m.upstream spells.means.upstream
+      (All-weaker (λ b. IsTrue (is_upstream_byte (is_some spells.components.epoch) b)) (λ b. IsTrue (is_upstream_byte true b)) (upstream_with_epoch (is_some spells.components.epoch)) spells.components.upstream spells.allowed.upstream_bytes)
+
+  allowed_upstream : AllByRecursion (λ b. IsTrue (is_upstream_byte (is_some (canonical_epoch m)) b)) (component_text m.upstream)
+  allowed_upstream =
+      elim (epoch_cases m) [
+        | inl out ↦ subst (λ o. AllByRecursion (λ b. IsTrue (is_upstream_byte (is_some o) b)) (component_text m.upstream)) (sym out.2)
+            (All-weaker (λ b. IsTrue (is_upstream_byte true b) × (b ≢ 58)) (λ b. IsTrue (is_upstream_byte false b)) upstream_without_epoch (component_text m.upstream)
+            (both (λ b. IsTrue (is_upstream_byte true b)) (λ b. b ≢ 58) (component_text m.upstream) upstream_bytes_with_epoch (none_equal-fact 58 (component_text m.upstream) out.1)))
+        | inr written ↦ subst (λ o. AllByRecursion (λ b. IsTrue (is_upstream_byte (is_some o) b)) (component_text m.upstream)) (sym written) upstream_bytes_with_epoch
+      ]
+
+  allowed_hyphen : IfNone (canonical_revision m) (AllByRecursion (λ b. b ≢ 45) (component_text m.upstream))
+  allowed_hyphen =
+      elim (revision_cases m) [
+        | inl out ↦ subst (λ o. IfNone o (AllByRecursion (λ b. b ≢ 45) (component_text m.upstream))) (sym out.2) (none_equal-fact 45 (component_text m.upstream) out.1)
+        | inr written ↦ subst (λ o. IfNone o (AllByRecursion (λ b. b ≢ 45) (component_text m.upstream))) (sym written) tt
+      ]
+
+  revision_is_spelt : (spelt : List ℕ) × HasParts spelt m.revision × AllByRecursion (λ b. IsTrue (is_revision_byte b)) spelt
+  revision_is_spelt = revision_spelt spells.components.revision m.revision spells.allowed.revision spells.means.revision
+
+  allowed_revision : IfSome (canonical_revision m) IsRevision
+  allowed_revision =
+      elim (revision_cases m) [
+        | inl out ↦ subst (λ o. IfSome o IsRevision) (sym out.2) tt
+        | inr written ↦ subst (λ o. IfSome o IsRevision) (sym written) (
+          component_text-some revision_is_spelt.0 m.revision revision_is_spelt.1,
+          All-component_text (λ b. IsTrue (is_revision_byte b)) revision_digit revision_is_spelt.0 m.revision revision_is_spelt.1 revision_is_spelt.2,
+        )
+      ]
+
+  means_epoch : MatchOption (canonical_epoch m) (m.epoch ≡ 0) (λ digits. m.epoch ≡ value_of digits)
+  means_epoch =
+      elim (epoch_cases m) [
+        | inl out ↦ subst (λ o. MatchOption o (m.epoch ≡ 0) (λ digits. m.epoch ≡ value_of digits)) (sym out.2) out.0
+        | inr written ↦ subst (λ o. MatchOption o (m.epoch ≡ 0) (λ digits. m.epoch ≡ value_of digits)) (sym written) (sym (value_of-digits_of m.epoch))
+      ]
+
+  means_revision : MatchOption (canonical_revision m) (m.revision ≡ no_revision) (λ revision. HasParts revision m.revision)
+  means_revision =
+      elim (revision_cases m) [
+        | inl out ↦ subst (λ o. MatchOption o (m.revision ≡ no_revision) (λ revision. HasParts revision m.revision)) (sym out.2) out.0
+        | inr written ↦ subst (λ o. MatchOption o (m.revision ≡ no_revision) (λ revision. HasParts revision m.revision)) (sym written) (HasParts-component_text revision_is_spelt.0 m.revision revision_is_spelt.1)
+      ]
+
+-- Canonical text is accepted, with the same meaning.
+pub canonical_text_spells : CanonicalTextSpells
+canonical_text_spells text m spells = record {
+  components = canonical_components m;
+  spelt = refl;
+  allowed = record {
+    epoch = allowed_epoch text m spells;
+    upstream_some = component_text-some spells.components.upstream m.upstream spells.means.upstream;
+    upstream_bytes = allowed_upstream text m spells;
+    upstream_hyphen = allowed_hyphen text m spells;
+    revision = allowed_revision text m spells;
+  };
+  means = record {
+    epoch = means_epoch text m spells;
+    upstream = upstream_has_parts text m spells;
+    revision = means_revision text m spells;
+  };
+}
+
+pub canonical_text_decides : CanonicalTextDecides
+canonical_text_decides s t m n spells_m spells_n = (
+  λ e. one_version (version_text m) m n (canonical_text_spells s m spells_m) (subst (λ u. SpellsVersion u n) (sym e) (canonical_text_spells t n spells_n)),
+  λ e. ap version_text e,
+)
+
+pub canonical_text_stays : CanonicalTextStays
+canonical_text_stays text m n spells spells_n =
+    ap version_text (one_version (version_text m) n m spells_n (canonical_text_spells text m spells))
+
+-- an absent epoch stays absent, and so does an absent revision
+epoch_none : (m : Meaning) → m.epoch ≡ 0 → holds_colon (component_text m.upstream) ≡ false → canonical_epoch m ≡ None
+epoch_none m zero_is none =
+    ap (λ e. cond ((e == 0) && not (holds_colon (component_text m.upstream))) None (Some (digits_of e))) zero_is ∙ ap (λ v. cond (not v) None (Some (digits_of 0))) none
+
+revision_none : (m : Meaning) → m.revision ≡ no_revision → holds_hyphen (component_text m.upstream) ≡ false → canonical_revision m ≡ None
+revision_none m none_is none =
+    ap (λ r. cond (is_no_revision r && not (holds_hyphen (component_text m.upstream))) None (Some (component_text r))) none_is
+    ∙ ap (λ v. cond (not v) None (Some (component_text no_revision))) none
+
+-- without a colon in the upstream version its canonical text has none, and so without a hyphen
+no_colon : (has_epoch : Bool) (b : ℕ) → has_epoch ≡ false → IsTrue (is_upstream_byte has_epoch b) → b ≢ 58
+no_colon has_epoch b absent allowed same = false≢true (ap (λ v. is_upstream_byte v 58) (sym absent) ∙ ap (is_upstream_byte has_epoch) (sym same) ∙ allowed)
+
+component_without : (c : ℕ) (text : List ℕ) (parts : List Part) → is_ascii_digit c ≡ false → HasParts text parts → AllByRecursion (λ b. b ≢ c) text
+    → list_any (λ b. b == c) (component_text parts) ≡ false
+component_without c text parts other h all = none_equal-test c (component_text parts) (All-component_text (λ b. b ≢ c) (differs is_ascii_digit c other) text parts h all)
+
+-- the epoch of the canonical text isn't longer
+module _ (text : List ℕ) (m : Meaning) (spells : SpellsVersion text m) where
+  length-epoch : (o : Option (List ℕ)) → spells.components.epoch ≡ o → length (epoch_text (canonical_epoch m)) ≤ length (epoch_text o)
+  length-epoch None e =
+      let zero_is = subst (λ o. MatchOption o (m.epoch ≡ 0) (λ digits. m.epoch ≡ value_of digits)) e spells.means.epoch in
+      let absent = ap is_some e in
+      let bytes = All-weaker (λ b. IsTrue (is_upstream_byte (is_some spells.components.epoch) b)) (λ b. b ≢ 58) (λ b. no_colon (is_some spells.components.epoch) b absent) spells.components.upstream spells.allowed.upstream_bytes in
+      let colon = component_without 58 spells.components.upstream m.upstream refl spells.means.upstream bytes in
+      omega (arith, ap (λ o. length (epoch_text o)) (epoch_none m zero_is colon))
+  length-epoch (Some digits) e =
+      let value = subst (λ o. MatchOption o (m.epoch ≡ 0) (λ digits. m.epoch ≡ value_of digits)) e spells.means.epoch in
+      let allowed = subst (λ o. IfSome o IsEpoch) e spells.allowed.epoch in
+      let shorter = length-digits_of-value_of digits allowed.1 allowed.0 in
+      let same = ap (λ n. length (digits_of n)) value in
+      let colon_behind = length-append (digits_of m.epoch) (58 ∷ []) in
+      let colon = length-append digits (58 ∷ []) in
+      elim (epoch_cases m) [
+        | inl out ↦ omega (arith, ap (λ o. length (epoch_text o)) out.2)
+        | inr written ↦ omega (arith, shorter, same, colon_behind, colon, ap (λ o. length (epoch_text o)) written)
+      ]
+
+  length-revision : (o : Option (List ℕ)) → spells.components.revision ≡ o → length (revision_text (canonical_revision m)) ≤ 2 * length (revision_text o)
+  length-revision None e =
+      let none_is = subst (λ o. MatchOption o (m.revision ≡ no_revision) (λ revision. HasParts revision m.revision)) e spells.means.revision in
+      let bytes = subst (λ o. IfNone o (AllByRecursion (λ b. b ≢ 45) spells.components.upstream)) e spells.allowed.upstream_hyphen in
+      let hyphen = component_without 45 spells.components.upstream m.upstream refl spells.means.upstream bytes in
+      omega (arith, ap (λ o. length (revision_text o)) (revision_none m none_is hyphen))
+  length-revision (Some revision) e =
+      let means = subst (λ o. MatchOption o (m.revision ≡ no_revision) (λ revision. HasParts revision m.revision)) e spells.means.revision in
+      let short = length-component_text revision m.revision means in
+      elim (revision_cases m) [
+        | inl out ↦ omega (arith, ap (λ o. length (revision_text o)) out.2)
+        | inr written ↦ omega (arith, short, ap (λ o. length (revision_text o)) written)
+      ]
+
+pub canonical_text_is_short : CanonicalTextIsShort
+canonical_text_is_short text m spells =
+    let c = spells.components in
+    let epoch = length-epoch text m spells c.epoch refl in
+    let upstream = length-component_text c.upstream m.upstream spells.means.upstream in
+    let some = some_length c.upstream spells.allowed.upstream_some in
+    let revision = length-revision text m spells c.revision refl in
+    let spelt = ap length spells.spelt in
+    let spelt_front = length-append (epoch_text c.epoch) (c.upstream ++ revision_text c.revision) in
+    let spelt_back = length-append c.upstream (revision_text c.revision) in
+    let front = length-append (epoch_text (canonical_epoch m)) (component_text m.upstream ++ revision_text (canonical_revision m)) in
+    let back = length-append (component_text m.upstream) (revision_text (canonical_revision m)) in
+    omega (arith, epoch, upstream, some, revision, spelt, spelt_front, spelt_back, front, back)
