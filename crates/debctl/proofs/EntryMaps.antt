@@ -1,5 +1,5 @@
 -- A map from canonical names to bodies, as a paragraph's entries.
-use Rattle.std.proofs.Common.{◌≡◌, ℕ, suc, ◌+◌, ◌<◌, inl, inr, length, None, arith, List, [], ◌∷◌, map, Vec, Global, Bor, Ordering, Less, Equal, Greater, Option, Some, slice_get, drop, option_map, nat_cmp, add-one, refl, sym, ap, ◌∙◌}
+use Rattle.std.proofs.Common.{◌≡◌, ℕ, suc, ◌+◌, ◌<◌, inl, inr, length, None, arith, List, [], ◌∷◌, map, Vec, Global, Bor, Ordering, Less, Equal, Greater, Some, slice_get, drop, option_map, nat_cmp, add-one, refl, sym, ap, ◌∙◌}
 use Rattle.std.proofs.Math.Seq.{drop-cons}
 use Rattle.std.proofs.lemmas.Option.{slice_get_within, slice_get_cases, get_or_from_slice_get}
 use Rattle.std.specs.Cmp.Lexicographic.{slice_cmp}

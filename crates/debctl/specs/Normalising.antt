@@ -1,13 +1,12 @@
 -- What a call of `normalise` answers and writes. Debian Policy 5.1; the canonical text is this project's own.
-use Rattle.std.specs.Prelude.{◌≡◌, ℕ, ◌≤◌, List, length, Option, Some, Result, Ok, Err, IfOk, IfErr}
+use Rattle.std.specs.Prelude.{◌≡◌, ℕ, ◌≤◌, List, length, Option, Result, Ok, Err}
 use Rattle.std.specs.Io.KnownBytes.{Appends}
 use Rattle.deb_base.specs.Codes.{number_of}
-use Rattle.deb_base.specs.Devices.{AppendsFront, read_failures_after, write_failures_after}
+use Rattle.deb_base.specs.Devices.{AppendsFront}
 use Rattle.deb_base.specs.declared.fault.Fault.{Fault}
 use Rattle.deb_base.specs.declared.fault.Fault.TheVariants.{Refused, Memory, Read, Write}
 use Rattle.deb_base.specs.declared.refusal.Refusal.{Refusal}
 use Rattle.deb_syntax.specs.Meaning.{Entries, Accepted}
-use Rattle.deb_syntax.specs.Reading.{IsRefused}
 use Rattle.debctl.specs.Canonical.{file_text}
 
 -- a fact for the answer that the text is refused

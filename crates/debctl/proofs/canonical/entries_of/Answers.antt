@@ -1,5 +1,5 @@
-use Rattle.std.proofs.Common.{◌<◌, ◌∙◌, length, sym, ap, subst}
-use Rattle.deb_syntax.specs.Raw.{field_of, fields_of}
+use Rattle.std.proofs.Common.{◌<◌, ◌∙◌, subst}
+use Rattle.deb_syntax.specs.Raw.{fields_of}
 use Rattle.debctl.proofs.EntryMaps.{entries_after-insert, none_is_past}
 use Rattle.debctl.proofs.canonical.entries_of.Goals as goal
 use Rattle.debctl.proofs.canonical.entries_of.Goals.{in-Some+in_ok-canonical_name+in_ok-insert, in_default}

@@ -1,10 +1,8 @@
-use Rattle.std.proofs.Common.{◌≡◌, ◌≤◌, ◌+◌, subst, ◌++◌, [], ◌∷◌, ◌∙◌, Ok, Err, Some, None, Vec, ℕ, Global, ap, sym, inl, inr, arith}
+use Rattle.std.proofs.Common.{◌≤◌, ◌+◌, subst, ◌∙◌, Vec, ℕ, Global, ap, arith}
 use Rattle.std.proofs.lemmas.Result.{err_from_is_err_and}
-use Rattle.deb_syntax.specs.Lines.{newline}
 use Rattle.deb_syntax.specs.Meaning.{entries_of}
-use Rattle.deb_syntax.specs.Paragraphs.{state_of, seen_of}
+use Rattle.deb_syntax.specs.Paragraphs.{seen_of}
 use Rattle.deb_syntax.specs.Raw.{fields_of}
-use Rattle.debctl.specs.Canonical.{paragraph_text}
 use Rattle.debctl.specs.declared.normalise.CanonicalText.{CanonicalText}
 use Rattle.deb_syntax.proofs.Callers.{Advances-from_passes, sound-from_passes}
 use Rattle.debctl.proofs.ReadSoFar.{AppendsParagraph, appends_first, appends_next, HasRead-next, HasRead-end, HasRead-refused, length-appends}
