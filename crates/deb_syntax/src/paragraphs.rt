@@ -43,16 +43,17 @@ pub struct Paragraphs {
 }
 
 impl Paragraphs {
-    ghost use Rattle.std.specs.Prelude.{[], None, false, length, take, drop, ◌+◌, ◌-◌, IsTrue, IfOk};
+    ghost use Rattle.std.specs.Prelude.{ℕ, List, [], Some, None, false, length, take, drop, ◌+◌, ◌-◌, IsTrue, IfOk};
     ghost use Rattle.std.specs.Borrow.{sem};
     ghost use Rattle.std.specs.Io.BufRead.{Rests};
     ghost use Rattle.deb_syntax.specs.contracts.paragraphs.Paragraphs.{the_row};
-    ghost use Rattle.deb_syntax.specs.Reading.{Passes, Advances};
+    ghost use Rattle.deb_syntax.specs.Reading.{Fits, Passes, Advances};
     ghost use Rattle.deb_syntax.specs.Paragraphs.{state_of, seen_of, answer_of, current_of, are_within, step_answer, StepPasses, IsFound};
 
-    /// A reader of paragraphs that has read nothing. Takes no memory.
+    /// A reader of paragraphs that has read nothing: whatever its source has left is the file. Takes no memory.
     pub fn new(alloc: Global) -> Paragraphs
-        ensures { state_of result ≡ record { unread = []; held = 0; bytes = 0; lines = 0; finished = false; fault = None } }
+        ensures state { state_of result ≡ record { unread = []; held = 0; bytes = 0; lines = 0; finished = false; fault = None } }
+        ensures fits { (text : List ℕ) → Fits text [] (state_of result) (Some text) }
     {
         Paragraphs {
             buffer: Vec::new(alloc),
