@@ -5,7 +5,8 @@ use Rattle.std.proofs.lemmas.List.{take_all, take-append-drop, append-nil}
 use Rattle.std.proofs.Math.ListN.{drop_of_length-le}
 use Rattle.std.proofs.lemmas.Bool.{cases_lt}
 use Rattle.std.specs.List.{slice_range}
-use Rattle.deb_syntax.specs.Lines.{Line, newline, with_byte, lines_of, pieces_of, HasNoNewline, ends_line}
+use Rattle.deb_base.specs.Bodies.{Line, newline, with_byte, pieces_of, HasNoNewline}
+use Rattle.deb_syntax.specs.Lines.{lines_of, ends_line}
 use Rattle.deb_syntax.specs.Extents.{EndsAtLine, IsFirstLine}
 use Rattle.deb_syntax.proofs.Runs.{lines_of-line, lines_of-last, pieces_of-last}
 

@@ -9,8 +9,9 @@ use Rattle.std.specs.Str.{bytes_eq}
 use Rattle.deb_base.specs.Names.{folded}
 use Rattle.deb_base.specs.declared.code.Code.TheVariants.{BadFieldName, NoColon, DuplicateField}
 use Rattle.deb_base.specs.declared.refusal.Refusal.{Refusal}
-use Rattle.deb_syntax.specs.Lines.{Line}
-use Rattle.deb_syntax.specs.Fields.{Field, colon, is_name, is_name_byte, may_begin_name, has_name}
+use Rattle.deb_base.specs.Bodies.{Line}
+use Rattle.deb_syntax.specs.Fields.{Field, has_name}
+use Rattle.deb_base.specs.FieldNames.{colon, is_name, is_name_byte, may_begin_name}
 use Rattle.deb_syntax.specs.Judging.{begins_armour, begins_comment, has_colon, begun, field_line}
 use Rattle.deb_syntax.specs.Places.{begun_at, begun_fields, StandsAt}
 use Rattle.deb_syntax.specs.declared.folded_name.FoldedName.{FoldedName}

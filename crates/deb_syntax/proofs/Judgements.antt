@@ -5,8 +5,8 @@ use Rattle.std.proofs.lemmas.Bool.{false≢true, le-ltb}
 use Rattle.std.proofs.lemmas.Str.{IsUtf8-from_is_utf8, is_utf8-from_IsUtf8}
 use Rattle.std.proofs.lemmas.Simd.{map-map}
 use Rattle.deb_base.specs.declared.code.Code.TheVariants.{NotUtf8}
-use Rattle.deb_syntax.specs.Lines.{Line, pieces_of}
-use Rattle.deb_syntax.specs.Fields.{Field, begins_with_blank}
+use Rattle.deb_base.specs.Bodies.{Line, pieces_of, begins_with_blank}
+use Rattle.deb_syntax.specs.Fields.{Field}
 use Rattle.deb_syntax.specs.Judging.{line_judged, lines_judged, judged, continuation_line, field_line, ended}
 use Rattle.deb_syntax.specs.Places.{begun_at, begun_fields, fields_at, pieces_behind}
 use Rattle.deb_syntax.specs.declared.place.Place.{Place}

@@ -6,8 +6,9 @@ use Rattle.std.proofs.lemmas.Slice.Eq.{bytes_eq-Decides}
 use Rattle.std.specs.List.{AllByRecursion, list_all, list_any}
 use Rattle.std.specs.Str.{bytes_eq, is_utf8}
 use Rattle.deb_base.specs.Names.{folded}
-use Rattle.deb_syntax.specs.Lines.{Line, newline, is_all_blank, pieces_of, joined, HasNoNewline}
-use Rattle.deb_syntax.specs.Fields.{Field, colon, is_name, begins_with_blank, is_continuation, SpellsField, SpellsFields, has_name, AreDistinct, SpellsParagraph}
+use Rattle.deb_base.specs.Bodies.{Line, newline, is_all_blank, pieces_of, joined, HasNoNewline, begins_with_blank, is_continuation}
+use Rattle.deb_syntax.specs.Fields.{Field, SpellsField, SpellsFields, has_name, AreDistinct, SpellsParagraph}
+use Rattle.deb_base.specs.FieldNames.{colon, is_name}
 use Rattle.deb_syntax.specs.Judging.{trimmed, with_text, ended, continued, begins_armour, begins_comment, has_colon, begun, continuation_line, line_judged, lines_judged, judged}
 use Rattle.deb_syntax.proofs.LinesLaws.{with_front, with_end, pieces_of-some, pieces_of-front, pieces_of-joined, joined-pieces_of}
 use Rattle.deb_syntax.proofs.JudgingLawsTexts.{HasBodyShape, body_shape-parts, trimmed-between, pieces_of-between, BeginsWithBlank, continuations-end, IsFieldLines, before-first, after-first, begins_with_blank-field, begins_armour-field, begins_comment-field, has_colon-field, name-no_colon, name-no_newline, cons_tail}
@@ -52,7 +53,7 @@ field_lines (line ∷ lines) field none s = go (pieces_of-some text) (pieces_of-
     go m f = record {
       more = m.0;
       rest = m.1;
-      is = sym (pieces_of-joined line lines none) ∙ ap pieces_of s.spelt ∙ pieces_of-front field.name (colon ∷ text) (name-no_newline field.name s.name) ∙ ap (λ ls. with_front field.name (Rattle.deb_syntax.specs.Lines.with_byte colon ls)) m.2;
+      is = sym (pieces_of-joined line lines none) ∙ ap pieces_of s.spelt ∙ pieces_of-front field.name (colon ∷ text) (name-no_newline field.name s.name) ∙ ap (λ ls. with_front field.name (Rattle.deb_base.specs.Bodies.with_byte colon ls)) m.2;
       joins = sym (joined-pieces_of text) ∙ ap joined m.2;
       begin = begin m.0 m.1 f.0 f.1 m.2 f.2;
     }

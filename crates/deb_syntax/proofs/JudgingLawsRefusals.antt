@@ -4,8 +4,10 @@ use Rattle.std.proofs.lemmas.List.Sums.{sum_by-cons}
 use Rattle.std.specs.List.{AllByRecursion}
 use Rattle.std.specs.Str.{is_utf8}
 use Rattle.deb_base.specs.declared.refusal.Refusal.{Refusal}
-use Rattle.deb_syntax.specs.Lines.{Line, is_all_blank, is_blank, line_length, paragraph_limit, total_length, HasNoNewline, Paragraph}
-use Rattle.deb_syntax.specs.Fields.{Field, is_name, begins_with_blank, has_name, IsShort, SpellsParagraph}
+use Rattle.deb_base.specs.Bodies.{Line, is_all_blank, is_blank, line_length, paragraph_limit, HasNoNewline, begins_with_blank}
+use Rattle.deb_syntax.specs.Lines.{total_length, Paragraph}
+use Rattle.deb_syntax.specs.Fields.{Field, has_name, IsShort, SpellsParagraph}
+use Rattle.deb_base.specs.FieldNames.{is_name}
 use Rattle.deb_syntax.specs.Judging.{begins_armour, begins_comment, has_colon, begun, field_line, continuation_line, line_judged, lines_judged, judged}
 use Rattle.deb_syntax.specs.Laws.{IsRun, IsLineRefusal, IsRefusalWithin}
 use Rattle.deb_syntax.proofs.JudgingLaws.{judged-complete}

@@ -7,8 +7,9 @@ use Rattle.std.specs.List.{AllByRecursion}
 use Rattle.std.specs.Str.{bytes_eq, is_utf8}
 use Rattle.deb_base.specs.Names.{folded}
 use Rattle.deb_base.specs.declared.refusal.Refusal.{Refusal}
-use Rattle.deb_syntax.specs.Lines.{Line, newline, is_all_blank, joined, HasNoNewline}
-use Rattle.deb_syntax.specs.Fields.{Field, colon, is_name, begins_with_blank, SpellsField, SpellsFields, has_name, AreDistinct, SpellsParagraph}
+use Rattle.deb_base.specs.Bodies.{Line, newline, is_all_blank, joined, HasNoNewline, begins_with_blank}
+use Rattle.deb_syntax.specs.Fields.{Field, SpellsField, SpellsFields, has_name, AreDistinct, SpellsParagraph}
+use Rattle.deb_base.specs.FieldNames.{colon, is_name}
 use Rattle.deb_syntax.specs.Judging.{trimmed, ended, begins_armour, begins_comment, has_colon, begun, field_line, continuation_line, line_judged, lines_judged, judged}
 use Rattle.deb_syntax.proofs.LinesLaws.{pieces_of-joined}
 use Rattle.deb_syntax.proofs.JudgingLawsTexts.{IsTrimmed, trimmed_cut, split_at_colon, IsMore, body_shape-cut}

@@ -3,8 +3,8 @@ use Rattle.std.proofs.Common.{◌≡◌, ℕ, ◌+◌, suc, Bool, true, false, c
 use Rattle.std.proofs.lemmas.Bool.{or_right, and_right, and_parts, and_from, not-true, not_from_false, true≢false}
 use Rattle.std.proofs.lemmas.Bool.Decides.{nat_tests}
 use Rattle.std.specs.List.{AllByRecursion, list_all, list_any, before_first, after_first, position_or_len}
-use Rattle.deb_syntax.specs.Lines.{Line, is_blank_byte, is_all_blank, is_blank, line_length, paragraph_limit, pieces_of, joined, HasNoNewline}
-use Rattle.deb_syntax.specs.Fields.{colon, is_name_byte, may_begin_name, is_name, begins_with_blank, ends_with_blank, is_continuation, is_body_shape}
+use Rattle.deb_base.specs.Bodies.{Line, is_blank_byte, is_all_blank, is_blank, line_length, paragraph_limit, pieces_of, joined, HasNoNewline, begins_with_blank, ends_with_blank, is_continuation, is_body_shape}
+use Rattle.deb_base.specs.FieldNames.{colon, is_name_byte, may_begin_name, is_name}
 use Rattle.deb_syntax.specs.Judging.{without_leading_blanks, with_kept, without_trailing_blanks, trimmed, begins_armour, begins_comment, has_colon}
 use Rattle.deb_syntax.proofs.LinesLaws.{with_front, with_end, pieces_of-some, pieces_of-front, pieces_of-end}
 

@@ -2,7 +2,6 @@ pub mod Boundaries
 pub mod Faults
 pub mod FieldBytes
 pub mod FieldLines
-pub mod JoinedLines
 pub mod Judgements
 pub mod JudgingLaws
 pub mod JudgingLawsMeaning
@@ -10,7 +9,6 @@ pub mod JudgingLawsRefusals
 pub mod JudgingLawsRows
 pub mod JudgingLawsSound
 pub mod JudgingLawsTexts
-pub mod LaterPieces
 pub mod LineSteps
 pub mod LinesLaws
 pub mod LinesLawsPlaces

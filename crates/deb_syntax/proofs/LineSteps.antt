@@ -4,7 +4,8 @@ use Rattle.std.proofs.lemmas.List.{take_min, drop_min}
 use Rattle.std.proofs.lemmas.Bool.{false≢true}
 use Rattle.std.proofs.Math.ListN.{drop_of_length-le}
 use Rattle.std.proofs.lemmas.List.Sums.{sum_by-append}
-use Rattle.deb_syntax.specs.Lines.{Line, newline, with_byte, ends_line, lines_of, is_blank, begins_blank, total_length, line_length}
+use Rattle.deb_base.specs.Bodies.{Line, newline, with_byte, is_blank, line_length}
+use Rattle.deb_syntax.specs.Lines.{ends_line, lines_of, begins_blank, total_length}
 use Rattle.deb_syntax.specs.Extents.{EndsAtLine, IsFirstLine, AreBlank, AreNotBlank, PassesBlanks}
 use Rattle.deb_syntax.proofs.JudgingLaws.{all_append}
 use Rattle.deb_syntax.proofs.Boundaries.{line_step, lines_of-first}

@@ -1,7 +1,7 @@
 -- Pieces and lines of a text, and what joins them back.
 use Rattle.std.proofs.Common.{◌≡◌, ℕ, Bool, true, false, cond, eqb, List, [], ◌∷◌, ◌++◌, refl, sym, ap, ◌∙◌, eqb-true}
 use Rattle.std.specs.List.{AllByRecursion}
-use Rattle.deb_syntax.specs.Lines.{Line, newline, with_byte, pieces_of, joined, HasNoNewline}
+use Rattle.deb_base.specs.Bodies.{Line, newline, with_byte, pieces_of, joined, HasNoNewline}
 use Rattle.deb_syntax.proofs.Runs.{pieces_of-line, pieces_of-last}
 
 -- a text before the first of the lines, and one behind the last

@@ -1,7 +1,8 @@
 -- Each paragraph of a text is a run of its lines, at its own number; and a text means at most one thing.
 use Rattle.std.proofs.Common.{◌≡◌, ◌⊎◌, inl, inr, ℕ, ◌+◌, Result, Ok, Err, List, [], ◌∷◌, ◌++◌, length, refl, sym, ap, ◌∙◌, subst, arith, append_assoc, length-append}
 use Rattle.std.specs.List.{AllByRecursion}
-use Rattle.deb_syntax.specs.Lines.{Line, Paragraph, paragraphs_of, lines_of, HasNoNewline}
+use Rattle.deb_base.specs.Bodies.{Line, HasNoNewline}
+use Rattle.deb_syntax.specs.Lines.{Paragraph, paragraphs_of, lines_of}
 use Rattle.deb_base.specs.declared.refusal.Refusal.{Refusal}
 use Rattle.deb_syntax.specs.Fields.{Field, IsShort}
 use Rattle.deb_syntax.specs.Judging.{judged}

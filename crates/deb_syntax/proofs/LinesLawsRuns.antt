@@ -2,7 +2,8 @@
 use Rattle.std.proofs.Common.{◌≡◌, ◌≢◌, ℕ, ◌+◌, suc, Bool, true, false, cond, List, [], ◌∷◌, ◌++◌, length, refl, sym, ap, ◌∙◌, subst, arith, append-nil}
 use Rattle.std.proofs.lemmas.Bool.{true≢false}
 use Rattle.std.specs.List.{AllByRecursion}
-use Rattle.deb_syntax.specs.Lines.{Line, is_blank, Paragraph, begins_blank, with_line, paragraphs_from}
+use Rattle.deb_base.specs.Bodies.{Line, is_blank}
+use Rattle.deb_syntax.specs.Lines.{Paragraph, begins_blank, with_line, paragraphs_from}
 use Rattle.deb_syntax.specs.Laws.{AreRuns}
 use Rattle.deb_syntax.proofs.Runs.{paragraphs_from-blanks, paragraphs_from-run}
 

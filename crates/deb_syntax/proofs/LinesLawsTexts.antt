@@ -1,7 +1,8 @@
 -- The lines of a text: none holds a newline, and together they give the text back.
 use Rattle.std.proofs.Common.{◌≡◌, ℕ, Bool, true, false, cond, eqb, List, [], ◌∷◌, refl, sym, ap, ◌∙◌, eqb-true}
 use Rattle.std.specs.List.{AllByRecursion}
-use Rattle.deb_syntax.specs.Lines.{Line, newline, with_byte, lines_of, pieces_of, HasNoNewline}
+use Rattle.deb_base.specs.Bodies.{Line, newline, with_byte, pieces_of, HasNoNewline}
+use Rattle.deb_syntax.specs.Lines.{lines_of}
 use Rattle.deb_syntax.specs.Laws.{with_newlines, with_last_newline}
 use Rattle.deb_syntax.proofs.Runs.{lines_of-line}
 

@@ -1,6 +1,7 @@
 -- The pieces of a text with a newline behind it are its lines.
-use Rattle.std.proofs.Common.{◌≡◌, ℕ, ◌==◌, Bool, true, false, cond, List, [], ◌∷◌, ◌++◌, refl, sym, ap, ◌∙◌}
-use Rattle.deb_syntax.specs.Lines.{Line, newline, with_byte, pieces_of, lines_of}
+use Rattle.std.proofs.Common.{◌≡◌, ℕ, ◌==◌, Bool, true, false, cond, List, [], ◌∷◌, ◌++◌, refl, ap, ◌∙◌}
+use Rattle.deb_base.specs.Bodies.{Line, newline, with_byte, pieces_of}
+use Rattle.deb_syntax.specs.Lines.{lines_of}
 
 -- there is a first one
 abbrev pub IsNonempty : {X : Type 0} → List X → Type 0

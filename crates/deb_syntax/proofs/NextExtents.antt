@@ -4,7 +4,8 @@ use Rattle.std.specs.List.{slice_range}
 use Rattle.std.proofs.Math.Seq.{take-length, drop-nil}
 use Rattle.std.proofs.lemmas.Bool.{cases_lt}
 use Rattle.std.proofs.lemmas.List.{nil_from_length}
-use Rattle.deb_syntax.specs.Lines.{Line, lines_of, pieces_of, total_length, paragraph_limit}
+use Rattle.deb_base.specs.Bodies.{Line, pieces_of, paragraph_limit}
+use Rattle.deb_syntax.specs.Lines.{lines_of, total_length}
 use Rattle.deb_syntax.specs.Extents.{AreBlank, AreNotBlank, PassesBlanks, PassesRun, IsExtent, IsTooLong, IsTooLongBehindBlanks}
 use Rattle.deb_syntax.specs.declared.extent.Extent.{Extent}
 use Rattle.deb_syntax.proofs.LineSteps.{few_lines-take}

@@ -3,7 +3,8 @@ use Rattle.std.proofs.Common.{◌≡◌, ◌≢◌, ℕ, ◌+◌, ◌<◌, ◌�
 use Rattle.std.specs.List.{AllByRecursion}
 use Rattle.std.proofs.lemmas.List.{append-nil}
 use Rattle.std.proofs.lemmas.List.Sums.{sum_by-append}
-use Rattle.deb_syntax.specs.Lines.{Line, Paragraph, is_blank, begins_blank, ends_blank, with_line, paragraphs_from, line_length, total_length, paragraph_limit}
+use Rattle.deb_base.specs.Bodies.{Line, is_blank, line_length, paragraph_limit}
+use Rattle.deb_syntax.specs.Lines.{Paragraph, begins_blank, ends_blank, with_line, paragraphs_from, total_length}
 use Rattle.deb_syntax.specs.Fields.{Field, IsShort, SpellsParagraph}
 use Rattle.deb_syntax.specs.Meaning.{Entries, HaveMeanings}
 use Rattle.deb_syntax.specs.Extents.{AreBlank, AreNotBlank}

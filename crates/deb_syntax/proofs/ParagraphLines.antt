@@ -1,7 +1,8 @@
 -- The paragraphs of a text have lines.
 use Rattle.std.proofs.Common.{ℕ, ◌+◌, Bool, true, false, cond, List, [], ◌∷◌}
 use Rattle.std.specs.List.{AllByRecursion}
-use Rattle.deb_syntax.specs.Lines.{Line, is_blank, Paragraph, begins_blank, with_line, paragraphs_from}
+use Rattle.deb_base.specs.Bodies.{Line, is_blank}
+use Rattle.deb_syntax.specs.Lines.{Paragraph, begins_blank, with_line, paragraphs_from}
 use Rattle.deb_syntax.proofs.LinesOfPieces.{IsNonempty}
 
 abbrev pub HaveLines : List Paragraph → Type 0

@@ -3,7 +3,7 @@ use Rattle.std.proofs.Common.{◌≡◌, ℕ, zero, suc, ◌+◌, ◌-◌, ◌<�
 use Rattle.std.proofs.lemmas.Bool.{lt-ltb, le-ltb}
 use Rattle.std.proofs.lemmas.List.{take_rest, drop-drop}
 use Rattle.memchr.specs.Find.{IsFirstByte, is_byte}
-use Rattle.deb_syntax.specs.Lines.{newline, with_byte, pieces_of}
+use Rattle.deb_base.specs.Bodies.{newline, with_byte, pieces_of}
 use Rattle.deb_syntax.specs.Places.{pieces_behind}
 
 -- the byte that begins a text

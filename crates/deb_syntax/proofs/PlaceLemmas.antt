@@ -7,7 +7,7 @@ use Rattle.std.proofs.lemmas.List.{map_push}
 use Rattle.std.proofs.lemmas.List.Folds.{list_all-append}
 use Rattle.std.specs.Cmp.Lexicographic.{nat_list_eq_equiv}
 use Rattle.deb_base.specs.Names.{folded}
-use Rattle.deb_syntax.specs.Lines.{newline}
+use Rattle.deb_base.specs.Bodies.{newline}
 use Rattle.deb_syntax.specs.Fields.{has_name}
 use Rattle.deb_syntax.specs.Judging.{continuation_line, continued, with_text}
 use Rattle.deb_syntax.specs.Places.{name_at, begun_at, begun_fields, lies_within, with_last_end, ends_before, StandsAt}

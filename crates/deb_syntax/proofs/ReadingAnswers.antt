@@ -11,7 +11,8 @@ use Rattle.deb_base.specs.declared.fault.Fault.{Fault}
 use Rattle.deb_base.specs.declared.fault.Fault.TheVariants.{Refused, Memory, Read, Write}
 use Rattle.deb_base.specs.declared.refusal.Refusal.{Refusal}
 use Rattle.deb_syntax.specs.declared.paragraphs.Paragraphs.{Paragraphs}
-use Rattle.deb_syntax.specs.Lines.{newline, with_byte, lines_of, paragraphs_of, paragraph_limit, file_limit, total_length}
+use Rattle.deb_base.specs.Bodies.{newline, with_byte, paragraph_limit}
+use Rattle.deb_syntax.specs.Lines.{lines_of, paragraphs_of, file_limit, total_length}
 use Rattle.deb_syntax.specs.Extents.{paragraph_at}
 use Rattle.deb_syntax.specs.NextJudged.{IsNotJudged}
 use Rattle.deb_syntax.specs.Reading.{State, Fits, GivesNext, GivesNone, IsRefused, Answers, IsReaderFault, Advances, Passes}

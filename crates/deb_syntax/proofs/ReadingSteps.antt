@@ -7,7 +7,8 @@ use Rattle.std.proofs.lemmas.List.{append-nil, take-append-drop, length-take-le}
 use Rattle.std.specs.Io.KnownBytes.{Consumes, IsAtEnd}
 use Rattle.deb_base.specs.declared.refusal.Refusal.{Refusal}
 use Rattle.deb_syntax.specs.declared.extent.Extent.{Extent}
-use Rattle.deb_syntax.specs.Lines.{Line, Paragraph, lines_of, ends_blank, begins_blank, paragraphs_from, paragraphs_of, total_length, paragraph_limit, file_limit}
+use Rattle.deb_base.specs.Bodies.{Line, paragraph_limit}
+use Rattle.deb_syntax.specs.Lines.{Paragraph, lines_of, ends_blank, begins_blank, paragraphs_from, paragraphs_of, total_length, file_limit}
 use Rattle.deb_syntax.specs.Fields.{Field, IsShort}
 use Rattle.deb_syntax.specs.Judging.{judged}
 use Rattle.deb_syntax.specs.Meaning.{HaveMeanings}

@@ -1,7 +1,7 @@
 -- Cuts of the spaces and tabs at the end of a text, from its end on.
 use Rattle.std.proofs.Common.{◌≡◌, ℕ, ◌+◌, ◌-◌, ◌<◌, ◌≤◌, true, false, cond, List, [], ◌∷◌, ◌++◌, length, take, slice_index, refl, sym, ap, ◌∙◌, arith}
 use Rattle.std.proofs.lemmas.List.{take_more}
-use Rattle.deb_syntax.specs.Lines.{is_blank_byte}
+use Rattle.deb_base.specs.Bodies.{is_blank_byte}
 use Rattle.deb_syntax.specs.Judging.{with_kept, without_trailing_blanks}
 
 push-blank : (xs : List ℕ) (b : ℕ) → is_blank_byte b ≡ true → without_trailing_blanks (xs ++ b ∷ []) ≡ without_trailing_blanks xs

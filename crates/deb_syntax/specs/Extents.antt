@@ -4,7 +4,8 @@ use Rattle.std.specs.List.{AllByRecursion}
 use Rattle.deb_syntax.specs.declared.extent.Extent.{Extent}
 use Rattle.deb_syntax.specs.declared.extent.Next.{Next}
 use Rattle.deb_syntax.specs.declared.extent.Next.TheVariants.{End, Paragraph as ParagraphAt}
-use Rattle.deb_syntax.specs.Lines.{Line, newline, HasNoNewline, Paragraph, lines_of, pieces_of, is_blank, ends_line, total_length, paragraph_limit}
+use Rattle.deb_base.specs.Bodies.{Line, newline, HasNoNewline, pieces_of, is_blank, paragraph_limit}
+use Rattle.deb_syntax.specs.Lines.{Paragraph, lines_of, ends_line, total_length}
 
 abbrev pub AreBlank : List Line → Type 0
 AreBlank lines = AllByRecursion (λ line. is_blank line ≡ true) lines

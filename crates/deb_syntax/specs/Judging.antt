@@ -6,8 +6,10 @@ use Rattle.std.specs.Str.{is_utf8, chars}
 use lib.Utf8.{encode}
 use Rattle.deb_base.specs.declared.code.Code.TheVariants.{NotUtf8, Armour, Comment, StrayContinuation, BadFieldName, NoColon, DuplicateField}
 use Rattle.deb_base.specs.declared.refusal.Refusal.{Refusal}
-use Rattle.deb_syntax.specs.Lines.{Line, newline, is_blank_byte, lines_of}
-use Rattle.deb_syntax.specs.Fields.{Field, colon, is_name, begins_with_blank, has_name}
+use Rattle.deb_base.specs.Bodies.{Line, newline, is_blank_byte, begins_with_blank}
+use Rattle.deb_syntax.specs.Lines.{lines_of}
+use Rattle.deb_syntax.specs.Fields.{Field, has_name}
+use Rattle.deb_base.specs.FieldNames.{colon, is_name}
 
 -- a text without the spaces and tabs at its front
 abbrev pub without_leading_blanks : List ℕ → List ℕ

@@ -8,7 +8,8 @@ use Rattle.std.specs.FinMap.{find}
 use Rattle.deb_base.specs.Names.{folded, canonical_name}
 use Rattle.deb_base.specs.Codes.{number_of}
 use Rattle.deb_base.specs.declared.refusal.Refusal.{Refusal}
-use Rattle.deb_syntax.specs.Lines.{Line, newline, HasNoNewline, is_blank, begins_blank, Paragraph, lines_of, pieces_of, joined, paragraphs_from, paragraphs_of}
+use Rattle.deb_base.specs.Bodies.{Line, newline, HasNoNewline, is_blank, pieces_of, joined}
+use Rattle.deb_syntax.specs.Lines.{begins_blank, Paragraph, lines_of, paragraphs_from, paragraphs_of}
 use Rattle.deb_syntax.specs.Fields.{Field, AreDistinct, IsShort, SpellsParagraph}
 use Rattle.deb_syntax.specs.Judging.{judged}
 use Rattle.deb_syntax.specs.Meaning.{Entries, byte_order, entries_of, Means}

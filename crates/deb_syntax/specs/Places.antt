@@ -4,7 +4,7 @@ use Rattle.std.specs.List.{list_all}
 use Rattle.deb_base.specs.declared.fault.Fault.{Fault}
 use Rattle.deb_base.specs.declared.fault.Fault.TheVariants.{Refused, Memory, Read, Write}
 use Rattle.deb_base.specs.declared.refusal.Refusal.{Refusal}
-use Rattle.deb_syntax.specs.Lines.{Line, pieces_of}
+use Rattle.deb_base.specs.Bodies.{Line, pieces_of}
 use Rattle.deb_syntax.specs.Fields.{Field}
 use Rattle.deb_syntax.specs.Judging.{trimmed}
 use Rattle.deb_syntax.specs.declared.folded_name.FoldedName.{FoldedName}

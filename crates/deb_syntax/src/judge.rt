@@ -2,8 +2,8 @@
 
 ghost use Rattle.std.specs.Prelude.{◌≡◌, ℕ, ◌+◌, ◌-◌, ◌^◌, ◌<◌, ◌≤◌, List, [], ◌∷◌, ◌++◌, length, take, drop, slice_index, slice_range, if◌then◌else◌, IsTrue, IfOk, IfErr, OnOk};
 ghost use Rattle.std.specs.List.{list_all};
-ghost use Rattle.deb_syntax.specs.Lines.{newline, pieces_of};
-ghost use Rattle.deb_syntax.specs.Fields.{Field, begins_with_blank, has_name};
+ghost use Rattle.deb_base.specs.Bodies.{newline, pieces_of, begins_with_blank};
+ghost use Rattle.deb_syntax.specs.Fields.{Field, has_name};
 ghost use Rattle.deb_syntax.specs.Judging.{begins_comment, field_line, judged, line_judged};
 ghost use Rattle.deb_syntax.specs.Places.{begun_fields, fields_at, lies_within, pieces_behind, with_last_end, StandsAt, IsFaultOf};
 

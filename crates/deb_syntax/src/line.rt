@@ -1,7 +1,7 @@
 //! Lines, and the blank lines that separate paragraphs (Debian Policy 5.1).
 
 ghost use Rattle.std.specs.Prelude.{◌≡◌, ◌≤◌, length, take, drop};
-ghost use Rattle.deb_syntax.specs.Lines.{is_all_blank, is_blank};
+ghost use Rattle.deb_base.specs.Bodies.{is_all_blank, is_blank};
 ghost use Rattle.deb_syntax.specs.Extents.{IsFirstLine};
 
 use crate::trim::is_blank_byte;
@@ -18,7 +18,7 @@ pub(crate) fn is_only_blanks(text: &[u8]) -> bool
 }
 
 /// Whether the line separates paragraphs: it holds only spaces and tabs, and is no longer than a paragraph may be.
-#[tactic(auto, unfolding(crate::specs::Lines::paragraph_limit))]
+#[tactic(auto, unfolding(deb_base::specs::Bodies::paragraph_limit))]
 pub(crate) fn is_blank_line(line: &[u8]) -> bool
     ensures { result ≡ is_blank line.now }
 {

@@ -1,7 +1,7 @@
 //! Names of fields.
 
 ghost use Rattle.std.specs.Prelude.{◌≡◌};
-ghost use Rattle.deb_syntax.specs.Fields.{is_name, is_name_byte, may_begin_name};
+ghost use Rattle.deb_base.specs.FieldNames.{is_name, is_name_byte, may_begin_name};
 
 /// Whether these bytes are the name of a field (Debian Policy 5.1).
 pub(crate) fn is_name(name: &[u8]) -> bool

@@ -1,7 +1,7 @@
 //! The reader of paragraphs (Debian Policy 5.1; deb822(5)).
 
 ghost use Rattle.std.specs.Prelude.{◌≡◌, ◌<◌, ◌≤◌, ◌^◌, ◌==◌, count_by, vec_len};
-ghost use Rattle.deb_syntax.specs.Lines.{newline};
+ghost use Rattle.deb_base.specs.Bodies.{newline};
 
 use crate::extent::Next;
 use crate::fill::fill;

@@ -1,7 +1,7 @@
 //! Bytes without the spaces and tabs at their ends.
 
 ghost use Rattle.std.specs.Prelude.{◌≡◌};
-ghost use Rattle.deb_syntax.specs.Lines.{is_blank_byte};
+ghost use Rattle.deb_base.specs.Bodies.{is_blank_byte};
 ghost use Rattle.deb_syntax.specs.Judging.{trimmed, without_leading_blanks, without_trailing_blanks};
 
 /// The text without the spaces and tabs at its ends.

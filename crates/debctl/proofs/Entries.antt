@@ -7,8 +7,10 @@ use Rattle.std.specs.Ordering.{match_ordering, ordering_reverse}
 use Rattle.std.proofs.lemmas.Cmp.{nat_list_cmp_total}
 use Rattle.deb_base.specs.Names.{canonical_name}
 use Rattle.deb_base.proofs.CanonicalNames.{canonical_name-canonical_name}
-use Rattle.deb_syntax.specs.Lines.{Line, Paragraph}
-use Rattle.deb_syntax.specs.Fields.{Field, is_name, is_body_shape, SpellsField, SpellsFields, SpellsParagraph}
+use Rattle.deb_base.specs.Bodies.{Line, is_body_shape}
+use Rattle.deb_syntax.specs.Lines.{Paragraph}
+use Rattle.deb_syntax.specs.Fields.{Field, SpellsField, SpellsFields, SpellsParagraph}
+use Rattle.deb_base.specs.FieldNames.{is_name}
 use Rattle.deb_syntax.specs.Meaning.{byte_order, Entries, entries_after, entries_of, HaveMeanings}
 use Rattle.deb_syntax.proofs.LinesOfPieces.{IsNonempty}
 use Rattle.deb_syntax.proofs.FieldBytes.{IsUtf8-body}

@@ -4,13 +4,15 @@ use Rattle.std.proofs.lemmas.Bool.{and_parts, cond_both}
 use Rattle.std.proofs.lemmas.Bool.Decides.{nat_tests}
 use Rattle.std.specs.List.{AllByRecursion, list_all}
 use Rattle.std.specs.Str.{IsUtf8}
-use Rattle.deb_syntax.specs.Lines.{Line, newline, pieces_of, lines_of, is_blank_byte, is_all_blank}
-use Rattle.deb_syntax.specs.Fields.{colon, is_name_byte, is_name, SpellsField}
-use Rattle.deb_syntax.proofs.JoinedLines.{IsUtf8-with_ascii, IsUtf8-lines}
+use Rattle.deb_base.specs.Bodies.{Line, newline, pieces_of, is_blank_byte, is_all_blank}
+use Rattle.deb_syntax.specs.Lines.{lines_of}
+use Rattle.deb_base.specs.FieldNames.{colon, is_name_byte, is_name}
+use Rattle.deb_syntax.specs.Fields.{SpellsField}
+use Rattle.deb_base.proofs.TextLines.{IsUtf8-with_ascii, IsUtf8-lines}
 use Rattle.deb_syntax.proofs.LinesLaws.{joined-pieces_of}
 use Rattle.deb_syntax.proofs.LinesOfPieces.{IsNonempty, IsNonempty-pieces_of, lines_of-pieces}
-use Rattle.deb_syntax.proofs.FieldBytes.{each_from_list_all, each_name_byte, name_is_ascii, blanks_are_ascii, IsUtf8-with_all_ascii}
-use Rattle.deb_syntax.proofs.LaterPieces.{HoldNoBlank, HoldNoBlank-pieces_of, HoldNoBlank-body, later_pieces-cons, later_pieces-append}
+use Rattle.deb_base.proofs.FieldBytes.{each_from_list_all, each_name_byte, name_is_ascii, blanks_are_ascii, IsUtf8-with_all_ascii}
+use Rattle.deb_base.proofs.LaterPieces.{HoldNoBlank, HoldNoBlank-pieces_of, HoldNoBlank-body, later_pieces-cons, later_pieces-append}
 use Rattle.debctl.specs.Canonical.{value_text, field_text}
 use Rattle.debctl.proofs.Entries.{IsEntry}
 

@@ -1,12 +1,13 @@
 -- The paragraphs of a meaning's canonical text have that meaning.
 use Rattle.std.proofs.Common.{◌≡◌, ℕ, ◌+◌, true, List, [], ◌∷◌, ◌++◌, length, refl, sym, ap, ◌∙◌, subst, append-nil}
 use Rattle.std.specs.List.{AllByRecursion}
-use Rattle.deb_syntax.specs.Lines.{Line, newline, lines_of, is_blank, Paragraph, begins_blank, paragraphs_from, paragraphs_of, paragraph_limit}
+use Rattle.deb_base.specs.Bodies.{Line, newline, is_blank, paragraph_limit}
+use Rattle.deb_syntax.specs.Lines.{lines_of, Paragraph, begins_blank, paragraphs_from, paragraphs_of}
 use Rattle.deb_syntax.specs.Fields.{SpellsParagraph}
 use Rattle.deb_syntax.specs.Meaning.{Entries, HaveMeanings, Means}
 use Rattle.deb_syntax.proofs.Runs.{paragraphs_from-run}
 use Rattle.deb_syntax.proofs.LinesOfPieces.{IsNonempty}
-use Rattle.deb_syntax.proofs.LaterPieces.{HoldNoBlank}
+use Rattle.deb_base.proofs.LaterPieces.{HoldNoBlank}
 use Rattle.deb_syntax.proofs.ParagraphLines.{HaveLines-paragraphs_from}
 use Rattle.debctl.specs.Canonical.{paragraph_text, file_text}
 use Rattle.debctl.proofs.Entries.{AreEntries, AreEntries-from_meanings}

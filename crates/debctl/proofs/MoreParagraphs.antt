@@ -1,7 +1,8 @@
 -- One more paragraph behind others: what they mean, and the canonical text of that.
 use Rattle.std.proofs.Common.{◌≡◌, List, [], ◌∷◌, ◌++◌, sym, ap, ◌∙◌, append_assoc, refl}
 use Rattle.std.specs.List.{AllByRecursion}
-use Rattle.deb_syntax.specs.Lines.{newline, Paragraph}
+use Rattle.deb_base.specs.Bodies.{newline}
+use Rattle.deb_syntax.specs.Lines.{Paragraph}
 use Rattle.deb_syntax.specs.Fields.{Field, IsShort, SpellsParagraph}
 use Rattle.deb_syntax.specs.Meaning.{Entries, entries_of, HaveMeanings}
 use Rattle.debctl.specs.Canonical.{paragraph_text, file_text}

@@ -8,11 +8,12 @@ use Rattle.std.specs.Str.{IsUtf8}
 use Rattle.std.specs.BTreeMap.{insert_entry}
 use Rattle.deb_base.specs.Names.{folded, canonical_name}
 use Rattle.deb_base.proofs.CanonicalNames.{canonical_name-from_folded}
-use Rattle.deb_syntax.specs.Lines.{Line, lines_of, is_blank}
+use Rattle.deb_base.specs.Bodies.{Line, is_blank}
+use Rattle.deb_syntax.specs.Lines.{lines_of}
 use Rattle.deb_syntax.specs.Fields.{Field, has_name, AreDistinct, SpellsFields}
 use Rattle.deb_syntax.specs.Meaning.{byte_order, Entries, entries_after, entries_of}
 use Rattle.deb_syntax.proofs.LinesOfPieces.{IsNonempty}
-use Rattle.deb_syntax.proofs.LaterPieces.{HoldNoBlank}
+use Rattle.deb_base.proofs.LaterPieces.{HoldNoBlank}
 use Rattle.debctl.specs.Canonical.{field_text, paragraph_text}
 use Rattle.debctl.proofs.Entries.{IsEntry, IsAscending, greater_from_less}
 use Rattle.debctl.proofs.EntryLines.{entry_lines, lines_of-field_text, IsNonempty-entry_lines, SpellsField-entry_lines, IsUtf8-entry_lines, HoldNoBlank-entry_lines}

@@ -1,12 +1,13 @@
 -- What a loop over the paragraphs of a text has read so far, and the canonical text of that.
-use Rattle.std.proofs.Common.{◌≡◌, ℕ, ◌+◌, ◌<◌, ◌≤◌, ◌⊎◌, inl, inr, List, [], ◌∷◌, ◌++◌, length, Option, Some, None, Result, Ok, Err, IfNone, refl, sym, ap, ◌∙◌, subst, arith, false, length-append}
+use Rattle.std.proofs.Common.{◌≡◌, ℕ, ◌+◌, ◌<◌, ◌≤◌, ◌⊎◌, inl, inr, List, [], ◌∷◌, ◌++◌, length, Option, Some, None, Err, refl, sym, ap, ◌∙◌, arith, false, length-append}
 use Rattle.std.specs.List.{AllByRecursion}
 use Rattle.deb_base.specs.declared.fault.Fault.{Fault}
 use Rattle.deb_base.specs.declared.fault.Fault.TheVariants.{Refused, Memory, Read, Write}
-use Rattle.deb_syntax.specs.Lines.{newline, paragraphs_of}
+use Rattle.deb_base.specs.Bodies.{newline}
+use Rattle.deb_syntax.specs.Lines.{paragraphs_of}
 use Rattle.deb_syntax.specs.Fields.{IsShort}
 use Rattle.deb_syntax.specs.Meaning.{Entries, entries_of, HaveMeanings}
-use Rattle.deb_syntax.specs.Reading.{State, Fits, Seen, GivesNext, GivesNone, IsRefused, Answers, Advances, Passes}
+use Rattle.deb_syntax.specs.Reading.{State, Fits, Seen, GivesNext, GivesNone, IsRefused, Answers}
 use Rattle.debctl.specs.Canonical.{paragraph_text, file_text}
 use Rattle.debctl.specs.Normalising.{IfRefused, IsCanonical}
 use Rattle.debctl.proofs.MoreParagraphs.{file_text-push, HaveMeanings-push, AllAreShort-push}

@@ -2,7 +2,7 @@
 
 ghost use Rattle.std.specs.Prelude.{◌≡◌, [], ◌∷◌, ◌++◌, IfOk, OnOk};
 ghost use Rattle.deb_base.specs.Names.{canonical_name};
-ghost use Rattle.deb_syntax.specs.Lines.{newline};
+ghost use Rattle.deb_base.specs.Bodies.{newline};
 ghost use Rattle.deb_syntax.specs.Meaning.{entries_of};
 ghost use Rattle.deb_syntax.specs.Raw.{fields_of};
 ghost use Rattle.debctl.specs.Canonical.{value_text, field_text, paragraph_text};

@@ -1,5 +1,6 @@
 use Rattle.std.proofs.Common.{◌≡◌, ◌∙◌, ◌+◌, length, drop, true, false, sym, ap, arith, length-drop}
-use Rattle.deb_syntax.specs.Lines.{lines_of, begins_blank, is_blank}
+use Rattle.deb_syntax.specs.Lines.{lines_of, begins_blank}
+use Rattle.deb_base.specs.Bodies.{is_blank}
 use Rattle.deb_syntax.proofs.Boundaries.{line_step}
 use Rattle.deb_syntax.proofs.LineSteps.{blank_step, counted_step, begins_blank-line}
 use Rattle.deb_syntax.proofs.blanks.skip_blanks.Goals as goal

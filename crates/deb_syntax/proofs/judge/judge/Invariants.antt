@@ -1,5 +1,5 @@
 use Rattle.std.proofs.Common.{◌≡◌, ◌+◌, ◌-◌, ◌<◌, ◌≤◌, length, drop, slice_index, Ok}
-use Rattle.deb_syntax.specs.Lines.{newline, pieces_of}
+use Rattle.deb_base.specs.Bodies.{newline, pieces_of}
 use Rattle.deb_syntax.specs.Judging.{judged, lines_judged}
 use Rattle.deb_syntax.specs.Places.{begun_fields, StandsAt}
 use Rattle.deb_syntax.proofs.judge.judge.Given as goal

@@ -1,7 +1,7 @@
 use Rattle.std.proofs.Common.{rules, tests, sym, ◌∙◌}
 use Rattle.std.proofs.lemmas.Iterator.{YieldsList-from_slice}
 use Rattle.std.proofs.lemmas.Iterator.Search.{all_from_yields_List}
-use Rattle.deb_syntax.specs.Fields.{is_name_byte}
+use Rattle.deb_base.specs.FieldNames.{is_name_byte}
 use Rattle.deb_syntax.proofs.FieldLines.{is_name-first}
 use Rattle.deb_syntax.proofs.name.is_name.Goals as goal
 

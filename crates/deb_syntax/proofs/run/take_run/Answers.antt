@@ -1,7 +1,8 @@
 use Rattle.std.proofs.Common.{◌≡◌, ◌∙◌, inl, inr, ◌<◌, ◌+◌, length, drop, take, true, false, refl, sym, ap, subst, arith, length-drop}
 use Rattle.std.proofs.lemmas.Bool.{cases_lt}
 use Rattle.std.proofs.lemmas.List.{take_min, drop_min}
-use Rattle.deb_syntax.specs.Lines.{lines_of, begins_blank, is_blank, ends_line, total_length, paragraph_limit}
+use Rattle.deb_syntax.specs.Lines.{lines_of, begins_blank, ends_line, total_length}
+use Rattle.deb_base.specs.Bodies.{is_blank, paragraph_limit}
 use Rattle.deb_syntax.specs.Extents.{AreNotBlank}
 use Rattle.deb_syntax.proofs.Boundaries.{line_step, lines_of-cut, pieces_step}
 use Rattle.deb_syntax.proofs.LineSteps.{not_blank_step, counted_step, total_step, begins_blank-line, some_run, past_end, some_text}

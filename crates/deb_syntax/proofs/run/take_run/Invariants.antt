@@ -1,5 +1,6 @@
 use Rattle.std.proofs.Common.{◌≡◌, ◌+◌, ◌-◌, ◌≤◌, ◌⊎◌, length, take}
-use Rattle.deb_syntax.specs.Lines.{lines_of, pieces_of, total_length}
+use Rattle.deb_syntax.specs.Lines.{lines_of, total_length}
+use Rattle.deb_base.specs.Bodies.{pieces_of}
 use Rattle.deb_syntax.specs.Extents.{EndsAtLine, AreNotBlank}
 use Rattle.deb_syntax.proofs.run.take_run.Given as goal
 
