@@ -2,8 +2,8 @@
 use Rattle.std.proofs.Common.{◌≡◌, ℕ, Bool, true, false, cond, eqb, List, [], ◌∷◌, refl, sym, ap, ◌∙◌, eqb-true}
 use Rattle.std.specs.List.{AllByRecursion}
 use Rattle.deb_base.specs.Bodies.{Line, newline, with_byte, pieces_of, HasNoNewline}
-use Rattle.deb_syntax.specs.Lines.{lines_of}
-use Rattle.deb_syntax.specs.Laws.{with_newlines, with_last_newline}
+use Rattle.deb_syntax.specs.Lines.{lines_of, with_newlines}
+use Rattle.deb_syntax.specs.Laws.{with_last_newline}
 use Rattle.deb_syntax.proofs.Runs.{lines_of-line}
 
 with_byte-no_newline : (b : ℕ) (lines : List Line) → eqb b 10 ≡ false → AllByRecursion HasNoNewline lines → AllByRecursion HasNoNewline (with_byte b lines)

@@ -9,7 +9,7 @@ use Rattle.deb_base.specs.Names.{folded, canonical_name}
 use Rattle.deb_base.specs.Codes.{number_of}
 use Rattle.deb_base.specs.declared.refusal.Refusal.{Refusal}
 use Rattle.deb_base.specs.Bodies.{Line, newline, HasNoNewline, is_blank, pieces_of, joined}
-use Rattle.deb_syntax.specs.Lines.{begins_blank, Paragraph, lines_of, paragraphs_from, paragraphs_of}
+use Rattle.deb_syntax.specs.Lines.{with_newlines, begins_blank, Paragraph, lines_of, paragraphs_from, paragraphs_of}
 use Rattle.deb_syntax.specs.Fields.{Field, AreDistinct, IsShort, SpellsParagraph}
 use Rattle.deb_syntax.specs.Judging.{judged}
 use Rattle.deb_syntax.specs.Meaning.{Entries, byte_order, entries_of, Means}
@@ -32,11 +32,6 @@ pub record IsRefusalWithin (n : ℕ) (lines : List Line) (refusal : Refusal) : T
   pub last : refusal.line < n + length lines
   pub least : 1 ≤ number_of refusal.code
   pub most : number_of refusal.code ≤ 7
-
--- each line with its newline
-abbrev pub with_newlines : List Line → List ℕ
-with_newlines [] = []
-with_newlines (line ∷ lines) = line ++ newline ∷ with_newlines lines
 
 -- a text with a newline at its end where it lacks, unless it is empty
 abbrev pub with_last_newline : List ℕ → List ℕ

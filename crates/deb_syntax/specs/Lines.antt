@@ -1,11 +1,16 @@
 -- The lines of a text, and its paragraphs. Debian Policy 5.1; deb822(5), "Description".
-use Rattle.std.specs.Prelude.{◌≡◌, ℕ, ◌+◌, ◌==◌, Bool, true, false, cond, List, [], ◌∷◌, sum_by, codes, refl}
+use Rattle.std.specs.Prelude.{◌≡◌, ℕ, ◌+◌, ◌==◌, Bool, true, false, cond, List, [], ◌∷◌, ◌++◌, sum_by, codes, refl}
 use Rattle.deb_base.specs.Bodies.{Line, newline, with_byte, line_length, paragraph_limit, is_blank}
 
 -- the lines of a text: its pieces, where an empty last piece is no line
 abbrev pub lines_of : List ℕ → List Line
 lines_of [] = []
 lines_of (b ∷ bs) = cond (b == newline) ([] ∷ lines_of bs) (with_byte b (lines_of bs))
+
+-- each line with its newline
+abbrev pub with_newlines : List Line → List ℕ
+with_newlines [] = []
+with_newlines (line ∷ lines) = line ++ newline ∷ with_newlines lines
 
 -- the most bytes that a file may have (this project's own)
 unfoldable pub file_limit : ℕ
