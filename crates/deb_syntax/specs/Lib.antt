@@ -7,6 +7,7 @@ pub mod Extents
 pub mod Laws
 pub mod Places
 pub mod Raw
+pub mod Answers
 pub mod Reading
 pub mod Paragraphs
 pub mod NextJudged
