@@ -163,6 +163,7 @@ module _ (n room : ℕ) (text : List ℕ) where
       at_paragraph : (p : Paragraph) (ps : List Paragraph) (at : ℕ) → paragraphs_from n (lines_of (part_within room text)) ≡ p ∷ ps → line_too_long p.first paragraph_limit p.lines ≡ Some at → left_answer n room text ≡ Err (record { code = ParagraphTooLong; line = at })
       at_paragraph p ps at found too_long =
           ap (answer_of_first (line_beyond n room text)) found ∙ answer_at (line_beyond n room text) p ps ∙ ap (λ t. paragraph_answer t (line_beyond n room text) p) too_long
+
       go : (run : List Line) → lines_of (part_within room text) ≡ run ++ line ∷ rest → AreNotBlank run → total_length run ≤ paragraph_limit → paragraph_limit < total_length run + line_length line → left_answer n room text ≡ Err (record { code = ParagraphTooLong; line = n + length run })
       go [] is not_blank short long =
           let found = first_paragraph n line [] rest (line_not, tt) in
