@@ -29,3 +29,7 @@ pub mod ReadingSteps
 pub mod PlacesWithin
 pub mod ReadingAnswers
 pub mod Callers
+pub mod WalkingLines
+pub mod WalkingSteps
+pub mod WalkingRuns
+pub mod WalkingBlanks
