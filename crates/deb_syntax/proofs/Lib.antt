@@ -31,3 +31,7 @@ pub mod ReadingAnswers
 pub mod Callers
 pub mod Parts
 pub mod LeftAnswers
+pub mod WalkingLines
+pub mod WalkingSteps
+pub mod WalkingRuns
+pub mod WalkingBlanks

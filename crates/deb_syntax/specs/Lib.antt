@@ -11,3 +11,4 @@ pub mod Answers
 pub mod Reading
 pub mod Paragraphs
 pub mod NextJudged
+pub mod Walking

@@ -13,6 +13,7 @@
 //! - An error repeats for good, and a read that failed is never taken for the end.
 #![tactic(auto)]
 
+mod begun;
 mod blanks;
 mod extent;
 mod fill;
@@ -26,6 +27,8 @@ mod paragraphs;
 mod place;
 mod raw;
 mod run;
+mod skip;
+mod take;
 mod trim;
 
 pub use paragraphs::Paragraphs;
