@@ -29,3 +29,4 @@ pub mod ReadingSteps
 pub mod PlacesWithin
 pub mod ReadingAnswers
 pub mod Callers
+pub mod Feeds

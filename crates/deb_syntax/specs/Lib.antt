@@ -10,3 +10,4 @@ pub mod Raw
 pub mod Reading
 pub mod Paragraphs
 pub mod NextJudged
+pub mod Feeding

@@ -15,6 +15,7 @@
 
 mod blanks;
 mod extent;
+mod feed;
 mod fill;
 mod folded_name;
 mod judge;
@@ -27,6 +28,7 @@ mod place;
 mod raw;
 mod run;
 mod trim;
+mod window;
 
 pub use paragraphs::Paragraphs;
 pub use raw::{Raw, RawField};
