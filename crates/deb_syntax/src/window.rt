@@ -12,7 +12,7 @@ use std::alloc::Global;
 const PIECE: usize = 65_536;
 
 /// The most bytes that the buffer has: those of a paragraph, and one piece.
-const MOST_HELD: usize = 16_842_752;
+const MOST_HELD: usize = PARAGRAPH_LIMIT + PIECE;
 
 /// A window on the file. `buffer[start..filled]` are its unread bytes. Those before them have passed; behind them is
 /// room: bytes of no meaning, which are written once, when the buffer grows, and are never cleared again.
