@@ -35,3 +35,4 @@ pub mod WalkingLines
 pub mod WalkingSteps
 pub mod WalkingRuns
 pub mod WalkingBlanks
+pub mod Feeds

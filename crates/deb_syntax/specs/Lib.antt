@@ -12,3 +12,4 @@ pub mod Reading
 pub mod Paragraphs
 pub mod NextJudged
 pub mod Walking
+pub mod Feeding

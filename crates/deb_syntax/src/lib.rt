@@ -16,6 +16,7 @@
 mod begun;
 mod blanks;
 mod extent;
+mod feed;
 mod fill;
 mod folded_name;
 mod judge;
@@ -30,6 +31,7 @@ mod run;
 mod skip;
 mod take;
 mod trim;
+mod window;
 
 pub use paragraphs::Paragraphs;
 pub use raw::{Raw, RawField};
