@@ -13,3 +13,4 @@ pub mod Paragraphs
 pub mod NextJudged
 pub mod Walking
 pub mod Feeding
+pub mod Ahead

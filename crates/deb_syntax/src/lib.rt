@@ -15,9 +15,12 @@
 
 mod begun;
 mod blanks;
+mod dropped;
+mod ending;
 mod extent;
 mod feed;
 mod fill;
+mod first;
 mod folded_name;
 mod judge;
 mod judge_next;
