@@ -1,7 +1,10 @@
 //! The fields of a paragraph, as a view of its bytes.
 
-ghost use Rattle.std.specs.Prelude.{◌≡◌, ◌↔◌, [], length, slice_get, option_map, IsTrue};
+ghost use Rattle.std.specs.Prelude.{◌≡◌, ◌↔◌, [], length, slice_get, option_map, IsTrue, IfSome};
 ghost use Rattle.std.specs.List.{list_all};
+ghost use Rattle.deb_base.specs.Bodies.{IsBody};
+ghost use Rattle.deb_base.specs.FieldNames.{is_name};
+ghost use Rattle.deb_syntax.specs.Fields.{is_field, are_fields};
 ghost use Rattle.deb_syntax.specs.Places.{field_at, fields_at, lies_within};
 
 use crate::place::Place;
@@ -20,7 +23,8 @@ pub struct RawField<'a> {
     pub body: &'a [u8],
 }
 
-/// A paragraph, as a view of its bytes: its fields, of which no two have one name (Debian Policy 5.1).
+/// A paragraph, as a view of its bytes: its fields, each with the name and a body of a field, of which no two have one
+/// name (Debian Policy 5.1).
 ///
 /// No call takes memory.
 #[derive(Clone, Copy)]
@@ -29,6 +33,7 @@ pub struct Raw<'a> {
     places: &'a [Place],
     first_line: u64,
     ghost within: { IsTrue (list_all (lies_within (length text.now)) places.now) },
+    ghost fields: { IsTrue (are_fields (fields_at text.now places.now)) },
 }
 
 impl<'a> Raw<'a> {
@@ -36,7 +41,8 @@ impl<'a> Raw<'a> {
 
     /// The paragraph of these bytes, whose fields stand at the places.
     pub(crate) fn new(text: &'a [u8], places: &'a [Place], first_line: u64) -> Raw<'a>
-        requires { IsTrue (list_all (lies_within (length text.now)) places.now) }
+        requires within { IsTrue (list_all (lies_within (length text.now)) places.now) }
+        requires fields { IsTrue (are_fields (fields_at text.now places.now)) }
         ensures fields { fields_of result ≡ fields_at text.now places.now }
         ensures first_line { first_line_of result ≡ first_line }
     {
@@ -70,7 +76,9 @@ impl<'a> Raw<'a> {
 
     /// The field at an index from 0, in the order of the file, or `None` where there are no more.
     pub fn field(&self, index: usize) -> Option<RawField<'a>>
-        ensures { option_map field_of result ≡ slice_get (fields_of self.now) index }
+        ensures field { option_map field_of result ≡ slice_get (fields_of self.now) index }
+        ensures name { IfSome result (λ field. IsTrue (is_name field.name.now)) }
+        ensures body { IfSome result (λ field. IsBody field.body.now) }
     {
         let place = self.places.get(index)?;
         Some(self.field_at(*place))
@@ -79,7 +87,9 @@ impl<'a> Raw<'a> {
     /// The field of a name, where names that differ in ASCII case alone are the same, or `None` where
     /// there is no such field.
     pub fn get(&self, name: &[u8]) -> Option<RawField<'a>>
-        ensures { option_map field_of result ≡ field_named name.now (fields_of self.now) }
+        ensures field { option_map field_of result ≡ field_named name.now (fields_of self.now) }
+        ensures name { IfSome result (λ field. IsTrue (is_name field.name.now)) }
+        ensures body { IfSome result (λ field. IsBody field.body.now) }
     {
         for place in self.places {
             if same_name(&self.text[place.start..place.colon], name) {
@@ -90,8 +100,11 @@ impl<'a> Raw<'a> {
     }
 
     fn field_at(&self, place: Place) -> RawField<'a>
-        requires { IsTrue (lies_within (length self.now.text.now) place) }
-        ensures { field_of result ≡ field_at self.now.text.now place }
+        requires within { IsTrue (lies_within (length self.now.text.now) place) }
+        requires field { IsTrue (is_field (field_at self.now.text.now place)) }
+        ensures field { field_of result ≡ field_at self.now.text.now place }
+        ensures name { IsTrue (is_name result.name.now) }
+        ensures body { IsBody result.body.now }
     {
         RawField {
             name: &self.text[place.start..place.colon],
