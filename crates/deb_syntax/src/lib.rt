@@ -29,4 +29,4 @@ mod run;
 mod trim;
 
 pub use paragraphs::Paragraphs;
-pub use raw::{Raw, RawField};
+pub use raw::{Fields, Raw, RawField};

@@ -23,6 +23,25 @@ pub struct RawField<'a> {
     pub body: &'a [u8],
 }
 
+impl<'a> RawField<'a> {
+    ghost use Rattle.deb_syntax.specs.Raw.{field_of};
+
+    /// The field at a place of a paragraph's bytes.
+    fn at(text: &'a [u8], place: Place) -> RawField<'a>
+        requires within { IsTrue (lies_within (length text.now) place) }
+        requires field { IsTrue (is_field (field_at text.now place)) }
+        ensures field { field_of result ≡ field_at text.now place }
+        ensures name { IsTrue (is_name result.name.now) }
+        ensures body { IsBody result.body.now }
+    {
+        RawField {
+            name: &text[place.start..place.colon],
+            line: place.line,
+            body: trimmed(&text[place.colon + 1..place.end]),
+        }
+    }
+}
+
 /// A paragraph, as a view of its bytes: its fields, each with the name and a body of a field, of which no two have one
 /// name (Debian Policy 5.1).
 ///
@@ -37,7 +56,7 @@ pub struct Raw<'a> {
 }
 
 impl<'a> Raw<'a> {
-    ghost use Rattle.deb_syntax.specs.Raw.{field_of, fields_of, first_line_of, field_named};
+    ghost use Rattle.deb_syntax.specs.Raw.{field_of, fields_of, fields_left, first_line_of, field_named};
 
     /// The paragraph of these bytes, whose fields stand at the places.
     pub(crate) fn new(text: &'a [u8], places: &'a [Place], first_line: u64) -> Raw<'a>
@@ -81,7 +100,7 @@ impl<'a> Raw<'a> {
         ensures body { IfSome result (λ field. IsBody field.body.now) }
     {
         let place = self.places.get(index)?;
-        Some(self.field_at(*place))
+        Some(RawField::at(self.text, *place))
     }
 
     /// The field of a name, where names that differ in ASCII case alone are the same, or `None` where
@@ -93,23 +112,45 @@ impl<'a> Raw<'a> {
     {
         for place in self.places {
             if same_name(&self.text[place.start..place.colon], name) {
-                return Some(self.field_at(*place));
+                return Some(RawField::at(self.text, *place));
             }
         }
         None
     }
 
-    fn field_at(&self, place: Place) -> RawField<'a>
-        requires within { IsTrue (lies_within (length self.now.text.now) place) }
-        requires field { IsTrue (is_field (field_at self.now.text.now place)) }
-        ensures field { field_of result ≡ field_at self.now.text.now place }
-        ensures name { IsTrue (is_name result.name.now) }
-        ensures body { IsBody result.body.now }
+    /// The fields in the order of the file.
+    pub fn fields(&self) -> Fields<'a>
+        ensures { fields_left result ≡ fields_of self.now }
     {
-        RawField {
-            name: &self.text[place.start..place.colon],
-            line: place.line,
-            body: trimmed(&self.text[place.colon + 1..place.end]),
+        Fields {
+            text: self.text,
+            places: self.places,
         }
+    }
+}
+
+/// The fields of a paragraph that are left, in the order of the file.
+#[derive(Clone, Copy)]
+pub struct Fields<'a> {
+    text: &'a [u8],
+    places: &'a [Place],
+    ghost within: { IsTrue (list_all (lies_within (length text.now)) places.now) },
+    ghost fields: { IsTrue (are_fields (fields_at text.now places.now)) },
+}
+
+impl<'a> Iterator for Fields<'a> {
+    ghost use Rattle.std.specs.Iterator.{item_count, YieldsFirstBy};
+    ghost use Rattle.deb_syntax.specs.Raw.{field_of, fields_left};
+
+    type Item = RawField<'a>;
+
+    ghost next_gives = { YieldsFirstBy field_of fields_left };
+
+    ghost remaining = { item_count fields_left };
+
+    fn next(&mut self) -> Option<RawField<'a>> {
+        let (first, others) = self.places.split_first()?;
+        self.places = others;
+        Some(RawField::at(self.text, *first))
     }
 }

@@ -7,8 +7,8 @@ use Rattle.deb_syntax.specs.Places.{field_at}
 use Rattle.deb_syntax.proofs.FieldTests.{is_field-at}
 use Rattle.deb_syntax.proofs.raw.Raw.field.Goals as goal
 
-pub field_at-requires-clause-field : goal.field_at-requires-clause-field
-field_at-requires-clause-field c =
+pub at-requires-clause-field : goal.at-requires-clause-field
+at-requires-clause-field c =
     let raw = c.args.self.now in
     let read = c.in_ok-place.ensures.lookup in
     subst (λ place. is_field (field_at raw.text.now place) ≡ true) (sym read.1) (is_field-at raw.text.now raw.places.now c.args.index _ (ltb-true _ _ (sym read.0)) raw.fields)
@@ -17,6 +17,6 @@ pub returns-clause-field : goal.returns-clause-field
 returns-clause-field c =
     let raw = c.args.self.now in
     let read = c.in_ok-place.ensures.lookup in
-    ap Some c.field_at.ensures.field
+    ap Some c.at.ensures.field
     ∙ ap (option_map (field_at raw.text.now)) (sym (slice_get_read raw.places.now _ c.args.index _ refl (ltb-true _ _ (sym read.0)) read.1))
     ∙ sym (slice_get-map (field_at raw.text.now) raw.places.now c.args.index)

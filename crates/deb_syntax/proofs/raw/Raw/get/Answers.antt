@@ -7,7 +7,7 @@ use Rattle.deb_syntax.proofs.raw.Raw.get.Goals as goal
 pub returns-then-same_name-clause-field : goal.returns-then-same_name-clause-field
 returns-then-same_name-clause-field c =
     let raw = c.args.self.now in
-    ap Some c.field_at.ensures.field
+    ap Some c.at.ensures.field
     ∙ sym (field_named-found raw.text.now c.args.name.now raw.places.now c.loop-place.place-index _ c.loop-place-test.true (c.if-same_name.ensures.0 refl))
     ∙ c.loop-place.invariant
 
@@ -17,7 +17,7 @@ loop-place-preserved c =
     sym (field_named-passed raw.text.now c.args.name.now raw.places.now c.loop-place.place-index _ c.loop-place-test.true (λ same. false≢true (c.if-same_name.ensures.1 same)))
     ∙ c.loop-place.invariant
 
-pub field_at-requires-clause-field : goal.field_at-requires-clause-field
-field_at-requires-clause-field c =
+pub at-requires-clause-field : goal.at-requires-clause-field
+at-requires-clause-field c =
     let raw = c.args.self.now in
     is_field-at raw.text.now raw.places.now c.loop-place.place-index _ c.loop-place-test.true raw.fields

@@ -2,7 +2,7 @@ use Rattle.std.proofs.Common.{subst, sym}
 use Rattle.deb_base.specs.Bodies.{IsBody}
 use Rattle.deb_syntax.specs.Places.{field_at}
 use Rattle.deb_syntax.proofs.FieldTests.{is_field-body}
-use Rattle.deb_syntax.proofs.raw.Raw.field_at.Goals as goal
+use Rattle.deb_syntax.proofs.raw.RawField.at.Goals as goal
 
 pub returns-clause-body : goal.returns-clause-body
-returns-clause-body c = subst IsBody (sym c.trimmed.ensures) (is_field-body (field_at c.args.self.now.text.now c.args.place) c.requires.field)
+returns-clause-body c = subst IsBody (sym c.trimmed.ensures) (is_field-body (field_at c.args.text.now c.args.place) c.requires.field)
