@@ -2,6 +2,7 @@ pub mod Boundaries
 pub mod Faults
 pub mod FieldBytes
 pub mod FieldLines
+pub mod FieldTests
 pub mod Judgements
 pub mod JudgingLaws
 pub mod JudgingLawsMeaning

@@ -7,6 +7,7 @@ use Rattle.deb_syntax.specs.declared.paragraphs.Paragraphs.{Paragraphs}
 use Rattle.deb_syntax.specs.declared.raw.Raw.{Raw}
 use Rattle.deb_syntax.specs.Raw.{first_line_of, fields_of}
 use Rattle.deb_syntax.specs.Reading.{State, Seen, Passes}
+use Rattle.deb_syntax.specs.Fields.{are_fields}
 use Rattle.deb_syntax.specs.Places.{fields_at, lies_within}
 use Rattle.deb_syntax.specs.declared.extent.Extent.{Extent}
 use Rattle.deb_syntax.specs.Lines.{lines_of}
@@ -27,9 +28,9 @@ text_of p = slice_range p.buffer.items p.from p.to
 abbrev pub current_of : Paragraphs → Seen
 current_of p = record { first = p.first_line; fields = fields_at (text_of p) p.places.items }
 
--- whether it and its fields lie within the buffer
+-- whether it and its fields lie within the buffer, and its fields can be a paragraph's
 abbrev pub are_within : Paragraphs → Bool
-are_within p = nat_le p.from p.to && nat_le p.to (vec_len p.buffer) && list_all (lies_within (p.to - p.from)) p.places.items
+are_within p = nat_le p.from p.to && nat_le p.to (vec_len p.buffer) && list_all (lies_within (p.to - p.from)) p.places.items && are_fields (current_of p).fields
 
 -- what an answer shows that says whether there is a paragraph, by the paragraph that was read last
 abbrev pub step_answer : Paragraphs → Result Bool Fault → Result (Option Seen) Fault

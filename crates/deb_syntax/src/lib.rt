@@ -37,4 +37,4 @@ mod trim;
 mod window;
 
 pub use paragraphs::Paragraphs;
-pub use raw::{Raw, RawField};
+pub use raw::{Fields, Raw, RawField};

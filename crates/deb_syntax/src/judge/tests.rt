@@ -1,7 +1,8 @@
 //! Paragraphs, with their fields or their first refusal.
 
 use super::*;
-use crate::Raw;
+use crate::Paragraphs;
+use deb_base::Input;
 use std::io::Write;
 use std::test::Fail;
 
@@ -106,11 +107,11 @@ const REFUSED: [Refused; 24] = [
 
 #[test]
 fn fields_of_paragraphs(rt: HostRuntime) -> Result<(), Fail> {
-    let mut places = Vec::new(rt.alloc());
     for Accepted(text, fields) in &ACCEPTED {
         let shown = text.escape_ascii();
-        assert_eq!(rt; judge(rt.alloc(), text, 1, &mut places), Ok(()), "{shown}");
-        let paragraph = Raw::new(text, places.as_slice(), 1);
+        let mut reader = Input::new(*text);
+        let mut paragraphs = Paragraphs::new(rt.alloc());
+        let paragraph = paragraphs.next(&mut reader)?.ok_or("no paragraph")?;
         assert_eq!(rt; paragraph.len(), fields.len(), "{shown}");
         assert!(rt; !paragraph.is_empty(), "{shown}");
         assert_eq!(rt; paragraph.first_line(), 1, "{shown}");
@@ -131,10 +132,10 @@ fn fields_of_paragraphs(rt: HostRuntime) -> Result<(), Fail> {
 
 #[test]
 fn names_are_found_without_case(rt: HostRuntime) -> Result<(), Fail> {
-    let text: &[u8] = b"Pre-Depends: a\nX_Y: b";
-    let mut places = Vec::new(rt.alloc());
-    assert_eq!(rt; judge(rt.alloc(), text, 7, &mut places), Ok(()));
-    let paragraph = Raw::new(text, places.as_slice(), 7);
+    let text: &[u8] = b"\n\n\n\n\n\nPre-Depends: a\nX_Y: b";
+    let mut reader = Input::new(text);
+    let mut paragraphs = Paragraphs::new(rt.alloc());
+    let paragraph = paragraphs.next(&mut reader)?.ok_or("no paragraph")?;
     assert_eq!(rt; paragraph.first_line(), 7);
     let names: [(&[u8], Option<u64>); 6] = [
         (b"Pre-Depends", Some(7)),
@@ -171,13 +172,14 @@ fn a_hundred_thousand_fields(rt: HostRuntime) -> Result<(), Fail> {
         write!(text, "F{i}: x\n")?;
     }
     text.extend_from_slice(b"last:")?;
-    let mut places = Vec::new(rt.alloc());
-    assert_eq!(rt; judge(rt.alloc(), text.as_slice(), 11, &mut places), Ok(()));
-    let paragraph = Raw::new(text.as_slice(), places.as_slice(), 11);
+    let mut reader = Input::new(text.as_slice());
+    let mut paragraphs = Paragraphs::new(rt.alloc());
+    let paragraph = paragraphs.next(&mut reader)?.ok_or("no paragraph")?;
     assert_eq!(rt; paragraph.len(), 100_001);
     let last = paragraph.get(b"LAST").ok_or("no last field")?;
-    assert_eq!(rt; last.line, 100_011);
+    assert_eq!(rt; last.line, 100_001);
 
+    let mut places = Vec::new(rt.alloc());
     text.truncate(text.len() - 5);
     text.extend_from_slice(b"f0: x\nlast")?;
     let want = Fault::Refused(Refusal {
