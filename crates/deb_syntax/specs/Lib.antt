@@ -2,15 +2,14 @@ pub mod Lines
 pub mod Fields
 pub mod Judging
 pub mod Meaning
-pub mod Taking
 pub mod Extents
 pub mod Laws
 pub mod Places
 pub mod Raw
 pub mod Answers
 pub mod Reading
+pub mod Standing
 pub mod Paragraphs
-pub mod NextJudged
 pub mod Walking
 pub mod Feeding
 pub mod Ahead

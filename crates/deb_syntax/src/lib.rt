@@ -14,24 +14,20 @@
 #![tactic(auto)]
 
 mod begun;
-mod blanks;
 mod dropped;
 mod ending;
-mod extent;
 mod feed;
-mod fill;
 mod first;
 mod folded_name;
 mod judge;
-mod judge_next;
 pub mod laws;
 mod line;
 mod name;
 mod paragraphs;
 mod place;
 mod raw;
-mod run;
 mod skip;
+mod standing;
 mod take;
 mod trim;
 mod window;

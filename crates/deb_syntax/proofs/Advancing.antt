@@ -1,0 +1,240 @@
+-- What the calls of a reader of paragraphs say of a text that fits, from what its walk finds ahead.
+use Rattle.std.proofs.Common.{◌≡◌, ◌≢◌, ℕ, ◌+◌, ◌-◌, ◌<◌, ◌≤◌, ◌⊎◌, inl, inr, Bool, true, false, List, [], ◌∷◌, ◌++◌, Option, Some, None, Result, Ok, Err, length, take, drop, leb, refl, sym, ap, ◌∙◌, subst, append_assoc, arith, IsTrue, length-append}
+use Rattle.std.proofs.lemmas.Bool.{lt-leb}
+use Rattle.std.proofs.lemmas.List.{append-nil}
+use Rattle.deb_base.specs.Bodies.{Line, newline, HasNoNewline, is_blank, is_all_blank, line_length, paragraph_limit}
+use Rattle.deb_base.specs.declared.code.Code.TheVariants.{ParagraphTooLong}
+use Rattle.deb_base.specs.declared.fault.Fault.{Fault}
+use Rattle.deb_base.specs.declared.fault.Fault.TheVariants.{Refused, Memory, Read, Write}
+use Rattle.deb_base.specs.declared.refusal.Refusal.{Refusal}
+use Rattle.deb_syntax.specs.declared.begun.Begun.{Begun}
+use Rattle.deb_syntax.specs.declared.ending.Extent.{Extent}
+use Rattle.deb_syntax.specs.Ahead.{left_answer, left_begin, room_ahead, IsAhead, IsNear, PassesBlanks, EndsInSight, KeepsLine, HidesLine, PassesAll, IsExtentOf, PassesParagraph, IsNextRun}
+use Rattle.deb_syntax.specs.Answers.{Seen, part_within, paragraphs_within, next_answer, next_begin, seen_from}
+use Rattle.deb_syntax.specs.Extents.{AreBlank, AreNotBlank}
+use Rattle.deb_syntax.specs.Feeding.{FeedState, piece_limit}
+use Rattle.deb_syntax.specs.Fields.{Field}
+use Rattle.deb_syntax.specs.Judging.{judged}
+use Rattle.deb_syntax.specs.Lines.{lines_of, with_newlines, IsClosed, Paragraph, paragraphs_from, paragraphs_of, total_length, file_limit}
+use Rattle.deb_syntax.specs.Reading.{State, state_from, Fits, passed_count, GivesNext, GivesNone, GivesLine, BeginsHere, Answers, AnswersBegin}
+use Rattle.deb_syntax.proofs.Boundaries.{ends_line-append}
+use Rattle.deb_syntax.proofs.LeftAnswers.{next_answer-left, next_begin-left, left-none, left-begins, left-long, left-paragraphs, left-empty}
+use Rattle.deb_syntax.proofs.Parts.{part_within-all, part_within-append}
+use Rattle.deb_syntax.proofs.Passing.{IsBehind, IsCut, cut_more, cut_blanks, cut_all, paragraphs-passed}
+use Rattle.deb_syntax.proofs.Runs.{lines_of-line}
+use Rattle.deb_syntax.proofs.WalkingLines.{lines_of-unended}
+
+-- what of a text that fits hasn't passed
+abbrev pub ahead_of : (text passed : List ℕ) (state : State) (left : Option (List ℕ)) → Fits text passed state left → List ℕ
+ahead_of text passed state left fits = fits.hidden ++ (state.unread ++ fits.rest)
+
+pub fits_cut : (text passed : List ℕ) (state : State) (left : Option (List ℕ)) (fits : Fits text passed state left) → IsCut text passed (ahead_of text passed state left fits) state.bytes state.lines
+fits_cut text passed state left fits = record { whole = fits.whole; bytes = fits.bytes; lines = fits.lines; behind = fits.closed }
+
+no_bytes : (bytes : List ℕ) → length bytes ≡ 0 → bytes ≡ []
+no_bytes [] e = refl
+no_bytes (b ∷ bs) e = absurd (omega arith)
+
+module _ (text passed : List ℕ) (feed : FeedState) (hidden : ℕ) (finished : Bool) (current : Option Seen) (fault : Option Fault) (left : Option (List ℕ)) where
+  -- a text that fits stands ahead
+  pub fits_ahead : (fits : Fits text passed (state_from feed hidden finished current fault) left) → IsAhead (ahead_of text passed (state_from feed hidden finished current fault) left fits) fits.hidden feed left
+  fits_ahead fits = record { rest = fits.rest; told = fits.told; whole = refl; ended = fits.ended }
+
+  -- a text that stands ahead fits
+  pub ahead_fits : (ahead bytes : List ℕ) (count lines : ℕ) → IsCut text passed ahead count lines → IsAhead ahead bytes feed left → feed.bytes ≡ count → feed.lines ≡ lines → length bytes ≡ hidden → HasNoNewline bytes → (IsTrue finished → ahead ≡ []) → Fits text passed (state_from feed hidden finished current fault) left
+  ahead_fits ahead bytes count lines cut is count_is lines_is hides line ends = record {
+    hidden = bytes;
+    rest = is.rest;
+    told = is.told;
+    whole = cut.whole ∙ ap (λ zs. passed ++ zs) is.whole;
+    bytes = count_is ∙ cut.bytes;
+    lines = lines_is ∙ cut.lines;
+    hidden_bytes = hides;
+    hidden_line = line;
+    closed = elim cut.behind [ inl closed ↦ inl closed | inr none ↦ inr (sym is.whole ∙ none) ];
+    ended = is.ended;
+    finished = λ f. sym is.whole ∙ ends f;
+  }
+
+-- the answers are those on what stands ahead
+module _ (text passed ahead : List ℕ) (count lines : ℕ) (cut : IsCut text passed ahead count lines) (small : count ≤ file_limit) where
+  pub answer_ahead : next_answer text (passed_count passed) ≡ left_answer (lines + 1) (file_limit - count) ahead
+  answer_ahead =
+      let number : 1 + length (lines_of passed) ≡ lines + 1 = omega (arith, cut.lines) in
+      let room : file_limit - length passed ≡ file_limit - count = ap (λ n. file_limit - n) (sym cut.bytes) in
+      ap (λ t. next_answer t (passed_count passed)) cut.whole ∙ next_answer-left passed ahead cut.behind (omega (arith, cut.bytes))
+      ∙ ap (λ n. left_answer n (file_limit - length passed) ahead) number ∙ ap (λ r. left_answer (lines + 1) r ahead) room
+
+  pub begin_ahead : next_begin text (passed_count passed) ≡ left_begin (lines + 1) (file_limit - count) ahead
+  begin_ahead =
+      let number : 1 + length (lines_of passed) ≡ lines + 1 = omega (arith, cut.lines) in
+      let room : file_limit - length passed ≡ file_limit - count = ap (λ n. file_limit - n) (sym cut.bytes) in
+      ap (λ t. next_begin t (passed_count passed)) cut.whole ∙ next_begin-left passed ahead cut.behind (omega (arith, cut.bytes))
+      ∙ ap (λ n. left_begin n (file_limit - length passed) ahead) number ∙ ap (λ r. left_begin (lines + 1) r ahead) room
+
+  -- the paragraphs that are looked at, from the first that stands ahead on
+  pub paragraphs_ahead : (p : Paragraph) (more : List Paragraph) → paragraphs_from (lines + 1) (lines_of (part_within (file_limit - count) ahead)) ≡ p ∷ more → paragraphs_within text ≡ paragraphs_of passed ++ p ∷ more
+  paragraphs_ahead p more found =
+      let number : lines + 1 ≡ 1 + length (lines_of passed) = omega (arith, cut.lines) in
+      let room : file_limit - count ≡ file_limit - length passed = ap (λ n. file_limit - n) cut.bytes in
+      let at : paragraphs_from (1 + length (lines_of passed)) (lines_of (part_within (file_limit - length passed) ahead)) ≡ p ∷ more
+      = ap (λ n. paragraphs_from n (lines_of (part_within (file_limit - length passed) ahead))) (sym number) ∙ ap (λ r. paragraphs_from (lines + 1) (lines_of (part_within r ahead))) (sym room) ∙ found in
+      go cut.behind at
+    where
+      go : IsBehind passed ahead → paragraphs_from (1 + length (lines_of passed)) (lines_of (part_within (file_limit - length passed) ahead)) ≡ p ∷ more → paragraphs_within text ≡ paragraphs_of passed ++ p ∷ more
+      go (inl closed) at =
+          ap paragraphs_within cut.whole ∙ left-paragraphs 1 file_limit passed ahead closed (omega (arith, cut.bytes)) ∙ ap (λ ps. paragraphs_of passed ++ ps) at
+      go (inr none) at =
+          let empty : paragraphs_from (1 + length (lines_of passed)) (lines_of (part_within (file_limit - length passed) [])) ≡ []
+          = left-empty (λ _ ps. ps) (1 + length (lines_of passed)) (file_limit - length passed) in
+          let bad : p ∷ more ≡ [] = sym at ∙ ap (λ t. paragraphs_from (1 + length (lines_of passed)) (lines_of (part_within (file_limit - length passed) t))) none ∙ empty in
+          absurd cc
+
+-- a line that ends in sight comes first
+pub line_in_sight : (ahead hidden line : List ℕ) (feed : FeedState) (left : Option (List ℕ)) → IsAhead ahead hidden feed left → EndsInSight (hidden ++ feed.unread) line feed → HasNoNewline line → line ≢ [] → (rest : List Line) × (lines_of (part_within (room_ahead feed) ahead) ≡ line ∷ rest)
+line_in_sight ahead hidden line feed left is (inl (more, bytes, within)) no_newline some =
+    let whole : ahead ≡ (line ++ newline ∷ []) ++ (more ++ is.rest)
+    = is.whole ∙ sym (append_assoc hidden feed.unread is.rest) ∙ ap (λ zs. zs ++ is.rest) bytes ∙ append_assoc line (newline ∷ more) is.rest ∙ sym (append_assoc line (newline ∷ []) (more ++ is.rest)) in
+    let short : length (line ++ newline ∷ []) ≤ room_ahead feed = omega (arith, within, length-append line (newline ∷ [])) in
+    let front = part_within (room_ahead feed - length (line ++ newline ∷ [])) (more ++ is.rest) in (
+      lines_of front,
+      ap (λ t. lines_of (part_within (room_ahead feed) t)) whole
+          ∙ ap lines_of (part_within-append (room_ahead feed) (line ++ newline ∷ []) (more ++ is.rest) (ends_line-append [] line) short ∙ append_assoc line (newline ∷ []) front)
+          ∙ lines_of-line line front no_newline,
+    )
+line_in_sight ahead hidden line feed left is (inr (bytes, ended, within)) no_newline some =
+    let none = is.ended ended in
+    let whole : ahead ≡ line = is.whole ∙ ap (λ zs. hidden ++ (feed.unread ++ zs)) none ∙ ap (λ zs. hidden ++ zs) (append-nil feed.unread) ∙ bytes in
+    ([], ap (λ t. lines_of (part_within (room_ahead feed) t)) whole ∙ ap lines_of (part_within-all (room_ahead feed) line within) ∙ lines_of-unended line some no_newline)
+
+not_empty : (line : List ℕ) → is_blank line ≡ false → line ≢ []
+unfolding paragraph_limit
+not_empty [] h e = absurd cc
+not_empty (b ∷ line) h e = cc
+
+-- a line as long as a paragraph may be isn't blank
+pub long_not_blank : (line : List ℕ) → paragraph_limit ≤ length line → is_blank line ≡ false
+long_not_blank line long = ap (λ t. Rattle.std.specs.Prelude.◌&&◌ t (is_all_blank line)) (lt-leb (line_length line) paragraph_limit (omega arith))
+
+-- the paragraph that begins with a line in sight
+pub begin_in_sight : (ahead hidden line : List ℕ) (feed : FeedState) (left : Option (List ℕ)) → IsAhead ahead hidden feed left → EndsInSight (hidden ++ feed.unread) line feed → HasNoNewline line → is_blank line ≡ false → left_begin (feed.lines + 1) (room_ahead feed) ahead ≡ Ok (Some (feed.lines + 1))
+begin_in_sight ahead hidden line feed left is ends no_newline not_blank =
+    let sight = line_in_sight ahead hidden line feed left is ends no_newline (not_empty line not_blank) in
+    left-begins (feed.lines + 1) (room_ahead feed) ahead line sight.0 sight.1 not_blank
+
+-- a hidden line is refused
+pub hidden_refused : (ahead hidden : List ℕ) (begun : Begun) (feed : FeedState) (left : Option (List ℕ)) → IsAhead ahead hidden feed left → HidesLine begun feed hidden → left_answer (feed.lines + 1) (room_ahead feed) ahead ≡ Err (record { code = ParagraphTooLong; line = feed.lines + 1 })
+hidden_refused ahead hidden begun feed left is hides =
+    let not_blank = long_not_blank hidden hides.long in
+    let sight = line_in_sight ahead hidden hidden feed left is hides.ends hides.describes.line (not_empty hidden not_blank) in
+    let one : feed.lines + 1 + length {A = Line} [] ≡ feed.lines + 1 = omega arith in
+    let nothing : total_length [] ≤ paragraph_limit = omega arith in
+    let long : paragraph_limit < total_length [] + line_length hidden = omega (arith, hides.long) in
+    left-long (feed.lines + 1) (room_ahead feed) ahead [] hidden sight.0 sight.1 tt not_blank nothing long ∙ ap (λ n. Err (record { code = ParagraphTooLong; line = n })) one
+
+-- the same number of paragraphs have passed
+same_count : (text passed passed_now : List ℕ) → paragraphs_of passed_now ≡ paragraphs_of passed → (next_answer text (passed_count passed_now) ≡ next_answer text (passed_count passed)) × (next_begin text (passed_count passed_now) ≡ next_begin text (passed_count passed))
+same_count text passed passed_now e = (ap (λ ps. next_answer text (length ps)) e, ap (λ ps. next_begin text (length ps)) e)
+
+-- What the walk finds ahead, told of the whole text, where no bytes are hidden.
+module _ (text passed : List ℕ) (feed : FeedState) (finished : Bool) (current : Option Seen) (fault : Option Fault) (left : Option (List ℕ)) (fits : Fits text passed (state_from feed 0 finished current fault) left) (small : feed.bytes ≤ file_limit) where
+  t : List ℕ
+  t = ahead_of text passed (state_from feed 0 finished current fault) left fits
+
+  cut : IsCut text passed (ahead_of text passed (state_from feed 0 finished current fault) left fits) feed.bytes feed.lines
+  cut = fits_cut text passed (state_from feed 0 finished current fault) left fits
+
+  -- nothing is hidden ahead
+  pub plain_ahead : IsAhead (ahead_of text passed (state_from feed 0 finished current fault) left fits) [] feed left
+  plain_ahead = subst (λ bytes. IsAhead (ahead_of text passed (state_from feed 0 finished current fault) left fits) bytes feed left) (no_bytes fits.hidden fits.hidden_bytes) (fits_ahead text passed feed 0 finished current fault left fits)
+
+  pub tell_refusal : (refusal : Refusal) → left_answer (feed.lines + 1) (room_ahead feed) (ahead_of text passed (state_from feed 0 finished current fault) left fits) ≡ Err refusal → next_answer text (passed_count passed) ≡ Err refusal
+  tell_refusal refusal is = answer_ahead text passed _ feed.bytes feed.lines cut small ∙ is
+
+  pub tell_begin_refusal : (refusal : Refusal) → left_begin (feed.lines + 1) (room_ahead feed) (ahead_of text passed (state_from feed 0 finished current fault) left fits) ≡ Err refusal → next_begin text (passed_count passed) ≡ Err refusal
+  tell_begin_refusal refusal is = begin_ahead text passed _ feed.bytes feed.lines cut small ∙ is
+
+  -- nothing but blank lines was left
+  pub tell_none : (new : FeedState) (left_after : Option (List ℕ)) (current_after : Option Seen) (fault_after : Option Fault) → PassesAll (ahead_of text passed (state_from feed 0 finished current fault) left fits) feed new → IsAhead [] [] new left_after → GivesNone text passed (state_from new 0 true current_after fault_after) left_after
+  tell_none new left_after current_after fault_after all is =
+      let c = cut_all text passed _ feed.bytes feed.lines cut all.blank in
+      let none = left-none (feed.lines + 1) (room_ahead feed) (ahead_of text passed (state_from feed 0 finished current fault) left fits) all.blank all.within in
+      record {
+        answer = answer_ahead text passed _ feed.bytes feed.lines cut small ∙ none.0;
+        begin = begin_ahead text passed _ feed.bytes feed.lines cut small ∙ none.1;
+        again = ahead_fits text text new 0 true current_after fault_after left_after [] [] _ _ c.0 is all.bytes all.lines refl tt (λ f. refl);
+        passes = c.1;
+        finished = refl;
+      }
+
+  -- a line that isn't blank is ahead
+  pub tell_begin : (new : FeedState) (left_after : Option (List ℕ)) (hidden : ℕ) (finished_after : Bool) (current_after : Option Seen) (fault_after : Option Fault) (ahead bytes line : List ℕ) → PassesBlanks (ahead_of text passed (state_from feed 0 finished current fault) left fits) feed new ahead → IsAhead ahead bytes new left_after → length bytes ≡ hidden → HasNoNewline bytes → finished_after ≡ false → new.bytes ≤ file_limit → EndsInSight (bytes ++ new.unread) line new → HasNoNewline line → is_blank line ≡ false → BeginsHere text passed (state_from new hidden finished_after current_after fault_after) left_after
+  tell_begin new left_after hidden finished_after current_after fault_after ahead bytes line blanks is hides no_newline unfinished small_after ends whole_line not_blank =
+      let c = cut_blanks text passed _ feed.bytes feed.lines cut blanks.blanks ahead blanks.front blanks.blank in
+      let c' : IsCut text (passed ++ with_newlines blanks.blanks) ahead new.bytes new.lines = record { whole = c.0.whole; bytes = blanks.bytes ∙ c.0.bytes; lines = blanks.lines ∙ c.0.lines; behind = c.0.behind } in
+      record {
+        passed_now = passed ++ with_newlines blanks.blanks;
+        again = ahead_fits text (passed ++ with_newlines blanks.blanks) new hidden finished_after current_after fault_after left_after ahead bytes _ _ c' is refl refl hides no_newline (λ f. absurd (unfinished_is f));
+        passes = c.1;
+        begin = sym (same_count text passed (passed ++ with_newlines blanks.blanks) c.1).1 ∙ begin_ahead text (passed ++ with_newlines blanks.blanks) ahead new.bytes new.lines c' small_after
+            ∙ begin_in_sight ahead bytes line new left_after is ends whole_line not_blank;
+      }
+    where
+      unfinished_is : IsTrue finished_after → ⊥
+      unfinished_is f = Rattle.std.proofs.lemmas.Bool.false≢true (sym unfinished ∙ f)
+
+-- a paragraph ahead is the answer
+module _ (text passed : List ℕ) (feed : FeedState) (finished : Bool) (current : Option Seen) (fault : Option Fault) (left : Option (List ℕ)) (fits : Fits text passed (state_from feed 0 finished current fault) left) (small : feed.bytes ≤ file_limit)
+    (mid : FeedState) (left_after : Option (List ℕ)) (e : Extent) (x : IsExtentOf e mid) (same_bytes : mid.bytes ≡ feed.bytes) (same_lines : mid.lines ≡ feed.lines)
+    (passes : PassesParagraph (ahead_of text passed (state_from feed 0 finished current fault) left fits) e mid left_after (x.first ∷ x.run))
+    (next : IsNextRun (feed.lines + 1) (room_ahead feed) (ahead_of text passed (state_from feed 0 finished current fault) left fits) (x.first ∷ x.run)) where
+  found_cut : IsCut text passed (ahead_of text passed (state_from feed 0 finished current fault) left fits) feed.bytes feed.lines
+  found_cut = fits_cut text passed (state_from feed 0 finished current fault) left fits
+
+  -- a line of it is refused
+  pub tell_judged_refusal : (refusal : Refusal) → judged (feed.lines + 1) (x.first ∷ x.run) ≡ Err refusal → next_answer text (passed_count passed) ≡ Err refusal
+  tell_judged_refusal refusal is = answer_ahead text passed _ feed.bytes feed.lines found_cut small ∙ next.answer ∙ ap (seen_from (feed.lines + 1)) is
+
+  -- it has these fields
+  pub tell_next : (new : FeedState) (current_after : Option Seen) (fault_after : Option Fault) (fields : List Field) → judged (feed.lines + 1) (x.first ∷ x.run) ≡ Ok fields → new.unread ≡ drop e.skip mid.unread → new.bytes ≡ mid.bytes + e.bytes → new.lines ≡ mid.lines + e.lines → new.ended ≡ mid.ended → GivesNext text passed (record { first = feed.lines + 1; fields = fields }) (state_from new 0 false current_after fault_after) left_after
+  tell_next new current_after fault_after fields is unread bytes lines ended =
+      let c = cut_more text passed _ feed.bytes feed.lines found_cut passes.passed passes.ahead passes.whole passes.closed in
+      let ending : length (lines_of passes.passed) ≡ length (x.first ∷ x.run) + length passes.ending = ap length passes.lines ∙ length-append (x.first ∷ x.run) passes.ending in
+      record {
+        answer = answer_ahead text passed _ feed.bytes feed.lines found_cut small ∙ next.answer ∙ ap (seen_from (feed.lines + 1)) is;
+        paragraph = record { first = feed.lines + 1; lines = x.first ∷ x.run };
+        more = next.more;
+        next = paragraphs_ahead text passed _ feed.bytes feed.lines found_cut small _ next.more next.next;
+        first = refl;
+        fields = is;
+        short = x.short;
+        passed_now = passed ++ passes.passed;
+        again = ahead_fits text (passed ++ passes.passed) new 0 false current_after fault_after left_after passes.ahead [] _ _ c
+            (record { rest = passes.rest; told = passes.told; whole = passes.left_ahead ∙ ap (λ zs. zs ++ passes.rest) (sym unread); ended = λ f. passes.ended (sym ended ∙ f) })
+            (omega (arith, bytes, same_bytes, passes.bytes)) (omega (arith, lines, same_lines, passes.counted)) refl tt (λ f. absurd (Rattle.std.proofs.lemmas.Bool.false≢true f));
+        passes = paragraphs-passed text passed _ feed.bytes feed.lines found_cut passes.passed passes.ahead x.first x.run passes.ending passes.whole passes.lines x.not_blank passes.blank;
+        ends = omega (arith, lines, same_lines, passes.counted, ending, passes.one);
+        near = subst (λ zs. length zs ≤ piece_limit) (sym unread) x.near;
+      }
+
+-- an answer behind blank lines that have passed is the answer before them
+pub answers_behind : (text passed passed_now : List ℕ) (answer : Result (Option Seen) Fault) (new : State) (left : Option (List ℕ)) → paragraphs_of passed_now ≡ paragraphs_of passed → Answers text passed_now answer new left → Answers text passed answer new left
+answers_behind text passed passed_now (Ok None) new left same a = record { answer = sym (same_count text passed passed_now same).0 ∙ a.answer; begin = sym (same_count text passed passed_now same).1 ∙ a.begin; again = a.again; passes = a.passes ∙ same; finished = a.finished }
+answers_behind text passed passed_now (Ok (Some seen)) new left same a = record {
+  answer = sym (same_count text passed passed_now same).0 ∙ a.answer;
+  paragraph = a.paragraph;
+  more = a.more;
+  next = a.next ∙ ap (λ ps. ps ++ a.paragraph ∷ a.more) same;
+  first = a.first;
+  fields = a.fields;
+  short = a.short;
+  passed_now = a.passed_now;
+  again = a.again;
+  passes = a.passes ∙ ap (λ ps. ps ++ a.paragraph ∷ []) same;
+  ends = a.ends;
+  near = a.near;
+}
+answers_behind text passed passed_now (Err (Refused refusal)) new left same a = sym (same_count text passed passed_now same).0 ∙ a
+answers_behind text passed passed_now (Err Memory) new left same a = tt
+answers_behind text passed passed_now (Err Read) new left same a = tt
+answers_behind text passed passed_now (Err Write) new left same a = a
