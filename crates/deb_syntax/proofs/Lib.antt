@@ -36,3 +36,4 @@ pub mod WalkingSteps
 pub mod WalkingRuns
 pub mod WalkingBlanks
 pub mod Feeds
+pub mod Dropping
