@@ -33,3 +33,4 @@ pub mod WalkingBlanks
 pub mod Feeds
 pub mod Passing
 pub mod Advancing
+pub mod Dropping
