@@ -66,6 +66,7 @@ module _ (text passed ahead : List ℕ) (bytes lines : ℕ) (cut : IsCut text pa
     where
       front_behind : IsBehind passed front
       front_behind = elim cut.behind [ inl c ↦ inl c | inr none ↦ inr (nothing front more (sym is ∙ none)).0 ]
+
       go : IsBehind passed ahead → (IsClosed front ⊎ (more ≡ [])) → IsBehind (passed ++ front) more
       go b (inr none) = inr none
       go (inl c) (inl d) = inl (closed_more passed front c d)
@@ -79,8 +80,7 @@ module _ (text passed ahead : List ℕ) (bytes lines : ℕ) (cut : IsCut text pa
   pub cut_blanks : (blanks : List Line) (more : List ℕ) → StandInFront ahead blanks more → AreBlank blanks → IsCut text (passed ++ with_newlines blanks) more (bytes + length (with_newlines blanks)) (lines + length blanks) × (paragraphs_of (passed ++ with_newlines blanks) ≡ paragraphs_of passed)
   cut_blanks blanks more front blank =
       let is = lines_of-with_newlines blanks front.lines in
-      let closed : IsClosed (with_newlines blanks) = (ends_line-with_newlines blanks, ap ends_blank is ∙ blank-ends blanks blank) in
-      (
+      let closed : IsClosed (with_newlines blanks) = (ends_line-with_newlines blanks, ap ends_blank is ∙ blank-ends blanks blank) in (
         subst_lines (with_newlines blanks) is (cut_more (with_newlines blanks) more front.text (inl closed)),
         front_paragraphs (with_newlines blanks) more front.text ∙ ap (λ ls. paragraphs_of passed ++ paragraphs_from (1 + length (lines_of passed)) ls) is
             ∙ ap (λ ps. paragraphs_of passed ++ ps) (no_paragraph (1 + length (lines_of passed)) blanks blank) ∙ append-nil (paragraphs_of passed),
@@ -93,8 +93,7 @@ module _ (text passed ahead : List ℕ) (bytes lines : ℕ) (cut : IsCut text pa
   pub cut_all : AreBlank (lines_of ahead) → IsCut text text [] (bytes + length ahead) (lines + length (lines_of ahead)) × (paragraphs_of text ≡ paragraphs_of passed)
   cut_all blank =
       let whole : passed ++ ahead ≡ text = sym cut.whole in
-      let c = cut_more ahead [] (sym (append-nil ahead)) (inr refl) in
-      (
+      let c = cut_more ahead [] (sym (append-nil ahead)) (inr refl) in (
         record {
           whole = sym (append-nil text);
           bytes = c.bytes ∙ ap length whole;

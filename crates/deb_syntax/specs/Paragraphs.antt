@@ -1,11 +1,14 @@
 -- What a `Paragraphs` and its answers show.
-use Rattle.std.specs.Prelude.{◌≡◌, Bool, true, false, List, Option, Some, None, Result, Ok, Err}
+use Rattle.std.specs.Prelude.{◌≡◌, ◌<◌, ◌⊎◌, ℕ, Bool, true, false, List, Option, Some, None, Result, Ok, Err, IsTrue, IsSome}
 use Rattle.std.specs.Option.{option_map}
 use Rattle.deb_base.specs.declared.fault.Fault.{Fault}
 use Rattle.deb_syntax.specs.declared.paragraphs.Paragraphs.{Paragraphs}
 use Rattle.deb_syntax.specs.declared.raw.Raw.{Raw}
 use Rattle.deb_syntax.specs.Answers.{Seen}
-use Rattle.deb_syntax.specs.Feeding.{feed_state, buffer_of}
+use Rattle.deb_syntax.specs.declared.first.First.{First}
+use Rattle.deb_syntax.specs.declared.first.First.TheVariants.{End, Kept, Dropped}
+use Rattle.deb_syntax.specs.Ahead.{KeepsLine}
+use Rattle.deb_syntax.specs.Feeding.{FeedState, feed_state, buffer_of}
 use Rattle.deb_syntax.specs.Raw.{first_line_of, fields_of}
 use Rattle.deb_syntax.specs.Reading.{State, state_from}
 use Rattle.deb_syntax.specs.Standing.{standing_of}
@@ -25,3 +28,19 @@ abbrev pub advance_answer : State → Result Bool Fault → Result (Option Seen)
 advance_answer new (Ok true) = Ok new.current
 advance_answer new (Ok false) = Ok None
 advance_answer new (Err fault) = Err fault
+
+-- the same of an answer that is no error only where there is one
+abbrev pub end_answer : State → Result (Unit {0}) Fault → Result (Option Seen) Fault
+end_answer new (Ok done) = Ok new.current
+end_answer new (Err fault) = Err fault
+
+-- what a feed and the hidden bytes show of the first line ahead that isn't blank, whatever the source tells
+abbrev pub ShowsFirst : Result First Fault → ℕ → Bool → FeedState → Type 0
+ShowsFirst (Ok End) hidden finished feed = finished ≡ true
+ShowsFirst (Ok (Kept begun)) hidden finished feed = (hidden ≡ 0) × (finished ≡ false) × KeepsLine begun feed
+ShowsFirst (Ok (Dropped begun)) hidden finished feed = (0 < hidden) × (finished ≡ false)
+ShowsFirst (Err fault) hidden finished feed = Unit {0}
+
+-- a read has told the file's end, or it was answered that no paragraph follows, or there is an error: nothing is read
+abbrev pub IsQuiet : State → Type 0
+IsQuiet state = IsTrue state.ended ⊎ (IsTrue state.finished ⊎ IsSome state.fault)

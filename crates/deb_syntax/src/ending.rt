@@ -4,6 +4,7 @@ ghost use Rattle.std.specs.Prelude.{◌≡◌, ◌+◌, ◌-◌, ◌<◌, ◌≤
 ghost use Rattle.deb_base.specs.Devices.{read_failures_after};
 ghost use Rattle.deb_base.specs.Faults.{IsReadersFault};
 ghost use Rattle.deb_syntax.specs.Ahead.{IsAhead, KeepsLine, HasExtent, IsExtentAhead, SameCounts};
+ghost use Rattle.deb_syntax.specs.Reading.{IsRefusalOfText};
 ghost use Rattle.deb_syntax.specs.Feeding.{feed_state};
 
 use crate::begun::Begun;
@@ -39,7 +40,7 @@ pub(crate) fn paragraph_extent<R: Source>(
     ensures found { HasExtent result (feed_state feed.new) }
     ensures ahead { (text : List ℕ) → IsAhead text [] (feed_state feed.old) (R.left reader.old) → IsExtentAhead text (feed_state feed.old) result (feed_state feed.new) (R.left reader.new) }
     ensures same { SameCounts (feed_state feed.old) (feed_state feed.new) }
-    ensures fault { IfErr result (λ fault. IsReadersFault fault (λ _. Unit {0})) }
+    ensures fault { IfErr result (λ fault. IsReadersFault fault IsRefusalOfText) }
     ensures counted { R.failures reader.new ≡ read_failures_after (R.failures reader.old) result }
     ensures quiet { IsTrue (feed_state feed.old).ended → reader.new ≡ reader.old }
 {

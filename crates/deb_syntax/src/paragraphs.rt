@@ -1,7 +1,7 @@
 //! The reader of paragraphs (Debian Policy 5.1; deb822(5)).
 
 ghost use Rattle.std.specs.Prelude.{◌≡◌, ◌+◌, ◌≤◌, ◌⊎◌, ℕ, List, [], Some, None, true, false, length, IsTrue};
-ghost use Rattle.deb_syntax.specs.Ahead.{IsNear};
+ghost use Rattle.deb_syntax.specs.Ahead.{IsNear, KeepsLine};
 ghost use Rattle.deb_syntax.specs.Feeding.{feed_state, buffer_of};
 ghost use Rattle.deb_syntax.specs.Standing.{hides_line, stands_within};
 
@@ -40,14 +40,14 @@ pub struct Paragraphs {
 }
 
 impl Paragraphs {
-    ghost use Rattle.std.specs.Prelude.{IfErr, option_map};
+    ghost use Rattle.std.specs.Prelude.{IfErr, IfOk, OnOk, IsSome, option_map, ◌↔◌};
     ghost use Rattle.std.specs.Borrow.{sem};
     ghost use Rattle.std.specs.Io.BufRead.{Rests};
     ghost use Rattle.deb_base.specs.Devices.{read_failures_after};
     ghost use Rattle.deb_base.specs.Faults.{IsReadersFault};
     ghost use Rattle.deb_syntax.specs.contracts.paragraphs.Paragraphs.{the_row};
-    ghost use Rattle.deb_syntax.specs.Reading.{Fits, Passes, Advances, Begins};
-    ghost use Rattle.deb_syntax.specs.Paragraphs.{state_of, seen_of, answer_of, advance_answer};
+    ghost use Rattle.deb_syntax.specs.Reading.{Fits, Answers, FindsFirst, IsRefusalOfText, Passes, Advances, Begins};
+    ghost use Rattle.deb_syntax.specs.Paragraphs.{state_of, seen_of, answer_of, advance_answer, end_answer, ShowsFirst, IsQuiet};
 
     /// A reader of paragraphs that has read nothing: whatever its source has left is the file. Takes no memory.
     pub fn new(alloc: Global) -> Paragraphs
@@ -92,5 +92,160 @@ impl Paragraphs {
             self.places.as_slice(),
             at.first_line,
         ))
+    }
+
+    /// The line at which the next paragraph begins, or `None` where there is no further one. Blank lines before it pass;
+    /// `next` answers afterwards what it would have answered before. After `None` it goes on answering `None`.
+    ///
+    /// # Errors
+    ///
+    /// After an error every later call answers the same error, and reads nothing.
+    ///
+    /// - `Fault::Refused`: the file is too long, and no further paragraph begins within what it may have
+    ///   (`FileTooLong`).
+    /// - `Fault::Memory`: a growth of memory was refused.
+    /// - `Fault::Read`: a read of `reader` failed in this call.
+    pub fn begins<R: Source>(&mut self, reader: &mut R) -> Result<Option<u64>, Fault>
+        ensures passes { Passes Begins (record { state = state_of self.old; source = record { bytes = R.left reader.old; failures = R.failures reader.old } }) result (record { state = state_of self.new; source = record { bytes = R.left reader.new; failures = R.failures reader.new } }) }
+        ensures quiet { IsQuiet (state_of self.old) → reader.new ≡ reader.old }
+    {
+        if let Some(fault) = self.fault {
+            return Err(fault);
+        }
+        let answer = self.find_line(reader);
+        if let Err(fault) = answer {
+            self.fault = Some(fault);
+        }
+        answer
+    }
+
+    /// The next paragraph of the file, or `None` where there is no further one. After `None` it goes on answering `None`.
+    ///
+    /// # Errors
+    ///
+    /// After an error every later call answers the same error, and reads nothing.
+    ///
+    /// - `Fault::Refused`: the file is refused there, for the first of these. The paragraph's lines are too long
+    ///   (`ParagraphTooLong`, at the line with which they are), the file is too long and no blank line behind the
+    ///   paragraph was seen before (`FileTooLong`, at the line that is cut off), or a line is refused: it isn't UTF-8,
+    ///   begins an armoured message or a comment, continues no field, has no colon, has no name of a field before it, or
+    ///   one that stood before in its paragraph. Behind the last paragraph: the file is too long.
+    /// - `Fault::Memory`: a growth of memory was refused.
+    /// - `Fault::Read`: a read of `reader` failed in this call.
+    pub fn next<'a, R: Source>(&'a mut self, reader: &mut R) -> Result<Option<Raw<'a>>, Fault>
+        ensures* after { sem 𝓛 (Rests the_row self.entry (λ new. Passes Advances (record { state = state_of self.old; source = record { bytes = R.left reader.old; failures = R.failures reader.old } }) (answer_of result) (record { state = state_of new; source = record { bytes = R.left reader.new; failures = R.failures reader.new } }))) }
+        ensures quiet { IsQuiet (state_of self.old) → reader.new ≡ reader.old }
+    {
+        if self.advance(reader)? {
+            Ok(self.current())
+        } else {
+            Ok(None)
+        }
+    }
+
+    /// Goes on to the next paragraph, which `current` then gives, and says whether there is one. The answers, errors
+    /// among them, are those of `next`.
+    pub fn advance<R: Source>(&mut self, reader: &mut R) -> Result<bool, Fault>
+        ensures passes { Passes Advances (record { state = state_of self.old; source = record { bytes = R.left reader.old; failures = R.failures reader.old } }) (advance_answer (state_of self.new) result) (record { state = state_of self.new; source = record { bytes = R.left reader.new; failures = R.failures reader.new } }) }
+        ensures found { IfOk result (λ found. IsTrue found ↔ IsSome (state_of self.new).current) }
+        ensures quiet { IsQuiet (state_of self.old) → reader.new ≡ reader.old }
+    {
+        if let Some(fault) = self.fault {
+            return Err(fault);
+        }
+        let answer = self.find(reader);
+        if let Err(fault) = answer {
+            self.fault = Some(fault);
+        }
+        answer
+    }
+
+    /// The line at which the next paragraph begins.
+    fn find_line<R: Source>(&mut self, reader: &mut R) -> Result<Option<u64>, Fault>
+        ensures begins { Begins (record { state = state_of self.old; source = record { bytes = R.left reader.old; failures = R.failures reader.old } }) result (record { state = state_of self.new; source = record { bytes = R.left reader.new; failures = R.failures reader.new } }) }
+        ensures quiet { IsTrue (state_of self.old).ended ⊎ IsTrue (state_of self.old).finished → reader.new ≡ reader.old }
+        ensures kept { self.new.fault ≡ self.old.fault }
+    {
+        match self.find_first(reader)? {
+            First::End => Ok(None),
+            First::Kept(_) | First::Dropped(_) => Ok(Some(self.feed.lines() + 1)),
+        }
+    }
+
+    /// Finds the next paragraph and passes it.
+    fn find<R: Source>(&mut self, reader: &mut R) -> Result<bool, Fault>
+        ensures advances { Advances (record { state = state_of self.old; source = record { bytes = R.left reader.old; failures = R.failures reader.old } }) (advance_answer (state_of self.new) result) (record { state = state_of self.new; source = record { bytes = R.left reader.new; failures = R.failures reader.new } }) }
+        ensures found { IfOk result (λ found. IsTrue found ↔ IsSome (state_of self.new).current) }
+        ensures quiet { IsTrue (state_of self.old).ended ⊎ IsTrue (state_of self.old).finished → reader.new ≡ reader.old }
+        ensures kept { self.new.fault ≡ self.old.fault }
+    {
+        match self.find_first(reader)? {
+            First::End => Ok(false),
+            First::Dropped(_) => Err(Fault::Refused(Refusal {
+                code: Code::ParagraphTooLong,
+                line: self.feed.lines() + 1,
+            })),
+            First::Kept(begun) => {
+                self.find_end(begun, reader)?;
+                Ok(true)
+            }
+        }
+    }
+
+    /// Passes blank lines up to the first other line. From then on there is no current paragraph.
+    fn find_first<R: Source>(&mut self, reader: &mut R) -> Result<First, Fault>
+        ensures first { (text passed : List ℕ) → Fits text passed (state_of self.old) (R.left reader.old) → FindsFirst text passed result (state_of self.new) (R.left reader.new) }
+        ensures shows { ShowsFirst result self.new.hidden self.new.finished (feed_state self.new.feed) }
+        ensures none { (state_of self.new).current ≡ None }
+        ensures fault { IfErr result (λ fault. IsReadersFault fault IsRefusalOfText) }
+        ensures counted { R.failures reader.new ≡ read_failures_after (R.failures reader.old) result }
+        ensures quiet { IsTrue (state_of self.old).ended ⊎ IsTrue (state_of self.old).finished → reader.new ≡ reader.old }
+        ensures stays { IsTrue (state_of self.old).ended → IsTrue (state_of self.new).ended }
+        ensures kept { self.new.fault ≡ self.old.fault }
+    {
+        self.current = None;
+        if self.finished {
+            return Ok(First::End);
+        }
+        if self.hidden > 0 {
+            return Ok(First::Dropped(Begun {
+                len: self.hidden as usize,
+                blank: false,
+            }));
+        }
+        let first = first_line(&mut self.feed, reader)?;
+        match first {
+            First::End => self.finished = true,
+            First::Dropped(begun) => self.hidden = begun.len as u64,
+            First::Kept(_) => {}
+        }
+        Ok(first)
+    }
+
+    /// Finds the end of the paragraph that begins the unread bytes, judges it and passes it.
+    fn find_end<R: Source>(&mut self, begun: Begun, reader: &mut R) -> Result<(), Fault>
+        requires unhidden { self.old.hidden ≡ 0 }
+        requires unfinished { self.old.finished ≡ false }
+        requires none { self.old.current ≡ None }
+        requires line { KeepsLine begun (feed_state self.old.feed) }
+        ensures answers { (text passed : List ℕ) → Fits text passed (state_of self.old) (R.left reader.old) → Answers text passed (end_answer (state_of self.new) result) (state_of self.new) (R.left reader.new) }
+        ensures found { OnOk result (IsSome (state_of self.new).current) }
+        ensures fault { IfErr result (λ fault. IsReadersFault fault IsRefusalOfText) }
+        ensures counted { R.failures reader.new ≡ read_failures_after (R.failures reader.old) result }
+        ensures quiet { IsTrue (state_of self.old).ended → reader.new ≡ reader.old }
+        ensures kept { self.new.fault ≡ self.old.fault }
+    {
+        let extent = paragraph_extent(&mut self.feed, begun, reader)?;
+        let first_line = self.feed.lines() + 1;
+        let paragraph = &self.feed.unread()[..extent.end];
+        judge(self.alloc, paragraph, first_line, &mut self.places)?;
+        let from = self.feed.start();
+        self.feed.pass(extent.skip, extent.bytes, extent.lines);
+        self.current = Some(Standing {
+            from,
+            to: from + extent.end,
+            first_line,
+        });
+        Ok(())
     }
 }
