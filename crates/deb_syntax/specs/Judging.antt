@@ -1,6 +1,6 @@
 -- What is judged of a paragraph's lines, one after another: its fields, or the first refusal of a line.
 -- Debian Policy 5.1; deb822(5), "Syntax". The order of the refusals is this project's own.
-use Rattle.std.specs.Prelude.{◌≡◌, ℕ, ◌+◌, ◌==◌, Bool, false, cond, not, List, [], ◌∷◌, ◌++◌, map, Result, Ok, Err, codes, refl}
+use Rattle.std.specs.Prelude.{◌≡◌, ℕ, ◌+◌, ◌==◌, ◌&&◌, Bool, false, cond, not, nat_lt, List, [], ◌∷◌, ◌++◌, length, take, slice_index, map, Result, Ok, Err, codes, refl}
 use Rattle.std.specs.List.{list_any, starts_with, before_first, after_first}
 use Rattle.std.specs.Str.{is_utf8, chars}
 use lib.Utf8.{encode}
@@ -54,6 +54,10 @@ begins_comment (b ∷ bs) = b == 35
 
 abbrev pub has_colon : Line → Bool
 has_colon line = list_any (λ b. b == colon) line
+
+-- whether the first n bytes of a line are a name that a colon follows
+abbrev pub is_named : Line → ℕ → Bool
+is_named line n = nat_lt n (length line) && (slice_index line n == colon) && is_name (take n line)
 
 -- the field that a line begins
 abbrev pub begun : ℕ → Line → Field

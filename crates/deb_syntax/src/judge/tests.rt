@@ -1,10 +1,28 @@
 //! Paragraphs, with their fields or their first refusal.
 
+ghost use Rattle.deb_base.specs.Bodies.{IsBody};
+
 use super::*;
-use crate::Paragraphs;
+use crate::{Paragraphs, Raw};
 use deb_base::Input;
 use std::io::Write;
 use std::test::Fail;
+
+/// Asks for the body of a field.
+fn body_len(body: &[u8]) -> usize
+    requires { IsBody body.now }
+{
+    body.len()
+}
+
+/// How long the longest body is.
+fn longest_body(paragraph: &Raw<'_>) -> usize {
+    let mut longest = 0;
+    for field in paragraph.fields() {
+        longest = longest.max(body_len(field.body));
+    }
+    longest
+}
 
 /// A paragraph whose first line has number 1, and its fields: name, line and body.
 struct Accepted(
@@ -124,6 +142,11 @@ fn fields_of_paragraphs(rt: HostRuntime) -> Result<(), Fail> {
             assert_eq!(rt; found.line, *line, "{shown}");
         }
         assert!(rt; paragraph.field(fields.len()).is_none(), "{shown}");
+        let longest = fields.iter().map(|(_, _, body)| body.len()).max();
+        assert_eq!(rt; Some(longest_body(&paragraph)), longest, "{shown}");
+        for (field, (name, _, _)) in paragraph.fields().zip(fields.iter()) {
+            assert_eq!(rt; field.name, *name, "{shown}");
+        }
         assert!(rt; paragraph.get(b"Absent").is_none(), "{shown}");
         assert!(rt; paragraph.get(b"").is_none(), "{shown}");
     }
