@@ -7,7 +7,6 @@ pub mod Judgements
 pub mod JudgingLaws
 pub mod JudgingLawsMeaning
 pub mod JudgingLawsRefusals
-pub mod JudgingLawsRows
 pub mod JudgingLawsSound
 pub mod JudgingLawsTexts
 pub mod LineSteps

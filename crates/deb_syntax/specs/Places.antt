@@ -71,3 +71,20 @@ places_within = refl
 
 place_beyond : lies_within 10 (record { line = 3; start = 9; colon = 10; end = 11 }) ≡ false
 place_beyond = refl
+
+-- of places that end before the line's begin the last goes on to the line's end
+last_place_goes_on : with_last_end 11 (record { line = 1; start = 0; colon = 1; end = 4 } ∷ record { line = 2; start = 5; colon = 6; end = 8 } ∷ []) ≡ record { line = 1; start = 0; colon = 1; end = 4 } ∷ record { line = 2; start = 5; colon = 6; end = 11 } ∷ []
+last_place_goes_on = refl
+
+no_place_goes_on : (with_last_end 11 [] ≡ []) × (ends_before 0 [] ≡ true)
+no_place_goes_on = (refl, refl)
+
+places_before : (ends_before 9 (record { line = 1; start = 0; colon = 1; end = 8 } ∷ []) ≡ true) × (ends_before 8 (record { line = 1; start = 0; colon = 1; end = 8 } ∷ []) ≡ false)
+places_before = (refl, refl)
+
+pieces_behind_place : (pieces_behind (codes "a\nb") 1 ≡ codes "b" ∷ []) × (pieces_behind (codes "a\n") 1 ≡ [] ∷ []) × (pieces_behind (codes "a") 1 ≡ [])
+pieces_behind_place = (refl, refl, refl)
+
+-- a colon at the end of a place, or before its begin
+place_of_no_field : (lies_within 10 (record { line = 1; start = 0; colon = 2; end = 2 }) ≡ false) × (lies_within 10 (record { line = 1; start = 3; colon = 2; end = 4 }) ≡ false)
+place_of_no_field = (refl, refl)
