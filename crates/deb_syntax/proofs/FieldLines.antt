@@ -1,13 +1,11 @@
 -- What a line that begins a field makes of the fields before it, from what a search for its colon says.
-use Rattle.std.proofs.Common.{◌≡◌, ℕ, zero, suc, ◌==◌, ◌+◌, ◌-◌, ◌<◌, ◌≤◌, Bool, true, false, not, cond, ◌&&◌, List, [], ◌∷◌, ◌++◌, length, take, drop, nat_lt, slice_index, slice_range, Some, None, Result, Ok, Err, refl, sym, ap, ◌∙◌, arith, length-take, length-drop}
-use Rattle.std.specs.List.{list_all, list_any, position_or_len, prefix_len}
+use Rattle.std.proofs.Common.{◌≡◌, ℕ, zero, suc, ◌==◌, ◌+◌, ◌-◌, ◌<◌, ◌≤◌, Bool, true, false, not, cond, ◌&&◌, List, [], ◌∷◌, ◌++◌, length, map, take, drop, nat_lt, slice_index, slice_range, Some, None, Result, Ok, Err, refl, sym, ap, ◌∙◌, arith, length-take, length-drop}
+use Rattle.std.specs.List.{list_all, position_or_len, prefix_len}
 use Rattle.std.proofs.lemmas.Bool.{and_parts, and_from, eqb-true, ltb-true, lt-ltb, true≢false}
 use Rattle.std.proofs.lemmas.List.{map_push, take-append-drop, drop_more}
 use Rattle.std.proofs.lemmas.List.Folds.{list_any_at}
 use Rattle.std.proofs.lemmas.List.Sums.{position_or_len_is}
 use Rattle.memchr.specs.Find.{IsFirstByte, is_byte}
-use Rattle.std.specs.Str.{bytes_eq}
-use Rattle.deb_base.specs.Names.{folded}
 use Rattle.deb_base.specs.declared.code.Code.TheVariants.{BadFieldName, NoColon, DuplicateField}
 use Rattle.deb_base.specs.declared.refusal.Refusal.{Refusal}
 use Rattle.deb_base.specs.Bodies.{Line}
@@ -16,8 +14,7 @@ use Rattle.deb_base.specs.FieldNames.{colon, is_name, is_name_byte, may_begin_na
 use Rattle.deb_syntax.specs.Judging.{begins_armour, begins_comment, has_colon, begun, is_named, field_line}
 use Rattle.deb_syntax.proofs.JudgingLaws.{begun-field}
 use Rattle.deb_syntax.proofs.JudgingLawsTexts.{begins_armour-field, begins_comment-field, has_colon-field}
-use Rattle.deb_syntax.specs.Places.{begun_at, begun_fields, StandsAt}
-use Rattle.deb_syntax.specs.declared.folded_name.FoldedName.{FoldedName}
+use Rattle.deb_syntax.specs.Places.{begun_at, begun_fields, name_at, has_stood}
 use Rattle.deb_syntax.specs.declared.place.Place.{Place}
 use Rattle.deb_syntax.proofs.Pieces.{not_true}
 use Rattle.deb_syntax.proofs.PlaceLemmas.{LiesWithin, has_name-begun}
@@ -118,14 +115,14 @@ module _ (text : List ℕ) (start end at : ℕ) (ordered : start ≤ end) (withi
       let field : List ℕ → List ℕ → Field = λ name rest. record { name = name; line = n; body = rest } in
       ap (λ name. field name (drop (at + 1) (slice_range text start end))) name_at-begun ∙ ap (field (slice_range text start (start + at))) body
 
-  module _ (n : ℕ) (places : List Place) (names : List FoldedName) (stands : StandsAt text start places names)
+  module _ (n : ℕ) (places : List Place)
       (judges : field_line n (begun_fields text places) (slice_range text start end) ≡ cond (has_name (take at (slice_range text start end)) (begun_fields text places)) (Err (record { code = DuplicateField; line = n })) (Ok (begun_fields text places ++ record { name = take at (slice_range text start end); line = n; body = drop (at + 1) (slice_range text start end) } ∷ []))) where
-    pub field_line-stood : list_any (λ other. bytes_eq (folded (take at (slice_range text start end))) (folded other.0.now)) names ≡ true → field_line n (begun_fields text places) (slice_range text start end) ≡ Err (record { code = DuplicateField; line = n })
-    field_line-stood stood = judges ∙ at_true (has_name (take at (slice_range text start end)) (begun_fields text places)) _ _ (has_name-begun text start places names _ stands ∙ stood)
+    pub field_line-stood : has_stood (take at (slice_range text start end)) (map (name_at text) places) ≡ true → field_line n (begun_fields text places) (slice_range text start end) ≡ Err (record { code = DuplicateField; line = n })
+    field_line-stood stood = judges ∙ at_true (has_name (take at (slice_range text start end)) (begun_fields text places)) _ _ (has_name-begun text _ places ∙ stood)
 
-    pub field_line-new : list_any (λ other. bytes_eq (folded (take at (slice_range text start end))) (folded other.0.now)) names ≡ false → field_line n (begun_fields text places) (slice_range text start end) ≡ Ok (begun_fields text (places ++ record { line = n; start = start; colon = start + at; end = end } ∷ []))
+    pub field_line-new : has_stood (take at (slice_range text start end)) (map (name_at text) places) ≡ false → field_line n (begun_fields text places) (slice_range text start end) ≡ Ok (begun_fields text (places ++ record { line = n; start = start; colon = start + at; end = end } ∷ []))
     field_line-new new =
         judges
-        ∙ at_false (has_name (take at (slice_range text start end)) (begun_fields text places)) _ _ (has_name-begun text start places names _ stands ∙ new)
+        ∙ at_false (has_name (take at (slice_range text start end)) (begun_fields text places)) _ _ (has_name-begun text _ places ∙ new)
         ∙ ap (λ f. Ok (begun_fields text places ++ f ∷ [])) (begun_at-begun n)
         ∙ ap Ok (sym (map_push (begun_at text) places (record { line = n; start = start; colon = start + at; end = end })))

@@ -11,6 +11,7 @@ ghost use Rattle.deb_syntax.specs.Places.{begun_fields, fields_at, lies_within, 
 
 use crate::folded_name::FoldedName;
 use crate::name::{is_name, name_bytes};
+use crate::names::add;
 use crate::place::Place;
 use deb_base::{Code, Fault, Refusal};
 use indexmap::IndexSet;
@@ -178,10 +179,7 @@ fn begin_field<'a>(
 {
     let content = &text[line.start..line.end];
     let colon = colon_of(content).map_err(|code| refused(code, line))?;
-    let added = names
-        .insert(FoldedName(&content[..colon]))
-        .map_err(|_| Fault::Memory)?;
-    if !added {
+    if !add(names, text, places.as_slice(), &content[..colon])? {
         return Err(refused(Code::DuplicateField, line));
     }
     let place = Place {

@@ -22,6 +22,7 @@ mod judge_next;
 pub mod laws;
 mod line;
 mod name;
+mod names;
 mod paragraphs;
 mod place;
 mod raw;

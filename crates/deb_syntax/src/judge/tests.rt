@@ -215,3 +215,29 @@ fn a_hundred_thousand_fields(rt: HostRuntime) -> Result<(), Fail> {
     );
     Ok(())
 }
+
+#[test]
+fn names_beyond_the_few(rt: HostRuntime) -> Result<(), Fail> {
+    let mut places = Vec::new(rt.alloc());
+    for count in 30..36u64 {
+        let mut front = Vec::new(rt.alloc());
+        for i in 0..count {
+            write!(front, "F{i}: x\n")?;
+        }
+        for twice in [0, 29, count - 1] {
+            let mut text = Vec::new(rt.alloc());
+            text.extend_from_slice(front.as_slice())?;
+            write!(text, "f{twice}:")?;
+            let want = Fault::Refused(Refusal {
+                code: Code::DuplicateField,
+                line: count + 1,
+            });
+            let answer = judge(rt.alloc(), text.as_slice(), 1, &mut places);
+            assert_eq!(rt; answer, Err(want), "{count} {twice}");
+        }
+        front.extend_from_slice(b"G: x")?;
+        let answer = judge(rt.alloc(), front.as_slice(), 1, &mut places);
+        assert_eq!(rt; answer, Ok(()), "{count}");
+    }
+    Ok(())
+}
