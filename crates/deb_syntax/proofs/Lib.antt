@@ -11,7 +11,6 @@ pub mod Judgements
 pub mod JudgingLaws
 pub mod JudgingLawsMeaning
 pub mod JudgingLawsRefusals
-pub mod JudgingLawsRows
 pub mod JudgingLawsSound
 pub mod JudgingLawsTexts
 pub mod LeftAnswers
@@ -21,6 +20,8 @@ pub mod LinesLawsRuns
 pub mod LinesLawsTexts
 pub mod LinesOfPieces
 pub mod Lookups
+pub mod NameSets
+pub mod NextExtents
 pub mod NextParagraph
 pub mod Parts
 pub mod Passing

@@ -1,6 +1,8 @@
 -- Where the fields of a paragraph stand in its bytes, and what stands there. Debian Policy 5.1; deb822(5), "Syntax".
-use Rattle.std.specs.Prelude.{◌≡◌, ℕ, ◌+◌, ◌==◌, ◌&&◌, Bool, true, false, List, [], ◌∷◌, length, map, nat_le, nat_lt, drop, slice_range, if◌then◌else◌, IsTrue, Result, Err, codes, refl}
-use Rattle.std.specs.List.{list_all}
+use Rattle.std.specs.Prelude.{◌≡◌, ℕ, ◌+◌, ◌<◌, ◌≤◌, ◌==◌, ◌&&◌, Bool, true, false, List, [], ◌∷◌, length, map, nat_le, nat_lt, drop, slice_range, if◌then◌else◌, IsTrue, Result, Err, codes, refl}
+use Rattle.std.specs.List.{list_all, list_any}
+use Rattle.std.specs.Str.{bytes_eq}
+use Rattle.deb_base.specs.Names.{folded}
 use Rattle.deb_base.specs.declared.fault.Fault.{Fault}
 use Rattle.deb_base.specs.declared.fault.Fault.TheVariants.{Refused, Memory, Read, Write}
 use Rattle.deb_base.specs.declared.refusal.Refusal.{Refusal}
@@ -48,12 +50,25 @@ ends_before start [] = true
 ends_before start (place ∷ []) = place.end + 1 == start
 ends_before start (place ∷ next ∷ places) = ends_before start (next ∷ places)
 
+-- whether a name is one of those that stood before, without ASCII case
+abbrev pub has_stood : List ℕ → List (List ℕ) → Bool
+has_stood name stood = list_any (λ other. bytes_eq (folded other) (folded name)) stood
+
+-- whether it is one of those in a set
+abbrev pub is_kept : List ℕ → List FoldedName → Bool
+is_kept name names = list_any (λ other. bytes_eq (folded name) (folded other.0.now)) names
+
+-- What a set keeps of the names that stood before: nothing while they are few, and else all.
+pub record Keeps (stood : List (List ℕ)) (names : List FoldedName) : Type 0 where
+  pub few : length stood ≤ 32 → names ≡ []
+  pub all : 32 < length stood → (name : List ℕ) → is_kept name names ≡ has_stood name stood
+
 -- What is kept of the lines before the one that begins at `start`: the places lie within the text, the last of them
--- ends at that line, and these are their names.
+-- ends at that line, and the set keeps their names.
 pub record StandsAt (text : List ℕ) (start : ℕ) (places : List Place) (names : List FoldedName) : Type 0 where
   pub within : IsTrue (list_all (lies_within (length text)) places)
   pub reached : IsTrue (ends_before start places)
-  pub named : map (λ name. name.0.now) names ≡ map (name_at text) places
+  pub kept : Keeps (map (name_at text) places) names
 
 -- the fault is the refusal that is judged, or want of memory
 abbrev pub IsFaultOf : Result (List Field) Refusal → Fault → Type 0
@@ -71,3 +86,20 @@ places_within = refl
 
 place_beyond : lies_within 10 (record { line = 3; start = 9; colon = 10; end = 11 }) ≡ false
 place_beyond = refl
+
+-- of places that end before the line's begin the last goes on to the line's end
+last_place_goes_on : with_last_end 11 (record { line = 1; start = 0; colon = 1; end = 4 } ∷ record { line = 2; start = 5; colon = 6; end = 8 } ∷ []) ≡ record { line = 1; start = 0; colon = 1; end = 4 } ∷ record { line = 2; start = 5; colon = 6; end = 11 } ∷ []
+last_place_goes_on = refl
+
+no_place_goes_on : (with_last_end 11 [] ≡ []) × (ends_before 0 [] ≡ true)
+no_place_goes_on = (refl, refl)
+
+places_before : (ends_before 9 (record { line = 1; start = 0; colon = 1; end = 8 } ∷ []) ≡ true) × (ends_before 8 (record { line = 1; start = 0; colon = 1; end = 8 } ∷ []) ≡ false)
+places_before = (refl, refl)
+
+pieces_behind_place : (pieces_behind (codes "a\nb") 1 ≡ codes "b" ∷ []) × (pieces_behind (codes "a\n") 1 ≡ [] ∷ []) × (pieces_behind (codes "a") 1 ≡ [])
+pieces_behind_place = (refl, refl, refl)
+
+-- a colon at the end of a place, or before its begin
+place_of_no_field : (lies_within 10 (record { line = 1; start = 0; colon = 2; end = 2 }) ≡ false) × (lies_within 10 (record { line = 1; start = 3; colon = 2; end = 4 }) ≡ false)
+place_of_no_field = (refl, refl)
