@@ -2,21 +2,32 @@
 use Rattle.std.proofs.Common.{◌≡◌, ◌≢◌, ℕ, ◌+◌, ◌-◌, ◌<◌, ◌≤◌, ◌⊎◌, inl, inr, Bool, true, false, List, [], ◌∷◌, ◌++◌, Option, Some, None, Result, Ok, Err, length, take, drop, leb, refl, sym, ap, ◌∙◌, subst, append_assoc, arith, IsTrue, length-append}
 use Rattle.std.proofs.lemmas.Bool.{lt-leb}
 use Rattle.std.proofs.lemmas.List.{append-nil}
-use Rattle.deb_base.specs.Bodies.{Line, newline, HasNoNewline, is_blank, is_all_blank, line_length, paragraph_limit}
+use Rattle.deb_base.specs.Bodies.{Line, newline, pieces_of, HasNoNewline, is_blank, is_all_blank, line_length, paragraph_limit}
 use Rattle.deb_base.specs.declared.code.Code.TheVariants.{ParagraphTooLong}
 use Rattle.deb_base.specs.declared.fault.Fault.{Fault}
 use Rattle.deb_base.specs.declared.fault.Fault.TheVariants.{Refused, Memory, Read, Write}
 use Rattle.deb_base.specs.declared.refusal.Refusal.{Refusal}
 use Rattle.deb_syntax.specs.declared.begun.Begun.{Begun}
 use Rattle.deb_syntax.specs.declared.ending.Extent.{Extent}
-use Rattle.deb_syntax.specs.Ahead.{left_answer, left_begin, room_ahead, IsAhead, IsNear, PassesBlanks, EndsInSight, KeepsLine, HidesLine, PassesAll, IsExtentOf, PassesParagraph, IsNextRun}
+use Rattle.deb_syntax.specs.Ahead.{left_answer, left_begin, room_ahead, IsAhead, IsNear, PassesBlanks, EndsInSight, HidesLine, PassesAll, IsExtentOf, PassesParagraph, IsNextRun, SameCounts}
 use Rattle.deb_syntax.specs.Answers.{Seen, part_within, paragraphs_within, next_answer, next_begin, seen_from}
 use Rattle.deb_syntax.specs.Extents.{AreBlank, AreNotBlank}
-use Rattle.deb_syntax.specs.Feeding.{FeedState, piece_limit}
-use Rattle.deb_syntax.specs.Fields.{Field}
+use Rattle.deb_syntax.specs.Feeding.{FeedState, PassesOn, feed_state, buffer_of, start_of, piece_limit}
+use Rattle.deb_syntax.specs.Fields.{are_fields}
+use Rattle.deb_syntax.specs.declared.feed.Feed.{Feed}
+use Rattle.deb_syntax.specs.declared.place.Place.{Place}
+use Rattle.std.specs.List.{list_all, slice_range}
+use Rattle.std.proofs.lemmas.List.{length-take-le}
+use Rattle.deb_syntax.proofs.Feeds.{front_of_unread, unread_within}
+use Rattle.deb_syntax.proofs.FieldTests.{are_fields-judged}
+use Rattle.deb_syntax.proofs.PlacesWithin.{within_test}
 use Rattle.deb_syntax.specs.Judging.{judged}
 use Rattle.deb_syntax.specs.Lines.{lines_of, with_newlines, IsClosed, Paragraph, paragraphs_from, paragraphs_of, total_length, file_limit}
-use Rattle.deb_syntax.specs.Reading.{State, state_from, Fits, passed_count, GivesNext, GivesNone, GivesLine, BeginsHere, Answers, AnswersBegin}
+use Rattle.deb_syntax.specs.Reading.{State, state_from, Fits, passed_count, GivesNext, GivesNone, GivesLine, BeginsHere, Answers, AnswersBegin, IsRefusalOfText}
+use Rattle.deb_base.specs.Faults.{IsReadersFault}
+use Rattle.deb_syntax.specs.Places.{IsFaultOf, fields_at, lies_within}
+use Rattle.deb_syntax.specs.Standing.{PassesNext, IsPassed, standing_of, stands_within}
+use Rattle.deb_syntax.proofs.JudgingLawsRefusals.{judged-refusal}
 use Rattle.deb_syntax.proofs.Boundaries.{ends_line-append}
 use Rattle.deb_syntax.proofs.LeftAnswers.{next_answer-left, next_begin-left, left-none, left-begins, left-long, left-paragraphs, left-empty}
 use Rattle.deb_syntax.proofs.Parts.{part_within-all, part_within-append}
@@ -183,39 +194,61 @@ module _ (text passed : List ℕ) (feed : FeedState) (finished : Bool) (current 
       unfinished_is : IsTrue finished_after → ⊥
       unfinished_is f = Rattle.std.proofs.lemmas.Bool.false≢true (sym unfinished ∙ f)
 
--- a paragraph ahead is the answer
-module _ (text passed : List ℕ) (feed : FeedState) (finished : Bool) (current : Option Seen) (fault : Option Fault) (left : Option (List ℕ)) (fits : Fits text passed (state_from feed 0 finished current fault) left) (small : feed.bytes ≤ file_limit)
-    (mid : FeedState) (left_after : Option (List ℕ)) (e : Extent) (x : IsExtentOf e mid) (same_bytes : mid.bytes ≡ feed.bytes) (same_lines : mid.lines ≡ feed.lines)
-    (passes : PassesParagraph (ahead_of text passed (state_from feed 0 finished current fault) left fits) e mid left_after (x.first ∷ x.run))
-    (next : IsNextRun (feed.lines + 1) (room_ahead feed) (ahead_of text passed (state_from feed 0 finished current fault) left fits) (x.first ∷ x.run)) where
+-- a paragraph that stands ahead and was judged has passed
+pub passes_next : (text : List ℕ) (before mid after : FeedState) (left : Option (List ℕ)) (e : Extent) (x : IsExtentOf e mid) (seen : Seen) → SameCounts before mid → PassesParagraph text e mid left (x.first ∷ x.run) → IsNextRun (before.lines + 1) (room_ahead before) text (x.first ∷ x.run) → seen.first ≡ before.lines + 1 → judged (before.lines + 1) (x.first ∷ x.run) ≡ Ok seen.fields → PassesOn mid e.skip e.bytes e.lines after → PassesNext text before seen after left
+passes_next text before mid after left e x seen same passes next first fields on = record {
+  run = x.first ∷ x.run;
+  passed = passes.passed;
+  ahead = passes.ahead;
+  ending = passes.ending;
+  some = λ none. cc;
+  not_blank = x.not_blank;
+  short = x.short;
+  first = first;
+  fields = fields;
+  next = next;
+  whole = passes.whole;
+  lines = passes.lines;
+  blank = passes.blank;
+  one = passes.one;
+  closed = passes.closed;
+  again = record { rest = passes.rest; told = passes.told; whole = passes.left_ahead ∙ ap (λ zs. zs ++ passes.rest) (sym on.unread); ended = λ f. passes.ended (sym on.ended ∙ f) };
+  bytes = omega (arith, on.bytes, same.bytes, passes.bytes);
+  counted = omega (arith, on.lines, same.lines, passes.counted);
+}
+
+-- what is judged of it, if that is a refusal, is the answer
+pub judged_refusal : (text : List ℕ) (n room : ℕ) (run : List Line) (refusal : Refusal) → IsNextRun n room text run → judged n run ≡ Err refusal → left_answer n room text ≡ Err refusal
+judged_refusal text n room run refusal next is = next.answer ∙ ap (seen_from n) is
+
+-- the paragraph that has passed is the answer
+module _ (text passed : List ℕ) (feed : FeedState) (finished : Bool) (current : Option Seen) (fault : Option Fault) (left : Option (List ℕ)) (fits : Fits text passed (state_from feed 0 finished current fault) left) (small : feed.bytes ≤ file_limit) where
   found_cut : IsCut text passed (ahead_of text passed (state_from feed 0 finished current fault) left fits) feed.bytes feed.lines
   found_cut = fits_cut text passed (state_from feed 0 finished current fault) left fits
 
-  -- a line of it is refused
-  pub tell_judged_refusal : (refusal : Refusal) → judged (feed.lines + 1) (x.first ∷ x.run) ≡ Err refusal → next_answer text (passed_count passed) ≡ Err refusal
-  tell_judged_refusal refusal is = answer_ahead text passed _ feed.bytes feed.lines found_cut small ∙ next.answer ∙ ap (seen_from (feed.lines + 1)) is
-
-  -- it has these fields
-  pub tell_next : (new : FeedState) (current_after : Option Seen) (fault_after : Option Fault) (fields : List Field) → judged (feed.lines + 1) (x.first ∷ x.run) ≡ Ok fields → new.unread ≡ drop e.skip mid.unread → new.bytes ≡ mid.bytes + e.bytes → new.lines ≡ mid.lines + e.lines → new.ended ≡ mid.ended → GivesNext text passed (record { first = feed.lines + 1; fields = fields }) (state_from new 0 false current_after fault_after) left_after
-  tell_next new current_after fault_after fields is unread bytes lines ended =
-      let c = cut_more text passed _ feed.bytes feed.lines found_cut passes.passed passes.ahead passes.whole passes.closed in
-      let ending : length (lines_of passes.passed) ≡ length (x.first ∷ x.run) + length passes.ending = ap length passes.lines ∙ length-append (x.first ∷ x.run) passes.ending in
+  pub tell_next : (new : FeedState) (left_after : Option (List ℕ)) (seen : Seen) (current_after : Option Seen) (fault_after : Option Fault) → PassesNext (ahead_of text passed (state_from feed 0 finished current fault) left fits) feed seen new left_after → length new.unread ≤ piece_limit → GivesNext text passed seen (state_from new 0 false current_after fault_after) left_after
+  tell_next new left_after seen current_after fault_after p near =
+      let c = cut_more text passed _ feed.bytes feed.lines found_cut p.passed p.ahead p.whole p.closed in
+      let ending : length (lines_of p.passed) ≡ length p.run + length p.ending = ap length p.lines ∙ length-append p.run p.ending in
+      let seen_is : record { first = feed.lines + 1; fields = seen.fields } ≡ seen = ap (λ n. record { first = n; fields = seen.fields }) (sym p.first) in
       record {
-        answer = answer_ahead text passed _ feed.bytes feed.lines found_cut small ∙ next.answer ∙ ap (seen_from (feed.lines + 1)) is;
-        paragraph = record { first = feed.lines + 1; lines = x.first ∷ x.run };
-        more = next.more;
-        next = paragraphs_ahead text passed _ feed.bytes feed.lines found_cut small _ next.more next.next;
-        first = refl;
-        fields = is;
-        short = x.short;
-        passed_now = passed ++ passes.passed;
-        again = ahead_fits text (passed ++ passes.passed) new 0 false current_after fault_after left_after passes.ahead [] _ _ c
-            (record { rest = passes.rest; told = passes.told; whole = passes.left_ahead ∙ ap (λ zs. zs ++ passes.rest) (sym unread); ended = λ f. passes.ended (sym ended ∙ f) })
-            (omega (arith, bytes, same_bytes, passes.bytes)) (omega (arith, lines, same_lines, passes.counted)) refl tt (λ f. absurd (Rattle.std.proofs.lemmas.Bool.false≢true f));
-        passes = paragraphs-passed text passed _ feed.bytes feed.lines found_cut passes.passed passes.ahead x.first x.run passes.ending passes.whole passes.lines x.not_blank passes.blank;
-        ends = omega (arith, lines, same_lines, passes.counted, ending, passes.one);
-        near = subst (λ zs. length zs ≤ piece_limit) (sym unread) x.near;
+        answer = answer_ahead text passed _ feed.bytes feed.lines found_cut small ∙ p.next.answer ∙ ap (seen_from (feed.lines + 1)) p.fields ∙ ap (λ s. Ok (Some s)) seen_is;
+        paragraph = record { first = feed.lines + 1; lines = p.run };
+        more = p.next.more;
+        next = paragraphs_ahead text passed _ feed.bytes feed.lines found_cut small _ p.next.more p.next.next;
+        first = p.first;
+        fields = p.fields;
+        short = p.short;
+        passed_now = passed ++ p.passed;
+        again = ahead_fits text (passed ++ p.passed) new 0 false current_after fault_after left_after p.ahead [] _ _ c p.again p.bytes p.counted refl tt (λ f. absurd (Rattle.std.proofs.lemmas.Bool.false≢true f));
+        passes = passed_run p.run p.lines p.not_blank p.some;
+        ends = omega (arith, p.counted, ending, p.one);
+        near = near;
       }
+      where
+        passed_run : (run : List Line) → lines_of p.passed ≡ run ++ p.ending → AreNotBlank run → run ≢ [] → paragraphs_of (passed ++ p.passed) ≡ paragraphs_of passed ++ record { first = feed.lines + 1; lines = run } ∷ []
+        passed_run [] is not_blank some = absurd (some refl)
+        passed_run (line ∷ run) is not_blank some = paragraphs-passed text passed _ feed.bytes feed.lines found_cut p.passed p.ahead line run p.ending p.whole is not_blank p.blank
 
 -- an answer behind blank lines that have passed is the answer before them
 pub answers_behind : (text passed passed_now : List ℕ) (answer : Result (Option Seen) Fault) (new : State) (left : Option (List ℕ)) → paragraphs_of passed_now ≡ paragraphs_of passed → Answers text passed_now answer new left → Answers text passed answer new left
@@ -238,3 +271,42 @@ answers_behind text passed passed_now (Err (Refused refusal)) new left same a = 
 answers_behind text passed passed_now (Err Memory) new left same a = tt
 answers_behind text passed passed_now (Err Read) new left same a = tt
 answers_behind text passed passed_now (Err Write) new left same a = a
+
+-- a refusal of a line of a paragraph is one of a text
+judged_refusal_is : (n : ℕ) (lines : List Line) (refusal : Refusal) → 1 ≤ n → judged n lines ≡ Err refusal → IsRefusalOfText refusal
+judged_refusal_is n lines refusal some is =
+    let within = judged-refusal n lines refusal is in
+    record { least = within.least; most = omega (arith, within.most); line = omega (arith, within.first) }
+
+pub judged_is_readers : (n : ℕ) (lines : List Line) (fault : Fault) → 1 ≤ n → IsFaultOf (judged n lines) fault → IsReadersFault fault IsRefusalOfText
+judged_is_readers n lines (Refused refusal) some is = judged_refusal_is n lines refusal some is
+judged_is_readers n lines Memory some is = tt
+judged_is_readers n lines Read some is = absurd is
+judged_is_readers n lines Write some is = absurd is
+
+-- a paragraph that stands ahead and whose lines are refused
+pub judged_fault : (text : List ℕ) (before after : FeedState) (left : Option (List ℕ)) (run : List Line) (n : ℕ) (fault : Fault) → n ≡ before.lines + 1 → IsNextRun (before.lines + 1) (room_ahead before) text run → IsFaultOf (judged n run) fault → IsPassed text before (Err fault) after left
+judged_fault text before after left run n (Refused refusal) is next judges = judged_refusal text (before.lines + 1) (room_ahead before) run refusal next (ap (λ k. judged k run) (sym is) ∙ judges)
+judged_fault text before after left run n Memory is next judges = tt
+judged_fault text before after left run n Read is next judges = absurd judges
+judged_fault text before after left run n Write is next judges = absurd judges
+
+-- where a paragraph's bytes stand in the buffer, these are its bytes
+module _ (mid : Feed) (buffer : List ℕ) (e : Extent) (from : ℕ) (places : List Place) (same : buffer ≡ buffer_of mid) (at : from ≡ start_of mid) (x : IsExtentOf e (feed_state mid)) where
+  pub standing_bytes : slice_range buffer from (from + e.end) ≡ take e.end (feed_state mid).unread
+  standing_bytes = ap (λ zs. slice_range zs from (from + e.end)) same ∙ ap (λ k. slice_range (buffer_of mid) k (k + e.end)) at ∙ front_of_unread mid e.end x.end_within
+
+  pub stands_test : (n : ℕ) → judged n (pieces_of (take e.end (feed_state mid).unread)) ≡ Ok (fields_at (take e.end (feed_state mid).unread) places) → IsTrue (list_all (lies_within (length (take e.end (feed_state mid).unread))) places) → IsTrue (stands_within buffer places (Some (record { from = from; to = from + e.end; first_line = n })))
+  stands_test n judges within =
+      let len : length (take e.end (feed_state mid).unread) ≡ e.end = length-take-le e.end (feed_state mid).unread x.end_within in
+      let room : from + e.end ≤ length buffer = omega (arith, at, x.end_within, unread_within mid, ap length same) in
+      let not_blank : AreNotBlank (pieces_of (take e.end (feed_state mid).unread)) = subst AreNotBlank (sym x.pieces) x.not_blank in
+      let short : total_length (pieces_of (take e.end (feed_state mid).unread)) ≤ paragraph_limit = subst (λ lines. total_length lines ≤ paragraph_limit) (sym x.pieces) x.short in
+      let fields = are_fields-judged n (take e.end (feed_state mid).unread) (fields_at (take e.end (feed_state mid).unread) places) not_blank short judges in
+      within_test from (from + e.end) (length buffer) (length (take e.end (feed_state mid).unread)) places _ (omega arith) room (omega (arith, len)) within
+      (ap (λ zs. are_fields (fields_at zs places)) standing_bytes ∙ fields)
+
+  -- and these are its fields
+  pub standing_fields : (n m : ℕ) → n ≡ m → judged n (pieces_of (take e.end (feed_state mid).unread)) ≡ Ok (fields_at (take e.end (feed_state mid).unread) places) → judged m (x.first ∷ x.run) ≡ Ok (standing_of buffer places (record { from = from; to = from + e.end; first_line = n })).fields
+  standing_fields n m is judges =
+      ap (λ k. judged k (x.first ∷ x.run)) (sym is) ∙ ap (judged n) (sym x.pieces) ∙ judges ∙ ap (λ zs. Ok (fields_at zs places)) (sym standing_bytes)

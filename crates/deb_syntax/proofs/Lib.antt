@@ -21,7 +21,6 @@ pub mod LinesLawsTexts
 pub mod LinesOfPieces
 pub mod Lookups
 pub mod NameSets
-pub mod NextExtents
 pub mod NextParagraph
 pub mod Parts
 pub mod Passing
