@@ -1,4 +1,4 @@
-use Rattle.std.proofs.Common.{◌≡◌, not, map, refl, sym, ap, ◌∙◌, subst, false, true, get_or}
+use Rattle.std.proofs.Common.{not, map, sym, ap, ◌∙◌, false, get_or}
 use Rattle.std.proofs.lemmas.Bool.{eq-eqb}
 use Rattle.deb_syntax.specs.Places.{name_at, mark_of}
 use Rattle.deb_syntax.proofs.NameMarks.{unmarked, marked_more, marked_push, or_true}
