@@ -20,6 +20,7 @@ pub mod LinesLawsRuns
 pub mod LinesLawsTexts
 pub mod LinesOfPieces
 pub mod Lookups
+pub mod NameMarks
 pub mod NameSets
 pub mod NextParagraph
 pub mod Parts

@@ -11,7 +11,7 @@ use Rattle.deb_syntax.specs.Fields.{has_name}
 use Rattle.deb_syntax.specs.Judging.{continuation_line, continued, with_text}
 use Rattle.deb_syntax.specs.Places.{name_at, begun_at, begun_fields, lies_within, with_last_end, ends_before, has_stood, Keeps, StandsAt}
 use Rattle.deb_syntax.specs.declared.place.Place.{Place}
-use Rattle.deb_syntax.specs.declared.folded_name.FoldedName.{FoldedName}
+use Rattle.deb_syntax.specs.declared.names.Names.{Names}
 use Rattle.deb_syntax.proofs.Slices.{slice_range-join, list_any-map}
 
 -- the parts of `lies_within`
@@ -61,7 +61,7 @@ module _ (text : List ℕ) (start end : ℕ) (ordered : start ≤ end) (within :
       let rest = (and_parts (lies_within (length text) p) (list_all (lies_within (length text)) (q ∷ ps)) lie).1 in
       ap (λ l. begun_at text p ∷ l) (continued-begun (q ∷ ps) break (omega arith) rest reached)
 
-  pub continuation_line-begun : (n : ℕ) (places : List Place) (names : List FoldedName) → (0 < start → slice_index text (start - 1) ≡ newline) → 0 < length places → StandsAt text start places names → continuation_line n (begun_fields text places) (slice_range text start end) ≡ Ok (begun_fields text (with_last_end end places))
+  pub continuation_line-begun : (n : ℕ) (places : List Place) (names : Names) → (0 < start → slice_index text (start - 1) ≡ newline) → 0 < length places → StandsAt text start places names → continuation_line n (begun_fields text places) (slice_range text start end) ≡ Ok (begun_fields text (with_last_end end places))
   continuation_line-begun n [] names break some stands = absurd (omega arith)
   continuation_line-begun n (p ∷ ps) names break some stands = ap Ok (continued-begun (p ∷ ps) break some stands.within stands.reached)
 
@@ -86,7 +86,7 @@ module _ (text : List ℕ) (start end : ℕ) (ordered : start ≤ end) (within :
   names-longer (p ∷ []) = refl
   names-longer (p ∷ q ∷ ps) = ap (λ l. name_at text p ∷ l) (names-longer (q ∷ ps))
 
-  pub StandsAt-longer : (places : List Place) (names : List FoldedName) → StandsAt text start places names → StandsAt text (end + 1) (with_last_end end places) names
+  pub StandsAt-longer : (places : List Place) (names : Names) → StandsAt text start places names → StandsAt text (end + 1) (with_last_end end places) names
   StandsAt-longer places names stands = record {
     within = lie-longer places stands.within stands.reached;
     reached = ends_before-longer places;
@@ -99,7 +99,7 @@ ends_before-push (q ∷ []) p start at = eq-eqb _ _ at
 ends_before-push (q ∷ r ∷ rs) p start at = ends_before-push (r ∷ rs) p start at
 
 -- a further field
-pub StandsAt-push : (text : List ℕ) (start : ℕ) (places : List Place) (names more : List FoldedName) (p : Place) → StandsAt text start places names → LiesWithin (length text) p → Keeps (map (name_at text) places ++ name_at text p ∷ []) more → StandsAt text (p.end + 1) (places ++ p ∷ []) more
+pub StandsAt-push : (text : List ℕ) (start : ℕ) (places : List Place) (names more : Names) (p : Place) → StandsAt text start places names → LiesWithin (length text) p → Keeps (map (name_at text) places ++ name_at text p ∷ []) more → StandsAt text (p.end + 1) (places ++ p ∷ []) more
 StandsAt-push text start places names more p stands lies keeps = record {
   within = list_all-append (lies_within (length text)) places (p ∷ []) ∙ and_from _ _ stands.within (and_from _ _ (lies_within-from (length text) p lies) refl);
   reached = ends_before-push places p (p.end + 1) refl;

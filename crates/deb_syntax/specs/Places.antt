@@ -1,7 +1,8 @@
 -- Where the fields of a paragraph stand in its bytes, and what stands there. Debian Policy 5.1; deb822(5), "Syntax".
-use Rattle.std.specs.Prelude.{◌≡◌, ℕ, ◌+◌, ◌<◌, ◌≤◌, ◌==◌, ◌&&◌, Bool, true, false, List, [], ◌∷◌, length, map, nat_le, nat_lt, drop, slice_range, if◌then◌else◌, IsTrue, Result, Err, codes, refl}
+use Rattle.std.specs.Prelude.{◌≡◌, ℕ, ◌+◌, ◌-◌, ◌*◌, ◌%◌, ◌<◌, ◌≤◌, ◌==◌, ◌&&◌, Bool, true, false, List, [], ◌∷◌, length, map, nat_le, nat_lt, drop, get_or, slice_index, slice_range, if◌then◌else◌, IsTrue, Result, Err, codes, refl}
 use Rattle.std.specs.List.{list_all, list_any}
 use Rattle.std.specs.Str.{bytes_eq}
+use Rattle.std.specs.Char.{to_ascii_lowercase}
 use Rattle.deb_base.specs.Names.{folded}
 use Rattle.deb_base.specs.declared.fault.Fault.{Fault}
 use Rattle.deb_base.specs.declared.fault.Fault.TheVariants.{Refused, Memory, Read, Write}
@@ -10,6 +11,7 @@ use Rattle.deb_base.specs.Bodies.{Line, pieces_of}
 use Rattle.deb_syntax.specs.Fields.{Field}
 use Rattle.deb_syntax.specs.Judging.{trimmed}
 use Rattle.deb_syntax.specs.declared.folded_name.FoldedName.{FoldedName}
+use Rattle.deb_syntax.specs.declared.names.Names.{Names}
 use Rattle.deb_syntax.specs.declared.place.Place.{Place}
 
 -- the name of the field at a place of a paragraph's bytes
@@ -58,14 +60,24 @@ has_stood name stood = list_any (λ other. bytes_eq (folded other) (folded name)
 abbrev pub is_kept : List ℕ → List FoldedName → Bool
 is_kept name names = list_any (λ other. bytes_eq (folded name) (folded other.0.now)) names
 
--- What a set keeps of the names that stood before: nothing while they are few, and else all.
-pub record Keeps (stood : List (List ℕ)) (names : List FoldedName) : Type 0 where
-  pub few : length stood ≤ 32 → names ≡ []
-  pub all : 32 < length stood → (name : List ℕ) → is_kept name names ≡ has_stood name stood
+-- a number below 256 that names have in common which are equal without ASCII case: of a name's length, its first and
+-- its last byte
+unfoldable pub mark_of : List ℕ → ℕ
+mark_of name = (length name % 256 * 5 + to_ascii_lowercase (slice_index name 0) * 7 + to_ascii_lowercase (slice_index name (length name - 1)) * 31) % 256
+
+-- whether the mark of a name is set
+abbrev pub is_marked : List Bool → List ℕ → Bool
+is_marked marks name = get_or marks (mark_of name) false
+
+-- What is kept of the names that stood before: their marks while they are few, and else all in a set.
+pub record Keeps (stood : List (List ℕ)) (names : Names) : Type 0 where
+  pub few : length stood ≤ 32 → names.all.keys ≡ []
+  pub marked : length stood ≤ 32 → list_all (is_marked names.marks) stood ≡ true
+  pub all : 32 < length stood → (name : List ℕ) → is_kept name names.all.keys ≡ has_stood name stood
 
 -- What is kept of the lines before the one that begins at `start`: the places lie within the text, the last of them
--- ends at that line, and the set keeps their names.
-pub record StandsAt (text : List ℕ) (start : ℕ) (places : List Place) (names : List FoldedName) : Type 0 where
+-- ends at that line, and their names are kept.
+pub record StandsAt (text : List ℕ) (start : ℕ) (places : List Place) (names : Names) : Type 0 where
   pub within : IsTrue (list_all (lies_within (length text)) places)
   pub reached : IsTrue (ends_before start places)
   pub kept : Keeps (map (name_at text) places) names
@@ -103,3 +115,8 @@ pieces_behind_place = (refl, refl, refl)
 -- a colon at the end of a place, or before its begin
 place_of_no_field : (lies_within 10 (record { line = 1; start = 0; colon = 2; end = 2 }) ≡ false) × (lies_within 10 (record { line = 1; start = 3; colon = 2; end = 4 }) ≡ false)
 place_of_no_field = (refl, refl)
+
+-- names without case have one mark, and the mark goes by the length, the first byte and the last
+marks_of_names : (mark_of (codes "Package") ≡ mark_of (codes "pACKAGE")) × (mark_of (codes "Package") ≡ 110) × (mark_of (codes "Packages") ≡ 37) × (mark_of [] ≡ 0)
+unfolding mark_of
+marks_of_names = (refl, refl, refl, refl)

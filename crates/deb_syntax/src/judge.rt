@@ -9,12 +9,10 @@ ghost use Rattle.deb_syntax.specs.Fields.{Field, has_name};
 ghost use Rattle.deb_syntax.specs.Judging.{begins_comment, is_named, field_line, judged, line_judged};
 ghost use Rattle.deb_syntax.specs.Places.{begun_fields, fields_at, lies_within, pieces_behind, with_last_end, StandsAt, IsFaultOf};
 
-use crate::folded_name::FoldedName;
 use crate::name::{is_name, name_bytes};
-use crate::names::add;
+use crate::names::{Names, add};
 use crate::place::Place;
 use deb_base::{Code, Fault, Refusal};
-use indexmap::IndexSet;
 use memchr::memchr;
 use simdutf8::is_utf8;
 use std::alloc::Global;
@@ -58,7 +56,7 @@ pub(crate) fn judge(
 {
     places.clear();
     let utf8 = is_utf8(text);
-    let mut names = IndexSet::new(alloc);
+    let mut names = Names::new(alloc);
     let mut number = first_line;
     let mut start = 0;
     loop {
@@ -93,17 +91,17 @@ fn judge_line<'a>(
     line: Line,
     utf8: bool,
     places: &mut Vec<Place>,
-    names: &mut IndexSet<FoldedName<'a>>,
+    names: &mut Names<'a>,
 ) -> Result<(), Fault>
     requires after { line.start ≤ line.end }
     requires within { line.end ≤ length text.now }
     requires newline { 0 < line.start → slice_index text.now (line.start - 1) ≡ newline }
-    requires stands { StandsAt text.now line.start places.old.items names.old.keys }
+    requires stands { StandsAt text.now line.start places.old.items names.old }
     requires utf8 { IsTrue utf8 → IsUtf8 (slice_range text.now line.start line.end) }
     ensures ok { let content = slice_range text.now line.start line.end in
         OnOk result (line_judged line.number (begun_fields text.now places.old.items) content
         ≡ Ok (begun_fields text.now places.new.items)) }
-    ensures stands { OnOk result (StandsAt text.now (line.end + 1) places.new.items names.new.keys) }
+    ensures stands { OnOk result (StandsAt text.now (line.end + 1) places.new.items names.new) }
     ensures fault { let content = slice_range text.now line.start line.end in
         IfErr result (IsFaultOf
         (line_judged line.number (begun_fields text.now places.old.items) content)) }
@@ -164,15 +162,15 @@ fn begin_field<'a>(
     text: &'a [u8],
     line: Line,
     places: &mut Vec<Place>,
-    names: &mut IndexSet<FoldedName<'a>>,
+    names: &mut Names<'a>,
 ) -> Result<(), Fault>
     requires after { line.start ≤ line.end }
     requires within { line.end ≤ length text.now }
-    requires stands { StandsAt text.now line.start places.old.items names.old.keys }
+    requires stands { StandsAt text.now line.start places.old.items names.old }
     ensures ok { let content = slice_range text.now line.start line.end in
         OnOk result (field_line line.number (begun_fields text.now places.old.items) content
         ≡ Ok (begun_fields text.now places.new.items)) }
-    ensures stands { OnOk result (StandsAt text.now (line.end + 1) places.new.items names.new.keys) }
+    ensures stands { OnOk result (StandsAt text.now (line.end + 1) places.new.items names.new) }
     ensures fault { let content = slice_range text.now line.start line.end in
         IfErr result (IsFaultOf
         (field_line line.number (begun_fields text.now places.old.items) content)) }

@@ -57,4 +57,4 @@ returns-clause-stands c =
     let items = rw pushed at c.push.ensures.items in
     let named = name_at-begun text line.start line.end c.in_ok-colon.colon c.requires.after c.requires.within (inside added) in
     let lies = LiesWithin-begun text line.start line.end c.in_ok-colon.colon c.requires.after c.requires.within (inside added) line.number in
-    rw items (StandsAt-push text line.start places c.args.names.now.keys c.add.new.all.keys _ c.requires.stands lies (subst (λ name. Keeps (map (name_at text) places ++ name ∷ []) c.add.new.all.keys) named keeps))
+    rw items (StandsAt-push text line.start places c.args.names.now c.add.new.names _ c.requires.stands lies (subst (λ name. Keeps (map (name_at text) places ++ name ∷ []) c.add.new.names) named keeps))

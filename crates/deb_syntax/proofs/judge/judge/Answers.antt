@@ -11,7 +11,7 @@ loop-names-init c = record {
   within = omega arith;
   numbered = omega arith;
   behind = λ some. absurd (omega arith);
-  stands = rw (c.clear.ensures.items, c.new-names.ensures.empty) (record { within = refl; reached = refl; kept = record { few = λ _. refl; all = λ many. absurd (omega arith) } });
+  stands = rw c.clear.ensures.items (record { within = refl; reached = refl; kept = record { few = λ _. c.new-names.ensures; marked = λ _. refl; all = λ many. absurd (omega arith) } });
   utf8 = λ known. utf8_pieces c.args.text.now (c.is_utf8-utf8.ensures.0 known);
   so_far = rw c.clear.ensures.items refl;
 }

@@ -11,7 +11,7 @@ invariant-loop-names l = record {
   within : l.start ≤ length l.text;
   numbered : l.number ≤ l.first_line + l.start;
   behind : 0 < l.start → slice_index l.text (l.start - 1) ≡ newline;
-  stands : StandsAt l.text l.start l.places.items l.names.keys;
+  stands : StandsAt l.text l.start l.places.items l.names;
   utf8 : IsTrue l.utf8 → AllByRecursion IsUtf8 (pieces_of (drop l.start l.text));
   so_far : judged l.first_line (pieces_of l.text) ≡ lines_judged l.number (Ok (begun_fields l.text l.places.items)) (pieces_of (drop l.start l.text));
 }

@@ -15,14 +15,14 @@ returns-then-begins_with_blank-clause-ok c =
     on_ok_weaker c.continue_field.result
     (λ h.
     line_judged-continuation _ _ _ (c.if-not-is_line_utf8.ensures.0 refl) (sym c.if-begins_with_blank.ensures)
-    ∙ continuation_line-begun text c.args.line.start c.args.line.end c.requires.after c.requires.within c.args.line.number c.args.places.now.items c.args.names.now.keys c.requires.newline h.0 c.requires.stands
+    ∙ continuation_line-begun text c.args.line.start c.args.line.end c.requires.after c.requires.within c.args.line.number c.args.places.now.items c.args.names.now c.requires.newline h.0 c.requires.stands
     ∙ ap (λ l. Ok (begun_fields text l)) (sym h.1))
     c.continue_field.ensures.ok
 
 pub returns-then-begins_with_blank-clause-stands : goal.returns-then-begins_with_blank-clause-stands
 returns-then-begins_with_blank-clause-stands c =
     on_ok_weaker c.continue_field.result
-    (λ h. subst (λ l. StandsAt c.args.text.now (c.args.line.end + 1) l c.args.names.now.keys) (sym h.1) (StandsAt-longer c.args.text.now c.args.line.start c.args.line.end c.requires.after c.requires.within c.args.places.now.items c.args.names.now.keys c.requires.stands))
+    (λ h. subst (λ l. StandsAt c.args.text.now (c.args.line.end + 1) l c.args.names.now) (sym h.1) (StandsAt-longer c.args.text.now c.args.line.start c.args.line.end c.requires.after c.requires.within c.args.places.now.items c.args.names.now c.requires.stands))
     c.continue_field.ensures.ok
 
 pub returns-then-begins_with_blank-clause-fault : goal.returns-then-begins_with_blank-clause-fault
