@@ -167,9 +167,11 @@ impl Paragraphs {
         ensures quiet { IsTrue (state_of self.old).ended ⊎ IsTrue (state_of self.old).finished → reader.new ≡ reader.old }
         ensures kept { self.new.fault ≡ self.old.fault }
     {
-        match self.find_first(reader)? {
-            First::End => Ok(None),
-            First::Kept(_) | First::Dropped(_) => Ok(Some(self.feed.lines() + 1)),
+        match self.find_first(reader) {
+            Ok(First::End) => Ok(None),
+            Ok(First::Kept(_)) => Ok(Some(self.feed.lines() + 1)),
+            Ok(First::Dropped(_)) => Ok(Some(self.feed.lines() + 1)),
+            Err(fault) => Err(fault),
         }
     }
 
@@ -180,16 +182,17 @@ impl Paragraphs {
         ensures quiet { IsTrue (state_of self.old).ended ⊎ IsTrue (state_of self.old).finished → reader.new ≡ reader.old }
         ensures kept { self.new.fault ≡ self.old.fault }
     {
-        match self.find_first(reader)? {
-            First::End => Ok(false),
-            First::Dropped(_) => Err(Fault::Refused(Refusal {
+        match self.find_first(reader) {
+            Ok(First::End) => Ok(false),
+            Ok(First::Dropped(_)) => Err(Fault::Refused(Refusal {
                 code: Code::ParagraphTooLong,
                 line: self.feed.lines() + 1,
             })),
-            First::Kept(begun) => {
-                self.find_end(begun, reader)?;
-                Ok(true)
-            }
+            Ok(First::Kept(begun)) => match self.find_end(begun, reader) {
+                Ok(()) => Ok(true),
+                Err(fault) => Err(fault),
+            },
+            Err(fault) => Err(fault),
         }
     }
 
@@ -198,6 +201,7 @@ impl Paragraphs {
         ensures first { (text passed : List ℕ) → Fits text passed (state_of self.old) (R.left reader.old) → FindsFirst text passed result (state_of self.new) (R.left reader.new) }
         ensures shows { ShowsFirst result self.new.hidden self.new.finished (feed_state self.new.feed) }
         ensures none { (state_of self.new).current ≡ None }
+        ensures ended { IsTrue (state_of self.old).finished → result ≡ Ok First.End }
         ensures fault { IfErr result (λ fault. IsReadersFault fault IsRefusalOfText) }
         ensures counted { R.failures reader.new ≡ read_failures_after (R.failures reader.old) result }
         ensures quiet { IsTrue (state_of self.old).ended ⊎ IsTrue (state_of self.old).finished → reader.new ≡ reader.old }
