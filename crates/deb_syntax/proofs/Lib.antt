@@ -35,3 +35,4 @@ pub mod WalkingBlanks
 pub mod WalkingLines
 pub mod WalkingRuns
 pub mod WalkingSteps
+pub mod ParagraphLines
