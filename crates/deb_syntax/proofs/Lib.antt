@@ -37,3 +37,4 @@ pub mod WalkingRuns
 pub mod WalkingBlanks
 pub mod Feeds
 pub mod Dropping
+pub mod FirstLines
