@@ -1,8 +1,8 @@
 -- The first line ahead that isn't blank: blank lines that pass by pieces, and the line behind them.
-use Rattle.std.proofs.Common.{◌≡◌, ◌≢◌, ℕ, zero, suc, ◌+◌, ◌-◌, ◌<◌, ◌≤◌, ◌==◌, ◌⊎◌, inl, inr, Bool, true, false, cond, List, [], ◌∷◌, ◌++◌, Option, Some, None, Result, Ok, Err, length, take, drop, IsTrue, IsFalse, refl, sym, ap, subst, ◌∙◌, append_assoc, arith, length-append, length-drop, length-take, append-nil, nat_lt}
+use Rattle.std.proofs.Common.{◌≡◌, ◌≢◌, ℕ, zero, suc, ◌+◌, ◌-◌, ◌<◌, ◌≤◌, ◌==◌, ◌⊎◌, inl, inr, Bool, true, false, cond, List, [], ◌∷◌, ◌++◌, Option, Some, None, Result, Ok, Err, length, take, drop, IsTrue, IsFalse, refl, sym, ap, subst, ◌∙◌, append_assoc, arith, length-append, length-drop, length-take, append-nil, nat_lt, min}
 use Rattle.std.proofs.Math.Seq.{take-append-add, take-append_seam, drop-append_seam, drop-length}
 use Rattle.std.proofs.lemmas.Bool.{false≢true, cases_lt, lt-ltb}
-use Rattle.std.proofs.lemmas.List.{take-append-drop, take-append-le, take-take, take_all, length-take-le, drop-append-le}
+use Rattle.std.proofs.lemmas.List.{take-append-drop, take-append-le, take-take, take_all, length-take-le, drop-append-le, drop_all}
 use Rattle.std.specs.Bool.{MatchBool}
 use Rattle.std.specs.Option.{unwrap_or}
 use mir.Val.{bool_byte}
@@ -19,10 +19,15 @@ use Rattle.deb_syntax.specs.Walking.{StandInFront, Describes, EndsNotBlank, Skip
 use Rattle.deb_syntax.specs.Ahead.{left_answer, left_begin, room_ahead, IsAhead, IsNear, PassesBlanks, PassesAll, EndsInSight, KeepsLine, HidesLine, HasFirst, IsFirst, HasNewline, TextAfterLine, FindsDropped, IsDropped}
 use Rattle.deb_syntax.specs.declared.begun.Begun.{Begun}
 use Rattle.deb_syntax.specs.declared.first.First.{First}
+use Rattle.deb_syntax.specs.declared.feed.Sight.{Sight}
+use Rattle.deb_syntax.specs.declared.feed.Tail.{Tail}
+use Rattle.deb_syntax.specs.declared.feed.Tail.TheVariants.{More, Nothing, Beyond}
+use Rattle.deb_syntax.specs.declared.skip.Skipped.{Skipped}
 use Rattle.deb_syntax.specs.declared.take.Run.{Run}
 use Rattle.deb_syntax.specs.declared.dropped.DroppedLine.{DroppedLine}
 use Rattle.deb_syntax.specs.declared.first.First.TheVariants.{End, Kept, Dropped}
 use Rattle.deb_syntax.proofs.Boundaries.{ends_line-both}
+use Rattle.deb_syntax.proofs.Feeds.{comes_whole, comes_end}
 use Rattle.deb_syntax.proofs.JudgingLaws.{all_append}
 use Rattle.deb_syntax.proofs.LeftAnswers.{left-beyond, left-cut}
 use Rattle.deb_syntax.proofs.Parts.{part_within-append, part_within-some, line_beyond-append, whole_lines-none}
@@ -49,7 +54,6 @@ left-blanks : {A : Type 0} (f : Option ℕ → List Paragraph → A) (n room : �
     → f (line_beyond n room text) (paragraphs_from n (lines_of (part_within room text)))
     ≡ f (line_beyond (n + length blanks) (room - length (with_newlines blanks)) ahead) (paragraphs_from (n + length blanks) (lines_of (part_within (room - length (with_newlines blanks)) ahead)))
 left-blanks f n room text ahead blanks front blank within =
-    let less : ℕ = room - length (with_newlines blanks) in
     let beyond : line_beyond n room text ≡ line_beyond (n + length blanks) (room - length (with_newlines blanks)) ahead =
     ap (line_beyond n room) front.text
     ∙ line_beyond-append n room (with_newlines blanks) ahead (ends_line-lines blanks) within
