@@ -297,3 +297,217 @@ dropped-fault feed after run (Refused refusal) text left no_bytes no_lines h =
 dropped-fault feed after run Memory text left no_bytes no_lines h = tt
 dropped-fault feed after run Read text left no_bytes no_lines h = tt
 dropped-fault feed after run Write text left no_bytes no_lines h = h
+
+-- blank lines have passed, and so much was seen of the line that begins the unread bytes
+pub record Walked (before : FeedState) (left_before : Option (List ℕ)) (feed : FeedState) (left : Option (List ℕ)) (begun : Begun) : Type 0 where
+  pub within : begun.len ≤ length feed.unread
+  pub room : begun.len ≤ room_ahead feed
+  pub describes : Describes begun (take begun.len feed.unread)
+  pub near : IsNear feed.unread
+  pub ended : IsTrue before.ended → IsTrue feed.ended
+  pub ahead : (text : List ℕ) → IsAhead text [] before left_before → (ahead : List ℕ) × PassesBlanks text before feed ahead × IsAhead ahead [] feed left
+
+pub walked-start : (before : FeedState) (left : Option (List ℕ)) (begun : Begun) → IsNear before.unread → Describes begun [] → Walked before left before left begun
+walked-start before left begun near nothing =
+    let none : begun.len ≡ 0 = nothing.len in
+    record {
+      within = omega (arith, none);
+      room = omega (arith, none);
+      describes = subst (Describes begun) (ap (λ k. take k before.unread) (sym none)) nothing;
+      near = near;
+      ended = λ e. e;
+      ahead = λ text a. (text, passes-none text before, a);
+    }
+
+-- what is seen there
+module _ (feed : FeedState) (begun : Begun) (sight : Sight) (sees : Sees feed 0 sight) where
+  room-is : room_of feed 0 ≡ room_ahead feed
+  room-is = omega arith
+
+  pub seen-whole : feed.unread ≡ sight.seen.now ++ drop (room_of feed 0) feed.unread
+  seen-whole = sym (take-append-drop (room_of feed 0) feed.unread) ∙ ap (λ zs. zs ++ drop (room_of feed 0) feed.unread) (sym sees.seen)
+
+  seen-length : length sight.seen.now ≡ min (room_of feed 0) (length feed.unread)
+  seen-length = ap length sees.seen ∙ length-take (room_of feed 0) feed.unread
+
+  pub skip-within : begun.len ≤ length feed.unread → begun.len ≤ room_ahead feed → begun.len ≤ length sight.seen.now
+  skip-within within room = omega (arith, seen-length, room-is, within, room)
+
+  pub skip-seen : begun.len ≤ length feed.unread → begun.len ≤ room_ahead feed → Describes begun (take begun.len feed.unread) → Describes begun (take begun.len sight.seen.now)
+  skip-seen within room described =
+      subst (Describes begun) (sym (ap (take begun.len) sees.seen ∙ take-take begun.len (room_of feed 0) feed.unread (omega (arith, room-is, room)))) described
+
+  -- the bytes of the blank lines
+  pub skipped-within : (skipped : Skipped) → SkipsBlanks sight.seen.now skipped → skipped.bytes ≤ length feed.unread
+  skipped-within skipped s = omega (arith, s.bytes, ap length s.front.text, length-append (with_newlines s.lines) s.rest, seen-length)
+
+  pub skipped-room : (skipped : Skipped) → SkipsBlanks sight.seen.now skipped → feed.bytes ≤ file_limit → feed.bytes + skipped.bytes ≤ file_limit
+  skipped-room skipped s small = omega (arith, s.bytes, ap length s.front.text, length-append (with_newlines s.lines) s.rest, seen-length, room-is, small)
+
+  pub skipped-few : (skipped : Skipped) → SkipsBlanks sight.seen.now skipped → skipped.lines ≤ skipped.bytes
+  skipped-few skipped s = omega (arith, s.bytes, s.counted, few_lines-with_newlines s.lines)
+
+-- behind blank lines stand so many bytes that may be looked at, and others
+pub record Stands (before : FeedState) (left_before : Option (List ℕ)) (feed : FeedState) (left : Option (List ℕ)) (skipped : Skipped) (kind : Tail) : Type 0 where
+  pub rest : List ℕ
+  pub beyond : List ℕ
+  pub unread : feed.unread ≡ rest ++ beyond
+  pub room : length rest ≤ room_ahead feed
+  pub near : IsNear feed.unread
+  pub ended : IsTrue before.ended → IsTrue feed.ended
+  pub behind : MatchBool skipped.ended (EndsNotBlank rest skipped.begun) (Describes skipped.begun rest)
+  pub tail : IsTail feed 0 kind
+  pub cut : room_of feed 0 < length feed.unread → length rest ≡ room_ahead feed
+  pub all : length feed.unread ≤ room_of feed 0 → feed.unread ≡ rest
+  pub ahead : (text : List ℕ) → IsAhead text [] before left_before → (ahead : List ℕ) × PassesBlanks text before feed ahead × IsAhead ahead [] feed left
+
+near-drop : (n : ℕ) (bytes : List ℕ) → IsNear bytes → IsNear (drop n bytes)
+near-drop n bytes near front more e =
+    near (take n bytes ++ front) more (sym (take-append-drop n bytes) ∙ ap (λ zs. take n bytes ++ zs) e ∙ sym (append_assoc (take n bytes) front (newline ∷ more)))
+
+tail-pass : (feed after : FeedState) (n : ℕ) (tail : Tail) → n ≤ length feed.unread → n ≤ room_of feed 0 → length after.unread ≡ length feed.unread - n → after.bytes ≡ feed.bytes + n → after.ended ≡ feed.ended → IsTail feed 0 tail → IsTail after 0 tail
+tail-pass feed after n More le within length_is bytes_is ended_is h = (omega (arith, h.0, length_is, bytes_is, le, within), subst IsFalse (sym ended_is) h.1)
+tail-pass feed after n Nothing le within length_is bytes_is ended_is h = (omega (arith, h.0, length_is, bytes_is, le, within), subst IsTrue (sym ended_is) h.1)
+tail-pass feed after n Beyond le within length_is bytes_is ended_is h = omega (arith, h, length_is, bytes_is, le, within)
+
+pub stands : (before : FeedState) (left_before : Option (List ℕ)) (feed after : FeedState) (left : Option (List ℕ)) (begun : Begun) (sight : Sight) (skipped : Skipped) → feed.bytes ≤ file_limit → Walked before left_before feed left begun → Sees feed 0 sight → SkipsBlanks sight.seen.now skipped → PassesOn feed skipped.bytes skipped.bytes skipped.lines after → Stands before left_before after left skipped sight.tail
+stands before left_before feed after left begun sight skipped small w sees s passes =
+    let whole : feed.unread ≡ with_newlines s.lines ++ (s.rest ++ drop (room_of feed 0) feed.unread) =
+    seen-whole feed begun sight sees ∙ ap (λ zs. zs ++ drop (room_of feed 0) feed.unread) s.front.text ∙ append_assoc (with_newlines s.lines) s.rest (drop (room_of feed 0) feed.unread) in
+    let unread : after.unread ≡ s.rest ++ drop (room_of feed 0) feed.unread =
+    passes.unread ∙ ap (drop skipped.bytes) whole ∙ ap (λ n. drop n (with_newlines s.lines ++ (s.rest ++ drop (room_of feed 0) feed.unread))) s.bytes
+    ∙ drop-append_seam (with_newlines s.lines) (s.rest ++ drop (room_of feed 0) feed.unread) in
+    let seen : length sight.seen.now ≡ length (with_newlines s.lines) + length s.rest = ap length s.front.text ∙ length-append (with_newlines s.lines) s.rest in
+    let seen_length : length sight.seen.now ≡ min (room_of feed 0) (length feed.unread) = seen-length feed begun sight sees in
+    let left_length : length after.unread ≡ length feed.unread - skipped.bytes = ap length passes.unread ∙ length-drop skipped.bytes feed.unread in
+    let within : skipped.bytes ≤ length feed.unread = skipped-within feed begun sight sees skipped s in
+    let in_room : skipped.bytes ≤ room_of feed 0 = omega (arith, s.bytes, seen, seen_length) in
+    record {
+      rest = s.rest;
+      beyond = drop (room_of feed 0) feed.unread;
+      unread = unread;
+      room = omega (arith, s.bytes, seen, seen_length, passes.bytes);
+      near = subst IsNear (sym passes.unread) (near-drop skipped.bytes feed.unread w.near);
+      ended = λ e. subst IsTrue (sym passes.ended) (w.ended e);
+      behind = s.behind;
+      tail = tail-pass feed after skipped.bytes sight.tail within in_room left_length passes.bytes passes.ended sees.tail;
+      cut = λ long. omega (arith, long, s.bytes, seen, seen_length, left_length, passes.bytes, within, in_room);
+      all = λ short. unread ∙ ap (λ zs. s.rest ++ zs) (drop_all (room_of feed 0) feed.unread (omega (arith, short, left_length, passes.bytes, within, in_room))) ∙ append-nil s.rest;
+      ahead = λ text a.
+          let h = w.ahead text a in
+          let b = h.2 in
+          let stand : StandInFront h.0 s.lines (after.unread ++ b.rest) = record {
+            text = b.whole ∙ ap (λ zs. zs ++ b.rest) (whole ∙ ap (λ zs. with_newlines s.lines ++ zs) (sym unread)) ∙ append_assoc (with_newlines s.lines) after.unread b.rest;
+            lines = s.front.lines;
+          } in (
+            after.unread ++ b.rest,
+            passes-more text h.0 before feed h.1 small after (after.unread ++ b.rest) (record {
+              blanks = s.lines;
+              front = stand;
+              blank = s.blank;
+              bytes = passes.bytes ∙ ap (λ n. feed.bytes + n) s.bytes;
+              lines = passes.lines ∙ ap (λ n. feed.lines + n) s.counted;
+            }),
+            record { rest = b.rest; told = b.told; whole = refl; ended = λ e. b.ended (subst IsTrue passes.ended e) },
+          );
+    }
+
+module _ (before : FeedState) (left_before : Option (List ℕ)) (feed : FeedState) (left : Option (List ℕ)) (skipped : Skipped) (tail : Tail) (s : Stands before left_before feed left skipped tail) where
+  -- the line's newline is among these bytes
+  pub stands-found : skipped.ended ≡ true → KeepsLine skipped.begun feed
+  stands-found is =
+      let e = subst (λ t. MatchBool t (EndsNotBlank s.rest skipped.begun) (Describes skipped.begun s.rest)) is s.behind in
+      let size : length s.rest ≡ length e.line + length (newline ∷ e.more) = ap length e.whole ∙ length-append e.line (newline ∷ e.more) in
+      record {
+        line = e.line;
+        describes = e.describes;
+        not_blank = e.not_blank;
+        ends = inl (
+          e.more ++ s.beyond,
+          s.unread ∙ ap (λ zs. zs ++ s.beyond) e.whole ∙ append_assoc e.line (newline ∷ e.more) s.beyond,
+          omega (arith, size, s.room),
+        );
+        near = s.near;
+      }
+
+  pub stands-kept : (text : List ℕ) → IsAhead text [] before left_before → IsFirst text before (Ok (Kept skipped.begun)) feed left
+  stands-kept text a = s.ahead text a
+
+  -- it isn't: the line goes on
+  pub stands-open : skipped.ended ≡ false → Describes skipped.begun s.rest
+  stands-open is = subst (λ t. MatchBool t (EndsNotBlank s.rest skipped.begun) (Describes skipped.begun s.rest)) is s.behind
+
+  pub stands-seen : skipped.ended ≡ false → length feed.unread ≤ room_of feed 0 → Describes skipped.begun feed.unread
+  stands-seen is le = subst (Describes skipped.begun) (sym (s.all le)) (stands-open is)
+
+  pub stands-room : length feed.unread ≤ room_of feed 0 → length feed.unread ≤ room_ahead feed
+  stands-room le = omega (arith, le)
+
+  pub walked-more : (after : FeedState) (left_after : Option (List ℕ)) → skipped.ended ≡ false → length feed.unread ≤ room_of feed 0 → IsFalse feed.ended → Comes feed left after left_after → Walked before left_before after left_after skipped.begun
+  walked-more after left_after is le more come =
+      let seen = stands-seen is le in
+      let front : take skipped.begun.len after.unread ≡ feed.unread =
+      ap (take skipped.begun.len) come.unread ∙ ap (λ n. take n (feed.unread ++ come.piece)) seen.len ∙ take-append_seam feed.unread come.piece in
+      record {
+        within = omega (arith, ap length come.unread, length-append feed.unread come.piece, seen.len);
+        room = omega (arith, le, seen.len, come.bytes);
+        describes = subst (Describes skipped.begun) (sym front) seen;
+        near = λ first behind e. let l : length behind ≤ length come.piece = near-piece feed.unread come.piece first behind seen.line (sym come.unread ∙ e) in omega (arith, l, come.short);
+        ended = λ e. absurd (false≢true (sym more ∙ s.ended e));
+        ahead = λ text a.
+            let h = s.ahead text a in
+            let b = h.2 in
+            let next = comes_whole feed after b.rest left left_after b.told come in (
+              h.0,
+              record {
+                blanks = h.1.blanks;
+                front = h.1.front;
+                blank = h.1.blank;
+                bytes = come.bytes ∙ h.1.bytes;
+                lines = come.lines ∙ h.1.lines;
+              },
+              record { rest = next.0; told = next.1; whole = b.whole ∙ sym next.3; ended = comes_end feed after next.0 left left_after next.1 come },
+            );
+      }
+
+  -- no line ends within what may be looked at
+  pub stands-beyond : (refusal : Refusal) → skipped.ended ≡ false → feed.bytes ≤ file_limit → room_of feed 0 < length feed.unread → refusal ≡ record { code = FileTooLong; line = feed.lines + 1 } → (text : List ℕ) → IsAhead text [] before left_before → IsFirst text before (Err (Refused refusal)) feed left
+  stands-beyond refusal is small long at text a =
+      let h = s.ahead text a in
+      let b = h.2 in
+      let whole : h.0 ≡ s.rest ++ (s.beyond ++ b.rest) = b.whole ∙ ap (λ zs. zs ++ b.rest) s.unread ∙ append_assoc s.rest s.beyond b.rest in
+      let cut : take (room_ahead feed) h.0 ≡ s.rest =
+      ap (take (room_ahead feed)) whole ∙ ap (λ n. take n (s.rest ++ (s.beyond ++ b.rest))) (sym (s.cut long)) ∙ take-append_seam s.rest (s.beyond ++ b.rest) in
+      first-behind text h.0 before feed h.1 small feed left (Err (Refused refusal))
+      (first-beyond h.0 feed feed left refusal (omega (arith, ap length b.whole, length-append feed.unread b.rest, long)) (subst HasNoNewline (sym cut) (stands-open is).line) at)
+
+  -- what is answered behind them
+  pub stands-first : (after : FeedState) (left_after : Option (List ℕ)) (result : Result First Fault) → feed.bytes ≤ file_limit → ((text : List ℕ) → IsAhead text [] feed left → IsFirst text feed result after left_after) → (text : List ℕ) → IsAhead text [] before left_before → IsFirst text before result after left_after
+  stands-first after left_after result small answers text a =
+      let h = s.ahead text a in
+      first-behind text h.0 before feed h.1 small after left_after result (answers h.0 h.2)
+
+-- how much may still come
+abbrev pub still : FeedState → ℕ
+still feed = ((file_limit + 1) - (feed.bytes + length feed.unread)) + cond feed.ended 0 1
+
+pub still-less : (start feed after : FeedState) (left left_after : Option (List ℕ)) (n m : ℕ) → PassesOn start n n m feed → n ≤ length start.unread → feed.bytes ≤ file_limit → length feed.unread ≤ room_of feed 0 → IsFalse feed.ended → Comes feed left after left_after → still after < still start
+still-less start feed after left left_after n m passes within small le more come =
+    let before_is : feed.ended ≡ false = more in
+    let start_is : start.ended ≡ false = sym passes.ended ∙ before_is in
+    let left_length : length feed.unread ≡ length start.unread - n = ap length passes.unread ∙ length-drop n start.unread in
+    let one : ◌≡◌ {A = ℕ} (cond start.ended 0 1) 1 = ap one_if start_is in
+    let grown : length after.unread ≡ length feed.unread + length come.piece = ap length come.unread ∙ length-append feed.unread come.piece in
+    go after.ended refl left_length one grown
+  where
+    one_if : Bool → ℕ
+    one_if t = cond t 0 1
+
+    go : (t : Bool) → after.ended ≡ t → length feed.unread ≡ length start.unread - n → ◌≡◌ {A = ℕ} (cond start.ended 0 1) 1 → length after.unread ≡ length feed.unread + length come.piece → still after < still start
+    go true is left_length one grown =
+        let none : ◌≡◌ {A = ℕ} (cond after.ended 0 1) 0 = ap one_if is in
+        omega (arith, none, one, left_length, grown, passes.bytes, come.bytes, within)
+    go false is left_length one grown =
+        let again : ◌≡◌ {A = ℕ} (cond after.ended 0 1) 1 = ap one_if is in
+        let some : 0 < length come.piece = come.more is in
+        omega (arith, again, one, left_length, grown, passes.bytes, come.bytes, within, some, small, le)
