@@ -1,8 +1,8 @@
 -- The first line ahead that isn't blank: blank lines that pass by pieces, and the line behind them.
-use Rattle.std.proofs.Common.{◌≡◌, ◌≢◌, ℕ, zero, suc, ◌+◌, ◌-◌, ◌<◌, ◌≤◌, ◌==◌, ◌⊎◌, inl, inr, Bool, true, false, cond, List, [], ◌∷◌, ◌++◌, Option, Some, None, Result, Ok, Err, length, take, drop, IsTrue, IsFalse, refl, sym, ap, subst, ◌∙◌, append_assoc, arith, length-append, length-drop, length-take, append-nil, nat_lt, min}
-use Rattle.std.proofs.Math.Seq.{take-append-add, take-append_seam, drop-append_seam, drop-length}
-use Rattle.std.proofs.lemmas.Bool.{false≢true, cases_lt, lt-ltb}
-use Rattle.std.proofs.lemmas.List.{take-append-drop, take-append-le, take-take, take_all, length-take-le, drop-append-le, drop_all}
+use Rattle.std.proofs.Common.{◌≡◌, ℕ, ◌+◌, ◌-◌, ◌<◌, ◌≤◌, ◌==◌, inl, inr, Bool, true, false, cond, List, [], ◌∷◌, ◌++◌, Option, Some, None, Result, Ok, Err, length, take, drop, IsTrue, IsFalse, refl, sym, ap, subst, ◌∙◌, append_assoc, arith, length-append, length-drop, length-take, append-nil, nat_lt, min}
+use Rattle.std.proofs.Math.Seq.{take-append_seam, drop-append_seam, drop-length}
+use Rattle.std.proofs.lemmas.Bool.{false≢true, lt-ltb}
+use Rattle.std.proofs.lemmas.List.{take-append-drop, take-take, drop_all}
 use Rattle.std.specs.Bool.{MatchBool}
 use Rattle.std.specs.Option.{unwrap_or}
 use mir.Val.{bool_byte}
@@ -11,12 +11,12 @@ use Rattle.deb_base.specs.declared.code.Code.TheVariants.{FileTooLong}
 use Rattle.deb_base.specs.declared.fault.Fault.{Fault}
 use Rattle.deb_base.specs.declared.fault.Fault.TheVariants.{Refused, Memory, Read, Write}
 use Rattle.deb_base.specs.declared.refusal.Refusal.{Refusal}
-use Rattle.deb_syntax.specs.Answers.{Seen, part_within, whole_lines, line_beyond, answer_of_first, begin_of_first}
+use Rattle.deb_syntax.specs.Answers.{part_within, line_beyond, answer_of_first, begin_of_first}
 use Rattle.deb_syntax.specs.Extents.{AreBlank}
 use Rattle.deb_syntax.specs.Lines.{Paragraph, lines_of, with_newlines, ends_line, paragraphs_from, file_limit}
-use Rattle.deb_syntax.specs.Feeding.{FeedState, piece_limit, Comes, PassesOn, Sees, IsTail, room_of}
+use Rattle.deb_syntax.specs.Feeding.{FeedState, Comes, PassesOn, Sees, IsTail, room_of}
 use Rattle.deb_syntax.specs.Walking.{StandInFront, Describes, EndsNotBlank, SkipsBlanks}
-use Rattle.deb_syntax.specs.Ahead.{left_answer, left_begin, room_ahead, IsAhead, IsNear, PassesBlanks, PassesAll, EndsInSight, KeepsLine, HidesLine, HasFirst, IsFirst, HasNewline, TextAfterLine, FindsDropped, IsDropped}
+use Rattle.deb_syntax.specs.Ahead.{left_answer, left_begin, room_ahead, IsAhead, IsNear, PassesBlanks, PassesAll, KeepsLine, HidesLine, HasFirst, IsFirst, HasNewline, TextAfterLine, FindsDropped, IsDropped}
 use Rattle.deb_syntax.specs.declared.begun.Begun.{Begun}
 use Rattle.deb_syntax.specs.declared.first.First.{First}
 use Rattle.deb_syntax.specs.declared.feed.Sight.{Sight}
@@ -32,7 +32,7 @@ use Rattle.deb_syntax.proofs.JudgingLaws.{all_append}
 use Rattle.deb_syntax.proofs.LeftAnswers.{left-beyond, left-cut}
 use Rattle.deb_syntax.proofs.Parts.{part_within-append, part_within-some, line_beyond-append, whole_lines-none}
 use Rattle.deb_syntax.proofs.Runs.{paragraphs_from-blanks, lines_of-last}
-use Rattle.deb_syntax.proofs.WalkingLines.{lines_of-with_newlines_and, lines_of-unended, with_newlines-append, few_lines-with_newlines, drop-front}
+use Rattle.deb_syntax.proofs.WalkingLines.{lines_of-with_newlines_and, lines_of-unended, with_newlines-append, few_lines-with_newlines}
 
 ends_line-newline : (line : List ℕ) → ends_line (line ++ newline ∷ []) ≡ true
 ends_line-newline [] = refl

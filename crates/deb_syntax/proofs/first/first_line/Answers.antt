@@ -1,11 +1,11 @@
-use Rattle.std.proofs.Common.{◌≡◌, ◌∙◌, ◌+◌, ◌≤◌, ap, sym, subst, arith, Ok, ℕ}
+use Rattle.std.proofs.Common.{◌∙◌, ◌+◌, ◌≤◌, ap, sym, subst, arith, Ok, ℕ}
 use Rattle.std.proofs.lemmas.Bool.{false≢true}
 use Rattle.deb_base.specs.declared.refusal.Refusal.{Refusal}
 use Rattle.deb_base.specs.declared.code.Code.TheVariants.{FileTooLong}
 use Rattle.deb_syntax.specs.Lines.{file_limit}
 use Rattle.deb_syntax.specs.Feeding.{feed_state, IsTail}
 use Rattle.deb_syntax.proofs.Feeds.{feed_small}
-use Rattle.deb_syntax.proofs.FirstLines.{skipped-within, skipped-room, skipped-few, stands, stands-found, stands-kept, stands-open, stands-seen, stands-beyond, stands-first, walked-more, still-less}
+use Rattle.deb_syntax.proofs.FirstLines.{skipped-within, skipped-room, skipped-few, stands, stands-found, stands-kept, stands-beyond, stands-first, walked-more, still-less}
 use Rattle.deb_syntax.proofs.first.first_line.Goals as goal
 
 pub sight-sight-requires : goal.sight-sight-requires
