@@ -7,6 +7,7 @@ pub mod Feeds
 pub mod FieldBytes
 pub mod FieldLines
 pub mod FieldTests
+pub mod FirstLines
 pub mod Judgements
 pub mod JudgingLaws
 pub mod JudgingLawsMeaning
@@ -23,6 +24,7 @@ pub mod Lookups
 pub mod NameMarks
 pub mod NameSets
 pub mod NextParagraph
+pub mod ParagraphLines
 pub mod Parts
 pub mod Passing
 pub mod Pieces
@@ -35,4 +37,3 @@ pub mod WalkingBlanks
 pub mod WalkingLines
 pub mod WalkingRuns
 pub mod WalkingSteps
-pub mod ParagraphLines
