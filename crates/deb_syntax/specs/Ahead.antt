@@ -12,7 +12,7 @@ use Rattle.deb_syntax.specs.Extents.{AreBlank, AreNotBlank}
 use Rattle.deb_syntax.specs.Judging.{judged}
 use Rattle.deb_syntax.specs.Reading.{IsClosed}
 use Rattle.deb_syntax.specs.Feeding.{FeedState, piece_limit}
-use Rattle.deb_syntax.specs.Lines.{lines_of, with_newlines, paragraphs_from, total_length, file_limit}
+use Rattle.deb_syntax.specs.Lines.{Paragraph, lines_of, with_newlines, paragraphs_from, total_length, file_limit}
 use Rattle.deb_syntax.specs.Walking.{Describes, StandInFront}
 use Rattle.deb_syntax.specs.declared.begun.Begun.{Begun}
 use Rattle.deb_syntax.specs.declared.take.Run.{Run}
@@ -169,11 +169,17 @@ abbrev pub HasExtent : Result Extent Fault → FeedState → Type 0
 HasExtent (Ok e) after = IsExtentOf e after
 HasExtent (Err fault) after = Unit {0}
 
+-- These lines are the next paragraph of a text of which so many bytes may be looked at, and whose first line has number n,
+-- and what is judged of them is the answer.
+pub record IsNextRun (n room : ℕ) (text : List ℕ) (run : List Line) : Type 0 where
+  pub more : List Paragraph
+  pub next : paragraphs_from n (lines_of (part_within room text)) ≡ record { first = n; lines = run } ∷ more
+  pub answer : left_answer n room text ≡ seen_from n (judged n run)
+
 -- What is answered of the text ahead, and what passes: a paragraph, or why there is none.
 abbrev pub IsExtentAhead : List ℕ → FeedState → Result Extent Fault → FeedState → Option (List ℕ) → Type 0
 IsExtentAhead text before (Ok e) after left =
-    (x : IsExtentOf e after) × PassesParagraph text e after left (x.first ∷ x.run)
-    × (left_answer (before.lines + 1) (room_ahead before) text ≡ seen_from (before.lines + 1) (judged (before.lines + 1) (x.first ∷ x.run)))
+    (x : IsExtentOf e after) × PassesParagraph text e after left (x.first ∷ x.run) × IsNextRun (before.lines + 1) (room_ahead before) text (x.first ∷ x.run)
 IsExtentAhead text before (Err (Refused refusal)) after left = left_answer (before.lines + 1) (room_ahead before) text ≡ Err refusal
 IsExtentAhead text before (Err Memory) after left = Unit {0}
 IsExtentAhead text before (Err Read) after left = Unit {0}
