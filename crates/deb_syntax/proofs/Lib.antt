@@ -35,4 +35,5 @@ pub mod WalkingLines
 pub mod WalkingSteps
 pub mod WalkingRuns
 pub mod WalkingBlanks
+pub mod Endings
 pub mod Feeds

@@ -1,10 +1,14 @@
 //! Where the next paragraph ends (Debian Policy 5.1).
 
-ghost use Rattle.std.specs.Prelude.{◌≡◌, ◌+◌, ◌-◌, ◌<◌, ◌≤◌, ◌^◌, ℕ, List, [], length, take, drop, IfErr, IfOk, IsTrue, IsFalse};
+ghost use Rattle.std.specs.Prelude.{◌≡◌, ◌+◌, ◌-◌, ◌<◌, ◌≤◌, ◌^◌, ℕ, List, [], Option, length, IfErr, IsTrue, IsFalse};
+ghost use Rattle.deb_base.specs.Bodies.{paragraph_limit};
 ghost use Rattle.deb_base.specs.Devices.{read_failures_after};
 ghost use Rattle.deb_base.specs.Faults.{IsReadersFault};
-ghost use Rattle.deb_syntax.specs.Ahead.{IsAhead, KeepsLine, HasExtent, IsExtentAhead, SameCounts};
+ghost use Rattle.deb_base.specs.declared.fault.Fault.TheVariants.{Refused};
+ghost use Rattle.deb_syntax.specs.Ahead.{room_ahead, IsAhead, KeepsLine, HasExtent, IsExtentAhead, SameCounts};
 ghost use Rattle.deb_syntax.specs.Feeding.{feed_state};
+ghost use Rattle.deb_syntax.specs.Walking.{Stops};
+ghost use Rattle.deb_syntax.specs.declared.take.Stop.TheVariants.{Open};
 
 use crate::begun::Begun;
 use crate::dropped::drop_line;
@@ -69,7 +73,10 @@ pub(crate) fn paragraph_extent<R: Source>(
 }
 
 /// The refusal at the line behind a run.
-fn refused(feed: &Feed, code: Code, run: Run) -> Fault {
+fn refused(feed: &Feed, code: Code, run: Run) -> Fault
+    requires { (feed_state feed.now).lines + run.lines + 1 < 2 ^ 64 }
+    ensures { result ≡ Refused (record { code = code; line = (feed_state feed.now).lines + run.lines + 1 }) }
+{
     Fault::Refused(Refusal {
         code,
         line: feed.lines() + run.lines + 1,
@@ -77,14 +84,25 @@ fn refused(feed: &Feed, code: Code, run: Run) -> Fault {
 }
 
 /// The same where there is no room for the line behind the run beside it.
-fn extent_beyond<R: Source>(feed: &mut Feed, run: Run, reader: &mut R) -> Result<Extent, Fault> {
+fn extent_beyond<R: Source>(feed: &mut Feed, run: Run, reader: &mut R) -> Result<Extent, Fault>
+    requires more { IsFalse (feed_state feed.old).ended }
+    requires room { length (feed_state feed.old).unread ≤ room_ahead (feed_state feed.old) }
+    requires full { paragraph_limit ≤ length (feed_state feed.old).unread }
+    requires stops { Stops (feed_state feed.old).unread Open run }
+    ensures found { HasExtent result (feed_state feed.new) }
+    ensures ahead { (text : List ℕ) → IsAhead text [] (feed_state feed.old) (R.left reader.old) → IsExtentAhead text (feed_state feed.old) result (feed_state feed.new) (R.left reader.new) }
+    ensures same { SameCounts (feed_state feed.old) (feed_state feed.new) }
+    ensures fault { IfErr result (λ fault. IsReadersFault fault (λ _. Unit {0})) }
+    ensures counted { R.failures reader.new ≡ read_failures_after (R.failures reader.old) result }
+{
     let dropped = drop_line(feed, run, reader)?;
     if !dropped.line.is_blank() {
         return Err(refused(feed, Code::ParagraphTooLong, run));
     }
     let ended = Run {
+        bytes: run.bytes,
+        lines: run.lines,
         begun: dropped.line,
-        ..run
     };
     Ok(match dropped.newline {
         Some(newline) => ended_by_blank(ended, newline),
@@ -93,7 +111,15 @@ fn extent_beyond<R: Source>(feed: &mut Feed, run: Run, reader: &mut R) -> Result
 }
 
 /// The same where no byte is left behind the line behind the run, whose newline is missing.
-fn ended_by_file(feed: &Feed, run: Run) -> Result<Extent, Fault> {
+fn ended_by_file(feed: &Feed, run: Run) -> Result<Extent, Fault>
+    requires ended { IsTrue (feed_state feed.now).ended }
+    requires room { length (feed_state feed.now).unread ≤ room_ahead (feed_state feed.now) }
+    requires stops { Stops (feed_state feed.now).unread Open run }
+    ensures found { HasExtent result (feed_state feed.now) }
+    ensures ahead { (text : List ℕ) → (left : Option (List ℕ)) → IsAhead text [] (feed_state feed.now) left → IsExtentAhead text (feed_state feed.now) result (feed_state feed.now) left }
+    ensures fault { IfErr result (λ fault. IsReadersFault fault (λ _. Unit {0})) }
+    ensures counted { (failures : ℕ) → failures ≡ read_failures_after failures result }
+{
     let all = run.bytes + run.begun.len;
     if run.begun.is_blank() {
         return Ok(ended_by_end(run, all));
@@ -110,7 +136,13 @@ fn ended_by_file(feed: &Feed, run: Run) -> Result<Extent, Fault> {
 }
 
 /// A run that is ended by the blank line behind it, whose newline stands at `newline` of the unread bytes.
-fn ended_by_blank(run: Run, newline: usize) -> Extent {
+fn ended_by_blank(run: Run, newline: usize) -> Extent
+    requires some { 0 < run.bytes }
+    requires bytes { run.bytes + run.begun.len + 1 < 2 ^ 64 }
+    requires lines { run.lines + 1 < 2 ^ 64 }
+    requires newline { newline + 1 < 2 ^ 64 }
+    ensures { result ≡ record { end = run.bytes - 1; skip = newline + 1; bytes = run.bytes + run.begun.len + 1; lines = run.lines + 1 } }
+{
     Extent {
         end: run.bytes - 1,
         skip: newline + 1,
@@ -120,7 +152,16 @@ fn ended_by_blank(run: Run, newline: usize) -> Extent {
 }
 
 /// A run that is ended by the file's end, behind a blank line without newline or behind nothing; `skip` bytes are unread.
-fn ended_by_end(run: Run, skip: usize) -> Extent {
+fn ended_by_end(run: Run, skip: usize) -> Extent
+    requires some { 0 < run.bytes }
+    requires bytes { run.bytes + run.begun.len < 2 ^ 64 }
+    requires lines { run.lines + 1 < 2 ^ 64 }
+    ensures end { result.end ≡ run.bytes - 1 }
+    ensures skip { result.skip ≡ skip }
+    ensures bytes { result.bytes ≡ run.bytes + run.begun.len }
+    ensures none { run.begun.len ≡ 0 → result.lines ≡ run.lines }
+    ensures one { 0 < run.begun.len → result.lines ≡ run.lines + 1 }
+{
     Extent {
         end: run.bytes - 1,
         skip,
