@@ -37,3 +37,5 @@ pub mod WalkingRuns
 pub mod WalkingBlanks
 pub mod Endings
 pub mod Feeds
+pub mod Dropping
+pub mod EndingSteps
