@@ -34,7 +34,7 @@ open-length text run s =
 pub open-few : (text : List ℕ) (run : Run) → Stops text Open run → run.lines ≤ run.bytes
 open-few text run s = let few = few_lines-with_newlines s.lines in omega (arith, s.stands.bytes, s.stands.counted)
 
-some-bytes : (lines : List Line) → lines ≢ [] → 0 < length (with_newlines lines)
+pub some-bytes : (lines : List Line) → lines ≢ [] → 0 < length (with_newlines lines)
 some-bytes [] some = absurd (some refl)
 some-bytes (line ∷ lines) some = let few = few_lines-with_newlines (line ∷ lines) in omega arith
 
@@ -163,6 +163,10 @@ module _ (before after : FeedState) (run : Run) (s : Stops before.unread Open ru
 
     pub dropped-some : paragraph_limit ≤ length before.unread → is_blank d.line ≡ true → 0 < run.bytes
     dropped-some full blank = let some = some-bytes s.lines (full-lines full blank) in omega (arith, s.stands.bytes)
+
+    pub dropped-within : (at : Option ℕ) → HasNewline before run d.line at after → run.bytes + length d.line ≤ room_ahead before
+    dropped-within (Some at) (more, ordered, here, near, within) = omega arith
+    dropped-within None (none, ended, within) = within
 
     -- the text, where the dropped line has its newline
     text-newline : (text : List ℕ) (at : ℕ) (more rest : List ℕ) → drop at after.unread ≡ newline ∷ more → text ≡ take run.bytes before.unread ++ (d.line ++ (drop at after.unread ++ rest)) → text ≡ with_newlines s.lines ++ (d.line ++ newline ∷ (more ++ rest))

@@ -39,3 +39,4 @@ pub mod Endings
 pub mod Feeds
 pub mod Dropping
 pub mod EndingSteps
+pub mod EndingWalks
