@@ -1,5 +1,5 @@
 -- Where a paragraph ends, by why no line more was taken: at the file's end, or behind a line that was dropped.
-use Rattle.std.proofs.Common.{◌≡◌, ◌≢◌, ℕ, ◌+◌, ◌-◌, ◌<◌, ◌≤◌, inl, inr, true, false, List, [], ◌∷◌, ◌++◌, Option, Some, None, Result, Ok, Err, length, take, drop, IsTrue, IsFalse, refl, sym, ap, subst, ◌∙◌, arith, length-append, length-drop}
+use Rattle.std.proofs.Common.{◌≡◌, ◌≢◌, ℕ, ◌+◌, ◌-◌, ◌<◌, ◌≤◌, true, false, List, [], ◌∷◌, ◌++◌, Option, Some, None, Result, Ok, Err, length, take, drop, IsTrue, refl, sym, ap, subst, ◌∙◌, arith, length-append, length-drop}
 use Rattle.std.proofs.lemmas.List.{append-nil, take-append-drop, drop-drop}
 use Rattle.deb_base.specs.Bodies.{Line, newline, paragraph_limit, is_blank}
 use Rattle.deb_base.specs.declared.code.Code.{Code}
@@ -9,9 +9,9 @@ use Rattle.deb_base.specs.declared.fault.Fault.TheVariants.{Refused, Memory, Rea
 use Rattle.deb_base.specs.declared.refusal.Refusal.{Refusal}
 use Rattle.deb_syntax.specs.Ahead.{left_answer, room_ahead, IsAhead, IsExtentOf, PassesParagraph, IsNextRun, IsExtentAhead, DropsLine, HasNewline, TextAfterLine, IsDropped}
 use Rattle.deb_syntax.specs.Answers.{Seen}
-use Rattle.deb_syntax.specs.Feeding.{FeedState, piece_limit}
+use Rattle.deb_syntax.specs.Feeding.{FeedState}
 use Rattle.deb_syntax.specs.Lines.{with_newlines}
-use Rattle.deb_syntax.specs.Walking.{StandInFront, Describes, Stops}
+use Rattle.deb_syntax.specs.Walking.{StandInFront, Stops}
 use Rattle.deb_syntax.specs.declared.dropped.DroppedLine.{DroppedLine}
 use Rattle.deb_syntax.specs.declared.ending.Extent.{Extent}
 use Rattle.deb_syntax.specs.declared.take.Run.{Run}

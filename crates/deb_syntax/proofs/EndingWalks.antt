@@ -2,13 +2,13 @@
 use Rattle.std.proofs.Common.{◌≡◌, ◌≢◌, ℕ, ◌+◌, ◌-◌, ◌<◌, ◌≤◌, inl, inr, Bool, true, false, cond, nat_le, List, [], ◌∷◌, ◌++◌, Option, Some, None, Result, Ok, Err, length, take, drop, IsTrue, IsFalse, refl, sym, ap, subst, ◌∙◌, append_assoc, arith, length-append, length-drop}
 use Rattle.std.proofs.Math.Seq.{take-append-add, take-append_seam, drop-append_seam}
 use Rattle.std.proofs.lemmas.Bool.{and_from, cases_lt, false≢true, le-leb}
-use Rattle.std.proofs.lemmas.List.{append-nil, take-append-drop, take-append-le, take_all, length-take-le, drop-drop}
+use Rattle.std.proofs.lemmas.List.{append-nil, take-append-drop, take-append-le, take_all, length-take-le}
 use Rattle.std.specs.List.{AllByRecursion}
 use Rattle.deb_base.specs.Bodies.{Line, newline, paragraph_limit, is_blank, is_all_blank, HasNoNewline}
 use Rattle.deb_base.specs.declared.code.Code.TheVariants.{ParagraphTooLong, FileTooLong}
 use Rattle.deb_base.specs.declared.fault.Fault.{Fault}
 use Rattle.deb_base.specs.declared.fault.Fault.TheVariants.{Refused, Memory, Read, Write}
-use Rattle.deb_syntax.specs.Ahead.{left_answer, room_ahead, IsAhead, IsNear, KeepsLine, EndsInSight, IsExtentOf, PassesParagraph, IsNextRun, IsExtentAhead, SameCounts}
+use Rattle.deb_syntax.specs.Ahead.{left_answer, room_ahead, IsAhead, IsNear, KeepsLine, EndsInSight, IsExtentOf, IsNextRun, IsExtentAhead, SameCounts}
 use Rattle.deb_syntax.specs.Extents.{AreNotBlank}
 use Rattle.deb_syntax.specs.Feeding.{FeedState, piece_limit, Comes, Stays, Sees, room_of}
 use Rattle.deb_syntax.specs.Lines.{with_newlines}
@@ -17,12 +17,13 @@ use Rattle.deb_syntax.specs.declared.begun.Begun.{Begun}
 use Rattle.deb_syntax.specs.declared.ending.Extent.{Extent}
 use Rattle.deb_syntax.specs.declared.feed.Sight.{Sight}
 use Rattle.deb_syntax.specs.declared.take.Run.{Run}
+use Rattle.deb_syntax.specs.declared.take.Stop.{Stop}
 use Rattle.deb_syntax.specs.declared.take.Stop.TheVariants.{Open, Blank, TooLong}
 use Rattle.deb_syntax.proofs.Endings.{EndsBlank, blank-found, blank-ahead, some-lines, refused-long, refused-beyond}
 use Rattle.deb_syntax.proofs.EndingSteps.{open-front, refusal-ahead, some-bytes}
 use Rattle.deb_syntax.proofs.Feeds.{comes_whole, comes_end}
 use Rattle.deb_syntax.proofs.Pieces.{not_true}
-use Rattle.deb_syntax.proofs.WalkingLines.{length-front}
+use Rattle.deb_syntax.proofs.WalkingLines.{length-front, few_lines-with_newlines}
 
 -- a line that goes on at least as far as bytes without a newline
 front_line : (seen fresh line rest : List ℕ) → HasNoNewline seen → seen ++ fresh ≡ line ++ newline ∷ rest → length seen ≤ length line
@@ -318,3 +319,14 @@ sees-unread state sight sees le = sees.seen ∙ take_all (room_of state 0) state
 
 pub stays-same : (before state after : FeedState) (left left_after : Option (List ℕ)) → SameCounts before state → Stays state left after left_after → SameCounts before after
 stays-same before state after left left_after same stay = record { bytes = stay.bytes ∙ same.bytes; lines = stay.lines ∙ same.lines }
+
+-- where the taking of lines stopped among the bytes that may be looked at
+pub seen-stops : (state : FeedState) (sight : Sight) (stop at : Stop) (run : Run) → Sees state 0 sight → stop ≡ at → Stops sight.seen.now stop run → Stops (take (room_ahead state) state.unread) at run
+seen-stops state sight stop at run sees is s = subst (λ t. Stops t at run) (sees-ahead state sight sees) (subst (λ x. Stops sight.seen.now x run) is s)
+
+-- which are all unread ones
+pub unread-stops : (state : FeedState) (sight : Sight) (stop at : Stop) (run : Run) → Sees state 0 sight → length state.unread ≤ room_of state 0 → stop ≡ at → Stops sight.seen.now stop run → Stops state.unread at run
+unread-stops state sight stop at run sees le is s = subst (λ t. Stops t at run) (sees-unread state sight sees le) (subst (λ x. Stops sight.seen.now x run) is s)
+
+pub stops-few : (text : List ℕ) (stop : Stop) (run : Run) → Stops text stop run → run.lines ≤ run.bytes
+stops-few text stop run s = let few = few_lines-with_newlines s.lines in omega (arith, s.stands.bytes, s.stands.counted)

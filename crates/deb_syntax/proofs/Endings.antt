@@ -1,12 +1,11 @@
 -- Where a paragraph ends: lines that aren't blank at the front of a text, and a blank line or the end behind them.
-use Rattle.std.proofs.Common.{◌≡◌, ◌≢◌, ℕ, ◌+◌, ◌-◌, ◌<◌, ◌≤◌, ◌⊎◌, inl, inr, true, false, ◌&&◌, nat_le, List, [], ◌∷◌, ◌++◌, Option, Some, None, Result, Ok, Err, length, take, drop, IsTrue, IsFalse, refl, sym, ap, subst, ◌∙◌, append_assoc, arith, length-append, length-drop}
-use Rattle.std.proofs.Math.Seq.{take-append_seam, drop-append_seam, drop-length}
+use Rattle.std.proofs.Common.{◌≡◌, ◌≢◌, ℕ, ◌+◌, ◌-◌, ◌<◌, ◌≤◌, ◌⊎◌, inl, inr, true, false, nat_le, List, [], ◌∷◌, ◌++◌, Option, Some, Err, length, take, drop, IsTrue, refl, sym, ap, subst, ◌∙◌, append_assoc, arith, length-append, length-drop}
+use Rattle.std.proofs.Math.Seq.{drop-length}
 use Rattle.std.proofs.lemmas.Bool.{and_parts, leb-true, false≢true}
-use Rattle.std.proofs.lemmas.List.{append-nil, take_all, take-append-drop}
+use Rattle.std.proofs.lemmas.List.{append-nil, take_all}
 use Rattle.std.specs.List.{AllByRecursion}
 use Rattle.deb_base.specs.declared.code.Code.TheVariants.{ParagraphTooLong, FileTooLong}
-use Rattle.deb_base.specs.declared.refusal.Refusal.{Refusal}
-use Rattle.deb_base.specs.Bodies.{Line, newline, line_length, paragraph_limit, is_blank, is_all_blank, pieces_of, HasNoNewline}
+use Rattle.deb_base.specs.Bodies.{Line, newline, paragraph_limit, is_blank, is_all_blank, pieces_of, HasNoNewline}
 use Rattle.deb_syntax.specs.Ahead.{left_answer, room_ahead, IsExtentOf, PassesParagraph, IsNextRun}
 use Rattle.deb_syntax.specs.Answers.{part_within, whole_lines}
 use Rattle.deb_syntax.specs.Extents.{AreBlank, AreNotBlank}

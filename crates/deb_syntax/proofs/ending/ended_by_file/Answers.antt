@@ -1,9 +1,8 @@
-use Rattle.std.proofs.Common.{◌≡◌, ◌∙◌, sym, subst, arith}
+use Rattle.std.proofs.Common.{◌∙◌, sym, arith}
 use Rattle.deb_base.specs.Bodies.{paragraph_limit}
 use Rattle.deb_syntax.specs.Feeding.{feed_state}
-use Rattle.deb_syntax.proofs.Endings.{last-found}
-use Rattle.deb_syntax.proofs.EndingSteps.{open-length, open-few, file-some, file-none-found, file-none-ahead, file-last-found, file-last-ahead, file-long-ahead}
-use Rattle.deb_syntax.proofs.Feeds.{feed_small, feed_few}
+use Rattle.deb_syntax.proofs.EndingSteps.{open-few, file-some, file-none-found, file-none-ahead, file-last-found, file-last-ahead, file-long-ahead}
+use Rattle.deb_syntax.proofs.Feeds.{feed_few}
 use Rattle.deb_syntax.proofs.ending.ended_by_file.Goals as goal
 
 pub ended_by_end-requires-clause-some : goal.ended_by_end-requires-clause-some

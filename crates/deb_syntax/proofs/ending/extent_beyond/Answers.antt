@@ -7,7 +7,6 @@ use Rattle.deb_syntax.specs.Ahead.{HasNewline, TextAfterLine}
 use Rattle.deb_syntax.specs.Feeding.{feed_state}
 use Rattle.deb_syntax.specs.Lines.{file_limit}
 use Rattle.deb_syntax.proofs.EndingSteps.{open-few, dropped-refused, dropped-within, dropped-some, dropped-long, dropped-blank-found, dropped-blank-ahead, dropped-none-found, dropped-none-ahead}
-use Rattle.deb_syntax.proofs.Feeds.{feed_few}
 use Rattle.deb_syntax.proofs.ending.extent_beyond.Goals as goal
 
 pub drop_line-requires-clause-short : goal.drop_line-requires-clause-short
