@@ -254,9 +254,9 @@ module _ (state : FeedState) (run : Run) where
         let size = length-front state.unread s.lines (s.seen ++ newline ∷ i.more) i.front in
         let both = length-append s.seen (newline ∷ i.more) in
         let at : run.bytes + run.begun.len + 1 ≡ length ((with_newlines s.lines ++ s.seen) ++ newline ∷ []) =
-          omega (arith, s.stands.bytes, s.stands.describes.len, length-append (with_newlines s.lines ++ s.seen) (newline ∷ []), length-append (with_newlines s.lines) s.seen) in
+        omega (arith, s.stands.bytes, s.stands.describes.len, length-append (with_newlines s.lines ++ s.seen) (newline ∷ []), length-append (with_newlines s.lines) s.seen) in
         let parts : state.unread ≡ ((with_newlines s.lines ++ s.seen) ++ newline ∷ []) ++ i.more =
-          i.front.text ∙ sym (append_assoc (with_newlines s.lines) s.seen (newline ∷ i.more)) ∙ sym (append_assoc (with_newlines s.lines ++ s.seen) (newline ∷ []) i.more) in
+        i.front.text ∙ sym (append_assoc (with_newlines s.lines) s.seen (newline ∷ i.more)) ∙ sym (append_assoc (with_newlines s.lines ++ s.seen) (newline ∷ []) i.more) in
         record {
           lines = s.lines;
           line = s.seen;
@@ -285,8 +285,8 @@ module _ (state : FeedState) (run : Run) where
     stop-blank-ahead text left e near is a =
         let i = blank-sight in
         let whole : text ≡ with_newlines s.lines ++ (s.seen ++ newline ∷ (i.more ++ a.rest)) =
-          a.whole ∙ ap (λ zs. zs ++ a.rest) i.front.text ∙ append_assoc (with_newlines s.lines) (s.seen ++ newline ∷ i.more) a.rest
-          ∙ ap (λ zs. with_newlines s.lines ++ zs) (append_assoc s.seen (newline ∷ i.more) a.rest) in
+        a.whole ∙ ap (λ zs. zs ++ a.rest) i.front.text ∙ append_assoc (with_newlines s.lines) (s.seen ++ newline ∷ i.more) a.rest
+        ∙ ap (λ zs. with_newlines s.lines ++ zs) (append_assoc s.seen (newline ∷ i.more) a.rest) in
         subst (λ x. IsExtentAhead text state (Ok x) state left) (sym is)
         (blank-ahead text a.rest _ state left (state.lines + 1) (blank-end near) a.told whole a.ended)
 
@@ -294,8 +294,8 @@ module _ (state : FeedState) (run : Run) where
   stop-long-ahead s text left fault is a =
       let i = in-sight s.lines s.seen s.fresh s.stopped.0.0 s.stands s.stopped.0.1 in
       let whole : text ≡ with_newlines s.lines ++ (s.seen ++ newline ∷ (i.more ++ a.rest)) =
-        a.whole ∙ ap (λ zs. zs ++ a.rest) i.front.text ∙ append_assoc (with_newlines s.lines) (s.seen ++ newline ∷ i.more) a.rest
-        ∙ ap (λ zs. with_newlines s.lines ++ zs) (append_assoc s.seen (newline ∷ i.more) a.rest) in
+      a.whole ∙ ap (λ zs. zs ++ a.rest) i.front.text ∙ append_assoc (with_newlines s.lines) (s.seen ++ newline ∷ i.more) a.rest
+      ∙ ap (λ zs. with_newlines s.lines ++ zs) (append_assoc s.seen (newline ∷ i.more) a.rest) in
       refusal-ahead text state state left fault ParagraphTooLong run.lines s.lines is s.stands.counted
       (refused-long (state.lines + 1) (room_ahead state) text s.lines s.seen (i.more ++ a.rest) (record { text = whole; lines = s.stands.front.lines }) s.stands.describes.line
       i.within s.stands.not_blank s.stopped.1 (omega (arith, s.stands.short, s.stands.bytes)) (omega (arith, s.stopped.2, s.stands.bytes)))
@@ -305,7 +305,7 @@ module _ (state : FeedState) (run : Run) where
       let room = room_ahead state in
       let size = ap length a.whole ∙ length-append state.unread a.rest in
       let seen : take room text ≡ with_newlines s.lines ++ s.seen =
-        ap (take room) a.whole ∙ take-append-le room state.unread a.rest (omega arith) ∙ (open-front (take room state.unread) run s).text in
+      ap (take room) a.whole ∙ take-append-le room state.unread a.rest (omega arith) ∙ (open-front (take room state.unread) run s).text in
       refusal-ahead text state state left fault FileTooLong run.lines s.lines is s.stands.counted
       (refused-beyond (state.lines + 1) room text s.lines s.seen (omega arith) seen s.stands.front.lines s.stands.describes.line s.stands.not_blank
       (omega (arith, s.stands.short, s.stands.bytes)))

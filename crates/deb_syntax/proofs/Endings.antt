@@ -99,7 +99,7 @@ refused-end n room text lines line h k within not_blank line_not short long =
     let whole = length-front text lines line h in
     let is : lines_of (part_within room text) ≡ lines ++ line ∷ []
     = ap lines_of (part_within-all room text (omega arith)) ∙ lines_of-front text lines line h
-      ∙ ap (λ ls. lines ++ ls) (lines_of-unended line (not_empty line line_not) k) in
+    ∙ ap (λ ls. lines ++ ls) (lines_of-unended line (not_empty line line_not) k) in
     left-long n room text lines line [] is not_blank line_not (omega arith) (omega arith)
 
 -- a run that a blank line or the end ends is the next paragraph
@@ -146,8 +146,7 @@ extent-found e state lines f = (extent-of e state lines f).0
 
 pub extent-ahead : (text : List ℕ) (e : Extent) (state : FeedState) (left : Option (List ℕ)) (n room : ℕ) (lines : List Line) → FitsExtent e state lines → PassesParagraph text e state left lines → IsNextRun n room text lines → (x : IsExtentOf e state) × PassesParagraph text e state left (x.first ∷ x.run) × IsNextRun n room text (x.first ∷ x.run)
 extent-ahead text e state left n room lines f passes next =
-    let x = extent-of e state lines f in
-    (
+    let x = extent-of e state lines f in (
       x.0,
       subst (λ ls. PassesParagraph text e state left ls) x.1 passes,
       subst (λ ls. IsNextRun n room text ls) x.1 next,
@@ -377,7 +376,7 @@ last-ahead text e state left n b told whole =
     let within : length text ≤ room_ahead state = omega (arith, ap length whole, b.within) in
     let lines : lines_of text ≡ all ++ []
     = ap lines_of whole ∙ lines_of-front state.unread b.lines b.line b.front
-      ∙ ap (λ ls. b.lines ++ ls) (lines_of-unended b.line (not_empty b.line b.line_not) b.is_line) ∙ sym (append-nil all) in
+    ∙ ap (λ ls. b.lines ++ ls) (lines_of-unended b.line (not_empty b.line b.line_not) b.is_line) ∙ sym (append-nil all) in
     extent-ahead text e state left n (room_ahead state) all (fits-last e state b)
     (record {
       passed = text;
