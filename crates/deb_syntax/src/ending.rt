@@ -41,7 +41,8 @@ pub(crate) fn paragraph_extent<R: Source>(
 ) -> Result<Extent, Fault>
     requires { KeepsLine begun (feed_state feed.old) }
     ensures found { HasExtent result (feed_state feed.new) }
-    ensures ahead { (text : List ℕ) → IsAhead text [] (feed_state feed.old) (R.left reader.old) → IsExtentAhead text (feed_state feed.old) result (feed_state feed.new) (R.left reader.new) }
+    ensures ahead { (text : List ℕ) → IsAhead text [] (feed_state feed.old) (R.left reader.old)
+        → IsExtentAhead text (feed_state feed.old) result (feed_state feed.new) (R.left reader.new) }
     ensures same { SameCounts (feed_state feed.old) (feed_state feed.new) }
     ensures fault { IfErr result (λ fault. IsReadersFault fault (λ _. Unit {0})) }
     ensures counted { R.failures reader.new ≡ read_failures_after (R.failures reader.old) result }
@@ -75,7 +76,8 @@ pub(crate) fn paragraph_extent<R: Source>(
 /// The refusal at the line behind a run.
 fn refused(feed: &Feed, code: Code, run: Run) -> Fault
     requires { (feed_state feed.now).lines + run.lines + 1 < 2 ^ 64 }
-    ensures { result ≡ Refused (record { code = code; line = (feed_state feed.now).lines + run.lines + 1 }) }
+    ensures { result
+        ≡ Refused (record { code = code; line = (feed_state feed.now).lines + run.lines + 1 }) }
 {
     Fault::Refused(Refusal {
         code,
@@ -90,7 +92,8 @@ fn extent_beyond<R: Source>(feed: &mut Feed, run: Run, reader: &mut R) -> Result
     requires full { paragraph_limit ≤ length (feed_state feed.old).unread }
     requires stops { Stops (feed_state feed.old).unread Open run }
     ensures found { HasExtent result (feed_state feed.new) }
-    ensures ahead { (text : List ℕ) → IsAhead text [] (feed_state feed.old) (R.left reader.old) → IsExtentAhead text (feed_state feed.old) result (feed_state feed.new) (R.left reader.new) }
+    ensures ahead { (text : List ℕ) → IsAhead text [] (feed_state feed.old) (R.left reader.old)
+        → IsExtentAhead text (feed_state feed.old) result (feed_state feed.new) (R.left reader.new) }
     ensures same { SameCounts (feed_state feed.old) (feed_state feed.new) }
     ensures fault { IfErr result (λ fault. IsReadersFault fault (λ _. Unit {0})) }
     ensures counted { R.failures reader.new ≡ read_failures_after (R.failures reader.old) result }
@@ -116,7 +119,8 @@ fn ended_by_file(feed: &Feed, run: Run) -> Result<Extent, Fault>
     requires room { length (feed_state feed.now).unread ≤ room_ahead (feed_state feed.now) }
     requires stops { Stops (feed_state feed.now).unread Open run }
     ensures found { HasExtent result (feed_state feed.now) }
-    ensures ahead { (text : List ℕ) → (left : Option (List ℕ)) → IsAhead text [] (feed_state feed.now) left → IsExtentAhead text (feed_state feed.now) result (feed_state feed.now) left }
+    ensures ahead { (text : List ℕ) → (left : Option (List ℕ)) → IsAhead text [] (feed_state feed.now) left
+        → IsExtentAhead text (feed_state feed.now) result (feed_state feed.now) left }
     ensures fault { IfErr result (λ fault. IsReadersFault fault (λ _. Unit {0})) }
     ensures counted { (failures : ℕ) → failures ≡ read_failures_after failures result }
 {
@@ -141,7 +145,8 @@ fn ended_by_blank(run: Run, newline: usize) -> Extent
     requires bytes { run.bytes + run.begun.len + 1 < 2 ^ 64 }
     requires lines { run.lines + 1 < 2 ^ 64 }
     requires newline { newline + 1 < 2 ^ 64 }
-    ensures { result ≡ record { end = run.bytes - 1; skip = newline + 1; bytes = run.bytes + run.begun.len + 1; lines = run.lines + 1 } }
+    ensures { result
+        ≡ record { end = run.bytes - 1; skip = newline + 1; bytes = run.bytes + run.begun.len + 1; lines = run.lines + 1 } }
 {
     Extent {
         end: run.bytes - 1,
