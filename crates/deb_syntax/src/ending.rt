@@ -30,10 +30,12 @@ pub(crate) struct Extent {
     pub(crate) lines: u64,
 }
 
-/// Where the paragraph ends that begins the unread bytes; so much was seen of its first line, which isn't blank.
+/// Where the paragraph ends that begins the unread bytes; so much was seen of its first line, which
+/// isn't blank.
 ///
-/// Refused: with a line that isn't blank its lines are too long (`ParagraphTooLong`, at that line), or the file is too
-/// long and no blank line behind the paragraph is in sight (`FileTooLong`, at the line that is cut off).
+/// Refused: with a line that isn't blank its lines are too long (`ParagraphTooLong`, at that line),
+/// or the file is too long and no blank line behind the paragraph is in sight (`FileTooLong`, at
+/// the line that is cut off).
 pub(crate) fn paragraph_extent<R: Source>(
     feed: &mut Feed,
     begun: Begun,
@@ -42,7 +44,8 @@ pub(crate) fn paragraph_extent<R: Source>(
     requires { KeepsLine begun (feed_state feed.old) }
     ensures found { HasExtent result (feed_state feed.new) }
     ensures ahead { (text : List ℕ) → IsAhead text [] (feed_state feed.old) (R.left reader.old)
-        → IsExtentAhead text (feed_state feed.old) result (feed_state feed.new) (R.left reader.new) }
+        → IsExtentAhead text
+        (feed_state feed.old) result (feed_state feed.new) (R.left reader.new) }
     ensures same { SameCounts (feed_state feed.old) (feed_state feed.new) }
     ensures fault { IfErr result (λ fault. IsReadersFault fault (λ _. Unit {0})) }
     ensures counted { R.failures reader.new ≡ read_failures_after (R.failures reader.old) result }
@@ -93,7 +96,8 @@ fn extent_beyond<R: Source>(feed: &mut Feed, run: Run, reader: &mut R) -> Result
     requires stops { Stops (feed_state feed.old).unread Open run }
     ensures found { HasExtent result (feed_state feed.new) }
     ensures ahead { (text : List ℕ) → IsAhead text [] (feed_state feed.old) (R.left reader.old)
-        → IsExtentAhead text (feed_state feed.old) result (feed_state feed.new) (R.left reader.new) }
+        → IsExtentAhead text
+        (feed_state feed.old) result (feed_state feed.new) (R.left reader.new) }
     ensures same { SameCounts (feed_state feed.old) (feed_state feed.new) }
     ensures fault { IfErr result (λ fault. IsReadersFault fault (λ _. Unit {0})) }
     ensures counted { R.failures reader.new ≡ read_failures_after (R.failures reader.old) result }
@@ -119,7 +123,8 @@ fn ended_by_file(feed: &Feed, run: Run) -> Result<Extent, Fault>
     requires room { length (feed_state feed.now).unread ≤ room_ahead (feed_state feed.now) }
     requires stops { Stops (feed_state feed.now).unread Open run }
     ensures found { HasExtent result (feed_state feed.now) }
-    ensures ahead { (text : List ℕ) → (left : Option (List ℕ)) → IsAhead text [] (feed_state feed.now) left
+    ensures ahead { (text : List ℕ) → (left : Option (List ℕ))
+        → IsAhead text [] (feed_state feed.now) left
         → IsExtentAhead text (feed_state feed.now) result (feed_state feed.now) left }
     ensures fault { IfErr result (λ fault. IsReadersFault fault (λ _. Unit {0})) }
     ensures counted { (failures : ℕ) → failures ≡ read_failures_after failures result }
@@ -139,14 +144,20 @@ fn ended_by_file(feed: &Feed, run: Run) -> Result<Extent, Fault>
     })
 }
 
-/// A run that is ended by the blank line behind it, whose newline stands at `newline` of the unread bytes.
+/// A run that is ended by the blank line behind it, whose newline stands at `newline` of the unread
+/// bytes.
 fn ended_by_blank(run: Run, newline: usize) -> Extent
     requires some { 0 < run.bytes }
     requires bytes { run.bytes + run.begun.len + 1 < 2 ^ 64 }
     requires lines { run.lines + 1 < 2 ^ 64 }
     requires newline { newline + 1 < 2 ^ 64 }
     ensures { result
-        ≡ record { end = run.bytes - 1; skip = newline + 1; bytes = run.bytes + run.begun.len + 1; lines = run.lines + 1 } }
+        ≡ record {
+          end = run.bytes - 1;
+          skip = newline + 1;
+          bytes = run.bytes + run.begun.len + 1;
+          lines = run.lines + 1;
+        } }
 {
     Extent {
         end: run.bytes - 1,
@@ -156,7 +167,8 @@ fn ended_by_blank(run: Run, newline: usize) -> Extent
     }
 }
 
-/// A run that is ended by the file's end, behind a blank line without newline or behind nothing; `skip` bytes are unread.
+/// A run that is ended by the file's end, behind a blank line without newline or behind nothing;
+/// `skip` bytes are unread.
 fn ended_by_end(run: Run, skip: usize) -> Extent
     requires some { 0 < run.bytes }
     requires bytes { run.bytes + run.begun.len < 2 ^ 64 }
