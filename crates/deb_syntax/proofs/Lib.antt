@@ -40,3 +40,4 @@ pub mod Feeds
 pub mod Dropping
 pub mod EndingSteps
 pub mod EndingWalks
+pub mod FirstLines
