@@ -2,6 +2,9 @@ pub mod Advancing
 pub mod Boundaries
 pub mod Callers
 pub mod Dropping
+pub mod EndingSteps
+pub mod EndingWalks
+pub mod Endings
 pub mod Faults
 pub mod Feeds
 pub mod FieldBytes

@@ -4,6 +4,7 @@ ghost use Rattle.std.specs.Prelude.{◌≡◌, ◌≤◌, ℕ, List, [], length,
 ghost use Rattle.deb_base.specs.Devices.{read_failures_after};
 ghost use Rattle.deb_base.specs.Faults.{IsReadersFault};
 ghost use Rattle.deb_syntax.specs.Ahead.{room_ahead, IsAhead, IsNear, IsFirst, HasFirst};
+ghost use Rattle.deb_syntax.specs.Reading.{IsRefusalOfText};
 ghost use Rattle.deb_syntax.specs.Feeding.{feed_state};
 ghost use Rattle.deb_syntax.specs.Walking.{Describes};
 
@@ -34,8 +35,9 @@ pub(crate) fn first_line<R: Source>(feed: &mut Feed, reader: &mut R) -> Result<F
     requires { IsNear (feed_state feed.old).unread }
     ensures found { HasFirst result (feed_state feed.new) }
     ensures ahead { (text : List ℕ) → IsAhead text [] (feed_state feed.old) (R.left reader.old) → IsFirst text (feed_state feed.old) result (feed_state feed.new) (R.left reader.new) }
-    ensures fault { IfErr result (λ fault. IsReadersFault fault (λ _. Unit {0})) }
+    ensures fault { IfErr result (λ fault. IsReadersFault fault IsRefusalOfText) }
     ensures counted { R.failures reader.new ≡ read_failures_after (R.failures reader.old) result }
+    ensures stays { IsTrue (feed_state feed.old).ended → IsTrue (feed_state feed.new).ended }
     ensures quiet { IsTrue (feed_state feed.old).ended → reader.new ≡ reader.old }
 {
     let mut begun = Begun::nothing();
@@ -85,7 +87,7 @@ fn drop_first<R: Source>(feed: &mut Feed, begun: Begun, reader: &mut R) -> Resul
     requires long { PARAGRAPH_LIMIT ≤ begun.len }
     ensures found { HasFirst result (feed_state feed.new) }
     ensures ahead { (text : List ℕ) → IsAhead text [] (feed_state feed.old) (R.left reader.old) → IsFirst text (feed_state feed.old) result (feed_state feed.new) (R.left reader.new) }
-    ensures fault { IfErr result (λ fault. IsReadersFault fault (λ _. Unit {0})) }
+    ensures fault { IfErr result (λ fault. IsReadersFault fault IsRefusalOfText) }
     ensures counted { R.failures reader.new ≡ read_failures_after (R.failures reader.old) result }
 {
     let run = Run {
