@@ -330,13 +330,6 @@ module _ (feed : FeedState) (begun : Begun) (sight : Sight) (sees : Sees feed 0 
   seen-length : length sight.seen.now ≡ min (room_of feed 0) (length feed.unread)
   seen-length = ap length sees.seen ∙ length-take (room_of feed 0) feed.unread
 
-  pub skip-within : begun.len ≤ length feed.unread → begun.len ≤ room_ahead feed → begun.len ≤ length sight.seen.now
-  skip-within within room = omega (arith, seen-length, room-is, within, room)
-
-  pub skip-seen : begun.len ≤ length feed.unread → begun.len ≤ room_ahead feed → Describes begun (take begun.len feed.unread) → Describes begun (take begun.len sight.seen.now)
-  skip-seen within room described =
-      subst (Describes begun) (sym (ap (take begun.len) sees.seen ∙ take-take begun.len (room_of feed 0) feed.unread (omega (arith, room-is, room)))) described
-
   -- the bytes of the blank lines
   pub skipped-within : (skipped : Skipped) → SkipsBlanks sight.seen.now skipped → skipped.bytes ≤ length feed.unread
   skipped-within skipped s = omega (arith, s.bytes, ap length s.front.text, length-append (with_newlines s.lines) s.rest, seen-length)
@@ -439,9 +432,6 @@ module _ (before : FeedState) (left_before : Option (List ℕ)) (feed : FeedStat
 
   pub stands-seen : skipped.ended ≡ false → length feed.unread ≤ room_of feed 0 → Describes skipped.begun feed.unread
   stands-seen is le = subst (Describes skipped.begun) (sym (s.all le)) (stands-open is)
-
-  pub stands-room : length feed.unread ≤ room_of feed 0 → length feed.unread ≤ room_ahead feed
-  stands-room le = omega (arith, le)
 
   pub walked-more : (after : FeedState) (left_after : Option (List ℕ)) → skipped.ended ≡ false → length feed.unread ≤ room_of feed 0 → IsFalse feed.ended → Comes feed left after left_after → Walked before left_before after left_after skipped.begun
   walked-more after left_after is le more come =
