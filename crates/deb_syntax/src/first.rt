@@ -69,6 +69,7 @@ fn last_line(feed: &mut Feed, begun: Begun) -> First
     requires ended { IsTrue (feed_state feed.old).ended }
     requires seen { Describes begun (feed_state feed.old).unread }
     requires room { length (feed_state feed.old).unread ≤ room_ahead (feed_state feed.old) }
+    ensures stays { IsTrue (feed_state feed.new).ended }
     ensures found { HasFirst (Ok result) (feed_state feed.new) }
     ensures ahead { (text : List ℕ) (left : Option (List ℕ)) → IsAhead text [] (feed_state feed.old) left → IsFirst text (feed_state feed.old) (Ok result) (feed_state feed.new) left }
 {
