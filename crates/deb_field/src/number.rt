@@ -68,7 +68,7 @@ impl Canon for Number<'_> {
 
     ghost law = { λ _. number_law };
 
-    ghost spelled = { λ number. (number.digits.now, number_spelled number.digits.now number.well_formed) };
+    ghost spelled = { λ n. (n.digits.now, number_spelled n.digits.now n.well_formed) };
 
     fn canon_len(&self) -> u64 {
         self.digits.len() as u64

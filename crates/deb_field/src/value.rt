@@ -49,12 +49,13 @@ pub enum ValueFault {
 }
 
 impl<'a> Value<'a> {
-    ghost use Rattle.std.specs.Prelude.{◌≡◌, Some, IfOk, IfErr, IsOkAnd};
+    ghost use Rattle.std.specs.Prelude.{◌≡◌, Some, IfOk, IfErr};
+    ghost use Rattle.deb_field.specs.CanonLaw.{Accepts};
     ghost use Rattle.deb_base.specs.Bodies.{IsBody};
     ghost use Rattle.deb_field.specs.Faults.{IsFaultOf};
     ghost use Rattle.deb_field.specs.Kinds.{kind_of};
     ghost use Rattle.deb_field.specs.ValueMeanings.{value_meaning};
-    ghost use Rattle.deb_field.specs.Values.{ValueMeaning, SpellsKind, SpellsValue, kind_refusal, value_refusal};
+    ghost use Rattle.deb_field.specs.Values.{SpellsKind, SpellsValue, kind_refusal, value_refusal};
 
     /// The value that a body spells in the field of this name, in a document of this kind.
     ///
@@ -71,9 +72,9 @@ impl<'a> Value<'a> {
         body: &'a [u8],
     ) -> Result<Value<'a>, ValueFault>
         requires { IsBody body.now }
-        ensures ok { IfOk result (λ value. SpellsValue doc name.now body.now (value_meaning value)) }
-        ensures accepted { (m : ValueMeaning) → SpellsValue doc name.now body.now m → IsOkAnd result (λ value. value_meaning value ≡ m) }
-        ensures refused { IfErr result (λ fault. IsFaultOf (value_refusal doc name.now body.now) fault) }
+        ensures ok { IfOk result (λ v. SpellsValue doc name.now body.now (value_meaning v)) }
+        ensures accepted { Accepts (SpellsValue doc name.now body.now) value_meaning result }
+        ensures refused { IfErr result (IsFaultOf (value_refusal doc name.now body.now)) }
     {
         let _ = alloc;
         match Value::of_kind(kind_of(doc, name), body) {
