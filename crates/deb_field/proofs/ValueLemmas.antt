@@ -1,5 +1,5 @@
 -- What is read as one of a field's kind is the one value that the body spells in that field.
-use Rattle.std.proofs.Common.{◌≡◌, ℕ, List, Option, Some, subst}
+use Rattle.std.proofs.Common.{◌≡◌, ℕ, List, Some, subst}
 use Rattle.deb_base.specs.declared.code.Code.{Code}
 use Rattle.deb_field.specs.Kinds.{kind_of}
 use Rattle.deb_field.specs.Values.{ValueMeaning, SpellsKind, SpellsValue, kind_refusal}

@@ -1,5 +1,5 @@
 -- What follows from the law of a kind, and the law of a kind of values among several.
-use Rattle.std.proofs.Common.{◌≡◌, ℕ, ◌*◌, ◌≤◌, List, length, Option, Some, None, Result, Ok, Err, IfOk, IfErr, IsOkAnd, refl, sym, ap, ◌∙◌, subst}
+use Rattle.std.proofs.Common.{◌≡◌, ℕ, ◌*◌, ◌≤◌, List, length, Option, Some, Result, Ok, Err, IfOk, IfErr, IsOkAnd, refl, sym, ap, ◌∙◌, subst}
 use Rattle.deb_base.specs.Bodies.{IsBody}
 use Rattle.deb_base.specs.declared.code.Code.{Code}
 use Rattle.deb_field.specs.CanonLaw.{CanonLaw, OneText, RefusalLaw}

@@ -1,14 +1,13 @@
 -- The laws for the words of Essential and of Multi-Arch.
-use Rattle.std.proofs.Common.{◌≡◌, ℕ, ◌*◌, ◌≤◌, ◌||◌, Bool, true, false, IsTrue, List, [], ◌∷◌, length, Option, Some, None, codes, refl, sym, ap, ◌∙◌, subst, arith, inl, inr, ◌⊎◌}
+use Rattle.std.proofs.Common.{◌≡◌, ℕ, ◌*◌, ◌≤◌, ◌||◌, Bool, true, false, List, length, None, codes, refl, sym, ap, ◌∙◌, subst, arith, inl, inr, ◌⊎◌}
 use Rattle.std.proofs.lemmas.Bool.{false≢true, true≢false}
 use Rattle.std.proofs.lemmas.Slice.Eq.{bytes_eq-Decides}
 use Rattle.std.specs.Str.{bytes_eq}
 use Rattle.deb_base.specs.Bodies.{IsBody}
-use Rattle.deb_base.specs.declared.code.Code.{Code}
 use Rattle.deb_base.specs.declared.code.Code.TheVariants.{BadWord}
 use Rattle.deb_field.specs.CanonLaw.{CanonLaw, RefusalLaw}
-use Rattle.deb_field.specs.OneLine.{holds_newline, refusal_unless}
-use Rattle.deb_field.specs.OneLineLaws.{passes-from_none, none-from_passes, line_refusal-parts, line_refusal-from}
+use Rattle.deb_field.specs.OneLine.{refusal_unless}
+use Rattle.deb_field.specs.OneLineLaws.{passes-from_none, line_refusal-parts}
 use Rattle.deb_field.specs.Flags.{flag_text, SpellsFlag, is_flag, flag_refusal, multi_arch_text, SpellsMultiArch, is_multi_arch, multi_arch_refusal}
 use Rattle.deb_field.specs.declared.flag.Flag.{Flag}
 use Rattle.deb_field.specs.declared.flag.Flag.TheVariants as flags

@@ -7,7 +7,7 @@ use Rattle.deb_base.specs.Names.{folded, canonical_name}
 use Rattle.deb_field.specs.declared.kind.Doc.{Doc}
 use Rattle.deb_field.specs.declared.kind.Doc.TheVariants as docs
 use Rattle.deb_field.specs.declared.kind.Kind.{Kind}
-use Rattle.deb_field.specs.declared.kind.Kind.TheVariants.{Name, Source, Version, Architecture, ArchitectureWords, Flag, MultiArch, Number, Line, Folded, Relation, Text}
+use Rattle.deb_field.specs.declared.kind.Kind.TheVariants.{Name, Source, Version, Architecture, ArchitectureWords, Flag, MultiArch, Number, Line, Folded, Text}
 
 -- whether a document of the kind has exactly one paragraph
 abbrev pub is_single : Doc → Bool

@@ -1,5 +1,5 @@
 -- The laws for numbers.
-use Rattle.std.proofs.Common.{◌≡◌, ℕ, ◌*◌, ◌≤◌, List, [], ◌∷◌, get_or, length, ◌==◌, not, true, false, IsTrue, refl, sym, ◌∙◌, arith, subst, rules, tests}
+use Rattle.std.proofs.Common.{◌≡◌, ℕ, ◌*◌, ◌≤◌, List, length, ◌==◌, not, true, IsTrue, refl, sym, ◌∙◌, arith, subst, rules, tests}
 use Rattle.std.specs.Char.{is_ascii_digit}
 use Rattle.std.specs.List.{AllByRecursion, list_all}
 use Rattle.std.proofs.lemmas.Bool.{and_parts, and_from, not-true, not_from_false}

@@ -1,5 +1,5 @@
 -- The laws for the field Source.
-use Rattle.std.proofs.Common.{◌≡◌, ℕ, zero, suc, ◌+◌, ◌-◌, ◌*◌, ◌==◌, ◌&&◌, ◌||◌, ◌<◌, ◌≤◌, Bool, true, false, not, cond, IsTrue, List, [], ◌∷◌, ◌++◌, length, length-append, append_assoc, append-nil, take, drop, get_or, Option, Some, None, refl, sym, ap, ◌∙◌, subst, arith}
+use Rattle.std.proofs.Common.{◌≡◌, ℕ, zero, suc, ◌-◌, ◌*◌, ◌==◌, ◌&&◌, ◌||◌, ◌<◌, ◌≤◌, Bool, true, false, cond, IsTrue, List, [], ◌∷◌, ◌++◌, length, length-append, append_assoc, append-nil, take, get_or, Option, Some, None, refl, sym, ap, ◌∙◌, subst, arith}
 use Rattle.std.proofs.lemmas.Bool.{and_parts, and_from, true≢false, false≢true, eqb-true}
 use Rattle.std.proofs.lemmas.List.Folds.{list_any-append}
 use Rattle.std.proofs.lemmas.Bool.Decides.{nat_tests}
@@ -9,7 +9,6 @@ use Rattle.std.specs.List.{AllByRecursion, list_any, list_all, before_first, aft
 use Rattle.std.specs.Str.{IsUtf8}
 use Rattle.deb_base.specs.Bodies.{IsBody, newline, is_blank_byte, is_all_blank, begins_with_blank, ends_with_blank, HasNoNewline}
 use Rattle.deb_base.specs.PackageNames.{is_package_name, is_package_byte}
-use Rattle.deb_base.specs.declared.code.Code.{Code}
 use Rattle.deb_base.specs.declared.code.Code.TheVariants.{BadName, BadVersion}
 use Rattle.deb_base.proofs.FieldBytes.{each_from_list_all, IsUtf8-with_all_ascii}
 use Rattle.deb_base.proofs.GraphicBodies.{IsGraphic, each, IsBody-line, IsBody-graphic}
@@ -27,9 +26,9 @@ use Rattle.deb_field.specs.TextLaws.{package_name_graphic}
 use Rattle.deb_field.specs.VersionLaw.{version_graphic, version_from_test, test_from_version, join}
 use Rattle.deb_field.specs.Versions.{is_version}
 use Rattle.deb_field.specs.WordLaws.{ends-behind}
-use Rattle.deb_field.specs.Trimming.{without_leading_blanks, with_kept, without_trailing_blanks, trimmed}
+use Rattle.deb_field.specs.Trimming.{without_trailing_blanks, trimmed}
 use Rattle.deb_field.specs.TrimLaws.{graphic_not_blank, trailing-blanks, trim-back, trimmed_parts, back_part}
-use Rattle.deb_field.specs.Sources.{SourceMeaning, source_of, SpellsPlain, SpellsVersioned, SpellsSource, version_suffix, source_text, is_open, has_version, name_before, is_closed, without_last, version_within, versioned_refusal, source_refusal}
+use Rattle.deb_field.specs.Sources.{SourceMeaning, source_of, SpellsVersioned, SpellsSource, source_text, is_open, has_version, name_before, is_closed, without_last, version_within, versioned_refusal, source_refusal}
 
 not_open_package : (b : ℕ) → is_package_byte b ≡ true → is_open b ≡ false
 not_open_package b h = grind (arith, nat_tests)

@@ -1,5 +1,5 @@
 -- What a `SourceName` means, and what reading around the parenthesis of a body gives.
-use Rattle.std.specs.Prelude.{◌≡◌, ℕ, true, List, Option, Some}
+use Rattle.std.specs.Prelude.{◌≡◌, ℕ, true, List, Some}
 use Rattle.std.specs.Option.{option_map}
 use Rattle.deb_base.specs.PackageNames.{is_package_name}
 use Rattle.deb_version.specs.Parts.{Meaning as VersionMeaning}

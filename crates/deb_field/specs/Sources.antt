@@ -1,5 +1,5 @@
 -- The field Source: the name of a source package, perhaps with a version in parentheses. Debian Policy 5.6.1.
-use Rattle.std.specs.Prelude.{◌≡◌, ℕ, ◌==◌, ◌&&◌, ◌-◌, Bool, true, false, cond, List, [], ◌∷◌, ◌++◌, length, take, drop, Option, Some, None, MatchOption, IsTrue, codes, refl}
+use Rattle.std.specs.Prelude.{◌≡◌, ℕ, ◌==◌, ◌&&◌, ◌-◌, Bool, false, cond, List, [], ◌∷◌, ◌++◌, length, take, Option, Some, None, MatchOption, IsTrue, codes, refl}
 use Rattle.std.specs.List.{list_any, before_first, after_first}
 use Rattle.deb_base.specs.Bodies.{is_all_blank}
 use Rattle.deb_base.specs.PackageNames.{is_package_name}

@@ -1,5 +1,5 @@
 -- The laws for values that are their own text.
-use Rattle.std.proofs.Common.{◌≡◌, ℕ, ◌*◌, ◌≤◌, ◌<◌, ◌==◌, ◌&&◌, Bool, true, false, not, cond, IsTrue, List, length, Option, Some, None, refl, sym, ap, ◌∙◌, subst, arith, rules, tests}
+use Rattle.std.proofs.Common.{◌≡◌, ℕ, ◌*◌, ◌≤◌, Bool, true, IsTrue, List, length, None, refl, sym, ap, ◌∙◌, subst, arith}
 use Rattle.std.proofs.lemmas.Bool.{and_parts, not-true, not_from_false}
 use Rattle.std.proofs.lemmas.Bool.Decides.{nat_tests}
 use Rattle.std.specs.List.{AllByRecursion, list_all}
@@ -12,7 +12,7 @@ use Rattle.deb_base.proofs.GraphicBodies.{IsGraphic}
 use Rattle.deb_field.specs.CanonLaw.{CanonLaw, RefusalLaw}
 use Rattle.deb_field.specs.OneLine.{holds_newline, refusal_unless, line_refusal}
 use Rattle.deb_field.specs.OneLineLaws.{one_line-graphic, passes-from_none, none-from_passes, line_refusal-parts, line_refusal-from}
-use Rattle.deb_field.specs.Texts.{SpellsItself, text_itself, is_any_text, is_one_line, SpellsText, text_refusal, SpellsLine, one_line_refusal, SpellsName, name_refusal, SpellsArchitecture, architecture_refusal}
+use Rattle.deb_field.specs.Texts.{SpellsItself, text_itself, SpellsText, text_refusal, SpellsLine, one_line_refusal, SpellsName, name_refusal, SpellsArchitecture, architecture_refusal}
 
 -- whatever the test
 module _ (test : List ℕ → Bool) where

@@ -1,8 +1,8 @@
 -- What is cut of a text with spaces and tabs at its ends.
-use Rattle.std.proofs.Common.{◌≡◌, ℕ, ◌<◌, ◌≤◌, Bool, true, false, not, cond, IsTrue, List, [], ◌∷◌, ◌++◌, append-nil, append_assoc, refl, sym, ap, ◌∙◌, subst, arith}
+use Rattle.std.proofs.Common.{◌≡◌, ℕ, Bool, true, false, cond, IsTrue, List, [], ◌∷◌, ◌++◌, refl, sym, ap, ◌∙◌, arith}
 use Rattle.std.proofs.lemmas.Bool.{and_parts, and_from}
 use Rattle.std.proofs.lemmas.Bool.Decides.{nat_tests}
-use Rattle.std.specs.List.{AllByRecursion, list_all}
+use Rattle.std.specs.List.{AllByRecursion}
 use Rattle.deb_base.specs.Bodies.{is_blank_byte, is_all_blank}
 use Rattle.deb_base.proofs.GraphicBodies.{IsGraphic}
 use Rattle.deb_field.specs.Trimming.{without_leading_blanks, with_kept, without_trailing_blanks, trimmed}

@@ -1,6 +1,6 @@
 -- The laws for values of all kinds.
-use Rattle.std.proofs.Common.{◌≡◌, ℕ, List, Option, refl, ap}
-use Rattle.deb_base.specs.Names.{folded, canonical_name}
+use Rattle.std.proofs.Common.{◌≡◌, ℕ, List, refl, ap}
+use Rattle.deb_base.specs.Names.{canonical_name}
 use Rattle.deb_base.proofs.CanonicalNames.{folded-canonical_name}
 use Rattle.deb_version.specs.Parts.{Meaning as VersionMeaning}
 use Rattle.deb_version.specs.Grammar.{SpellsVersion}

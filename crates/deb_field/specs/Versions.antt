@@ -2,7 +2,6 @@
 use Rattle.std.specs.Prelude.{◌≡◌, ℕ, Bool, true, false, List, [], Option, Some, None, codes, refl}
 use Rattle.deb_base.specs.declared.code.Code.{Code}
 use Rattle.deb_base.specs.declared.code.Code.TheVariants.{NotOneLine, BadVersion}
-use Rattle.deb_version.specs.declared.fault.BadVersion.{BadVersion as VersionFault}
 use Rattle.deb_version.specs.Faults.{first_fault}
 use Rattle.deb_field.specs.OneLine.{line_refusal, refusal_unless}
 

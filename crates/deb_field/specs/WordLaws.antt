@@ -1,12 +1,11 @@
 -- The laws for folded fields and for the names of architectures.
-use Rattle.std.proofs.Common.{◌≡◌, ℕ, ◌+◌, ◌*◌, ◌==◌, ◌||◌, ◌<◌, ◌≤◌, Bool, true, false, not, cond, IsTrue, List, [], ◌∷◌, ◌++◌, length, append-nil, append_assoc, Option, Some, None, refl, sym, ap, ◌∙◌, subst, arith}
+use Rattle.std.proofs.Common.{◌≡◌, ℕ, ◌*◌, ◌==◌, ◌<◌, ◌≤◌, Bool, true, false, cond, IsTrue, List, [], ◌∷◌, ◌++◌, length, append-nil, append_assoc, refl, sym, ap, ◌∙◌, subst, arith}
 use Rattle.std.proofs.lemmas.Bool.Decides.{nat_tests}
 use Rattle.std.proofs.lemmas.Str.{IsUtf8-nil, IsUtf8-append}
 use Rattle.std.specs.List.{AllByRecursion, filter, list_all, slice_split, onto_first}
 use Rattle.std.specs.Str.{IsUtf8}
 use Rattle.deb_base.specs.Bodies.{IsBody, newline, is_blank_byte, begins_with_blank, ends_with_blank, HasNoNewline}
 use Rattle.deb_base.specs.PackageNames.{is_arch_name}
-use Rattle.deb_base.specs.declared.code.Code.{Code}
 use Rattle.deb_base.specs.declared.code.Code.TheVariants.{BadArchitecture}
 use Rattle.deb_base.proofs.GraphicBodies.{IsBody-line}
 use Rattle.deb_base.proofs.TextLines.{IsUtf8-after_ascii, IsUtf8-before_ascii, IsUtf8-behind_ascii, IsUtf8-with_ascii}

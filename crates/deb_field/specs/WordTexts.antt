@@ -1,6 +1,6 @@
 -- The text of words with one space between two of them.
-use Rattle.std.proofs.Common.{◌≡◌, ℕ, ◌+◌, ◌*◌, ◌==◌, ◌<◌, ◌≤◌, Bool, true, false, not, cond, List, [], ◌∷◌, ◌++◌, length, length-append, append-nil, append_assoc, refl, sym, ap, ◌∙◌, subst, arith}
-use Rattle.std.specs.List.{prefix_len, filter, slice_split, onto_first}
+use Rattle.std.proofs.Common.{◌≡◌, ℕ, ◌+◌, ◌≤◌, Bool, true, false, cond, List, [], ◌∷◌, ◌++◌, length, length-append, append-nil, append_assoc, refl, sym, ap, ◌∙◌, arith}
+use Rattle.std.specs.List.{filter, slice_split, onto_first}
 use Rattle.deb_field.specs.Words.{is_white, is_word, words_of, words_text}
 use Rattle.deb_field.specs.WordCuts.{split-white, split-other, first_piece}
 

@@ -1,6 +1,6 @@
 -- The words of a text: the runs of bytes between white space, which is spaces, tabs and newlines.
 -- Debian Policy 5.1 (folded fields) and 5.6.8 (architectures).
-use Rattle.std.specs.Prelude.{◌≡◌, ℕ, ◌==◌, ◌||◌, not, Bool, true, false, List, [], ◌∷◌, length, Option, Some, None, IsTrue, codes, refl}
+use Rattle.std.specs.Prelude.{◌≡◌, ℕ, ◌==◌, ◌||◌, not, Bool, List, [], ◌∷◌, length, Option, Some, None, IsTrue, codes, refl}
 use Rattle.std.specs.List.{filter, list_all, slice_split, join_with_byte}
 use Rattle.deb_base.specs.Bodies.{newline, is_blank_byte}
 use Rattle.deb_base.specs.PackageNames.{is_arch_name}

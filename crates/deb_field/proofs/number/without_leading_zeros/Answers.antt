@@ -1,4 +1,4 @@
-use Rattle.std.proofs.Common.{sym, ap, ◌∙◌, arith}
+use Rattle.std.proofs.Common.{ap, ◌∙◌, arith}
 use Rattle.deb_version.specs.Canonical.{digits_of}
 use Rattle.deb_field.proofs.NumberLemmas.{canonical-short, canonical-first}
 use Rattle.deb_field.proofs.number.without_leading_zeros.Goals as goal
