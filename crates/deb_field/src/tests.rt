@@ -1,0 +1,227 @@
+//! Bodies with their canonical text or their refusal, and what callers see of a value.
+
+use crate::*;
+use deb_base::{Code, is_body};
+use std::alloc::{AllocError, Global};
+use std::test::Fail;
+
+/// A kind of document, the name and the body of a field, and the canonical text of its value or the
+/// code of its refusal.
+struct Row(Doc, &'static str, &'static str, Result<&'static str, Code>);
+
+const ROWS: [Row; 70] = [
+    // names of packages
+    Row(Doc::Packages, "Package", "aa", Ok("aa")),
+    Row(Doc::Packages, "pACKAGE", "libstdc++6", Ok("libstdc++6")),
+    Row(Doc::Packages, "Package", "", Err(Code::BadName)),
+    Row(Doc::Packages, "Package", "a", Err(Code::BadName)),
+    Row(Doc::Packages, "Package", "Aa", Err(Code::BadName)),
+    Row(Doc::Packages, "Package", "a_b", Err(Code::BadName)),
+    Row(Doc::Packages, "Package", "A\n b", Err(Code::NotOneLine)),
+    // names of source packages, with versions
+    Row(Doc::Packages, "Source", "aa", Ok("aa")),
+    Row(Doc::Packages, "Source", "aa(1.)", Ok("aa (1.0)")),
+    Row(Doc::Packages, "Source", "aa ( 1 )", Ok("aa (1)")),
+    Row(Doc::Source, "Source", "aa\t(\t0:1-0)", Ok("aa (1)")),
+    Row(Doc::Packages, "Source", "", Err(Code::BadName)),
+    Row(Doc::Packages, "Source", "A (1_)", Err(Code::BadName)),
+    Row(Doc::Packages, "Source", "aa (", Err(Code::BadName)),
+    Row(Doc::Packages, "Source", "aa(", Err(Code::BadName)),
+    Row(Doc::Packages, "Source", "(1)", Err(Code::BadName)),
+    Row(Doc::Packages, "Source", "aa (1) x", Err(Code::BadName)),
+    Row(Doc::Packages, "Source", "aa (1) (2)", Err(Code::BadVersion)),
+    Row(Doc::Packages, "Source", "aa ()", Err(Code::BadVersion)),
+    Row(Doc::Packages, "Source", "A (1_\n )", Err(Code::NotOneLine)),
+    // versions
+    Row(Doc::Packages, "Version", "0:1.00-0", Ok("1.0")),
+    Row(Doc::Source, "Version", "2:1--0", Ok("2:1-0-0")),
+    Row(Doc::Packages, "Version", "", Err(Code::BadVersion)),
+    Row(Doc::Packages, "Version", "1-", Err(Code::BadVersion)),
+    Row(Doc::Packages, "Version", "1-\n 2", Err(Code::NotOneLine)),
+    // architectures
+    Row(Doc::Packages, "Architecture", "all", Ok("all")),
+    Row(Doc::Binary, "Architecture", "linux-any", Ok("linux-any")),
+    Row(
+        Doc::Packages,
+        "Architecture",
+        "any all",
+        Err(Code::BadArchitecture),
+    ),
+    Row(Doc::Binary, "Architecture", "", Err(Code::BadArchitecture)),
+    Row(
+        Doc::Packages,
+        "Architecture",
+        "I386",
+        Err(Code::BadArchitecture),
+    ),
+    Row(
+        Doc::Packages,
+        "Architecture",
+        "any\n all",
+        Err(Code::NotOneLine),
+    ),
+    Row(Doc::Source, "Architecture", "", Ok("")),
+    Row(Doc::Source, "Architecture", "any all", Ok("any all")),
+    Row(
+        Doc::Source,
+        "Architecture",
+        "any \t all\n\tlinux-any",
+        Ok("any all linux-any"),
+    ),
+    Row(
+        Doc::Source,
+        "Architecture",
+        "any All",
+        Err(Code::BadArchitecture),
+    ),
+    // words
+    Row(Doc::Binary, "Essential", "yes", Ok("yes")),
+    Row(Doc::Binary, "Essential", "no", Ok("no")),
+    Row(Doc::Binary, "Essential", "Yes", Err(Code::BadWord)),
+    Row(Doc::Binary, "Essential", "", Err(Code::BadWord)),
+    Row(Doc::Binary, "Essential", "yes\n no", Err(Code::NotOneLine)),
+    Row(Doc::Packages, "MULTI-ARCH", "same", Ok("same")),
+    Row(Doc::Packages, "Multi-Arch", "foreign", Ok("foreign")),
+    Row(Doc::Packages, "Multi-Arch", "allowed", Ok("allowed")),
+    Row(Doc::Packages, "Multi-Arch", "no", Ok("no")),
+    Row(Doc::Packages, "Multi-Arch", "Same", Err(Code::BadWord)),
+    Row(Doc::Packages, "Multi-Arch", "", Err(Code::BadWord)),
+    Row(
+        Doc::Packages,
+        "Multi-Arch",
+        "same\n no",
+        Err(Code::NotOneLine),
+    ),
+    // numbers
+    Row(Doc::Packages, "Installed-Size", "000", Ok("0")),
+    Row(Doc::Packages, "SIZE", "007", Ok("7")),
+    Row(Doc::Packages, "Size", "0", Ok("0")),
+    Row(
+        Doc::Packages,
+        "Size",
+        "9999999999999999999999999999999999999999",
+        Ok("9999999999999999999999999999999999999999"),
+    ),
+    Row(Doc::Packages, "Size", "1k", Err(Code::BadNumber)),
+    Row(Doc::Packages, "Size", "+1", Err(Code::BadNumber)),
+    Row(Doc::Packages, "Size", "", Err(Code::BadNumber)),
+    Row(Doc::Packages, "Size", "1 2", Err(Code::BadNumber)),
+    Row(Doc::Packages, "Size", "1k\n 2", Err(Code::NotOneLine)),
+    // lines
+    Row(Doc::Packages, "Maintainer", "Aa  <a@b>", Ok("Aa  <a@b>")),
+    Row(Doc::Source, "Format", "", Ok("")),
+    Row(Doc::Packages, "Section", "a\n b", Err(Code::NotOneLine)),
+    // folded bodies
+    Row(
+        Doc::Packages,
+        "uploaders",
+        "Aa <a@b>,\n  Bb  <b@b>",
+        Ok("Aa <a@b>, Bb <b@b>"),
+    ),
+    Row(Doc::Source, "Binary", "\n aa,\n\tbb", Ok("aa, bb")),
+    Row(Doc::Source, "Binary", "", Ok("")),
+    // texts
+    Row(Doc::Packages, "MD5sum", "x", Ok("x")),
+    Row(
+        Doc::Packages,
+        "Description",
+        "short  \n long\n .",
+        Ok("short  \n long\n ."),
+    ),
+    Row(Doc::Source, "Files", "\n a 1 b", Ok("\n a 1 b")),
+    Row(Doc::Packages, "Unknown", "", Ok("")),
+    // relationships are text
+    Row(Doc::Packages, "Depends", "bb,  aa (", Ok("bb,  aa (")),
+    Row(Doc::Source, "Build-Depends", "", Ok("")),
+    Row(Doc::Packages, "Packages", "A\n b", Ok("A\n b")),
+    Row(Doc::Packages, "Provides", "vv (= 1)", Ok("vv (= 1)")),
+];
+
+/// The refusal of a row's body, or none where the canonical text of its value was appended. No row
+/// is refused by the codes that stand for what can't be the body of a field and for want of memory.
+fn told(alloc: Global, row: &Row, out: &mut Vec<u8>) -> Result<Option<Code>, AllocError> {
+    let body = row.2.as_bytes();
+    if !is_body(body) {
+        return Ok(Some(Code::StrayContinuation));
+    }
+    match Value::parse(alloc, row.0, row.1.as_bytes(), body) {
+        Ok(value) => {
+            value.canon_into(out)?;
+            Ok(None)
+        }
+        Err(ValueFault::Refused(code)) => Ok(Some(code)),
+        Err(ValueFault::Memory) => Ok(Some(Code::NotUtf8)),
+    }
+}
+
+#[test]
+fn values_of_rows(rt: HostRuntime) -> Result<(), Fail> {
+    for row in &ROWS {
+        let mut out = Vec::new(rt.alloc());
+        let refusal = told(rt.alloc(), row, &mut out)?;
+        match &row.3 {
+            Ok(canonical) => {
+                assert_eq!(rt; refusal, None, "{}: {}", row.1, row.2);
+                assert_eq!(rt;
+                    out.as_slice(),
+                    canonical.as_bytes(),
+                    "{}: {}",
+                    row.1,
+                    row.2
+                );
+            }
+            Err(code) => assert_eq!(rt; refusal, Some(*code), "{}: {}", row.1, row.2),
+        }
+    }
+    Ok(())
+}
+
+#[test]
+fn what_callers_see(rt: HostRuntime) -> Result<(), Fail> {
+    assert!(rt; is_single(Doc::Binary) && is_single(Doc::Source) && !is_single(Doc::Packages));
+    assert_eq!(rt; required(Doc::Source).len(), 3);
+    assert_eq!(rt;
+        kind_of(Doc::Source, b"architecture"),
+        Kind::ArchitectureWords
+    );
+    assert_eq!(rt; kind_of(Doc::Binary, b"Depends"), Kind::Text);
+    assert_eq!(rt; Number::parse(b" 1").err(), Some(Code::BadNumber));
+    assert_eq!(rt;
+        Number::parse(b"0070").map(|number| number.digits()).ok(),
+        Some(b"70".as_slice())
+    );
+    assert_eq!(rt;
+        Flag::parse(b"yes").map(|flag| flag.word()).ok(),
+        Some(b"yes".as_slice())
+    );
+    assert_eq!(rt; MultiArch::parse(b"same").ok(), Some(MultiArch::Same));
+    assert_eq!(rt; Text::new(b"a\n b").bytes(), b"a\n b".as_slice());
+    assert_eq!(rt;
+        Line::parse(b"a").map(|line| line.bytes()).ok(),
+        Some(b"a".as_slice())
+    );
+    assert_eq!(rt;
+        PackageName::parse(b"aa").map(|name| name.bytes()).ok(),
+        Some(b"aa".as_slice())
+    );
+    assert_eq!(rt;
+        ArchitectureName::parse(b"all")
+            .map(|name| name.bytes())
+            .ok(),
+        Some(b"all".as_slice())
+    );
+    let source = SourceName::parse(b"aa (1)").ok();
+    assert_eq!(rt; source.map(|source| source.name()), Some(b"aa".as_slice()));
+    assert!(rt; source.is_some_and(|source| source.version().is_some()));
+    Ok(())
+}
+
+#[test]
+fn words_in_order(rt: HostRuntime) -> Result<(), Fail> {
+    let mut words = Folded::new(b" aa\t\n bb  ").words();
+    assert_eq!(rt; words.next(), Some(b"aa".as_slice()));
+    assert_eq!(rt; words.next(), Some(b"bb".as_slice()));
+    assert_eq!(rt; words.next(), None);
+    assert_eq!(rt; words.next(), None);
+    Ok(())
+}
