@@ -1,4 +1,9 @@
+pub mod BodyLemmas
 pub mod CanonicalNames
 pub mod Counts
 pub mod Digits
+pub mod FieldBytes
+pub mod GraphicBodies
+pub mod LaterPieces
+pub mod TextLines
 pub mod Writes

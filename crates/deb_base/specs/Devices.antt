@@ -5,6 +5,11 @@ use Rattle.std.specs.Io.KnownBytes.{Appends}
 use Rattle.deb_base.specs.declared.fault.Fault.{Fault}
 use Rattle.deb_base.specs.declared.fault.Fault.TheVariants.{Refused, Memory, Read, Write}
 
+-- what a device shows: the bytes that it has left, or holds, where it tells them, and the count of its failed calls
+pub record Shown : Type 0 where
+  pub bytes : Option (List ℕ)
+  pub failures : ℕ
+
 -- the last value of a count of failed calls
 abbrev pub last_count : ℕ
 last_count = 2 ^ 64 - 1

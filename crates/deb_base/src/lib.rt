@@ -16,6 +16,7 @@
 //! ```
 #![tactic(auto)]
 
+mod body;
 mod code;
 mod decimal;
 mod device;
@@ -24,15 +25,18 @@ mod input;
 pub mod laws;
 mod names;
 mod output;
+mod package_names;
 mod put;
 mod refusal;
 
+pub use body::is_body;
 pub use code::Code;
 pub use device::{Failed, Sink, Source};
 pub use fault::Fault;
 pub use input::Input;
 pub use names::same_name;
 pub use output::Output;
+pub use package_names::{is_arch_name, is_package_name, is_profile_name, is_wildcard};
 pub use put::put_all;
 pub use refusal::Refusal;
 

@@ -1,0 +1,23 @@
+-- Facts about a fault, case by case.
+use Rattle.deb_base.specs.declared.fault.Fault.{Fault}
+use Rattle.deb_base.specs.declared.fault.Fault.TheVariants.{Refused, Memory, Read, Write}
+use Rattle.deb_base.specs.declared.refusal.Refusal.{Refusal}
+
+-- what holds of a refusal, and what where memory was wanted, where a read failed and where a write did
+abbrev pub MatchFault : Fault → (Refusal → Type 0) → Type 0 → Type 0 → Type 0 → Type 0
+MatchFault (Refused refusal) refused memory read write = refused refusal
+MatchFault Memory refused memory read write = memory
+MatchFault Read refused memory read write = read
+MatchFault Write refused memory read write = write
+
+-- a fact about a refusal alone
+abbrev pub IfRefused : Fault → (Refusal → Type 0) → Type 0
+IfRefused fault refused = MatchFault fault refused (Unit {0}) (Unit {0}) (Unit {0})
+
+-- a refusal with this fact, or want of memory: nothing was read or written
+abbrev pub RefusedOrMemory : Fault → (Refusal → Type 0) → Type 0
+RefusedOrMemory fault refused = MatchFault fault refused (Unit {0}) ⊥ ⊥
+
+-- a refusal with this fact, want of memory or a failed read: nothing was written
+abbrev pub IsReadersFault : Fault → (Refusal → Type 0) → Type 0
+IsReadersFault fault refused = MatchFault fault refused (Unit {0}) (Unit {0}) ⊥

@@ -1,0 +1,71 @@
+//! The bodies of fields.
+
+ghost use Rattle.std.specs.Prelude.{◌≡◌, ◌↔◌, IsTrue, drop};
+ghost use Rattle.std.specs.List.{list_all};
+ghost use Rattle.deb_base.specs.Bodies.{begins_with_blank, ends_with_blank, is_all_blank, is_blank, is_blank_byte, is_body_shape, is_continuation, pieces_of, IsBody};
+
+/// The most bytes that the lengths of a paragraph's lines may add up to.
+const PARAGRAPH_LIMIT: usize = 16_777_216;
+
+/// Whether this can be the body of a field (Debian Policy 5.1): UTF-8 that neither begins nor ends with a space or a
+/// tab, each of whose lines after the first begins with one and isn't blank. The empty text is one.
+///
+/// A line is blank if it has only spaces and tabs, and less than 16,777,216 of them.
+pub fn is_body(body: &[u8]) -> bool
+    ensures { IsTrue result ↔ IsBody body.now }
+{
+    has_body_shape(body) && str::from_utf8(body).is_ok()
+}
+
+fn has_body_shape(body: &[u8]) -> bool
+    ensures { result ≡ is_body_shape body.now }
+{
+    !begins_with_blank(body) && !ends_with_blank(body) && continues(body)
+}
+
+/// Whether each line after the first is a continuation line.
+fn continues(body: &[u8]) -> bool
+    ensures { result ≡ list_all is_continuation (drop 1 (pieces_of body.now)) }
+{
+    body.split(|byte| *byte == b'\n')
+        .skip(1)
+        .all(|line| is_continuation(line))
+}
+
+fn is_continuation(line: &[u8]) -> bool
+    ensures { result ≡ is_continuation line.now }
+{
+    begins_with_blank(line) && !is_blank_line(line)
+}
+
+#[tactic(auto, unfolding(crate::specs::Bodies::paragraph_limit))]
+fn is_blank_line(line: &[u8]) -> bool
+    ensures { result ≡ is_blank line.now }
+{
+    line.len() < PARAGRAPH_LIMIT && has_only_blanks(line)
+}
+
+fn has_only_blanks(text: &[u8]) -> bool
+    ensures { result ≡ is_all_blank text.now }
+{
+    text.iter().all(|byte| is_blank_byte(*byte))
+}
+
+fn begins_with_blank(text: &[u8]) -> bool
+    ensures { result ≡ begins_with_blank text.now }
+{
+    matches!(text, [b' ' | b'\t', ..])
+}
+
+fn ends_with_blank(text: &[u8]) -> bool
+    ensures { result ≡ ends_with_blank text.now }
+{
+    let count = text.len();
+    count > 0 && is_blank_byte(text[count - 1])
+}
+
+fn is_blank_byte(byte: u8) -> bool
+    ensures { result ≡ is_blank_byte byte }
+{
+    byte == b' ' || byte == b'\t'
+}
