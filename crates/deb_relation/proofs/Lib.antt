@@ -1,0 +1,4 @@
+pub mod Gathering
+pub mod Inserting
+pub mod Lengths
+pub mod Versions

@@ -1,0 +1,58 @@
+-- Which alternatives apply to an architecture and a set of build profiles, and what operators hold of. Debian Policy 7.1.
+use Rattle.std.specs.Prelude.{◌≡◌, ℕ, Bool, true, false, not, if◌then◌else◌, ◌&&◌, ◌||◌, List, [], ◌∷◌, Option, Some, None, map, refl, codes}
+use Rattle.std.specs.List.{list_all, list_any}
+use Rattle.std.specs.Ordering.{is_eq, is_lt, is_le, is_gt, is_ge}
+use Rattle.std.specs.Str.{bytes_eq}
+use Rattle.std.specs.declared.cmp.Ordering.{Ordering}
+use Rattle.std.specs.declared.cmp.Ordering.TheVariants.{Less, Equal as Same, Greater}
+use Rattle.deb_relation.specs.declared.operator.Op.{Op}
+use Rattle.deb_relation.specs.declared.operator.Op.TheVariants.{Earlier, EarlierEqual, Equal, LaterEqual, Later}
+use Rattle.deb_relation.specs.Meaning.{Item, Restrictions, Alternative}
+
+-- whether an operator holds of a version that compares so to that of the bound
+abbrev pub holds : Op → Ordering → Bool
+holds Earlier order = is_lt order
+holds EarlierEqual order = is_le order
+holds Equal order = is_eq order
+holds LaterEqual order = is_ge order
+holds Later order = is_gt order
+
+worked-holds : map (λ op. holds op Less) (Earlier ∷ EarlierEqual ∷ Equal ∷ LaterEqual ∷ Later ∷ []) ≡ true ∷ true ∷ false ∷ false ∷ false ∷ []
+worked-holds = refl
+
+worked-holds_equal : map (λ op. holds op Same) (Earlier ∷ EarlierEqual ∷ Equal ∷ LaterEqual ∷ Later ∷ []) ≡ false ∷ true ∷ true ∷ true ∷ false ∷ []
+worked-holds_equal = refl
+
+worked-holds_later : map (λ op. holds op Greater) (Earlier ∷ EarlierEqual ∷ Equal ∷ LaterEqual ∷ Later ∷ []) ≡ false ∷ false ∷ false ∷ true ∷ true ∷ []
+worked-holds_later = refl
+
+-- a target architecture and the build profiles that are active
+pub record Environment : Type 0 where
+  pub target : List ℕ
+  pub profiles : List (List ℕ)
+
+-- whether a name is among names
+abbrev pub is_among : List ℕ → List (List ℕ) → Bool
+is_among name names = list_any (λ other. bytes_eq other name) names
+
+-- a list without `!` applies if it holds the target, one with `!` if it doesn't; without a list an alternative applies
+abbrev pub list_applies : Option (Bool × List (List ℕ)) → List ℕ → Bool
+list_applies None target = true
+list_applies (Some list) target = if list.0 then not (is_among target list.1) else is_among target list.1
+
+-- an item holds if its profile is active, one with `!` if it isn't
+abbrev pub item_holds : List (List ℕ) → Item → Bool
+item_holds profiles item = if item.0 then not (is_among item.1 profiles) else is_among item.1 profiles
+
+-- all items of a list hold
+abbrev pub all_hold : List (List ℕ) → Restrictions → Bool
+all_hold profiles items = list_all (item_holds profiles) items
+
+-- a formula applies if all items of one of its lists hold; without lists an alternative applies
+abbrev pub formula_applies : List Restrictions → List (List ℕ) → Bool
+formula_applies [] profiles = true
+formula_applies (items ∷ lists) profiles = list_any (all_hold profiles) (items ∷ lists)
+
+-- whether an alternative applies: its list and its formula do
+abbrev pub applies : Alternative → Environment → Bool
+applies a environment = list_applies a.architectures environment.target && formula_applies a.formula environment.profiles

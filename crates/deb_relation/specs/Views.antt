@@ -1,0 +1,38 @@
+-- What the values of the code stand for: the meanings of a relation's parts.
+use Rattle.std.specs.Prelude.{ℕ, Bool, List, map, Option, Some, None}
+use Rattle.std.specs.Option.{option_copied, option_map}
+use denote.Ref.{Bor}
+use Rattle.deb_relation.specs.declared.operator.Op.{Op}
+use Rattle.deb_relation.specs.declared.alternative.Alternative.{Alternative as Parts}
+use Rattle.deb_version.specs.declared.version.Version.{Version as Spelled}
+use Rattle.deb_version.specs.Parts.{Meaning as Version}
+use Rattle.deb_version.specs.Version.{meaning_of}
+use Rattle.deb_relation.specs.Meaning.{Item, Restrictions, Alternative, Group}
+
+-- the operator and the version's meaning
+abbrev pub bound_of : Op × Spelled → Op × Version
+bound_of bound = (bound.0, meaning_of bound.1)
+
+-- the names that slices hold, and those of items
+abbrev pub names_of : List (Bor (List ℕ)) → List (List ℕ)
+names_of names = map (λ name. name.now) names
+
+abbrev pub item_of : Bool × Bor (List ℕ) → Item
+item_of item = (item.0, item.1.now)
+
+abbrev pub items_of : List (Bool × Bor (List ℕ)) → Restrictions
+items_of items = map item_of items
+
+-- what was read, and the text behind it
+abbrev pub text_behind : Bor (List ℕ) × Bor (List ℕ) → List ℕ × List ℕ
+text_behind p = (p.0.now, p.1.now)
+
+-- an alternative's meaning
+abbrev pub alternative_of : Parts → Alternative
+alternative_of a = record {
+  name = a.name.now;
+  qualifier = option_copied a.qualifier;
+  bound = option_map bound_of a.bound;
+  architectures = option_map (λ list. (list.0, names_of list.1.items)) a.architectures;
+  formula = map (λ list. items_of list.items) a.formula.items;
+}
