@@ -173,16 +173,25 @@ next_restriction text =
 abbrev pub is_empty_list : {A : Type 0} → List A → Bool
 is_empty_list items = length items == 0
 
--- the end of a list with these items, and white space behind it; a text that ends first has no byte left
-unfoldable pub read_list_end : {A : Type 0} → List A → List ℕ → Reading (List A)
-read_list_end items text =
+-- the end of a list, empty or not, and white space behind it; a text that ends first has no byte left
+unfoldable pub read_list_end : Bool → List ℕ → Result (List ℕ) Stopped
+read_list_end empty text =
     if is_at_end (behind_white text) then Err (Unclosed, 0)
-    else if is_empty_list items then Err (ListEmpty, length (behind_white text))
-    else Ok (items, behind_white (drop 1 (behind_white text)))
+    else if empty then Err (ListEmpty, length (behind_white text))
+    else Ok (behind_white (drop 1 (behind_white text)))
+
+-- what was read before
+abbrev pub with_behind : {A : Type 0} → A → Result (List ℕ) Stopped → Reading A
+with_behind a (Ok behind) = Ok (a, behind)
+with_behind a (Err stopped) = Err stopped
+
+-- a list's items and its end
+abbrev pub end_list : {A : Type 0} → List A → List ℕ → Reading (List A)
+end_list items text = with_behind items (read_list_end (is_empty_list items) text)
 
 -- what stands behind `[`: the names, a set
 unfoldable pub read_names : Bool → List ℕ → Reading (List (List ℕ))
-read_names negated text = and_then (gather (next_architecture negated) (insert_by itself) [] text) (λ names rest. read_list_end names rest)
+read_names negated text = and_then (gather (next_architecture negated) (insert_by itself) [] text) end_list
 
 -- an architecture list, or nothing
 unfoldable pub read_architectures : List ℕ → Reading (Option (Bool × List (List ℕ)))
@@ -192,7 +201,7 @@ read_architectures text =
 
 -- what stands behind `<`: the items, a set
 unfoldable pub read_restrictions : List ℕ → Reading Restrictions
-read_restrictions text = and_then (gather next_restriction (insert_by item_text) [] text) (λ items rest. read_list_end items rest)
+read_restrictions text = and_then (gather next_restriction (insert_by item_text) [] text) end_list
 
 abbrev pub some_next : {A : Type 0} → A → List ℕ → Next A
 some_next a behind = Ok (Some (a, behind))

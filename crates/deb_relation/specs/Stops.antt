@@ -9,3 +9,8 @@ abbrev pub Gives : {A B : Type 0} → Result A Stop → (A → B) → Result B S
 Gives (Ok a) view reading = reading ≡ Ok (view a)
 Gives (Err (Bad reason left)) view reading = reading ≡ Err (reason, left)
 Gives (Err Memory) view reading = Unit {0}
+
+-- a view of what was read and of the text behind it, where there is a further one
+abbrev pub next_of : {A B : Type 0} → (A → B) → Option A → Option B
+next_of view None = None
+next_of view (Some a) = Some (view a)

@@ -2,9 +2,12 @@
 #![tactic(auto)]
 
 mod alternative;
+mod architectures;
 mod bound;
 mod cursor;
 mod fault;
+mod formula;
+mod items;
 mod name;
 mod operator;
 
