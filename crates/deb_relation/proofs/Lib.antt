@@ -1,4 +1,5 @@
 pub mod Gathering
 pub mod Inserting
+pub mod Joining
 pub mod Lengths
 pub mod Versions

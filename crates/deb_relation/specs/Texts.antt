@@ -6,11 +6,15 @@ use Rattle.deb_version.specs.Parts.{Meaning as Version}
 use Rattle.deb_version.specs.Canonical.{version_text}
 use Rattle.deb_relation.specs.Meaning.{Item, Restrictions, Alternative, Group, Relation}
 
+-- texts, each with a separator before it
+abbrev pub separated : List ℕ → List (List ℕ) → List ℕ
+separated separator [] = []
+separated separator (text ∷ texts) = separator ++ (text ++ separated separator texts)
+
 -- texts with a separator between two of them
 abbrev pub joined : List ℕ → List (List ℕ) → List ℕ
 joined separator [] = []
-joined separator (text ∷ []) = text
-joined separator (text ∷ next ∷ texts) = text ++ (separator ++ joined separator (next ∷ texts))
+joined separator (text ∷ texts) = text ++ separated separator texts
 
 abbrev pub operator_text : Op → List ℕ
 operator_text Earlier = codes "<<"
@@ -48,8 +52,7 @@ architectures_text (Some list) = codes " [" ++ (joined (codes " ") (map (signed_
 
 -- each restriction list with a space before it
 abbrev pub formula_text : List Restrictions → List ℕ
-formula_text [] = []
-formula_text (items ∷ lists) = codes " " ++ (restrictions_text items ++ formula_text lists)
+formula_text lists = separated (codes " ") (map restrictions_text lists)
 
 abbrev pub alternative_text : Alternative → List ℕ
 alternative_text a = a.name ++ (qualifier_text a.qualifier ++ (bound_text a.bound ++ (architectures_text a.architectures ++ formula_text a.formula)))
