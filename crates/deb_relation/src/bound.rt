@@ -1,6 +1,7 @@
 //! The bound on a version: an operator and a version, in parentheses.
 
-ghost use Rattle.std.specs.Prelude.{◌≡◌};
+ghost use Rattle.std.specs.Prelude.{◌≡◌, ◌++◌, OnOk};
+ghost use Rattle.deb_relation.specs.Texts.{bound_text, operator_text};
 ghost use Rattle.std.specs.Option.{option_map};
 ghost use Rattle.deb_version.specs.Version.{meaning_of};
 ghost use Rattle.deb_relation.specs.Reading.{operator_of, read_bound, read_bound_behind, read_close, read_operator, read_version};
@@ -11,6 +12,7 @@ use crate::cursor::{begins, cut_before, cut_operator, skip_white};
 use crate::fault::{Reason, Stop};
 use crate::operator::Op;
 use deb_version::Version;
+use std::alloc::AllocError;
 
 /// The operator that a run is.
 fn operator_of(run: &[u8]) -> Option<Op>
@@ -87,4 +89,30 @@ pub(crate) fn read_bound(text: &[u8]) -> Result<(Option<(Op, Version<'_>)>, &[u8
     }
     let (bound, rest) = read_bound_behind(skip_white(&text[1..]))?;
     Ok((Some(bound), rest))
+}
+
+fn operator_text(operator: Op) -> &'static [u8]
+    ensures { result.now ≡ operator_text operator }
+{
+    match operator {
+        Op::Earlier => b"<<",
+        Op::EarlierEqual => b"<=",
+        Op::Equal => b"=",
+        Op::LaterEqual => b">=",
+        Op::Later => b">>",
+    }
+}
+
+/// Appends the text of a bound with a space before it, or nothing.
+pub(crate) fn append_bound(out: &mut Vec<u8>, bound: &Option<(Op, Version<'_>)>) -> Result<(), AllocError>
+    ensures { OnOk result (out.new.items ≡ out.old.items ++ bound_text (option_map bound_of bound.now)) }
+{
+    if let Some((operator, version)) = bound {
+        out.extend_from_slice(b" (")?;
+        out.extend_from_slice(operator_text(*operator))?;
+        out.push(b' ')?;
+        version.canon_into(out)?;
+        out.push(b')')?;
+    }
+    Ok(())
 }
