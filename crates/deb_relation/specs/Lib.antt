@@ -1,6 +1,8 @@
 pub mod Applying
+pub mod Groups
 pub mod Meaning
 pub mod Reading
+pub mod Relations
 pub mod Sets
 pub mod Stops
 pub mod Texts

@@ -7,10 +7,14 @@ mod bound;
 mod cursor;
 mod fault;
 mod formula;
+mod group;
 mod items;
 mod name;
 mod operator;
+mod relation;
 
 pub use alternative::Alternative;
 pub use fault::{Reason, RelationFault};
+pub use group::Group;
 pub use operator::Op;
+pub use relation::Relation;
