@@ -2,4 +2,5 @@ pub mod Gathering
 pub mod Inserting
 pub mod Joining
 pub mod Lengths
+pub mod Mapped
 pub mod Versions

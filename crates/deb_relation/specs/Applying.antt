@@ -1,5 +1,5 @@
 -- Which alternatives apply to an architecture and a set of build profiles, and what operators hold of. Debian Policy 7.1.
-use Rattle.std.specs.Prelude.{◌≡◌, ℕ, Bool, true, false, not, if◌then◌else◌, ◌&&◌, ◌||◌, List, [], ◌∷◌, Option, Some, None, map, refl, codes}
+use Rattle.std.specs.Prelude.{◌≡◌, ℕ, ◌==◌, length, Bool, true, false, not, if◌then◌else◌, ◌&&◌, ◌||◌, List, [], ◌∷◌, Option, Some, None, map, refl, codes}
 use Rattle.std.specs.List.{list_all, list_any}
 use Rattle.std.specs.Ordering.{is_eq, is_lt, is_le, is_gt, is_ge}
 use Rattle.std.specs.Str.{bytes_eq}
@@ -50,8 +50,7 @@ all_hold profiles items = list_all (item_holds profiles) items
 
 -- a formula applies if all items of one of its lists hold; without lists an alternative applies
 abbrev pub formula_applies : List Restrictions → List (List ℕ) → Bool
-formula_applies [] profiles = true
-formula_applies (items ∷ lists) profiles = list_any (all_hold profiles) (items ∷ lists)
+formula_applies lists profiles = (length lists == 0) || list_any (all_hold profiles) lists
 
 -- whether an alternative applies: its list and its formula do
 abbrev pub applies : Alternative → Environment → Bool

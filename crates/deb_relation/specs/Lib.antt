@@ -1,9 +1,12 @@
 pub mod Applying
+pub mod Environments
 pub mod Groups
 pub mod Meaning
 pub mod Reading
 pub mod Relations
 pub mod Sets
 pub mod Stops
+pub mod Targets
+pub mod Tests
 pub mod Texts
 pub mod Views

@@ -50,6 +50,13 @@ text_behind p = (p.0.now, p.1.now)
 abbrev pub item_behind : (Bool × Bor (List ℕ)) × Bor (List ℕ) → Item × List ℕ
 item_behind p = (item_of p.0, p.1.now)
 
+-- the bound and the architecture list that are lent
+abbrev pub lent_bound_of : Op × Bor Spelled → Op × Version
+lent_bound_of bound = (bound.0, meaning_of bound.1.now)
+
+abbrev pub lent_list_of : Bool × Bor (List (Bor (List ℕ))) → Bool × List (List ℕ)
+lent_list_of list = (list.0, names_of list.1.now)
+
 -- an alternative's meaning
 abbrev pub alternative_of : Parts → Alternative
 alternative_of a = record {

@@ -1,9 +1,11 @@
 //! A group: alternatives of which one is enough.
 
-ghost use Rattle.std.specs.Prelude.{◌≡◌, ◌++◌, IfOk, OnOk, codes, map};
+ghost use Rattle.std.specs.Prelude.{◌≡◌, ◌++◌, IfOk, OnErr, OnOk, codes, length, map};
+ghost use Rattle.std.specs.List.{list_all, list_any};
 ghost use Rattle.deb_relation.specs.Reading.{append, gather, next_alternative, read_group};
 ghost use Rattle.deb_relation.specs.Stops.{Gives, next_of};
 ghost use Rattle.deb_relation.specs.Texts.{alternative_text, group_text, separated};
+ghost use Rattle.deb_relation.specs.Tests.{has_equal_bound, has_wildcard};
 ghost use Rattle.deb_relation.specs.Views.{alternative_of};
 
 use crate::alternative::Alternative;
@@ -21,6 +23,54 @@ pub struct Group<'a> {
 
 impl<'a> Group<'a> {
     ghost use Rattle.deb_relation.specs.Groups.{group_of};
+    ghost use Rattle.deb_relation.specs.Tests.{has_two};
+
+    /// The alternatives, in the order of the text, repeats kept.
+    pub fn alternatives(&self) -> &[Alternative<'a>]
+        ensures { map alternative_of result.now ≡ group_of self.now }
+    {
+        &self.alternatives
+    }
+
+    /// Whether there are two or more alternatives.
+    pub(crate) fn has_two(&self) -> bool
+        ensures { result ≡ has_two (group_of self.now) }
+    {
+        self.alternatives.len() >= 2
+    }
+
+    /// Whether an architecture list holds a wildcard.
+    pub(crate) fn has_wildcard(&self) -> bool
+        ensures { result ≡ list_any has_wildcard (group_of self.now) }
+    {
+        some_has_wildcard(&self.alternatives)
+    }
+
+    /// Whether no bound has an operator other than `=`.
+    pub(crate) fn only_equals(&self) -> bool
+        ensures { result ≡ list_all has_equal_bound (group_of self.now) }
+    {
+        each_has_equal_bound(&self.alternatives)
+    }
+
+    /// The length in bytes of the canonical text, which `canon_into` appends.
+    pub fn canon_len(&self) -> u64
+        ensures { result ≡ length (group_text (group_of self.now)) }
+    {
+        self.text.len() as u64
+    }
+
+    /// Appends the canonical text: the alternatives in their order, with ` | ` between.
+    ///
+    /// # Errors
+    ///
+    /// Want of memory, and `out` is then unchanged.
+    pub fn canon_into(&self, out: &mut Vec<u8>) -> Result<(), AllocError>
+        ensures ok { OnOk result (out.new.items ≡ out.old.items ++ group_text (group_of self.now)) }
+        ensures unchanged { OnErr result (out.new.items ≡ out.old.items) }
+    {
+        out.extend_from_slice(&self.text)
+    }
 
     /// The group, and what is left behind it and white space.
     #[tactic(auto, unfolding(crate::specs::Reading::read_group))]
@@ -82,4 +132,16 @@ fn text_of(alloc: Global, alternatives: &[Alternative<'_>]) -> Result<Vec<u8>, A
         append_more_alternatives(&mut text, rest)?;
     }
     Ok(text)
+}
+
+fn some_has_wildcard(alternatives: &[Alternative<'_>]) -> bool
+    ensures { result ≡ list_any (λ alternative. has_wildcard (alternative_of alternative)) alternatives.now }
+{
+    alternatives.iter().any(|alternative| alternative.has_wildcard())
+}
+
+fn each_has_equal_bound(alternatives: &[Alternative<'_>]) -> bool
+    ensures { result ≡ list_all (λ alternative. has_equal_bound (alternative_of alternative)) alternatives.now }
+{
+    alternatives.iter().all(|alternative| alternative.has_equal_bound())
 }

@@ -5,6 +5,7 @@ mod alternative;
 mod architectures;
 mod bound;
 mod cursor;
+mod environment;
 mod fault;
 mod formula;
 mod group;
@@ -14,6 +15,7 @@ mod operator;
 mod relation;
 
 pub use alternative::Alternative;
+pub use environment::{Env, EnvFault};
 pub use fault::{Reason, RelationFault};
 pub use group::Group;
 pub use operator::Op;

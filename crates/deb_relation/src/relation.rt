@@ -1,11 +1,13 @@
 //! A relation: a set of groups, each of which has to be met.
 
-ghost use Rattle.std.specs.Prelude.{◌≡◌, ◌++◌, [], Ok, IfOk, IfErr, OnOk, codes, map};
+ghost use Rattle.std.specs.Prelude.{◌≡◌, ◌++◌, [], Ok, IfOk, IfErr, OnErr, OnOk, codes, length, map};
+ghost use Rattle.std.specs.List.{list_all, list_any};
 ghost use Rattle.std.specs.Option.{option_map};
 ghost use Rattle.deb_relation.specs.Groups.{group_key, group_of, piece_behind};
 ghost use Rattle.deb_relation.specs.Reading.{gather, next_piece, put_piece};
 ghost use Rattle.deb_relation.specs.Sets.{insert_by, IsPlace};
 ghost use Rattle.deb_relation.specs.Stops.{Gives, next_of};
+ghost use Rattle.deb_relation.specs.Tests.{has_equal_bound, has_two, has_wildcard};
 ghost use Rattle.deb_relation.specs.Texts.{group_text, relation_text, separated};
 
 use crate::cursor::{begins, skip_white};
@@ -119,9 +121,28 @@ fn text_of(alloc: Global, groups: &[Group<'_>]) -> Result<Vec<u8>, AllocError>
     Ok(text)
 }
 
+fn some_has_two(groups: &[Group<'_>]) -> bool
+    ensures { result ≡ list_any (λ group. has_two (group_of group)) groups.now }
+{
+    groups.iter().any(|group| group.has_two())
+}
+
+fn some_has_wildcard(groups: &[Group<'_>]) -> bool
+    ensures { result ≡ list_any (λ group. list_any has_wildcard (group_of group)) groups.now }
+{
+    groups.iter().any(|group| group.has_wildcard())
+}
+
+fn each_has_only_equals(groups: &[Group<'_>]) -> bool
+    ensures { result ≡ list_all (λ group. list_all has_equal_bound (group_of group)) groups.now }
+{
+    groups.iter().all(|group| group.only_equals())
+}
+
 impl<'a> Relation<'a> {
     ghost use Rattle.deb_relation.specs.Reading.{relation_in};
     ghost use Rattle.deb_relation.specs.Relations.{Tells, relation_of};
+    ghost use Rattle.deb_relation.specs.Tests.{has_alternatives, only_equals, some_wildcard};
 
     /// The relation that a text spells: groups with commas between, alternatives with bars between (Debian Policy 7.1).
     ///
@@ -147,5 +168,51 @@ impl<'a> Relation<'a> {
                 at: text.len().saturating_sub(left),
             }),
         }
+    }
+    /// The groups, ascending by their canonical texts, each once.
+    pub fn groups(&self) -> &[Group<'a>]
+        ensures { map group_of result.now ≡ relation_of self.now }
+    {
+        &self.groups
+    }
+
+    /// Whether some group has two or more alternatives.
+    pub fn has_alternatives(&self) -> bool
+        ensures { result ≡ has_alternatives (relation_of self.now) }
+    {
+        some_has_two(&self.groups)
+    }
+
+    /// Whether an architecture list holds a wildcard (Debian Policy 11.1).
+    pub fn has_wildcard(&self) -> bool
+        ensures { result ≡ some_wildcard (relation_of self.now) }
+    {
+        some_has_wildcard(&self.groups)
+    }
+
+    /// Whether no bound has an operator other than `=`.
+    pub fn only_equals(&self) -> bool
+        ensures { result ≡ only_equals (relation_of self.now) }
+    {
+        each_has_only_equals(&self.groups)
+    }
+
+    /// The length in bytes of the canonical text, which `canon_into` appends.
+    pub fn canon_len(&self) -> u64
+        ensures { result ≡ length (relation_text (relation_of self.now)) }
+    {
+        self.text.len() as u64
+    }
+
+    /// Appends the canonical text: the groups in the byte order of their texts, each once, with `, ` between.
+    ///
+    /// # Errors
+    ///
+    /// Want of memory, and `out` is then unchanged.
+    pub fn canon_into(&self, out: &mut Vec<u8>) -> Result<(), AllocError>
+        ensures ok { OnOk result (out.new.items ≡ out.old.items ++ relation_text (relation_of self.now)) }
+        ensures unchanged { OnErr result (out.new.items ≡ out.old.items) }
+    {
+        out.extend_from_slice(&self.text)
     }
 }
