@@ -38,8 +38,8 @@ module _ {A S : Type 0} (step : List ℕ → Next A) (put : A → S → S) (is :
   pub gather-some : (all : S) (rest : List ℕ) (a : A) (behind : List ℕ) → step rest ≡ Ok (Some (a, behind)) → gather step put all rest ≡ gather step put (put a all) behind
   unfolding gather
   gather-some all rest a behind e =
-    let less : length behind < length rest = is.shrinks rest a behind e in
-    unfold_once all rest ∙ ap (λ s. and_next s (Ok (all, rest)) (λ a behind. gathered step put (length rest) (put a all) behind)) e ∙ enough (length rest) (length behind) (put a all) behind (omega arith) (omega arith)
+      let less : length behind < length rest = is.shrinks rest a behind e in
+      unfold_once all rest ∙ ap (λ s. and_next s (Ok (all, rest)) (λ a behind. gathered step put (length rest) (put a all) behind)) e ∙ enough (length rest) (length behind) (put a all) behind (omega arith) (omega arith)
 
 -- A loop that takes a step at a time: what is gathered from the start is what is gathered from here.
 abbrev pub IsRead : {A S : Type 0} → (List ℕ → Next A) → (A → S → S) → S → List ℕ → S → List ℕ → Type 0

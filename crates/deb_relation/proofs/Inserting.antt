@@ -23,8 +23,8 @@ module _ {A : Type 0} (text : A → List ℕ) (x : A) (xs : List A) where
 
   here : (i : ℕ) (y : A) (o : Ordering) → i < length xs → byte_cmp (text x) (text (get_or xs i y)) ≡ o → insert_by text x (drop i xs) ≡ by_order o (x ∷ drop i xs) (drop i xs) (get_or xs i y ∷ insert_by text x (drop (suc i) xs))
   here i y o lt is =
-    let cut : drop i xs ≡ get_or xs i y ∷ drop (suc i) xs = drop-cons xs i y lt in
-    rw cut (ap (λ p. by_order p (x ∷ get_or xs i y ∷ drop (suc i) xs) (get_or xs i y ∷ drop (suc i) xs) (get_or xs i y ∷ insert_by text x (drop (suc i) xs))) is)
+      let cut : drop i xs ≡ get_or xs i y ∷ drop (suc i) xs = drop-cons xs i y lt in
+      rw cut (ap (λ p. by_order p (x ∷ get_or xs i y ∷ drop (suc i) xs) (get_or xs i y ∷ drop (suc i) xs) (get_or xs i y ∷ insert_by text x (drop (suc i) xs))) is)
 
   pub place-less : (i : ℕ) (y : A) → i < length xs → IsPast i → byte_cmp (text x) (text (get_or xs i y)) ≡ Less → IsPlace text x xs (Some i)
   place-less i y lt past is = (omega arith, past ∙ ap (λ zs. take i xs ++ zs) (here i y Less lt is))
@@ -34,7 +34,7 @@ module _ {A : Type 0} (text : A → List ℕ) (x : A) (xs : List A) where
 
   pub past-greater : (i : ℕ) (y : A) → i < length xs → IsPast i → byte_cmp (text x) (text (get_or xs i y)) ≡ Greater → IsPast (i + 1)
   past-greater i y lt past is =
-    past ∙ ap (λ zs. take i xs ++ zs) (here i y Greater lt is) ∙ sym (append_assoc (take i xs) (get_or xs i y ∷ []) (insert_by text x (drop (suc i) xs))) ∙ ap (λ zs. zs ++ insert_by text x (drop (suc i) xs)) (sym (take-suc xs i y lt)) ∙ ap (λ n. take n xs ++ insert_by text x (drop n xs)) (sym (add-one i))
+      past ∙ ap (λ zs. take i xs ++ zs) (here i y Greater lt is) ∙ sym (append_assoc (take i xs) (get_or xs i y ∷ []) (insert_by text x (drop (suc i) xs))) ∙ ap (λ zs. zs ++ insert_by text x (drop (suc i) xs)) (sym (take-suc xs i y lt)) ∙ ap (λ n. take n xs ++ insert_by text x (drop n xs)) (sym (add-one i))
 
   pub place-end : IsPast (length xs) → IsPlace text x xs (Some (length xs))
   place-end past = (omega arith, past ∙ ap (λ zs. take (length xs) xs ++ insert_by text x zs) (drop-length xs) ∙ ap (λ zs. take (length xs) xs ++ x ∷ zs) (sym (drop-length xs)))

@@ -164,8 +164,8 @@ shorter-next_restrictions : (text : List ℕ) → IsShorter (next_restrictions t
 unfolding next_restrictions
 shorter-next_restrictions text =
     shorter-if (begins 60 text) _ _ _ (λ is. shorter-and_then (read_restrictions (drop 1 text)) some_next (length text) (length text - 1)
-      (within-more (read_restrictions (drop 1 text)) (length (drop 1 text)) (length text - 1) (within-read_restrictions (drop 1 text)) (omega (arith, length-drop 1 text)))
-      (λ items rest le. shorter-some items rest (length text) (let some = some_bytes 60 text is in omega (arith, some))))
+    (within-more (read_restrictions (drop 1 text)) (length (drop 1 text)) (length text - 1) (within-read_restrictions (drop 1 text)) (omega (arith, length-drop 1 text)))
+    (λ items rest le. shorter-some items rest (length text) (let some = some_bytes 60 text is in omega (arith, some))))
     (λ _. shorter-none _)
 
 pub step-next_restrictions : IsStep next_restrictions
@@ -180,8 +180,8 @@ within-read_architectures : (text : List ℕ) → IsWithin (read_architectures t
 unfolding read_architectures
 within-read_architectures text =
     within-if (begins 91 text) _ _ _ (λ _. within-and_then (read_names (begins 33 (behind_white (drop 1 text))) (drop 1 text)) (λ names rest. Ok (Some (begins 33 (behind_white (drop 1 text)), names), rest)) (length text) (length text)
-      (within-more (read_names (begins 33 (behind_white (drop 1 text))) (drop 1 text)) (length (drop 1 text)) (length text) (within-read_names (begins 33 (behind_white (drop 1 text))) (drop 1 text)) (less_dropped 1 text))
-      (λ names rest le. within-ok _ _ _ le))
+    (within-more (read_names (begins 33 (behind_white (drop 1 text))) (drop 1 text)) (length (drop 1 text)) (length text) (within-read_names (begins 33 (behind_white (drop 1 text))) (drop 1 text)) (less_dropped 1 text))
+    (λ names rest le. within-ok _ _ _ le))
     (λ _. within-ok _ _ _ (omega arith))
 
 within-or_stop : {A : Type 0} (o : Option A) (behind : List ℕ) (stopped : Stopped) (n : ℕ) → length behind ≤ n → IsWithin (or_stop o behind stopped) n
@@ -218,8 +218,8 @@ within-read_bound : (text : List ℕ) → IsWithin (read_bound text) (length tex
 unfolding read_bound
 within-read_bound text =
     within-if (begins 40 text) _ _ _ (λ _. within-and_then (read_bound_behind (behind_white (drop 1 text))) some_read (length text) (length text)
-      (within-more (read_bound_behind (behind_white (drop 1 text))) (length (behind_white (drop 1 text))) (length text) (within-read_bound_behind (behind_white (drop 1 text))) (let past = less_past text in omega (arith, past)))
-      (λ bound rest le. within-ok _ _ _ le))
+    (within-more (read_bound_behind (behind_white (drop 1 text))) (length (behind_white (drop 1 text))) (length text) (within-read_bound_behind (behind_white (drop 1 text))) (let past = less_past text in omega (arith, past)))
+    (λ bound rest le. within-ok _ _ _ le))
     (λ _. within-ok _ _ _ (omega arith))
 
 within-read_qualifier : (text : List ℕ) → IsWithin (read_qualifier text) (length text)
@@ -255,8 +255,8 @@ shorter-next_alternative : (text : List ℕ) → IsShorter (next_alternative tex
 unfolding next_alternative
 shorter-next_alternative text =
     shorter-if (begins 124 text) _ _ _ (λ is. shorter-and_then (read_alternative (behind_white (drop 1 text))) some_next (length text) (length text - 1)
-      (within-more (read_alternative (behind_white (drop 1 text))) (length (behind_white (drop 1 text)) - 1) (length text - 1) (within-read_alternative (behind_white (drop 1 text))) (let past = less_past text in omega (arith, past)))
-      (λ a rest le. shorter-some a rest (length text) (let some = some_bytes 124 text is in omega (arith, some))))
+    (within-more (read_alternative (behind_white (drop 1 text))) (length (behind_white (drop 1 text)) - 1) (length text - 1) (within-read_alternative (behind_white (drop 1 text))) (let past = less_past text in omega (arith, past)))
+    (λ a rest le. shorter-some a rest (length text) (let some = some_bytes 124 text is in omega (arith, some))))
     (λ _. shorter-none _)
 
 pub step-next_alternative : IsStep next_alternative

@@ -55,3 +55,32 @@ formula_applies lists profiles = (length lists == 0) || list_any (all_hold profi
 -- whether an alternative applies: its list and its formula do
 abbrev pub applies : Alternative → Environment → Bool
 applies a environment = list_applies a.architectures environment.target && formula_applies a.formula environment.profiles
+
+-- Lists and formulas, for the target amd64 with the profile nocheck.
+abbrev with_list : Option (Bool × List (List ℕ)) → Bool
+with_list list = list_applies list (codes "amd64")
+
+worked-lists : map with_list (None ∷ Some (false, codes "i386" ∷ codes "amd64" ∷ []) ∷ Some (false, codes "i386" ∷ []) ∷ Some (true, codes "amd64" ∷ []) ∷ Some (true, codes "i386" ∷ []) ∷ Some (false, codes "linux-any" ∷ []) ∷ []) ≡ true ∷ true ∷ false ∷ false ∷ true ∷ false ∷ []
+worked-lists = refl
+
+abbrev with_formula : List Restrictions → Bool
+with_formula lists = formula_applies lists (codes "nocheck" ∷ [])
+
+worked-none : with_formula [] ≡ true
+worked-none = refl
+
+worked-inactive : with_formula (((true, codes "nocheck") ∷ []) ∷ []) ≡ false
+worked-inactive = refl
+
+worked-one_of_two : with_formula (((true, codes "nocheck") ∷ []) ∷ ((false, codes "nocheck") ∷ []) ∷ []) ≡ true
+worked-one_of_two = refl
+
+worked-all_items : with_formula (((false, codes "nocheck") ∷ (false, codes "nodoc") ∷ []) ∷ []) ≡ false
+worked-all_items = refl
+
+worked-not_active : with_formula (((false, codes "nocheck") ∷ (true, codes "nodoc") ∷ []) ∷ []) ≡ true
+worked-not_active = refl
+
+-- both the list and the formula have to apply
+worked-list_alone : applies (record { name = codes "aa"; qualifier = None; bound = None; architectures = Some (false, codes "amd64" ∷ []); formula = ((true, codes "nocheck") ∷ []) ∷ [] }) (record { target = codes "amd64"; profiles = codes "nocheck" ∷ [] }) ≡ false
+worked-list_alone = refl

@@ -4,6 +4,7 @@ pub mod Groups
 pub mod Meaning
 pub mod Reading
 pub mod Relations
+pub mod Rows
 pub mod Sets
 pub mod Stops
 pub mod Targets

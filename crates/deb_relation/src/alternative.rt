@@ -88,7 +88,8 @@ impl<'a> Alternative<'a> {
     pub fn applies(&self, environment: &Env) -> bool
         ensures { result ≡ applies (alternative_of self.now) (environment_of environment.now) }
     {
-        list_applies(&self.architectures, environment) && formula_applies(&self.formula, environment)
+        list_applies(&self.architectures, environment)
+            && formula_applies(&self.formula, environment)
     }
 
     /// Whether the architecture list holds a wildcard.

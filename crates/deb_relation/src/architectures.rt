@@ -60,7 +60,10 @@ fn read_names(alloc: Global, text: &[u8], negated: bool) -> Result<(Vec<&[u8]>, 
 
 /// The architecture list, or nothing; and what is left behind it and white space.
 #[tactic(auto, unfolding(crate::specs::Reading::read_architectures))]
-pub(crate) fn read_architectures(alloc: Global, text: &[u8]) -> Result<(Option<(bool, Vec<&[u8]>)>, &[u8]), Stop>
+pub(crate) fn read_architectures(
+    alloc: Global,
+    text: &[u8],
+) -> Result<(Option<(bool, Vec<&[u8]>)>, &[u8]), Stop>
     ensures { Gives result (λ p. (option_map list_of p.0, p.1.now)) (read_architectures text.now) }
 {
     if !begins(text, b'[') {
@@ -95,7 +98,10 @@ fn append_names(out: &mut Vec<u8>, negated: bool, names: &[&[u8]]) -> Result<(),
 }
 
 /// Appends the text of an architecture list with a space before it, or nothing.
-pub(crate) fn append_architectures(out: &mut Vec<u8>, list: &Option<(bool, Vec<&[u8]>)>) -> Result<(), AllocError>
+pub(crate) fn append_architectures(
+    out: &mut Vec<u8>,
+    list: &Option<(bool, Vec<&[u8]>)>,
+) -> Result<(), AllocError>
     ensures { OnOk result (out.new.items ≡ out.old.items ++ architectures_text (option_map list_of list.now)) }
 {
     if let Some((negated, names)) = list {

@@ -104,7 +104,10 @@ fn operator_text(operator: Op) -> &'static [u8]
 }
 
 /// Appends the text of a bound with a space before it, or nothing.
-pub(crate) fn append_bound(out: &mut Vec<u8>, bound: &Option<(Op, Version<'_>)>) -> Result<(), AllocError>
+pub(crate) fn append_bound(
+    out: &mut Vec<u8>,
+    bound: &Option<(Op, Version<'_>)>,
+) -> Result<(), AllocError>
     ensures { OnOk result (out.new.items ≡ out.old.items ++ bound_text (option_map bound_of bound.now)) }
 {
     if let Some((operator, version)) = bound {

@@ -75,7 +75,9 @@ fn operator_len(text: &[u8]) -> usize
     ensures value { result ≡ prefix_len is_in_operator text.now }
     ensures bound { result ≤ length text.now }
 {
-    text.iter().take_while(|byte| is_in_operator(**byte)).count()
+    text.iter()
+        .take_while(|byte| is_in_operator(**byte))
+        .count()
 }
 
 /// The run of an operator, and what is left behind it.

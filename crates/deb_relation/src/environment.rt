@@ -28,6 +28,7 @@ pub enum EnvFault {
 
 impl From<AllocError> for EnvFault {
     ghost use Rattle.deb_relation.specs.declared.environment.EnvFault.TheVariants.{Memory};
+
     ghost from_gives = { λ _ fault. fault ≡ Memory };
 
     fn from(_error: AllocError) -> EnvFault {
@@ -37,6 +38,7 @@ impl From<AllocError> for EnvFault {
 
 impl<T: Drop> From<AllocFailed<T>> for EnvFault {
     ghost use Rattle.deb_relation.specs.declared.environment.EnvFault.TheVariants.{Memory};
+
     ghost from_gives = { λ _ fault. fault ≡ Memory };
 
     fn from(_error: AllocFailed<T>) -> EnvFault {

@@ -47,7 +47,9 @@ pub(crate) enum Stop {
 impl From<AllocError> for Stop {
     ghost use Rattle.deb_relation.specs.declared.fault.Stop.TheVariants.{Memory};
     ghost use Rattle.std.specs.Prelude.{◌≡◌};
+
     ghost from_gives = { λ _ stop. stop ≡ Memory };
+
     fn from(_error: AllocError) -> Stop {
         Stop::Memory
     }
@@ -56,7 +58,9 @@ impl From<AllocError> for Stop {
 impl<T: Drop> From<AllocFailed<T>> for Stop {
     ghost use Rattle.deb_relation.specs.declared.fault.Stop.TheVariants.{Memory};
     ghost use Rattle.std.specs.Prelude.{◌≡◌};
+
     ghost from_gives = { λ _ stop. stop ≡ Memory };
+
     fn from(_error: AllocFailed<T>) -> Stop {
         Stop::Memory
     }

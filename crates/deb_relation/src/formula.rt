@@ -39,7 +39,10 @@ fn read_restrictions(alloc: Global, text: &[u8]) -> Result<(Vec<(bool, &[u8])>, 
 
 /// The next list of a formula, and what is left behind it and white space.
 #[tactic(auto, unfolding(crate::specs::Reading::next_restrictions))]
-fn next_restrictions(alloc: Global, text: &[u8]) -> Result<Option<(Vec<(bool, &[u8])>, &[u8])>, Stop>
+fn next_restrictions(
+    alloc: Global,
+    text: &[u8],
+) -> Result<Option<(Vec<(bool, &[u8])>, &[u8])>, Stop>
     ensures value { Gives result (next_of (λ p. (items_of p.0.items, p.1.now))) (next_restrictions text.now) }
 {
     if !begins(text, b'<') {
@@ -92,7 +95,10 @@ fn append_restrictions(out: &mut Vec<u8>, items: &[(bool, &[u8])]) -> Result<(),
 }
 
 /// Appends the texts of the lists of a formula, each with a space before it.
-pub(crate) fn append_formula(out: &mut Vec<u8>, lists: &[Vec<(bool, &[u8])>]) -> Result<(), AllocError>
+pub(crate) fn append_formula(
+    out: &mut Vec<u8>,
+    lists: &[Vec<(bool, &[u8])>],
+) -> Result<(), AllocError>
     ensures { OnOk result (out.new.items ≡ out.old.items ++ formula_text (map restrictions_of lists.now)) }
 {
     for list in lists {
@@ -112,7 +118,11 @@ fn text_of(alloc: Global, items: &[(bool, &[u8])]) -> Result<Vec<u8>, AllocError
 }
 
 /// Where a list belongs in a formula, or None if it is there. The texts of lists are made only where there are two.
-fn place_of_list(alloc: Global, lists: &[Vec<(bool, &[u8])>], list: &Vec<(bool, &[u8])>) -> Result<Option<usize>, AllocError>
+fn place_of_list(
+    alloc: Global,
+    lists: &[Vec<(bool, &[u8])>],
+    list: &Vec<(bool, &[u8])>,
+) -> Result<Option<usize>, AllocError>
     ensures { IfOk result (IsPlace restrictions_key list.now lists.now) }
 {
     if lists.is_empty() {
@@ -130,7 +140,11 @@ fn place_of_list(alloc: Global, lists: &[Vec<(bool, &[u8])>], list: &Vec<(bool, 
 }
 
 /// Puts a list into a formula.
-fn insert_list<'a>(alloc: Global, lists: &mut Vec<Vec<(bool, &'a [u8])>>, list: Vec<(bool, &'a [u8])>) -> Result<(), Stop>
+fn insert_list<'a>(
+    alloc: Global,
+    lists: &mut Vec<Vec<(bool, &'a [u8])>>,
+    list: Vec<(bool, &'a [u8])>,
+) -> Result<(), Stop>
     ensures ok { OnOk result (lists.new.items ≡ insert_by restrictions_key list.entry lists.old.items) }
     ensures memory { IfErr result (λ stop. stop ≡ Stop.Memory) }
 {
@@ -142,7 +156,10 @@ fn insert_list<'a>(alloc: Global, lists: &mut Vec<Vec<(bool, &'a [u8])>>, list: 
 
 /// The formula, perhaps of no list, and what is left behind it and white space.
 #[tactic(auto, unfolding(crate::specs::Reading::read_formula))]
-pub(crate) fn read_formula(alloc: Global, text: &[u8]) -> Result<(Vec<Vec<(bool, &[u8])>>, &[u8]), Stop>
+pub(crate) fn read_formula(
+    alloc: Global,
+    text: &[u8],
+) -> Result<(Vec<Vec<(bool, &[u8])>>, &[u8]), Stop>
     ensures { Gives result (λ p. (map restrictions_of p.0.items, p.1.now)) (read_formula text.now) }
 {
     let mut lists = Vec::new(alloc);

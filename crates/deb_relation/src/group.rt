@@ -99,7 +99,11 @@ fn next_alternative(alloc: Global, text: &[u8]) -> Result<Option<(Alternative<'_
 }
 
 /// Alternatives and those that follow, up to the end of their group.
-fn gather_alternatives<'a>(alloc: Global, mut alternatives: Vec<Alternative<'a>>, text: &'a [u8]) -> Result<(Vec<Alternative<'a>>, &'a [u8]), Stop>
+fn gather_alternatives<'a>(
+    alloc: Global,
+    mut alternatives: Vec<Alternative<'a>>,
+    text: &'a [u8],
+) -> Result<(Vec<Alternative<'a>>, &'a [u8]), Stop>
     ensures { Gives result (λ p. (map alternative_of p.0.items, p.1.now)) (gather next_alternative append (map alternative_of alternatives.entry.items) text.now) }
 {
     let mut rest = text;
@@ -111,7 +115,10 @@ fn gather_alternatives<'a>(alloc: Global, mut alternatives: Vec<Alternative<'a>>
 }
 
 /// Appends the texts of alternatives, each with a bar before it.
-fn append_more_alternatives(out: &mut Vec<u8>, alternatives: &[Alternative<'_>]) -> Result<(), AllocError>
+fn append_more_alternatives(
+    out: &mut Vec<u8>,
+    alternatives: &[Alternative<'_>],
+) -> Result<(), AllocError>
     ensures { OnOk result (out.new.items ≡ out.old.items ++ separated (codes " | ") (map alternative_text (map alternative_of alternatives.now))) }
 {
     for alternative in alternatives {
@@ -137,11 +144,15 @@ fn text_of(alloc: Global, alternatives: &[Alternative<'_>]) -> Result<Vec<u8>, A
 fn some_has_wildcard(alternatives: &[Alternative<'_>]) -> bool
     ensures { result ≡ list_any (λ alternative. has_wildcard (alternative_of alternative)) alternatives.now }
 {
-    alternatives.iter().any(|alternative| alternative.has_wildcard())
+    alternatives
+        .iter()
+        .any(|alternative| alternative.has_wildcard())
 }
 
 fn each_has_equal_bound(alternatives: &[Alternative<'_>]) -> bool
     ensures { result ≡ list_all (λ alternative. has_equal_bound (alternative_of alternative)) alternatives.now }
 {
-    alternatives.iter().all(|alternative| alternative.has_equal_bound())
+    alternatives
+        .iter()
+        .all(|alternative| alternative.has_equal_bound())
 }

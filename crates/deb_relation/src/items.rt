@@ -118,7 +118,10 @@ fn place_of_item(items: &[(bool, &[u8])], item: (bool, &[u8])) -> Option<usize>
 }
 
 /// Puts an item into a set of items.
-pub(crate) fn insert_item<'a>(items: &mut Vec<(bool, &'a [u8])>, item: (bool, &'a [u8])) -> Result<(), Stop>
+pub(crate) fn insert_item<'a>(
+    items: &mut Vec<(bool, &'a [u8])>,
+    item: (bool, &'a [u8]),
+) -> Result<(), Stop>
     ensures ok { OnOk result (items.new.items ≡ insert_by item_key item.entry items.old.items) }
     ensures memory { IfErr result (λ stop. stop ≡ Stop.Memory) }
 {
