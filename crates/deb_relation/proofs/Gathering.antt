@@ -1,5 +1,5 @@
 -- A step again and again: what one step more gives.
-use Rattle.std.proofs.Common.{◌≡◌, ℕ, zero, suc, ◌+◌, ◌<◌, ◌≤◌, List, [], ◌∷◌, length, Option, Some, None, Ok, Err, Result, sym, ap, ◌∙◌, subst, arith, refl}
+use Rattle.std.proofs.Common.{◌≡◌, ℕ, zero, suc, ◌<◌, ◌≤◌, List, [], ◌∷◌, length, Option, Some, None, Ok, Err, Result, sym, ap, ◌∙◌, subst, arith, refl}
 use Rattle.deb_relation.specs.Reading.{Stopped, Reading, Next, and_then, and_next, gathered, gather}
 use Rattle.deb_relation.specs.Stops.{Gives}
 use Rattle.deb_relation.specs.declared.fault.Stop.{Stop}

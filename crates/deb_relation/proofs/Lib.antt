@@ -1,3 +1,4 @@
+pub mod Ascending
 pub mod Gathering
 pub mod Inserting
 pub mod Joining

@@ -1,5 +1,5 @@
 -- A version that is parsed is the one that is read.
-use Rattle.std.proofs.Common.{◌≡◌, ℕ, List, Option, Some, None, Ok, sym, ap, ◌∙◌, length}
+use Rattle.std.proofs.Common.{◌≡◌, ℕ, List, None, Ok, sym, ap, ◌∙◌, length}
 use Rattle.deb_version.specs.Parts.{Meaning}
 use Rattle.deb_version.specs.Grammar.{SpellsVersion, meaning_of_components}
 use Rattle.deb_version.specs.Places.{components_in}

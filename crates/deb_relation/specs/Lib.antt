@@ -1,6 +1,7 @@
 pub mod Applying
 pub mod Environments
 pub mod Groups
+pub mod Laws
 pub mod Meaning
 pub mod Reading
 pub mod Relations

@@ -1,11 +1,10 @@
 -- How a relation is read from the left: each step of the grammar with what it takes, and where the first step that fails
 -- stands. Debian Policy 7.1; the order of the steps and the places of faults are this project's.
-use Rattle.std.specs.Prelude.{◌≡◌, ℕ, zero, suc, ◌-◌, ◌==◌, ◌&&◌, ◌||◌, not, Bool, true, false, if◌then◌else◌, List, [], ◌∷◌, ◌++◌, length, take, drop, Option, Some, None, Result, Ok, Err, codes, refl}
+use Rattle.std.specs.Prelude.{ℕ, zero, suc, ◌-◌, ◌==◌, ◌||◌, not, Bool, false, if◌then◌else◌, List, [], ◌∷◌, ◌++◌, length, take, drop, Option, Some, None, Result, Ok, Err, codes}
 use Rattle.std.specs.List.{prefix_len}
 use Rattle.std.specs.Str.{bytes_eq}
 use Rattle.deb_base.specs.PackageNames.{is_package_name, is_arch_name, is_profile_name}
 use Rattle.deb_version.specs.declared.fault.BadVersion.{BadVersion}
-use Rattle.deb_version.specs.declared.fault.BadVersion.TheVariants.{Empty, UpstreamByte}
 use Rattle.deb_version.specs.Parts.{Meaning as Version}
 use Rattle.deb_version.specs.Grammar.{meaning_of_components}
 use Rattle.deb_version.specs.Places.{components_in}

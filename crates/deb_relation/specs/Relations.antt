@@ -1,15 +1,10 @@
 -- What relations of the code stand for, and what is asked of them.
-use Rattle.std.specs.Prelude.{◌≡◌, ℕ, Bool, true, false, nat_le, List, length, map, Option, Some, None, Result, Ok, Err}
-use Rattle.std.specs.List.{list_all, list_any}
-use Rattle.deb_base.specs.PackageNames.{is_wildcard}
+use Rattle.std.specs.Prelude.{◌≡◌, ℕ, map, Result, Err}
 use Rattle.deb_relation.specs.declared.fault.Reason.{Reason}
 use Rattle.deb_relation.specs.declared.fault.RelationFault.{RelationFault}
 use Rattle.deb_relation.specs.declared.fault.RelationFault.TheVariants.{Bad, Memory}
-use Rattle.deb_relation.specs.declared.operator.Op.{Op}
-use Rattle.deb_relation.specs.declared.operator.Op.TheVariants.{Earlier, EarlierEqual, Equal, LaterEqual, Later}
 use Rattle.deb_relation.specs.declared.relation.Relation.{Relation as Groups}
-use Rattle.deb_version.specs.Parts.{Meaning as Version}
-use Rattle.deb_relation.specs.Meaning.{Alternative, Group, Relation}
+use Rattle.deb_relation.specs.Meaning.{Relation}
 use Rattle.deb_relation.specs.Groups.{group_of}
 
 -- a relation's meaning: its set of groups

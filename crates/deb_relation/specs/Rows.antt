@@ -1,6 +1,6 @@
 -- Worked cases of the reading of relations: the first step that fails, or the canonical text of what is meant.
 -- Debian Policy 7.1.
-use Rattle.std.specs.Prelude.{◌≡◌, ℕ, List, map, Result, Ok, Err, codes, refl}
+use Rattle.std.specs.Prelude.{◌≡◌, ℕ, List, Result, Ok, Err, codes, refl}
 use Rattle.deb_version.specs.declared.fault.BadVersion.TheVariants.{Empty, UpstreamByte}
 use Rattle.deb_version.specs.Faults.{first_fault}
 use Rattle.deb_relation.specs.declared.fault.Reason.{Reason}

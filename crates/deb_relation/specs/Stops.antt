@@ -1,5 +1,5 @@
 -- How an answer of the code stands to a reading of the specification.
-use Rattle.std.specs.Prelude.{◌≡◌, ℕ, List, Option, Some, None, Result, Ok, Err}
+use Rattle.std.specs.Prelude.{◌≡◌, Option, Some, None, Result, Ok, Err}
 use Rattle.deb_relation.specs.declared.fault.Stop.{Stop}
 use Rattle.deb_relation.specs.declared.fault.Stop.TheVariants.{Bad, Memory}
 use Rattle.deb_relation.specs.Reading.{Stopped}

@@ -1,5 +1,5 @@
 -- What is asked of a relation: alternatives, wildcards, operators. Debian Policy 7.1 and 11.1.
-use Rattle.std.specs.Prelude.{◌≡◌, ℕ, Bool, true, false, nat_le, List, length, Option, Some, None}
+use Rattle.std.specs.Prelude.{ℕ, Bool, true, false, nat_le, List, length, Option, Some, None}
 use Rattle.std.specs.List.{list_all, list_any}
 use Rattle.deb_base.specs.PackageNames.{is_wildcard}
 use Rattle.deb_relation.specs.declared.operator.Op.{Op}

@@ -1,5 +1,5 @@
 -- What the values of the code stand for: the meanings of a relation's parts.
-use Rattle.std.specs.Prelude.{ℕ, Bool, List, map, Option, Some, None}
+use Rattle.std.specs.Prelude.{ℕ, Bool, List, map}
 use Rattle.std.specs.Option.{option_copied, option_map}
 use denote.Ref.{Bor}
 use Rattle.std.specs.Prelude.{Vec}
@@ -10,7 +10,7 @@ use Rattle.deb_version.specs.declared.version.Version.{Version as Spelled}
 use Rattle.deb_version.specs.Parts.{Meaning as Version}
 use Rattle.deb_version.specs.Version.{meaning_of}
 use Rattle.deb_relation.specs.Texts.{item_text, restrictions_text}
-use Rattle.deb_relation.specs.Meaning.{Item, Restrictions, Alternative, Group}
+use Rattle.deb_relation.specs.Meaning.{Item, Restrictions, Alternative}
 
 -- the operator and the version's meaning
 abbrev pub bound_of : Op × Spelled → Op × Version

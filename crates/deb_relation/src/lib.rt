@@ -10,6 +10,7 @@ mod fault;
 mod formula;
 mod group;
 mod items;
+pub mod laws;
 mod name;
 mod operator;
 mod relation;

@@ -298,7 +298,7 @@ fn large_relations(rt: HostRuntime) -> Result<(), Fail> {
             repeated.push(b',')?;
             alternatives.extend_from_slice(b" | ")?;
         }
-        text.extend_from_slice(format!(in rt.alloc(); "p{:04}", 9_999 - n)?.as_bytes())?;
+        text.extend_from_slice(format!(in rt.alloc(); "p{:04}", 9_999u32.abs_diff(n))?.as_bytes())?;
         expected.extend_from_slice(format!(in rt.alloc(); "p{:04}", n)?.as_bytes())?;
         repeated.extend_from_slice(b"aa")?;
         alternatives.extend_from_slice(b"aa")?;

@@ -1,10 +1,10 @@
-use Rattle.std.proofs.Common.{rules, [], Ok, Some, ap, sym, ◌∙◌}
+use Rattle.std.proofs.Common.{rules, [], Ok, ap, ◌∙◌}
 use Rattle.std.proofs.lemmas.Result.{err_from_is_err_and}
 use Rattle.deb_relation.specs.Reading.{next_architecture}
 use Rattle.deb_relation.specs.Sets.{insert_by, itself}
 use Rattle.deb_relation.specs.Stops.{next_of}
 use Rattle.deb_relation.specs.Views.{names_of, text_behind, name_key}
-use Rattle.deb_relation.proofs.Gathering.{IsStep, read-more, read-last, loop-stop}
+use Rattle.deb_relation.proofs.Gathering.{read-more, read-last, loop-stop}
 use Rattle.deb_relation.proofs.Inserting.{map-insert_by}
 use Rattle.deb_relation.proofs.Lengths.{step-next_architecture}
 use Rattle.deb_relation.proofs.architectures.gather_names.Goals as goal

@@ -1,11 +1,11 @@
-use Rattle.std.proofs.Common.{rules, [], Ok, Some, ap, sym, ◌∙◌}
+use Rattle.std.proofs.Common.{rules, [], Ok, ap, ◌∙◌}
 use Rattle.std.proofs.lemmas.Result.{err_from_is_err_and}
 use Rattle.deb_relation.specs.Reading.{next_restriction}
 use Rattle.deb_relation.specs.Sets.{insert_by}
 use Rattle.deb_relation.specs.Texts.{item_text}
 use Rattle.deb_relation.specs.Stops.{next_of}
 use Rattle.deb_relation.specs.Views.{items_of, item_behind, item_of}
-use Rattle.deb_relation.proofs.Gathering.{IsStep, read-more, read-last, loop-stop}
+use Rattle.deb_relation.proofs.Gathering.{read-more, read-last, loop-stop}
 use Rattle.deb_relation.proofs.Inserting.{map-insert_by}
 use Rattle.deb_relation.proofs.Lengths.{step-next_restriction}
 use Rattle.deb_relation.proofs.formula.gather_items.Goals as goal

@@ -1,10 +1,10 @@
-use Rattle.std.proofs.Common.{rules, ◌∷◌, map, [], Ok, Some, ap, sym, ◌∙◌}
+use Rattle.std.proofs.Common.{rules, ◌∷◌, map, [], Ok, ap, ◌∙◌}
 use Rattle.std.proofs.lemmas.List.{map-append}
 use Rattle.std.proofs.lemmas.Result.{err_from_is_err_and}
 use Rattle.deb_relation.specs.Reading.{append, next_alternative}
 use Rattle.deb_relation.specs.Stops.{next_of}
 use Rattle.deb_relation.specs.Views.{alternative_of}
-use Rattle.deb_relation.proofs.Gathering.{IsStep, read-more, read-last, loop-stop}
+use Rattle.deb_relation.proofs.Gathering.{read-more, read-last, loop-stop}
 use Rattle.deb_relation.proofs.Lengths.{step-next_alternative}
 use Rattle.deb_relation.proofs.group.gather_alternatives.Goals as goal
 

@@ -1,10 +1,10 @@
-use Rattle.std.proofs.Common.{rules, map, [], Ok, Some, ap, sym, ◌∙◌}
+use Rattle.std.proofs.Common.{rules, map, [], Ok, ap, ◌∙◌}
 use Rattle.std.proofs.lemmas.Result.{err_from_is_err_and}
 use Rattle.std.specs.Option.{option_map}
 use Rattle.deb_relation.specs.Groups.{group_of, piece_behind}
 use Rattle.deb_relation.specs.Reading.{next_piece, put_piece}
 use Rattle.deb_relation.specs.Stops.{next_of}
-use Rattle.deb_relation.proofs.Gathering.{IsStep, read-more, read-last, loop-stop}
+use Rattle.deb_relation.proofs.Gathering.{read-more, read-last, loop-stop}
 use Rattle.deb_relation.proofs.Lengths.{step-next_piece}
 use Rattle.deb_relation.proofs.relation.gather_groups.Goals as goal
 

@@ -1,5 +1,5 @@
 use Rattle.std.proofs.Common.{ap, ◌∙◌}
-use Rattle.std.specs.List.{list_any, list_all}
+use Rattle.std.specs.List.{list_all}
 use Rattle.deb_relation.specs.Views.{alternative_of}
 use Rattle.deb_relation.specs.Tests.{has_equal_bound}
 use Rattle.deb_relation.proofs.Mapped.{all-map}
