@@ -1,4 +1,5 @@
 pub mod Ascending
+pub mod AscendingSets
 pub mod Gathering
 pub mod Inserting
 pub mod Joining
