@@ -84,7 +84,7 @@ const REFUSED: [Refused; 52] = [
 /// A text and its canonical text.
 struct Row(&'static str, &'static str);
 
-const ROWS: [Row; 24] = [
+const ROWS: [Row; 25] = [
     Row("", ""),
     Row(" , ,", ""),
     Row("\t\n ", ""),
@@ -98,6 +98,10 @@ const ROWS: [Row; 24] = [
     Row(
         "bb (>=1.0)|aa,, cc [i386 amd64 i386] <!x y> <z>,cc [amd64 i386] <z> <y !x> ,",
         "bb (>= 1.0) | aa, cc [amd64 i386] <!x y> <z>",
+    ),
+    Row(
+        "bb (>=1.)|aa,, cc [i386 amd64],bb(>=1.0)|aa",
+        "bb (>= 1.0) | aa, cc [amd64 i386]",
     ),
     Row("aa:any(>=1.)[x]<y>", "aa:any (>= 1.0) [x] <y>"),
     Row("aa <b> <a> <a b>", "aa <a b> <a> <b>"),
