@@ -103,6 +103,16 @@ worked-letter = refl
 worked-letter_zeros : canonical_text_of None (codes "1a00") (Some (codes "0")) ≡ codes "1a"
 worked-letter_zeros = refl
 
+-- `1A0`, with a capital letter; `1Z`, `1z`; after `@`, `[`, `` ` `` and `{`, which stand beside the letters, the zero is written
+worked-capital : canonical_text_of None (codes "1A0") None ≡ codes "1A"
+worked-capital = refl
+
+worked-last_letters : map ends_in_letter (codes "1A" ∷ codes "1Z" ∷ codes "1a" ∷ codes "1z" ∷ codes "a1" ∷ codes "" ∷ []) ≡ true ∷ true ∷ true ∷ true ∷ false ∷ false ∷ []
+worked-last_letters = refl
+
+worked-no_letters : map ends_in_letter (codes "@" ∷ codes "[" ∷ codes "`" ∷ codes "{" ∷ codes "~" ∷ []) ≡ false ∷ false ∷ false ∷ false ∷ false ∷ []
+worked-no_letters = refl
+
 worked-inner_zero : canonical_text_of None (codes "1a0b0") None ≡ codes "1a0b"
 worked-inner_zero = refl
 
@@ -125,3 +135,17 @@ worked-zero_first = refl
 
 worked-letter_first : canonical_text_of (Some (codes "1")) (codes "0") (Some (codes "a")) ≡ codes "1:0-a"
 worked-letter_first = refl
+
+-- `1-0.0`: the revision has a further part, so it is written; `1-2`; `1A1`
+worked-revision_parts : canonical_text_of None (codes "1") (Some (codes "0.0")) ≡ codes "1-0.0"
+worked-revision_parts = refl
+
+worked-revision : canonical_text_of None (codes "1") (Some (codes "02")) ≡ codes "1-2"
+worked-revision = refl
+
+worked-letter_number : canonical_text_of None (codes "1A01") None ≡ codes "1A1"
+worked-letter_number = refl
+
+-- every digit
+worked-digits : map (λ s. canonical_text_of None s None) (codes "0123" ∷ codes "0456" ∷ codes "0789" ∷ []) ≡ codes "123" ∷ codes "456" ∷ codes "789" ∷ []
+worked-digits = refl

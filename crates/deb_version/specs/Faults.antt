@@ -10,6 +10,9 @@ use Rattle.deb_version.specs.Parts.{value_of}
 use Rattle.deb_version.specs.Grammar.{Components, epoch_limit, epoch_text, spelling, is_upstream_byte, is_revision_byte}
 use Rattle.deb_version.specs.Places.{components_in}
 
+-- The tests below ask whether a fault stands, so each is the contrary of a test of `Grammar`: a text is faultless exactly
+-- where its components are allowed, which is a law.
+
 abbrev pub is_empty : List ℕ → Bool
 is_empty text = length text == 0
 
@@ -110,3 +113,49 @@ worked-revision_byte = refl
 worked-revision_colon : first_fault (codes "1:2-3:4") ≡ Some (RevisionByte 5)
 unfolding first_fault
 worked-revision_colon = refl
+
+-- Of two faults the one that is judged first is answered.
+worked-epoch_then_revision : first_fault (codes ":-") ≡ Some EpochEmpty
+unfolding first_fault
+worked-epoch_then_revision = refl
+
+worked-no_number_then_too_big : first_fault (codes "99999999999a:1") ≡ Some EpochNotNumber
+unfolding first_fault
+worked-no_number_then_too_big = refl
+
+worked-no_number_then_revision : first_fault (codes "a:1-") ≡ Some EpochNotNumber
+unfolding first_fault
+worked-no_number_then_revision = refl
+
+worked-too_big_then_revision : first_fault (codes "2147483648:1-") ≡ Some EpochTooBig
+unfolding first_fault
+worked-too_big_then_revision = refl
+
+worked-revision_then_upstream : first_fault (codes "1:-") ≡ Some RevisionEmpty
+unfolding first_fault
+worked-revision_then_upstream = refl
+
+worked-upstream_then_revision : first_fault (codes "-_") ≡ Some UpstreamEmpty
+unfolding first_fault
+worked-upstream_then_revision = refl
+
+worked-upstream_byte_first : first_fault (codes "1_-_") ≡ Some (UpstreamByte 1)
+unfolding first_fault
+worked-upstream_byte_first = refl
+
+-- Places count the epoch and its colon; and a text without fault.
+worked-place_behind_epoch : first_fault (codes "12:1_2-3") ≡ Some (UpstreamByte 4)
+unfolding first_fault
+worked-place_behind_epoch = refl
+
+worked-place_in_revision : first_fault (codes "12:1-3_4") ≡ Some (RevisionByte 6)
+unfolding first_fault
+worked-place_in_revision = refl
+
+worked-absent_upstream : first_fault (codes "-1") ≡ Some UpstreamEmpty
+unfolding first_fault
+worked-absent_upstream = refl
+
+worked-no_fault : first_fault (codes "1:2-3") ≡ None
+unfolding first_fault
+worked-no_fault = refl

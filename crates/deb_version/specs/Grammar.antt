@@ -45,6 +45,11 @@ IsEpoch digits = (digits ≢ []) × IsDigits digits × (value_of digits ≤ epoc
 abbrev pub IsRevision : List ℕ → Type 0
 IsRevision revision = (revision ≢ []) × AllByRecursion (λ b. IsTrue (is_revision_byte b)) revision
 
+-- The texts of a version are looked at in four ways: what each of them may be (`AreComponents`), the same as a test that
+-- computes (`are_components`), what they mean as a relation (`HasMeaning`), and that meaning as a function
+-- (`meaning_of_components`). Laws join them: the test passes exactly where the fact holds, and the function gives the
+-- only meaning. `SpellsVersion` is made of the two facts.
+
 -- what the texts of a version may be: the upstream version has no hyphen where there is no revision
 pub record AreComponents (c : Components) : Type 0 where
   pub epoch : IfSome c.epoch IsEpoch
@@ -114,3 +119,39 @@ worked-hyphen = refl
 
 worked-colon : are_components (components_with None (codes "1:0") None) ≡ false
 worked-colon = refl
+
+-- a-z, A-Z, 0-9 and `+ . ~` are allowed in a revision, and no other byte; `-` in an upstream version, `:` behind an epoch
+worked-revision_bytes : list_all is_revision_byte (codes "09AZaz+.~") ≡ true
+worked-revision_bytes = refl
+
+worked-other_bytes : list_any is_revision_byte (codes " !,-/:@[\\]^_`{|}" ++ 0 ∷ 9 ∷ 10 ∷ 127 ∷ 128 ∷ 255 ∷ []) ≡ false
+worked-other_bytes = refl
+
+worked-upstream_bytes : list_all (is_upstream_byte true) (codes "09AZaz+.~-:") ≡ true
+worked-upstream_bytes = refl
+
+worked-no_upstream_bytes : list_any (is_upstream_byte true) (codes " !,/@[\\]^_`{|}" ++ 0 ∷ 9 ∷ 10 ∷ 127 ∷ 128 ∷ 255 ∷ []) ≡ false
+worked-no_upstream_bytes = refl
+
+-- an empty epoch, one that isn't digits, an empty upstream version, an empty revision, and one with a hyphen
+worked-empty_epoch : are_components (components_with (Some []) (codes "1") None) ≡ false
+worked-empty_epoch = refl
+
+worked-no_number : are_components (components_with (Some (codes "1a")) (codes "1") None) ≡ false
+worked-no_number = refl
+
+worked-empty_upstream : are_components (components_with None [] None) ≡ false
+worked-empty_upstream = refl
+
+worked-empty_revision : are_components (components_with None (codes "1") (Some [])) ≡ false
+worked-empty_revision = refl
+
+worked-hyphen_in_revision : are_components (components_with None (codes "1") (Some (codes "1-1"))) ≡ false
+worked-hyphen_in_revision = refl
+
+-- 1-2 and 1-0
+worked-revision : meaning_of_components (components_with None (codes "1") (Some (codes "2"))) ≡ record { epoch = 0; upstream = ([], 1) ∷ []; revision = ([], 2) ∷ [] }
+worked-revision = refl
+
+worked-revision_zero : meaning_of_components (components_with None (codes "1") (Some (codes "0"))) ≡ meaning_of_components (components_with None (codes "1") None)
+worked-revision_zero = refl

@@ -5,6 +5,8 @@ use Rattle.deb_version.specs.Parts.{Part, HasParts, parts_of, Meaning}
 use Rattle.deb_version.specs.Grammar.{Components, AreComponents, SpellsVersion, are_components, spelling}
 use Rattle.deb_version.specs.Places.{components_in}
 use Rattle.deb_version.specs.Faults.{first_fault}
+use Rattle.deb_version.specs.declared.version.Version.{Version}
+use Rattle.deb_version.specs.Version.{components_of, meaning_of}
 
 -- A text spells at most one version.
 abbrev pub SpellsOneVersion : Type 0
@@ -28,3 +30,7 @@ AllowedComponentsStand = (c : Components) → AreComponents c → components_in 
 -- The test whether components are allowed passes exactly where they are.
 abbrev pub TestTellsAllowed : Type 0
 TestTellsAllowed = (c : Components) → IsTrue (are_components c) ↔ AreComponents c
+
+-- A `Version` spells a text with its meaning: that of its components.
+abbrev pub VersionSpells : Version → Type 0
+VersionSpells v = SpellsVersion (spelling (components_of v)) (meaning_of v)

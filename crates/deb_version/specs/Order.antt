@@ -58,6 +58,26 @@ worked-letter = refl
 worked-rest : text_cmp (codes "z") (codes "+") ≡ Less
 worked-rest = refl
 
+-- letters by their code, so capital ones first; bytes that are no letters by theirs; `:`, `@`, `[`, `` ` `` and `{` stand
+-- beside the letters and are none
+worked-capital : text_cmp (codes "Z") (codes "a") ≡ Less
+worked-capital = refl
+
+worked-capitals : text_cmp (codes "A") (codes "Z") ≡ Less
+worked-capitals = refl
+
+worked-others : text_cmp (codes "+") (codes "-") ≡ Less
+worked-others = refl
+
+worked-beside_letters : map (λ b. text_cmp (codes "z") (b ∷ [])) (codes "@[`{") ≡ Less ∷ Less ∷ Less ∷ Less ∷ []
+worked-beside_letters = refl
+
+worked-ranks : map rank_of (codes "~AZaz+") ≡ 0 ∷ 66 ∷ 91 ∷ 98 ∷ 123 ∷ 300 ∷ []
+worked-ranks = refl
+
+worked-same : text_cmp (codes "a+") (codes "a+") ≡ Equal
+worked-same = refl
+
 -- two versions of epoch 0 without revision
 abbrev upstream_cmp : List ℕ → List ℕ → Ordering
 upstream_cmp a b = version_cmp (record { epoch = 0; upstream = parts_of a; revision = no_revision }) (record { epoch = 0; upstream = parts_of b; revision = no_revision })
@@ -77,6 +97,10 @@ worked-1 = refl
 
 worked-1a : upstream_cmp (codes "1a") (codes "1+") ≡ Less
 worked-1a = refl
+
+-- 1Z before 1a
+worked-1Z : upstream_cmp (codes "1Z") (codes "1a") ≡ Less
+worked-1Z = refl
 
 -- 1.01 and 1.1 are equal, and so are 1a and 1a00; 1 is earlier than 1.0, and 1.9 than 1.10
 worked-01 : upstream_cmp (codes "1.01") (codes "1.1") ≡ Equal
@@ -106,3 +130,14 @@ worked-no_revision = refl
 
 worked-epoch : version_cmp (meaning 0 (codes "a") no_revision) (meaning 1 (codes "0") no_revision) ≡ Less
 worked-epoch = refl
+
+-- 00:1:02-0 before 1:2
+worked-colon : version_cmp (meaning 0 (codes "1:02") (parts_of (codes "0"))) (meaning 1 (codes "2") no_revision) ≡ Less
+worked-colon = refl
+
+-- the number of a part goes behind its text, the revision behind the upstream version
+worked-text_first : version_cmp (meaning 0 (codes "a9") no_revision) (meaning 0 (codes "b1") no_revision) ≡ Less
+worked-text_first = refl
+
+worked-upstream_first : version_cmp (meaning 0 (codes "1") (parts_of (codes "9"))) (meaning 0 (codes "2") no_revision) ≡ Less
+worked-upstream_first = refl

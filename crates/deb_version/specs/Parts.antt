@@ -50,12 +50,17 @@ parts_of_cuts cuts = map part_of cuts
 abbrev pub HasParts : List ℕ → List Part → Type 0
 HasParts text parts = (cuts : List Cut) × AreCuts cuts × (text ≡ joined cuts) × (parts ≡ parts_of_cuts cuts)
 
--- a digit in front of a cut and more cuts: it joins the run of a cut without text, and else makes a cut of its own
+-- The cuts of a text are found from its end: `cuts_of` puts its last byte in front of the cuts of the empty text, and so
+-- on, up to its first byte.
+-- A digit in front of a cut, of a text and a run, and of more cuts: where the cut's text is empty, the digit stands right
+-- before its run and joins it (`1` before `2a` gives `12a`); else it stands before a text, and so is a run of its own
+-- behind an empty text (`1` before `a2`). `AreCuts` says what comes out, and the law that a text has one list of parts
+-- says that nothing else may.
 abbrev pub with_digit : ℕ → List ℕ → List ℕ → List Cut → List Cut
 with_digit b [] run cuts = ([], b ∷ run) ∷ cuts
 with_digit b (c ∷ text) run cuts = ([], b ∷ []) ∷ (c ∷ text, run) ∷ cuts
 
--- a byte in front of cuts: one that isn't a digit joins the first text
+-- a byte in front of cuts: a digit as above; any other byte joins the text of the first cut
 abbrev pub with_byte : ℕ → List Cut → List Cut
 with_byte b [] = (b ∷ [], []) ∷ []
 with_byte b (cut ∷ cuts) = cond (is_ascii_digit b) (with_digit b cut.0 cut.1 cuts) ((b ∷ cut.0, cut.1) ∷ cuts)
@@ -80,7 +85,7 @@ pub record Meaning : Type 0 where
 abbrev pub no_revision : List Part
 no_revision = ([], 0) ∷ []
 
--- 1.0~rc01, 1a, the empty text
+-- 1.0~rc01, 1a, the empty text; a text and a digit before a text and before a run; every digit, and the bytes beside them
 worked-dots : parts_of (codes "1.0~rc01") ≡ ([], 1) ∷ (codes ".", 0) ∷ (codes "~rc", 1) ∷ []
 worked-dots = refl
 
@@ -89,3 +94,18 @@ worked-letter = refl
 
 worked-empty : parts_of [] ≡ no_revision
 worked-empty = refl
+
+worked-text_first : parts_of (codes "a1b") ≡ (codes "a", 1) ∷ (codes "b", 0) ∷ []
+worked-text_first = refl
+
+worked-digit_before_text : cuts_of (codes "1a2") ≡ ([], codes "1") ∷ (codes "a", codes "2") ∷ []
+worked-digit_before_text = refl
+
+worked-digit_before_run : cuts_of (codes "12a") ≡ ([], codes "12") ∷ (codes "a", []) ∷ []
+worked-digit_before_run = refl
+
+worked-digits : parts_of (codes "9876543210") ≡ ([], 9876543210) ∷ []
+worked-digits = refl
+
+worked-no_digits : parts_of (codes "/:") ≡ (codes "/:", 0) ∷ []
+worked-no_digits = refl

@@ -19,7 +19,8 @@ pub enum BadVersion {
     /// No upstream version stands between the epoch and the revision.
     UpstreamEmpty,
     /// A byte of the upstream version is no ASCII letter or digit and none of `+`, `-`, `.` and
-    /// `~`, nor a colon behind an epoch (Debian Policy 5.6.12).
+    /// `~` (Debian Policy 5.6.12). It is never a colon: behind an epoch a colon is allowed, and a
+    /// text without epoch holds none, since the first colon of a text ends its epoch.
     UpstreamByte { at: usize },
     /// A byte of the revision is no ASCII letter or digit and none of `+`, `.` and `~` (Debian
     /// Policy 5.6.12).

@@ -4,8 +4,10 @@
 //! meanings of all versions.
 
 ghost use Rattle.deb_version.specs.CanonicalLaws.{CanonicalTextSpells, CanonicalTextDecides, CanonicalTextStays, CanonicalTextIsShort, EqualVersionsHaveOneText};
-ghost use Rattle.deb_version.specs.GrammarLaws.{SpellsOneVersion, SpellsWhereFaultless, HasOneListOfParts, ComponentsSpell, AllowedComponentsStand, TestTellsAllowed};
+ghost use Rattle.deb_version.specs.GrammarLaws.{SpellsOneVersion, SpellsWhereFaultless, HasOneListOfParts, ComponentsSpell, AllowedComponentsStand, TestTellsAllowed, VersionSpells};
 ghost use Rattle.deb_version.specs.OrderLaws.{EqualCompareAlike, EqualOnlyIfSame, EqualOnlyIfSameSpelled, EqualTransitive, FirstDifferenceDecides, GreaterOrEqualTransitive, LessOrEqualTransitive, LessTransitive, Reflexive, Reversed, Total, TotalOrder};
+
+use crate::version::Version;
 
 /// A text spells at most one version.
 pub fn spells_one_version()
@@ -32,6 +34,11 @@ pub fn components_stand()
 /// The test of a `Version`'s components passes exactly where the grammar allows them.
 pub fn test_tells_allowed()
     ensures { TestTellsAllowed }
+{}
+
+/// Each `Version`, however it was made, spells a text with its meaning: the text of its components.
+pub fn version_spells(version: Version<'_>)
+    ensures { VersionSpells version.entry }
 {}
 
 /// Each version equals itself.

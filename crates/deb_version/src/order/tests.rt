@@ -37,7 +37,9 @@ fn ascending(rt: HostRuntime) -> Result<(), Fail> {
             assert_eq!(rt; order_of(rt.alloc(), a, b)?, i.cmp(&j), "{a} and {b}");
         }
     }
-    let ends = ["1~~", "1~~a", "1~", "1", "1a", "1+"];
+    let ends = [
+        "1~~", "1~~a", "1~", "1", "1A", "1Z", "1a", "1z", "1+", "1-0-1", "1.0",
+    ];
     for (i, a) in ends.iter().enumerate() {
         for (j, b) in ends.iter().enumerate() {
             assert_eq!(rt; order_of(rt.alloc(), a, b)?, i.cmp(&j), "{a} and {b}");
@@ -70,6 +72,11 @@ fn equal(rt: HostRuntime) -> Result<(), Fail> {
         order_of(rt.alloc(), "1:0-0a", "1:0-a")?,
         Ordering::Equal,
         "a digit before the text of a revision"
+    );
+    assert_eq!(rt;
+        order_of(rt.alloc(), "00:1:02-0", "1:2")?,
+        Ordering::Less,
+        "an epoch of 0 before one of 1"
     );
     assert_eq!(rt;
         order_of(rt.alloc(), "1", "1.0")?,

@@ -1,0 +1,5 @@
+use Rattle.deb_relation.proofs.Ascending.{groups_ascend as the_law}
+use Rattle.deb_relation.proofs.laws.groups_ascend.Goals as goal
+
+pub returns : goal.returns
+returns c = the_law

@@ -1,0 +1,14 @@
+pub mod Applying
+pub mod Environments
+pub mod Groups
+pub mod Laws
+pub mod Meaning
+pub mod Reading
+pub mod Relations
+pub mod Rows
+pub mod Sets
+pub mod Stops
+pub mod Targets
+pub mod Tests
+pub mod Texts
+pub mod Views

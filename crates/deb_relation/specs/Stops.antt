@@ -1,0 +1,16 @@
+-- How an answer of the code stands to a reading of the specification.
+use Rattle.std.specs.Prelude.{◌≡◌, Option, Some, None, Result, Ok, Err}
+use Rattle.deb_relation.specs.declared.fault.Stop.{Stop}
+use Rattle.deb_relation.specs.declared.fault.Stop.TheVariants.{Bad, Memory}
+use Rattle.deb_relation.specs.Reading.{Stopped}
+
+-- The answer is that of the reading, by a view of what was read; want of memory says nothing of it.
+abbrev pub Gives : {A B : Type 0} → Result A Stop → (A → B) → Result B Stopped → Type 0
+Gives (Ok a) view reading = reading ≡ Ok (view a)
+Gives (Err (Bad reason left)) view reading = reading ≡ Err (reason, left)
+Gives (Err Memory) view reading = Unit {0}
+
+-- a view of what was read and of the text behind it, where there is a further one
+abbrev pub next_of : {A B : Type 0} → (A → B) → Option A → Option B
+next_of view None = None
+next_of view (Some a) = Some (view a)

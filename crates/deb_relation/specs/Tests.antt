@@ -1,0 +1,44 @@
+-- What is asked of a relation: alternatives, wildcards, operators. Debian Policy 7.1 and 11.1.
+use Rattle.std.specs.Prelude.{ℕ, Bool, true, false, nat_le, List, length, Option, Some, None}
+use Rattle.std.specs.List.{list_all, list_any}
+use Rattle.deb_base.specs.PackageNames.{is_wildcard}
+use Rattle.deb_relation.specs.declared.operator.Op.{Op}
+use Rattle.deb_relation.specs.declared.operator.Op.TheVariants.{Earlier, EarlierEqual, Equal, LaterEqual, Later}
+use Rattle.deb_version.specs.Parts.{Meaning as Version}
+use Rattle.deb_relation.specs.Meaning.{Alternative, Group, Relation}
+
+-- some group has two or more alternatives
+abbrev pub has_two : Group → Bool
+has_two group = nat_le 2 (length group)
+
+abbrev pub has_alternatives : Relation → Bool
+has_alternatives groups = list_any has_two groups
+
+-- an architecture list holds a wildcard
+abbrev pub list_has_wildcard : Option (Bool × List (List ℕ)) → Bool
+list_has_wildcard None = false
+list_has_wildcard (Some list) = list_any is_wildcard list.1
+
+abbrev pub has_wildcard : Alternative → Bool
+has_wildcard a = list_has_wildcard a.architectures
+
+abbrev pub some_wildcard : Relation → Bool
+some_wildcard groups = list_any (λ group. list_any has_wildcard group) groups
+
+-- no bound has an operator other than `=`
+abbrev pub is_equal : Op → Bool
+is_equal Earlier = false
+is_equal EarlierEqual = false
+is_equal Equal = true
+is_equal LaterEqual = false
+is_equal Later = false
+
+abbrev pub bound_is_equal : Option (Op × Version) → Bool
+bound_is_equal None = true
+bound_is_equal (Some bound) = is_equal bound.0
+
+abbrev pub has_equal_bound : Alternative → Bool
+has_equal_bound a = bound_is_equal a.bound
+
+abbrev pub only_equals : Relation → Bool
+only_equals groups = list_all (λ group. list_all has_equal_bound group) groups

@@ -1,0 +1,68 @@
+-- What the values of the code stand for: the meanings of a relation's parts.
+use Rattle.std.specs.Prelude.{ℕ, Bool, List, map}
+use Rattle.std.specs.Option.{option_copied, option_map}
+use denote.Ref.{Bor}
+use Rattle.std.specs.Prelude.{Vec}
+use Rattle.std.specs.declared.alloc.Global.{Global}
+use Rattle.deb_relation.specs.declared.operator.Op.{Op}
+use Rattle.deb_relation.specs.declared.alternative.Alternative.{Alternative as Parts}
+use Rattle.deb_version.specs.declared.version.Version.{Version as Spelled}
+use Rattle.deb_version.specs.Parts.{Meaning as Version}
+use Rattle.deb_version.specs.Version.{meaning_of}
+use Rattle.deb_relation.specs.Texts.{item_text, restrictions_text}
+use Rattle.deb_relation.specs.Meaning.{Item, Restrictions, Alternative}
+
+-- the operator and the version's meaning
+abbrev pub bound_of : Op × Spelled → Op × Version
+bound_of bound = (bound.0, meaning_of bound.1)
+
+-- the names that slices hold, and those of items
+abbrev pub names_of : List (Bor (List ℕ)) → List (List ℕ)
+names_of names = map (λ name. name.now) names
+
+abbrev pub list_of : Bool × Vec (Bor (List ℕ)) Global → Bool × List (List ℕ)
+list_of list = (list.0, names_of list.1.items)
+
+abbrev pub item_of : Bool × Bor (List ℕ) → Item
+item_of item = (item.0, item.1.now)
+
+abbrev pub items_of : List (Bool × Bor (List ℕ)) → Restrictions
+items_of items = map item_of items
+
+-- the texts by which sets of items and of names are ordered
+abbrev pub item_key : Bool × Bor (List ℕ) → List ℕ
+item_key item = item_text (item_of item)
+
+abbrev pub name_key : Bor (List ℕ) → List ℕ
+name_key name = name.now
+
+-- a restriction list's meaning, and the text by which a formula is ordered
+abbrev pub restrictions_of : Vec (Bool × Bor (List ℕ)) Global → Restrictions
+restrictions_of list = items_of list.items
+
+abbrev pub restrictions_key : Vec (Bool × Bor (List ℕ)) Global → List ℕ
+restrictions_key list = restrictions_text (restrictions_of list)
+
+-- what was read, and the text behind it
+abbrev pub text_behind : Bor (List ℕ) × Bor (List ℕ) → List ℕ × List ℕ
+text_behind p = (p.0.now, p.1.now)
+
+abbrev pub item_behind : (Bool × Bor (List ℕ)) × Bor (List ℕ) → Item × List ℕ
+item_behind p = (item_of p.0, p.1.now)
+
+-- the bound and the architecture list that are lent
+abbrev pub lent_bound_of : Op × Bor Spelled → Op × Version
+lent_bound_of bound = (bound.0, meaning_of bound.1.now)
+
+abbrev pub lent_list_of : Bool × Bor (List (Bor (List ℕ))) → Bool × List (List ℕ)
+lent_list_of list = (list.0, names_of list.1.now)
+
+-- an alternative's meaning
+abbrev pub alternative_of : Parts → Alternative
+alternative_of a = record {
+  name = a.name.now;
+  qualifier = option_copied a.qualifier;
+  bound = option_map bound_of a.bound;
+  architectures = option_map list_of a.architectures;
+  formula = map restrictions_of a.formula.items;
+}

@@ -1,0 +1,225 @@
+//! An alternative: a name, and what is asked of a package of that name.
+
+ghost use Rattle.std.specs.Prelude.{◌≡◌, ◌++◌, OnOk, map};
+ghost use Rattle.std.specs.List.{list_all, list_any};
+ghost use Rattle.std.specs.Str.{bytes_eq};
+ghost use Rattle.deb_base.specs.PackageNames.{is_wildcard};
+ghost use Rattle.std.specs.Option.{option_copied, option_map};
+ghost use Rattle.deb_relation.specs.Reading.{read_alternative};
+ghost use Rattle.deb_relation.specs.Stops.{Gives};
+ghost use Rattle.deb_relation.specs.Texts.{alternative_text, qualifier_text};
+ghost use Rattle.deb_relation.specs.Applying.{all_hold, formula_applies, is_among, item_holds, list_applies};
+ghost use Rattle.deb_relation.specs.Environments.{environment_of};
+ghost use Rattle.deb_relation.specs.Views.{bound_of, item_of, items_of, list_of, name_key, names_of, restrictions_of};
+
+use crate::architectures::{append_architectures, read_architectures};
+use crate::bound::{append_bound, read_bound};
+use crate::cursor::skip_white;
+use crate::environment::Env;
+use crate::fault::Stop;
+use crate::formula::{append_formula, read_formula};
+use crate::name::{read_name, read_qualifier};
+use crate::operator::Op;
+use deb_base::is_wildcard;
+use deb_version::Version;
+use std::alloc::{AllocError, Global};
+
+/// A name, and what is asked of a package of that name (Debian Policy 7.1).
+#[derive(Debug, Drop)]
+pub struct Alternative<'a> {
+    pub(crate) name: &'a [u8],
+    pub(crate) qualifier: Option<&'a [u8]>,
+    pub(crate) bound: Option<(Op, Version<'a>)>,
+    pub(crate) architectures: Option<(bool, Vec<&'a [u8]>)>,
+    pub(crate) formula: Vec<Vec<(bool, &'a [u8])>>,
+}
+
+impl<'a> Alternative<'a> {
+    ghost use Rattle.deb_relation.specs.Applying.{applies};
+    ghost use Rattle.deb_relation.specs.Environments.{environment_of};
+    ghost use Rattle.deb_relation.specs.Tests.{has_equal_bound, has_wildcard};
+    ghost use Rattle.deb_relation.specs.Views.{alternative_of, lent_bound_of, lent_list_of};
+
+    /// The name of the package.
+    pub fn name(&self) -> &'a [u8]
+        ensures { result.now ≡ (alternative_of self.now).name }
+    {
+        self.name
+    }
+
+    /// The qualifier behind the name's colon: `any`, `native`, or the name of an architecture.
+    pub fn qualifier(&self) -> Option<&'a [u8]>
+        ensures { option_copied result ≡ (alternative_of self.now).qualifier }
+    {
+        self.qualifier
+    }
+
+    /// The operator and the version of the bound.
+    pub fn bound(&self) -> Option<(Op, &Version<'a>)>
+        ensures { option_map lent_bound_of result ≡ (alternative_of self.now).bound }
+    {
+        match &self.bound {
+            Some((operator, version)) => Some((*operator, version)),
+            None => None,
+        }
+    }
+
+    /// The architecture list: whether its names have `!`, and the names, ascending and each once.
+    pub fn architectures(&self) -> Option<(bool, &[&'a [u8]])>
+        ensures { option_map lent_list_of result ≡ (alternative_of self.now).architectures }
+    {
+        match &self.architectures {
+            Some((negated, names)) => Some((*negated, names)),
+            None => None,
+        }
+    }
+
+    /// The restriction formula: its lists, each of items that are profiles with `!` (true) or without. Items and lists
+    /// ascend by their texts, each once.
+    pub fn formula(&self) -> &[Vec<(bool, &'a [u8])>]
+        ensures { map restrictions_of result.now ≡ (alternative_of self.now).formula }
+    {
+        &self.formula
+    }
+
+    /// Whether this applies to an environment: its architecture list holds the target, or with `!` doesn't; and all
+    /// items of one list of its formula hold, an item if its profile is active, or with `!` if it isn't. Without a list
+    /// and without a formula it applies.
+    pub fn applies(&self, environment: &Env) -> bool
+        ensures { result ≡ applies (alternative_of self.now) (environment_of environment.now) }
+    {
+        list_applies(&self.architectures, environment)
+            && formula_applies(&self.formula, environment)
+    }
+
+    /// Whether the architecture list holds a wildcard.
+    pub(crate) fn has_wildcard(&self) -> bool
+        ensures { result ≡ has_wildcard (alternative_of self.now) }
+    {
+        match &self.architectures {
+            Some((_, names)) => some_is_wildcard(names),
+            None => false,
+        }
+    }
+
+    /// Whether the bound, if there is one, has the operator `=`.
+    pub(crate) fn has_equal_bound(&self) -> bool
+        ensures { result ≡ has_equal_bound (alternative_of self.now) }
+    {
+        match &self.bound {
+            Some((operator, _)) => matches!(operator, Op::Equal),
+            None => true,
+        }
+    }
+
+    /// The alternative, and what is left behind it and white space.
+    #[tactic(auto, unfolding(crate::specs::Reading::read_alternative))]
+    pub(crate) fn read(alloc: Global, text: &'a [u8]) -> Result<(Alternative<'a>, &'a [u8]), Stop>
+        ensures { Gives result (λ p. (alternative_of p.0, p.1.now)) (read_alternative text.now) }
+    {
+        let (name, rest) = read_name(text)?;
+        let (qualifier, rest) = read_qualifier(rest)?;
+        let (bound, rest) = read_bound(skip_white(rest))?;
+        let (architectures, rest) = read_architectures(alloc, rest)?;
+        let (formula, rest) = read_formula(alloc, rest)?;
+        let alternative = Alternative {
+            name,
+            qualifier,
+            bound,
+            architectures,
+            formula,
+        };
+        Ok((alternative, rest))
+    }
+
+    /// Appends the canonical text.
+    pub(crate) fn append_to(&self, out: &mut Vec<u8>) -> Result<(), AllocError>
+        ensures { OnOk result (out.new.items ≡ out.old.items ++ alternative_text (alternative_of self.now)) }
+    {
+        out.extend_from_slice(self.name)?;
+        append_qualifier(out, self.qualifier)?;
+        append_bound(out, &self.bound)?;
+        append_architectures(out, &self.architectures)?;
+        append_formula(out, &self.formula)
+    }
+}
+
+/// Appends a colon and the qualifier, or nothing.
+fn append_qualifier(out: &mut Vec<u8>, qualifier: Option<&[u8]>) -> Result<(), AllocError>
+    ensures { OnOk result (out.new.items ≡ out.old.items ++ qualifier_text (option_copied qualifier.entry)) }
+{
+    if let Some(qualifier) = qualifier {
+        out.push(b':')?;
+        out.extend_from_slice(qualifier)?;
+    }
+    Ok(())
+}
+
+/// Whether an architecture list applies.
+fn list_applies(list: &Option<(bool, Vec<&[u8]>)>, environment: &Env) -> bool
+    ensures { result ≡ list_applies (option_map list_of list.now) (environment_of environment.now).target }
+{
+    match list {
+        None => true,
+        Some((negated, names)) => is_among(environment.target(), names) != *negated,
+    }
+}
+
+/// Whether a name is among names.
+fn is_among(name: &[u8], names: &[&[u8]]) -> bool
+    ensures { result ≡ is_among name.now (names_of names.now) }
+{
+    some_is(names, name)
+}
+
+/// Whether an item holds.
+fn item_holds(item: (bool, &[u8]), environment: &Env) -> bool
+    ensures { result ≡ item_holds (environment_of environment.now).profiles (item_of item.entry) }
+{
+    environment.active(item.1) != item.0
+}
+
+/// Whether all items of a list hold.
+fn all_hold(items: &[(bool, &[u8])], environment: &Env) -> bool
+    ensures { result ≡ all_hold (environment_of environment.now).profiles (items_of items.now) }
+{
+    each_holds(items, environment)
+}
+
+/// Whether a formula applies: it has no list, or all items of one hold.
+fn formula_applies(lists: &[Vec<(bool, &[u8])>], environment: &Env) -> bool
+    ensures { result ≡ formula_applies (map restrictions_of lists.now) (environment_of environment.now).profiles }
+{
+    lists.is_empty() || some_holds(lists, environment)
+}
+
+/// Whether all items of some list hold.
+fn some_holds(lists: &[Vec<(bool, &[u8])>], environment: &Env) -> bool
+    ensures { result ≡ list_any (all_hold (environment_of environment.now).profiles) (map restrictions_of lists.now) }
+{
+    some_list_holds(lists, environment)
+}
+
+fn some_is(names: &[&[u8]], name: &[u8]) -> bool
+    ensures { result ≡ list_any (λ other. bytes_eq (name_key other) name.now) names.now }
+{
+    names.iter().any(|other| *other == name)
+}
+
+fn some_is_wildcard(names: &[&[u8]]) -> bool
+    ensures { result ≡ list_any (λ name. is_wildcard (name_key name)) names.now }
+{
+    names.iter().any(|name| is_wildcard(*name))
+}
+
+fn each_holds(items: &[(bool, &[u8])], environment: &Env) -> bool
+    ensures { result ≡ list_all (λ item. item_holds (environment_of environment.now).profiles (item_of item)) items.now }
+{
+    items.iter().all(|item| item_holds(*item, environment))
+}
+
+fn some_list_holds(lists: &[Vec<(bool, &[u8])>], environment: &Env) -> bool
+    ensures { result ≡ list_any (λ list. all_hold (environment_of environment.now).profiles (restrictions_of list)) lists.now }
+{
+    lists.iter().any(|list| all_hold(list, environment))
+}

@@ -1,0 +1,128 @@
+//! What relations are asked for: a target architecture and the build profiles that are active.
+
+ghost use Rattle.std.specs.Prelude.{◌≡◌, ◌==◌, ◌++◌, IfOk, IfErr, IsTrue, IsFalse, Err, map};
+ghost use Rattle.std.specs.List.{list_all, list_any};
+ghost use Rattle.std.specs.Str.{bytes_eq};
+ghost use Rattle.deb_base.specs.PackageNames.{is_profile_name};
+ghost use Rattle.deb_relation.specs.Targets.{bytes_of, is_environment, is_target};
+ghost use Rattle.deb_relation.specs.Views.{name_key, names_of};
+
+use deb_base::{is_arch_name, is_profile_name, is_wildcard};
+use std::alloc::{AllocError, AllocFailed, Global};
+
+/// A target architecture, and the build profiles that are active.
+#[derive(Debug, Drop)]
+pub struct Env {
+    pub(crate) target: Vec<u8>,
+    pub(crate) profiles: Vec<Vec<u8>>,
+}
+
+/// Why there is no environment.
+#[derive(Clone, Copy, Debug, PartialEq, Eq)]
+pub enum EnvFault {
+    /// The target is no name of an architecture, or a wildcard, or `all`; or a profile is no name of a build profile.
+    BadEnvironment,
+    /// Memory is wanting.
+    Memory,
+}
+
+impl From<AllocError> for EnvFault {
+    ghost use Rattle.deb_relation.specs.declared.environment.EnvFault.TheVariants.{Memory};
+
+    ghost from_gives = { λ _ fault. fault ≡ Memory };
+
+    fn from(_error: AllocError) -> EnvFault {
+        EnvFault::Memory
+    }
+}
+
+impl<T: Drop> From<AllocFailed<T>> for EnvFault {
+    ghost use Rattle.deb_relation.specs.declared.environment.EnvFault.TheVariants.{Memory};
+
+    ghost from_gives = { λ _ fault. fault ≡ Memory };
+
+    fn from(_error: AllocFailed<T>) -> EnvFault {
+        EnvFault::Memory
+    }
+}
+
+impl Env {
+    ghost use Rattle.deb_relation.specs.Applying.{is_among};
+    ghost use Rattle.deb_relation.specs.Environments.{environment_of, environment_with};
+
+    /// The environment of a target and of profiles.
+    ///
+    /// # Errors
+    ///
+    /// `BadEnvironment` exactly where the target is no name of an architecture, or a wildcard, or `all`, or where a
+    /// profile is no name of a build profile; else want of memory.
+    pub fn new(alloc: Global, target: &[u8], profiles: &[&[u8]]) -> Result<Env, EnvFault>
+        ensures ok { IfOk result (λ environment. environment_of environment ≡ environment_with target.now (names_of profiles.now)) }
+        ensures accepted { IfOk result (λ _. IsTrue (is_environment target.now (names_of profiles.now))) }
+        ensures refused { IfErr result (λ fault. fault ≡ EnvFault.BadEnvironment → IsFalse (is_environment target.now (names_of profiles.now))) }
+        ensures told { IsFalse (is_environment target.now (names_of profiles.now)) → result ≡ Err EnvFault.BadEnvironment }
+    {
+        if !is_environment(target, profiles) {
+            return Err(EnvFault::BadEnvironment);
+        }
+        let target = Vec::from_slice(alloc, target)?;
+        let profiles = copies_of(alloc, profiles)?;
+        Ok(Env { target, profiles })
+    }
+
+    /// The target architecture.
+    pub fn target(&self) -> &[u8]
+        ensures { result.now ≡ (environment_of self.now).target }
+    {
+        &self.target
+    }
+
+    /// Whether this profile is active.
+    pub fn active(&self, profile: &[u8]) -> bool
+        ensures { result ≡ is_among profile.now (environment_of self.now).profiles }
+    {
+        some_is(&self.profiles, profile)
+    }
+}
+
+/// Whether this is a target and these are profiles.
+fn is_environment(target: &[u8], profiles: &[&[u8]]) -> bool
+    ensures { result ≡ is_environment target.now (names_of profiles.now) }
+{
+    is_target(target) && are_profiles(profiles)
+}
+
+fn are_profiles(names: &[&[u8]]) -> bool
+    ensures { result ≡ list_all is_profile_name (names_of names.now) }
+{
+    each_is_profile(names)
+}
+
+fn is_target(name: &[u8]) -> bool
+    ensures { result ≡ is_target name.now }
+{
+    is_arch_name(name) && !is_wildcard(name) && name != b"all".as_slice()
+}
+
+/// Copies of names.
+fn copies_of(alloc: Global, names: &[&[u8]]) -> Result<Vec<Vec<u8>>, AllocError>
+    ensures { IfOk result (λ copies. map bytes_of copies.items ≡ names_of names.now) }
+{
+    let mut copies = Vec::new(alloc);
+    for name in names {
+        copies.push(Vec::from_slice(alloc, name)?)?;
+    }
+    Ok(copies)
+}
+
+fn some_is(names: &[Vec<u8>], name: &[u8]) -> bool
+    ensures { result ≡ list_any (λ other. bytes_eq (bytes_of other) name.now) names.now }
+{
+    names.iter().any(|other| other.as_slice() == name)
+}
+
+fn each_is_profile(names: &[&[u8]]) -> bool
+    ensures { result ≡ list_all (λ name. is_profile_name (name_key name)) names.now }
+{
+    names.iter().all(|name| is_profile_name(*name))
+}

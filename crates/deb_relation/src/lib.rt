@@ -1,0 +1,41 @@
+//! Debian relationship fields: what they mean, their canonical text, and which alternatives apply.
+//!
+//! ```
+//! let relation = Relation::parse(rt.alloc(), b"bb (>=1.)|aa,, cc [i386 amd64],bb(>=1.0)|aa")?;
+//! let mut canonical = Vec::new(rt.alloc());
+//! relation.canon_into(&mut canonical)?;
+//! assert_eq!(rt; canonical.as_slice(), b"bb (>= 1.0) | aa, cc [amd64 i386]".as_slice());
+//!
+//! let fault = Relation::parse(rt.alloc(), b"aa (== 1)").err();
+//! let reason = Reason::OperatorBad;
+//! assert_eq!(rt; fault, Some(RelationFault::Bad { reason, at: 4 }));
+//! ```
+//!
+//! A relation means a set of groups (Debian Policy 7.1). What a text means, or the first step that
+//! fails with its place, is a function of the text, and `Relation::parse` answers it. The groups
+//! ascend by their canonical texts, each once, and so do the lists within them.
+#![tactic(auto)]
+
+mod alternative;
+mod architectures;
+mod bound;
+mod cursor;
+mod environment;
+mod fault;
+mod formula;
+mod group;
+mod items;
+pub mod laws;
+mod name;
+mod operator;
+mod relation;
+
+pub use alternative::Alternative;
+pub use environment::{Env, EnvFault};
+pub use fault::{Reason, RelationFault};
+pub use group::Group;
+pub use operator::Op;
+pub use relation::Relation;
+
+#[cfg(test)]
+mod tests;

@@ -1,0 +1,218 @@
+//! A relation: a set of groups, each of which has to be met.
+
+ghost use Rattle.std.specs.Prelude.{◌≡◌, ◌++◌, [], Ok, IfOk, IfErr, OnErr, OnOk, codes, length, map};
+ghost use Rattle.std.specs.List.{list_all, list_any};
+ghost use Rattle.std.specs.Option.{option_map};
+ghost use Rattle.deb_relation.specs.Groups.{group_key, group_of, piece_behind};
+ghost use Rattle.deb_relation.specs.Reading.{gather, next_piece, put_piece};
+ghost use Rattle.deb_relation.specs.Sets.{insert_by, IsPlace};
+ghost use Rattle.deb_relation.specs.Stops.{Gives, next_of};
+ghost use Rattle.deb_relation.specs.Tests.{has_equal_bound, has_two, has_wildcard};
+ghost use Rattle.deb_relation.specs.Texts.{group_text, relation_text, separated};
+
+use crate::cursor::{begins, skip_white};
+use crate::fault::{Reason, RelationFault, Stop};
+use crate::group::Group;
+use std::alloc::{AllocError, Global};
+use std::cmp::Ordering;
+
+/// A set of groups, each of which has to be met (Debian Policy 7.1).
+#[derive(Debug, Drop)]
+pub struct Relation<'a> {
+    pub(crate) groups: Vec<Group<'a>>,
+    text: Vec<u8>,
+    ghost written: { text.items ≡ relation_text (map group_of groups.items) },
+}
+
+/// The next piece between commas, a group or white space alone, and what is left behind it and its comma.
+#[tactic(auto, unfolding(crate::specs::Reading::next_piece))]
+fn next_piece(alloc: Global, text: &[u8]) -> Result<Option<(Option<Group<'_>>, &[u8])>, Stop>
+    ensures value { Gives result (next_of piece_behind) (next_piece text.now) }
+{
+    let text = skip_white(text);
+    if text.is_empty() {
+        return Ok(None);
+    }
+    if begins(text, b',') {
+        return Ok(Some((None, &text[1..])));
+    }
+    let (group, rest) = Group::read(alloc, text)?;
+    if rest.is_empty() {
+        return Ok(Some((Some(group), rest)));
+    }
+    if !begins(rest, b',') {
+        return Err(Stop::Bad {
+            reason: Reason::Trailing,
+            left: rest.len(),
+        });
+    }
+    Ok(Some((Some(group), &rest[1..])))
+}
+
+/// Where a group belongs in a set of groups, or None if it is there.
+fn place_of_group(groups: &[Group<'_>], group: &Group<'_>) -> Option<usize>
+    ensures { IsPlace group_key group.now groups.now result }
+{
+    for (i, other) in groups.iter().enumerate() {
+        match group.text.as_slice().cmp(other.text.as_slice()) {
+            Ordering::Less => return Some(i),
+            Ordering::Equal => return None,
+            Ordering::Greater => {}
+        }
+    }
+    Some(groups.len())
+}
+
+/// Puts a group into a set of groups.
+fn insert_group<'a>(groups: &mut Vec<Group<'a>>, group: Group<'a>) -> Result<(), Stop>
+    ensures ok { OnOk result (groups.new.items ≡ insert_by group_key group.entry groups.old.items) }
+    ensures memory { IfErr result (λ stop. stop ≡ Stop.Memory) }
+{
+    if let Some(place) = place_of_group(groups, &group) {
+        groups.insert(place, group)?;
+    }
+    Ok(())
+}
+
+/// Puts a piece's group into a set of groups, if it has one.
+fn put_piece<'a>(groups: &mut Vec<Group<'a>>, piece: Option<Group<'a>>) -> Result<(), Stop>
+    ensures ok { OnOk result (map group_of groups.new.items ≡ put_piece (option_map group_of piece.entry) (map group_of groups.old.items)) }
+    ensures memory { IfErr result (λ stop. stop ≡ Stop.Memory) }
+{
+    if let Some(group) = piece {
+        insert_group(groups, group)?;
+    }
+    Ok(())
+}
+
+/// The groups of a whole text.
+fn gather_groups(alloc: Global, text: &[u8]) -> Result<(Vec<Group<'_>>, &[u8]), Stop>
+    ensures { Gives result (λ p. (map group_of p.0.items, p.1.now)) (gather next_piece put_piece [] text.now) }
+{
+    let mut groups = Vec::new(alloc);
+    let mut rest = text;
+    while let Some((piece, behind)) = next_piece(alloc, rest)? {
+        put_piece(&mut groups, piece)?;
+        rest = behind;
+    }
+    Ok((groups, rest))
+}
+
+/// Appends the texts of groups, each with a comma before it.
+fn append_more_groups(out: &mut Vec<u8>, groups: &[Group<'_>]) -> Result<(), AllocError>
+    ensures { OnOk result (out.new.items ≡ out.old.items ++ separated (codes ", ") (map group_text (map group_of groups.now))) }
+{
+    for group in groups {
+        out.extend_from_slice(b", ")?;
+        out.extend_from_slice(&group.text)?;
+    }
+    Ok(())
+}
+
+/// The text of a relation: its groups with commas between.
+fn text_of(alloc: Global, groups: &[Group<'_>]) -> Result<Vec<u8>, AllocError>
+    ensures { IfOk result (λ text. text.items ≡ relation_text (map group_of groups.now)) }
+{
+    let mut text = Vec::new(alloc);
+    if let [first, rest @ ..] = groups {
+        text.extend_from_slice(&first.text)?;
+        append_more_groups(&mut text, rest)?;
+    }
+    Ok(text)
+}
+
+fn some_has_two(groups: &[Group<'_>]) -> bool
+    ensures { result ≡ list_any (λ group. has_two (group_of group)) groups.now }
+{
+    groups.iter().any(|group| group.has_two())
+}
+
+fn some_has_wildcard(groups: &[Group<'_>]) -> bool
+    ensures { result ≡ list_any (λ group. list_any has_wildcard (group_of group)) groups.now }
+{
+    groups.iter().any(|group| group.has_wildcard())
+}
+
+fn each_has_only_equals(groups: &[Group<'_>]) -> bool
+    ensures { result ≡ list_all (λ group. list_all has_equal_bound (group_of group)) groups.now }
+{
+    groups.iter().all(|group| group.only_equals())
+}
+
+impl<'a> Relation<'a> {
+    ghost use Rattle.deb_relation.specs.Reading.{relation_in};
+    ghost use Rattle.deb_relation.specs.Relations.{Tells, relation_of};
+    ghost use Rattle.deb_relation.specs.Tests.{has_alternatives, only_equals, some_wildcard};
+
+    /// The relation that a text spells: groups with commas between, alternatives with bars between (Debian Policy 7.1).
+    ///
+    /// It borrows names and versions from the text. A group that stands twice is one; empty pieces between commas are
+    /// ignored.
+    ///
+    /// # Errors
+    ///
+    /// The first step that fails, reading from the left, with its place; or want of memory.
+    #[tactic(auto, unfolding(crate::specs::Reading::relation_in, crate::specs::Reading::read_relation))]
+    pub fn parse(alloc: Global, text: &'a [u8]) -> Result<Relation<'a>, RelationFault>
+        ensures ok { IfOk result (λ relation. relation_in text.now ≡ Ok (relation_of relation)) }
+        ensures refused { IfErr result (Tells (relation_in text.now)) }
+    {
+        match gather_groups(alloc, text) {
+            Ok((groups, _)) => match text_of(alloc, &groups) {
+                Ok(text) => Ok(Relation { groups, text }),
+                Err(_) => Err(RelationFault::Memory),
+            },
+            Err(Stop::Memory) => Err(RelationFault::Memory),
+            Err(Stop::Bad { reason, left }) => Err(RelationFault::Bad {
+                reason,
+                at: text.len().saturating_sub(left),
+            }),
+        }
+    }
+    /// The groups, ascending by their canonical texts, each once.
+    pub fn groups(&self) -> &[Group<'a>]
+        ensures { map group_of result.now ≡ relation_of self.now }
+    {
+        &self.groups
+    }
+
+    /// Whether some group has two or more alternatives.
+    pub fn has_alternatives(&self) -> bool
+        ensures { result ≡ has_alternatives (relation_of self.now) }
+    {
+        some_has_two(&self.groups)
+    }
+
+    /// Whether an architecture list holds a wildcard (Debian Policy 11.1).
+    pub fn has_wildcard(&self) -> bool
+        ensures { result ≡ some_wildcard (relation_of self.now) }
+    {
+        some_has_wildcard(&self.groups)
+    }
+
+    /// Whether no bound has an operator other than `=`.
+    pub fn only_equals(&self) -> bool
+        ensures { result ≡ only_equals (relation_of self.now) }
+    {
+        each_has_only_equals(&self.groups)
+    }
+
+    /// The length in bytes of the canonical text, which `canon_into` appends.
+    pub fn canon_len(&self) -> u64
+        ensures { result ≡ length (relation_text (relation_of self.now)) }
+    {
+        self.text.len() as u64
+    }
+
+    /// Appends the canonical text: the groups in the byte order of their texts, each once, with `, ` between.
+    ///
+    /// # Errors
+    ///
+    /// Want of memory, and `out` is then unchanged.
+    pub fn canon_into(&self, out: &mut Vec<u8>) -> Result<(), AllocError>
+        ensures ok { OnOk result (out.new.items ≡ out.old.items ++ relation_text (relation_of self.now)) }
+        ensures unchanged { OnErr result (out.new.items ≡ out.old.items) }
+    {
+        out.extend_from_slice(&self.text)
+    }
+}
