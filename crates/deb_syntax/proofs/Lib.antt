@@ -3,11 +3,15 @@ pub mod AnswerLaws
 pub mod Boundaries
 pub mod Callers
 pub mod Dropping
+pub mod EndingSteps
+pub mod EndingWalks
+pub mod Endings
 pub mod Faults
 pub mod Feeds
 pub mod FieldBytes
 pub mod FieldLines
 pub mod FieldTests
+pub mod FirstLines
 pub mod Judgements
 pub mod JudgingLaws
 pub mod JudgingLawsMeaning
@@ -24,6 +28,7 @@ pub mod Lookups
 pub mod NameMarks
 pub mod NameSets
 pub mod NextParagraph
+pub mod ParagraphLines
 pub mod Parts
 pub mod Passing
 pub mod Pieces
