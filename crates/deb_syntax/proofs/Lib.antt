@@ -1,4 +1,5 @@
 pub mod Advancing
+pub mod AnswerLaws
 pub mod Boundaries
 pub mod Callers
 pub mod Dropping
@@ -40,3 +41,4 @@ pub mod WalkingBlanks
 pub mod WalkingLines
 pub mod WalkingRuns
 pub mod WalkingSteps
+pub mod ParagraphLines

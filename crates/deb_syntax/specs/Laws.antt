@@ -9,10 +9,11 @@ use Rattle.deb_base.specs.Names.{folded, canonical_name}
 use Rattle.deb_base.specs.Codes.{number_of}
 use Rattle.deb_base.specs.declared.refusal.Refusal.{Refusal}
 use Rattle.deb_base.specs.Bodies.{Line, newline, HasNoNewline, is_blank, pieces_of, joined}
-use Rattle.deb_syntax.specs.Lines.{with_newlines, begins_blank, Paragraph, lines_of, paragraphs_from, paragraphs_of}
+use Rattle.deb_syntax.specs.Answers.{next_answer}
+use Rattle.deb_syntax.specs.Lines.{with_newlines, begins_blank, Paragraph, lines_of, paragraphs_from, paragraphs_of, file_limit}
 use Rattle.deb_syntax.specs.Fields.{Field, AreDistinct, IsShort, SpellsParagraph}
 use Rattle.deb_syntax.specs.Judging.{judged}
-use Rattle.deb_syntax.specs.Meaning.{Entries, byte_order, entries_of, Means}
+use Rattle.deb_syntax.specs.Meaning.{Entries, byte_order, entries_of, Means, Accepted}
 
 -- Lines that can be a paragraph's: there is one, none holds a newline, and none is blank.
 pub record IsRun (lines : List Line) : Type 0 where
@@ -32,6 +33,13 @@ pub record IsRefusalWithin (n : ℕ) (lines : List Line) (refusal : Refusal) : T
   pub last : refusal.line < n + length lines
   pub least : 1 ≤ number_of refusal.code
   pub most : number_of refusal.code ≤ 7
+
+-- A refusal of a text: its line is one of the text's, and its code one of those of a file, from 1 to 9.
+pub record IsTextRefusal (text : List ℕ) (refusal : Refusal) : Type 0 where
+  pub first : 1 ≤ refusal.line
+  pub last : refusal.line ≤ length (lines_of text)
+  pub least : 1 ≤ number_of refusal.code
+  pub most : number_of refusal.code ≤ 9
 
 -- a text with a newline at its end where it lacks, unless it is empty
 abbrev pub with_last_newline : List ℕ → List ℕ
@@ -123,6 +131,22 @@ MeaningHasBodies = (fields : List Field) → AreDistinct fields → (name : List
 -- The order of the fields is no part of what a paragraph means.
 abbrev pub OrderIsNoMeaning : Type 0
 OrderIsNoMeaning = (fields others : List Field) → IsPermutation fields others → AreDistinct fields → entries_of fields ≡ entries_of others
+
+-- No answer on an accepted file is a refusal.
+abbrev pub AcceptedIsNeverRefused : Type 0
+AcceptedIsNeverRefused = (text : List ℕ) (meaning : List Entries) → Accepted text meaning → (count : ℕ) (refusal : Refusal) → ¬ (next_answer text count ≡ Err refusal)
+
+-- A file on which no answer is a refusal is accepted, with some meaning.
+abbrev pub NeverRefusedIsAccepted : Type 0
+NeverRefusedIsAccepted = (text : List ℕ) → ((count : ℕ) (refusal : Refusal) → ¬ (next_answer text count ≡ Err refusal)) → (meaning : List Entries) × Accepted text meaning
+
+-- An answer that is a refusal is one of the text.
+abbrev pub RefusalIsOfText : Type 0
+RefusalIsOfText = (text : List ℕ) (count : ℕ) (refusal : Refusal) → next_answer text count ≡ Err refusal → IsTextRefusal text refusal
+
+-- The answers end exactly behind the last paragraph of a text that isn't longer than a file may be.
+abbrev pub AnswersEnd : Type 0
+AnswersEnd = (text : List ℕ) (count : ℕ) → (next_answer text count ≡ Ok None) ↔ ((length text ≤ file_limit) × (length (paragraphs_of text) ≤ count))
 
 newlines_back : with_newlines (lines_of (codes "a\n\nb")) ≡ codes "a\n\nb\n"
 newlines_back = refl

@@ -1,6 +1,6 @@
 //! Laws of the definitions of the reader. Each function does nothing, and its contract is the law.
 
-ghost use Rattle.deb_syntax.specs.Laws.{JudgedIsSpelled, SpelledIsJudged, RefusedIsNotSpelled, ParagraphHasOneReading, TextHasOneMeaning, TextIsMeantOrRefused, ParagraphsAreRuns, ParagraphsStandInText, LinesGiveTextBack, TextGivesLinesBack, PiecesGiveTextBack, MeaningIsItsBodies, MeaningHasBodies, OrderIsNoMeaning};
+ghost use Rattle.deb_syntax.specs.Laws.{JudgedIsSpelled, SpelledIsJudged, RefusedIsNotSpelled, ParagraphHasOneReading, TextHasOneMeaning, TextIsMeantOrRefused, ParagraphsAreRuns, ParagraphsStandInText, LinesGiveTextBack, TextGivesLinesBack, PiecesGiveTextBack, MeaningIsItsBodies, MeaningHasBodies, OrderIsNoMeaning, AcceptedIsNeverRefused, NeverRefusedIsAccepted, RefusalIsOfText, AnswersEnd};
 
 /// What is judged of the lines of a paragraph that is within its limit of length is what the lines spell.
 pub fn what_is_judged_is_spelled()
@@ -73,4 +73,24 @@ pub fn a_meaning_has_each_body()
 /// Fields in another order mean the same.
 pub fn the_order_of_fields_means_nothing()
     ensures { OrderIsNoMeaning }
+{}
+
+/// No answer of a reader of paragraphs on an accepted file is a refusal.
+pub fn what_is_accepted_is_never_refused()
+    ensures { AcceptedIsNeverRefused }
+{}
+
+/// A file on which no answer of a reader of paragraphs is a refusal is accepted.
+pub fn what_is_never_refused_is_accepted()
+    ensures { NeverRefusedIsAccepted }
+{}
+
+/// A refusal that a reader of paragraphs answers has the number of one of the file's lines and a code from 1 to 9.
+pub fn a_refusal_is_of_the_text()
+    ensures { RefusalIsOfText }
+{}
+
+/// A reader of paragraphs answers that there is no further one exactly behind the last one of a file that isn't too long.
+pub fn answers_end()
+    ensures { AnswersEnd }
 {}

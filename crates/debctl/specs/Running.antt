@@ -8,8 +8,8 @@ use Rattle.deb_base.specs.declared.code.Code.TheVariants.{NoColon}
 use Rattle.deb_base.specs.declared.fault.Fault.{Fault}
 use Rattle.deb_base.specs.declared.fault.Fault.TheVariants.{Refused, Memory, Read, Write}
 use Rattle.deb_base.specs.declared.refusal.Refusal.{Refusal}
-use Rattle.deb_syntax.specs.Reading.{IsRefused}
-use Rattle.debctl.specs.Normalising.{IfRefused, IfWriteFailed, IfNotWritten, IsFileRefusal, WritesAll, WritesFront}
+use Rattle.deb_syntax.specs.Reading.{IsRefusalOfText}
+use Rattle.debctl.specs.Normalising.{IfRefused, IfWriteFailed, IfNotWritten, IsRefused, WritesAll, WritesFront}
 
 -- the status of a fault: 2 where a text is refused, else 3
 abbrev pub status_of : Fault → ℕ
@@ -24,7 +24,7 @@ pub record Normalises {W : Type 0} (left : Option (List ℕ)) (count count_after
   pub ok : (text : List ℕ) → left ≡ Some text → IfOk answer (λ n. WritesAll text n (held old) (held new))
   pub refused : (text : List ℕ) → left ≡ Some text → IfRefused answer (IsRefused text)
   pub write : (text : List ℕ) → left ≡ Some text → IfWriteFailed answer (WritesFront text (held old) (held new))
-  pub refusal : IfRefused answer IsFileRefusal
+  pub refusal : IfRefused answer IsRefusalOfText
   pub unwritten : IfNotWritten answer (new ≡ old)
   pub reads : count_after ≡ read_failures_after count answer
   pub writes : failures new ≡ write_failures_after (failures old) answer
@@ -54,7 +54,7 @@ TellsAnswer held failures old new (Err fault) status = TellsFault held failures 
 -- The text is refused, and exactly the refusal's line was written.
 pub record TellsRefusal (left : Option (List ℕ)) (err err_after : Option (List ℕ)) : Type 0 where
   pub refusal : Refusal
-  pub is_file_refusal : IsFileRefusal refusal
+  pub is_file_refusal : IsRefusalOfText refusal
   pub refused : (text : List ℕ) → left ≡ Some text → IsRefused text refusal
   pub told : Appends err err_after (refusal_line refusal)
 

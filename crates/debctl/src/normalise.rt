@@ -2,8 +2,9 @@
 
 ghost use Rattle.std.specs.Prelude.{◌≡◌, ℕ, List, Some, IfOk, IfErr};
 ghost use Rattle.deb_base.specs.Devices.{read_failures_after, write_failures_after, TellsReads, TellsWrites};
-ghost use Rattle.deb_syntax.specs.Reading.{IsRefused, IsReaderFault};
-ghost use Rattle.debctl.specs.Normalising.{IfRefused, IfWriteFailed, IfNotWritten, IsCanonical, IsFileRefusal, WritesAll, WritesFront};
+ghost use Rattle.deb_base.specs.Faults.{IsReadersFault};
+ghost use Rattle.deb_syntax.specs.Reading.{IsRefusalOfText};
+ghost use Rattle.debctl.specs.Normalising.{IfRefused, IfWriteFailed, IfNotWritten, IsCanonical, IsRefused, WritesAll, WritesFront};
 
 use crate::canonical::append_paragraph;
 use deb_base::{Fault, Sink, Source, put_all};
@@ -40,7 +41,7 @@ pub fn normalise<R: Source, W: Sink>(
     ensures write { (text : List ℕ) → R.left reader.old ≡ Some text → IfWriteFailed result (WritesFront text (W.held writer.old) (W.held writer.new)) }
 
     // Whether or not the reader tells its bytes.
-    ensures refusal { IfRefused result IsFileRefusal }
+    ensures refusal { IfRefused result IsRefusalOfText }
     ensures unwritten { IfNotWritten result (writer.new ≡ writer.old) }
     ensures reads { R.failures reader.new ≡ read_failures_after (R.failures reader.old) result }
     ensures writes { W.failures writer.new ≡ write_failures_after (W.failures writer.old) result }
@@ -58,7 +59,7 @@ pub fn normalise<R: Source, W: Sink>(
 fn canonical_text<R: Source>(alloc: Global, reader: &mut R) -> Result<CanonicalText, Fault>
     ensures ok { (text : List ℕ) → R.left reader.old ≡ Some text → IfOk result (λ canonical. IsCanonical text canonical.paragraphs canonical.bytes.items) }
     ensures refused { (text : List ℕ) → R.left reader.old ≡ Some text → IfRefused result (IsRefused text) }
-    ensures fault { IfErr result IsReaderFault }
+    ensures fault { IfErr result (λ fault. IsReadersFault fault IsRefusalOfText) }
     ensures reads { R.failures reader.new ≡ read_failures_after (R.failures reader.old) result }
 {
     let mut paragraphs = Paragraphs::new(alloc);
