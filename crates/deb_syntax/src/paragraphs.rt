@@ -249,3 +249,6 @@ impl Paragraphs {
         Ok(())
     }
 }
+
+#[cfg(test)]
+mod tests;
