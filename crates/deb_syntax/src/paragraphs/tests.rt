@@ -1,6 +1,7 @@
 //! What is read of files, in pieces of several sizes, with and without `begins` before each `next`.
 
 mod accepted;
+mod callers;
 mod devices;
 mod readers;
 mod refused;

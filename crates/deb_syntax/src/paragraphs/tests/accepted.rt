@@ -135,7 +135,7 @@ fn a_paragraph_cut_at_each_byte(rt: HostRuntime) -> Result<(), Fail> {
         let wanted = lines.ok_or(refusal_at(Code::NoColon, line));
         for size in SIZES {
             let mut told = String::new(rt.alloc());
-            let mut reader = Pieces::new(&PACKAGE[..count], size, 0);
+            let mut reader = Pieces::new(&PACKAGE[..count.min(PACKAGE.len())], size, 0);
             let end = read_all(&rt, rt.alloc(), &mut reader, false, &mut told)?;
             assert_eq!(rt; end, wanted, "{count} bytes in pieces of {size}");
         }
