@@ -22,6 +22,8 @@ use Rattle.deb_syntax.proofs.Feeds.{comes_whole, comes_end}
 pub record Dropping (before : FeedState) (left_before : Option (List ℕ)) (run : Run) (feed : FeedState) (left : Option (List ℕ)) (begun : Begun) : Type 0 where
   pub seen : List ℕ
   pub describes : Describes begun seen
+  pub added : List ℕ
+  pub begins : seen ≡ drop run.bytes before.unread ++ added
   pub bytes : feed.bytes ≡ before.bytes
   pub lines : feed.lines ≡ before.lines
   pub kept : take run.bytes feed.unread ≡ take run.bytes before.unread
@@ -35,6 +37,8 @@ pub dropping-start : (before : FeedState) (left : Option (List ℕ)) (run : Run)
 dropping-start before left run more within room described small = record {
   seen = drop run.bytes before.unread;
   describes = described;
+  added = [];
+  begins = sym (append-nil (drop run.bytes before.unread));
   bytes = refl;
   lines = refl;
   kept = refl;
@@ -62,6 +66,8 @@ pub record PieceAhead (text front seen piece : List ℕ) (feed : FeedState) (lef
 pub record Came (before : FeedState) (left_before : Option (List ℕ)) (run : Run) (feed : FeedState) (left : Option (List ℕ)) (begun : Begun) : Type 0 where
   pub seen : List ℕ
   pub describes : Describes begun seen
+  pub added : List ℕ
+  pub begins : seen ≡ drop run.bytes before.unread ++ added
   pub bytes : feed.bytes ≡ before.bytes
   pub lines : feed.lines ≡ before.lines
   pub piece : List ℕ
@@ -78,6 +84,8 @@ pub came : (before : FeedState) (left_before : Option (List ℕ)) (run : Run) (f
 came before left_before run feed mid after left left_after begun d keeps come = record {
   seen = d.seen;
   describes = d.describes;
+  added = d.added;
+  begins = d.begins;
   bytes = come.bytes ∙ keeps.bytes ∙ d.bytes;
   lines = come.lines ∙ keeps.lines ∙ d.lines;
   piece = come.piece;
@@ -151,10 +159,15 @@ module _ (before : FeedState) (left_before : Option (List ℕ)) (run : Run) (aft
   all-fresh : length after.unread ≤ room_of after begun.len → take fresh_room c.piece ≡ c.piece
   all-fresh le = take_all fresh_room c.piece (omega (arith, le, came-length, room-is, c.front))
 
-  abbrev drops : (next : DroppedLine) (line : List ℕ) → Describes next.line line → DropsLine before run next after
-  drops next line described = record {
-    line = line;
+  begins-with : (fresh : List ℕ) → c.seen ++ fresh ≡ drop run.bytes before.unread ++ (c.added ++ fresh)
+  begins-with fresh = ap (λ zs. zs ++ fresh) c.begins ∙ append_assoc (drop run.bytes before.unread) c.added fresh
+
+  abbrev drops : (next : DroppedLine) (fresh : List ℕ) → Describes next.line (c.seen ++ fresh) → DropsLine before run next after
+  drops next fresh described = record {
+    line = c.seen ++ fresh;
     describes = described;
+    more = c.added ++ fresh;
+    begins = begins-with fresh;
     bytes = c.bytes;
     lines = c.lines;
     kept = came-kept;
@@ -218,12 +231,12 @@ module _ (before : FeedState) (left_before : Option (List ℕ)) (run : Run) (aft
     )
 
     pub ended-found : FindsDropped before run (Ok (record { line = next; newline = Some (run.bytes + (next.len - begun.len)) })) after
-    ended-found = (drops _ (c.seen ++ e.more) e.describes, has-newline)
+    ended-found = (drops _ e.more e.describes, has-newline)
 
     pub ended-ahead : (text : List ℕ) → IsAhead text [] before left_before → IsDropped text before run (Ok (record { line = next; newline = Some (run.bytes + (next.len - begun.len)) })) after left
     ended-ahead text a =
         let p = c.ahead text a in (
-          drops _ (c.seen ++ e.more) e.describes,
+          drops _ e.more e.describes,
           has-newline,
           (
             p.rest,
@@ -250,6 +263,8 @@ module _ (before : FeedState) (left_before : Option (List ℕ)) (run : Run) (aft
     more-dropping le more = record {
       seen = c.seen ++ c.piece;
       describes = whole-line le;
+      added = c.added ++ c.piece;
+      begins = begins-with c.piece;
       bytes = c.bytes;
       lines = c.lines;
       kept = came-kept;
@@ -270,12 +285,12 @@ module _ (before : FeedState) (left_before : Option (List ℕ)) (run : Run) (aft
     none-has ended = c.unread ∙ ap (λ zs. take run.bytes before.unread ++ zs) (c.ended ended) ∙ append-nil (take run.bytes before.unread)
 
     pub none-found : length after.unread ≤ room_of after begun.len → IsTrue after.ended → FindsDropped before run (Ok (record { line = next; newline = None })) after
-    none-found le ended = (drops _ (c.seen ++ c.piece) (whole-line le), (none-has ended, ended, whole-room le))
+    none-found le ended = (drops _ c.piece (whole-line le), (none-has ended, ended, whole-room le))
 
     pub none-ahead : length after.unread ≤ room_of after begun.len → IsTrue after.ended → (text : List ℕ) → IsAhead text [] before left_before → IsDropped text before run (Ok (record { line = next; newline = None })) after left
     none-ahead le ended text a =
         let p = c.ahead text a in (
-          drops _ (c.seen ++ c.piece) (whole-line le),
+          drops _ c.piece (whole-line le),
           (none-has ended, ended, whole-room le),
           (
             p.whole

@@ -1,5 +1,5 @@
 -- A file that is read by pieces: slices of its buffer, what a piece leaves of the text, and what is seen of it.
-use Rattle.std.proofs.Common.{◌≡◌, ℕ, ◌+◌, ◌-◌, ◌<◌, ◌≤◌, List, [], ◌++◌, Option, Some, None, length, take, drop, slice_range, vec_len, IsTrue, inl, inr, refl, sym, ap, ◌∙◌, append_assoc, arith, length-drop}
+use Rattle.std.proofs.Common.{◌≡◌, ℕ, ◌+◌, ◌-◌, ◌<◌, ◌≤◌, List, [], ◌++◌, Option, Some, None, length, take, drop, slice_range, IsTrue, inl, inr, refl, sym, ap, ◌∙◌, append_assoc, arith, length-drop}
 use Rattle.std.proofs.Math.Seq.{take-add}
 use Rattle.std.proofs.lemmas.List.{drop-take, drop-drop, take-take, take_all, length-take-le}
 use Rattle.std.specs.Io.KnownBytes.{Consumes, IsAtEnd}
@@ -8,7 +8,7 @@ use Rattle.deb_syntax.specs.Lines.{file_limit}
 use Rattle.deb_syntax.specs.Feeding.{FeedState, feed_state, buffer_of, start_of, Comes, Stays, Sees, room_of}
 use Rattle.deb_syntax.specs.declared.feed.Feed.{Feed}
 use Rattle.deb_syntax.specs.declared.feed.Sight.{Sight}
-use Rattle.deb_syntax.proofs.Slices.{drop-slice_range}
+use Rattle.deb_syntax.proofs.Slices.{take-slice_range, drop-slice_range}
 
 -- a slice of the first f bytes, which are the same
 pub slice_range-same_front : (old new : List ℕ) (s f : ℕ) → s ≤ f → take f new ≡ take f old → slice_range new s f ≡ slice_range old s f
@@ -54,6 +54,10 @@ unread_within feed = omega (arith, unread_length feed, feed.window.within)
 -- a slice of the unread bytes, in the buffer
 pub slice_of_unread : (feed : Feed) (a b : ℕ) → b ≤ length (feed_state feed).unread → slice_range (buffer_of feed) (start_of feed + a) (start_of feed + b) ≡ slice_range (feed_state feed).unread a b
 slice_of_unread feed a b le = slice_range-inside (buffer_of feed) (start_of feed) feed.window.filled a b (omega (arith, unread_length feed, le))
+
+-- the first unread bytes, in the buffer
+pub front_of_unread : (feed : Feed) (n : ℕ) → n ≤ length (feed_state feed).unread → slice_range (buffer_of feed) (start_of feed) (start_of feed + n) ≡ take n (feed_state feed).unread
+front_of_unread feed n le = sym (take-slice_range (buffer_of feed) (start_of feed) feed.window.filled n (omega (arith, unread_length feed, le)))
 
 -- what has passed of a file is never too long
 pub feed_small : (feed : Feed) → (feed_state feed).bytes ≤ file_limit

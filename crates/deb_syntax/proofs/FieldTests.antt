@@ -1,12 +1,12 @@
 -- Fields that pass the test of a paragraph's fields: those that lines spell.
-use Rattle.std.proofs.Common.{◌≡◌, ℕ, zero, suc, ◌+◌, ◌<◌, ◌≤◌, true, not, List, [], ◌∷◌, ◌++◌, length, get_or, subst, refl, ap, arith, Ok, IsTrue, IsUtf8}
+use Rattle.std.proofs.Common.{◌&&◌, ◌≡◌, ℕ, zero, suc, ◌+◌, ◌<◌, ◌≤◌, true, not, List, [], ◌∷◌, ◌++◌, length, get_or, subst, refl, ap, arith, Ok, IsTrue, IsUtf8}
 use Rattle.std.specs.List.{AllByRecursion}
 use Rattle.std.proofs.lemmas.Bool.{and_parts, and_from}
 use Rattle.deb_base.specs.Bodies.{Line, IsBody, is_body, paragraph_limit, pieces_of}
 use Rattle.deb_base.specs.FieldNames.{is_name}
 use Rattle.deb_base.proofs.BodyLemmas.{IsBody-from_test, is_body-from_IsBody}
 use Rattle.deb_syntax.specs.Lines.{Paragraph, total_length}
-use Rattle.deb_syntax.specs.Fields.{Field, SpellsField, SpellsFields, SpellsParagraph, AreDistinct, is_field, are_fields}
+use Rattle.deb_syntax.specs.Fields.{Field, SpellsField, SpellsFields, SpellsParagraph, AreDistinct, has_name, is_field, are_fields}
 use Rattle.deb_syntax.specs.Judging.{judged}
 use Rattle.deb_syntax.specs.Extents.{AreNotBlank}
 use Rattle.deb_syntax.specs.Places.{field_at, fields_at}
@@ -50,3 +50,9 @@ is_field-body field h = IsBody-from_test field.body (and_parts (is_name field.na
 
 pub is_field-name : (field : Field) → is_field field ≡ true → IsTrue (is_name field.name)
 is_field-name field h = (and_parts (is_name field.name) (is_body field.body) h).0
+
+-- the first of fields that are a paragraph's
+pub IsBody-first : (fields more : List Field) (field : Field) → fields ≡ field ∷ more → are_fields fields ≡ true → IsBody field.body
+IsBody-first fields more field is are =
+    let parts = and_parts (is_field field && not (has_name field.name more)) (are_fields more) (subst (λ fs. are_fields fs ≡ true) is are) in
+    is_field-body field (and_parts (is_field field) _ parts.0).0

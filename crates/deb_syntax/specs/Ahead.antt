@@ -101,6 +101,8 @@ HasFirst (Err fault) after = Unit {0}
 pub record DropsLine (before : FeedState) (run : Run) (dropped : DroppedLine) (after : FeedState) : Type 0 where
   pub line : List ℕ
   pub describes : Describes dropped.line line
+  pub more : List ℕ
+  pub begins : line ≡ drop run.bytes before.unread ++ more
   pub bytes : after.bytes ≡ before.bytes
   pub lines : after.lines ≡ before.lines
   pub kept : take run.bytes after.unread ≡ take run.bytes before.unread

@@ -1,12 +1,11 @@
 //! A line that is read to its end and not kept (this project's own: a paragraph's lines have a limit).
 
-ghost use Rattle.std.specs.Prelude.{◌≡◌, ◌+◌, ◌-◌, ◌<◌, ◌≤◌, ◌^◌, ℕ, List, [], length, take, drop, IfErr, IfOk, IsTrue, IsFalse};
+ghost use Rattle.std.specs.Prelude.{◌≡◌, ◌≤◌, ℕ, List, [], length, drop, IfErr, IsFalse};
 ghost use Rattle.deb_base.specs.Devices.{read_failures_after};
 ghost use Rattle.deb_base.specs.Faults.{IsReadersFault};
 ghost use Rattle.deb_syntax.specs.Ahead.{room_ahead, IsAhead, FindsDropped, IsDropped, SameCounts};
 ghost use Rattle.deb_syntax.specs.Reading.{IsRefusalOfText};
 ghost use Rattle.deb_syntax.specs.Feeding.{feed_state};
-ghost use Rattle.deb_syntax.specs.Lines.{file_limit};
 ghost use Rattle.deb_syntax.specs.Walking.{Describes};
 
 use crate::begun::{Begun, along};

@@ -1,11 +1,15 @@
 //! Where the next paragraph ends (Debian Policy 5.1).
 
-ghost use Rattle.std.specs.Prelude.{◌≡◌, ◌+◌, ◌-◌, ◌<◌, ◌≤◌, ◌^◌, ℕ, List, [], length, take, drop, IfErr, IfOk, IsTrue, IsFalse};
+ghost use Rattle.std.specs.Prelude.{◌≡◌, ◌+◌, ◌-◌, ◌<◌, ◌≤◌, ◌^◌, ℕ, List, [], Option, length, IfErr, IsTrue, IsFalse};
+ghost use Rattle.deb_base.specs.Bodies.{paragraph_limit};
 ghost use Rattle.deb_base.specs.Devices.{read_failures_after};
 ghost use Rattle.deb_base.specs.Faults.{IsReadersFault};
-ghost use Rattle.deb_syntax.specs.Ahead.{IsAhead, KeepsLine, HasExtent, IsExtentAhead, SameCounts};
+ghost use Rattle.deb_base.specs.declared.fault.Fault.TheVariants.{Refused};
+ghost use Rattle.deb_syntax.specs.Ahead.{room_ahead, IsAhead, KeepsLine, HasExtent, IsExtentAhead, SameCounts};
 ghost use Rattle.deb_syntax.specs.Reading.{IsRefusalOfText};
 ghost use Rattle.deb_syntax.specs.Feeding.{feed_state};
+ghost use Rattle.deb_syntax.specs.Walking.{Stops};
+ghost use Rattle.deb_syntax.specs.declared.take.Stop.TheVariants.{Open};
 
 use crate::begun::Begun;
 use crate::dropped::drop_line;
@@ -27,10 +31,12 @@ pub(crate) struct Extent {
     pub(crate) lines: u64,
 }
 
-/// Where the paragraph ends that begins the unread bytes; so much was seen of its first line, which isn't blank.
+/// Where the paragraph ends that begins the unread bytes; so much was seen of its first line, which
+/// isn't blank.
 ///
-/// Refused: with a line that isn't blank its lines are too long (`ParagraphTooLong`, at that line), or the file is too
-/// long and no blank line behind the paragraph is in sight (`FileTooLong`, at the line that is cut off).
+/// Refused: with a line that isn't blank its lines are too long (`ParagraphTooLong`, at that line),
+/// or the file is too long and no blank line behind the paragraph is in sight (`FileTooLong`, at
+/// the line that is cut off).
 pub(crate) fn paragraph_extent<R: Source>(
     feed: &mut Feed,
     begun: Begun,
@@ -38,7 +44,9 @@ pub(crate) fn paragraph_extent<R: Source>(
 ) -> Result<Extent, Fault>
     requires { KeepsLine begun (feed_state feed.old) }
     ensures found { HasExtent result (feed_state feed.new) }
-    ensures ahead { (text : List ℕ) → IsAhead text [] (feed_state feed.old) (R.left reader.old) → IsExtentAhead text (feed_state feed.old) result (feed_state feed.new) (R.left reader.new) }
+    ensures ahead { (text : List ℕ) → IsAhead text [] (feed_state feed.old) (R.left reader.old)
+        → IsExtentAhead text
+        (feed_state feed.old) result (feed_state feed.new) (R.left reader.new) }
     ensures same { SameCounts (feed_state feed.old) (feed_state feed.new) }
     ensures fault { IfErr result (λ fault. IsReadersFault fault IsRefusalOfText) }
     ensures counted { R.failures reader.new ≡ read_failures_after (R.failures reader.old) result }
@@ -70,7 +78,11 @@ pub(crate) fn paragraph_extent<R: Source>(
 }
 
 /// The refusal at the line behind a run.
-fn refused(feed: &Feed, code: Code, run: Run) -> Fault {
+fn refused(feed: &Feed, code: Code, run: Run) -> Fault
+    requires { (feed_state feed.now).lines + run.lines + 1 < 2 ^ 64 }
+    ensures { result
+        ≡ Refused (record { code = code; line = (feed_state feed.now).lines + run.lines + 1 }) }
+{
     Fault::Refused(Refusal {
         code,
         line: feed.lines() + run.lines + 1,
@@ -78,14 +90,27 @@ fn refused(feed: &Feed, code: Code, run: Run) -> Fault {
 }
 
 /// The same where there is no room for the line behind the run beside it.
-fn extent_beyond<R: Source>(feed: &mut Feed, run: Run, reader: &mut R) -> Result<Extent, Fault> {
+fn extent_beyond<R: Source>(feed: &mut Feed, run: Run, reader: &mut R) -> Result<Extent, Fault>
+    requires more { IsFalse (feed_state feed.old).ended }
+    requires room { length (feed_state feed.old).unread ≤ room_ahead (feed_state feed.old) }
+    requires full { paragraph_limit ≤ length (feed_state feed.old).unread }
+    requires stops { Stops (feed_state feed.old).unread Open run }
+    ensures found { HasExtent result (feed_state feed.new) }
+    ensures ahead { (text : List ℕ) → IsAhead text [] (feed_state feed.old) (R.left reader.old)
+        → IsExtentAhead text
+        (feed_state feed.old) result (feed_state feed.new) (R.left reader.new) }
+    ensures same { SameCounts (feed_state feed.old) (feed_state feed.new) }
+    ensures fault { IfErr result (λ fault. IsReadersFault fault IsRefusalOfText) }
+    ensures counted { R.failures reader.new ≡ read_failures_after (R.failures reader.old) result }
+{
     let dropped = drop_line(feed, run, reader)?;
     if !dropped.line.is_blank() {
         return Err(refused(feed, Code::ParagraphTooLong, run));
     }
     let ended = Run {
+        bytes: run.bytes,
+        lines: run.lines,
         begun: dropped.line,
-        ..run
     };
     Ok(match dropped.newline {
         Some(newline) => ended_by_blank(ended, newline),
@@ -94,7 +119,17 @@ fn extent_beyond<R: Source>(feed: &mut Feed, run: Run, reader: &mut R) -> Result
 }
 
 /// The same where no byte is left behind the line behind the run, whose newline is missing.
-fn ended_by_file(feed: &Feed, run: Run) -> Result<Extent, Fault> {
+fn ended_by_file(feed: &Feed, run: Run) -> Result<Extent, Fault>
+    requires ended { IsTrue (feed_state feed.now).ended }
+    requires room { length (feed_state feed.now).unread ≤ room_ahead (feed_state feed.now) }
+    requires stops { Stops (feed_state feed.now).unread Open run }
+    ensures found { HasExtent result (feed_state feed.now) }
+    ensures ahead { (text : List ℕ) → (left : Option (List ℕ))
+        → IsAhead text [] (feed_state feed.now) left
+        → IsExtentAhead text (feed_state feed.now) result (feed_state feed.now) left }
+    ensures fault { IfErr result (λ fault. IsReadersFault fault IsRefusalOfText) }
+    ensures counted { (failures : ℕ) → failures ≡ read_failures_after failures result }
+{
     let all = run.bytes + run.begun.len;
     if run.begun.is_blank() {
         return Ok(ended_by_end(run, all));
@@ -110,8 +145,21 @@ fn ended_by_file(feed: &Feed, run: Run) -> Result<Extent, Fault> {
     })
 }
 
-/// A run that is ended by the blank line behind it, whose newline stands at `newline` of the unread bytes.
-fn ended_by_blank(run: Run, newline: usize) -> Extent {
+/// A run that is ended by the blank line behind it, whose newline stands at `newline` of the unread
+/// bytes.
+fn ended_by_blank(run: Run, newline: usize) -> Extent
+    requires some { 0 < run.bytes }
+    requires bytes { run.bytes + run.begun.len + 1 < 2 ^ 64 }
+    requires lines { run.lines + 1 < 2 ^ 64 }
+    requires newline { newline + 1 < 2 ^ 64 }
+    ensures { result
+        ≡ record {
+          end = run.bytes - 1;
+          skip = newline + 1;
+          bytes = run.bytes + run.begun.len + 1;
+          lines = run.lines + 1;
+        } }
+{
     Extent {
         end: run.bytes - 1,
         skip: newline + 1,
@@ -120,8 +168,18 @@ fn ended_by_blank(run: Run, newline: usize) -> Extent {
     }
 }
 
-/// A run that is ended by the file's end, behind a blank line without newline or behind nothing; `skip` bytes are unread.
-fn ended_by_end(run: Run, skip: usize) -> Extent {
+/// A run that is ended by the file's end, behind a blank line without newline or behind nothing;
+/// `skip` bytes are unread.
+fn ended_by_end(run: Run, skip: usize) -> Extent
+    requires some { 0 < run.bytes }
+    requires bytes { run.bytes + run.begun.len < 2 ^ 64 }
+    requires lines { run.lines + 1 < 2 ^ 64 }
+    ensures end { result.end ≡ run.bytes - 1 }
+    ensures skip { result.skip ≡ skip }
+    ensures bytes { result.bytes ≡ run.bytes + run.begun.len }
+    ensures none { run.begun.len ≡ 0 → result.lines ≡ run.lines }
+    ensures one { 0 < run.begun.len → result.lines ≡ run.lines + 1 }
+{
     Extent {
         end: run.bytes - 1,
         skip,

@@ -164,3 +164,6 @@ impl Feed {
         self.window.keep(count);
     }
 }
+
+#[cfg(test)]
+mod tests;

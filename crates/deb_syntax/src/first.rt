@@ -1,11 +1,12 @@
 //! The first line ahead that isn't blank (Debian Policy 5.1).
 
-ghost use Rattle.std.specs.Prelude.{◌≡◌, ◌+◌, ◌-◌, ◌<◌, ◌≤◌, ◌^◌, ℕ, List, [], length, take, drop, IfErr, IfOk, IsTrue, IsFalse};
+ghost use Rattle.std.specs.Prelude.{◌≡◌, ◌≤◌, ℕ, List, [], length, Option, Ok, IfErr, IsTrue, IsFalse};
 ghost use Rattle.deb_base.specs.Devices.{read_failures_after};
 ghost use Rattle.deb_base.specs.Faults.{IsReadersFault};
-ghost use Rattle.deb_syntax.specs.Ahead.{IsAhead, IsNear, IsFirst, HasFirst};
+ghost use Rattle.deb_syntax.specs.Ahead.{room_ahead, IsAhead, IsNear, IsFirst, HasFirst};
 ghost use Rattle.deb_syntax.specs.Reading.{IsRefusalOfText};
 ghost use Rattle.deb_syntax.specs.Feeding.{feed_state};
+ghost use Rattle.deb_syntax.specs.Walking.{Describes};
 
 use crate::begun::Begun;
 use crate::dropped::drop_line;
@@ -36,6 +37,7 @@ pub(crate) fn first_line<R: Source>(feed: &mut Feed, reader: &mut R) -> Result<F
     ensures ahead { (text : List ℕ) → IsAhead text [] (feed_state feed.old) (R.left reader.old) → IsFirst text (feed_state feed.old) result (feed_state feed.new) (R.left reader.new) }
     ensures fault { IfErr result (λ fault. IsReadersFault fault IsRefusalOfText) }
     ensures counted { R.failures reader.new ≡ read_failures_after (R.failures reader.old) result }
+    ensures stays { IsTrue (feed_state feed.old).ended → IsTrue (feed_state feed.new).ended }
     ensures quiet { IsTrue (feed_state feed.old).ended → reader.new ≡ reader.old }
 {
     let mut begun = Begun::nothing();
@@ -63,7 +65,14 @@ pub(crate) fn first_line<R: Source>(feed: &mut Feed, reader: &mut R) -> Result<F
 }
 
 /// The same where the rest of the file is one line without its newline, or nothing.
-fn last_line(feed: &mut Feed, begun: Begun) -> First {
+fn last_line(feed: &mut Feed, begun: Begun) -> First
+    requires ended { IsTrue (feed_state feed.old).ended }
+    requires seen { Describes begun (feed_state feed.old).unread }
+    requires room { length (feed_state feed.old).unread ≤ room_ahead (feed_state feed.old) }
+    ensures stays { IsTrue (feed_state feed.new).ended }
+    ensures found { HasFirst (Ok result) (feed_state feed.new) }
+    ensures ahead { (text : List ℕ) (left : Option (List ℕ)) → IsAhead text [] (feed_state feed.old) left → IsFirst text (feed_state feed.old) (Ok result) (feed_state feed.new) left }
+{
     if !begun.is_blank() {
         return First::Kept(begun);
     }
@@ -72,7 +81,16 @@ fn last_line(feed: &mut Feed, begun: Begun) -> First {
 }
 
 /// The same where that line is longer than a paragraph may be.
-fn drop_first<R: Source>(feed: &mut Feed, begun: Begun, reader: &mut R) -> Result<First, Fault> {
+fn drop_first<R: Source>(feed: &mut Feed, begun: Begun, reader: &mut R) -> Result<First, Fault>
+    requires more { IsFalse (feed_state feed.old).ended }
+    requires seen { Describes begun (feed_state feed.old).unread }
+    requires room { length (feed_state feed.old).unread ≤ room_ahead (feed_state feed.old) }
+    requires long { PARAGRAPH_LIMIT ≤ begun.len }
+    ensures found { HasFirst result (feed_state feed.new) }
+    ensures ahead { (text : List ℕ) → IsAhead text [] (feed_state feed.old) (R.left reader.old) → IsFirst text (feed_state feed.old) result (feed_state feed.new) (R.left reader.new) }
+    ensures fault { IfErr result (λ fault. IsReadersFault fault IsRefusalOfText) }
+    ensures counted { R.failures reader.new ≡ read_failures_after (R.failures reader.old) result }
+{
     let run = Run {
         bytes: 0,
         lines: 0,

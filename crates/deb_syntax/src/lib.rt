@@ -23,6 +23,7 @@ mod judge;
 pub mod laws;
 mod line;
 mod name;
+mod names;
 mod paragraphs;
 mod place;
 mod raw;

@@ -1,9 +1,12 @@
 //! The reader of paragraphs (Debian Policy 5.1; deb822(5)).
 
-ghost use Rattle.std.specs.Prelude.{◌≡◌, ◌+◌, ◌≤◌, ◌⊎◌, ℕ, List, [], Some, None, true, false, length, IsTrue};
-ghost use Rattle.deb_syntax.specs.Ahead.{IsNear, KeepsLine};
-ghost use Rattle.deb_syntax.specs.Feeding.{feed_state, buffer_of};
-ghost use Rattle.deb_syntax.specs.Standing.{hides_line, stands_within};
+ghost use Rattle.std.specs.Prelude.{◌≡◌, ◌+◌, ◌≤◌, ◌⊎◌, ℕ, List, [], Some, None, true, false, length, IsTrue, IfErr, IfOk, OnOk};
+ghost use Rattle.deb_syntax.specs.Ahead.{IsAhead, IsNear, KeepsLine};
+ghost use Rattle.deb_syntax.specs.Feeding.{feed_state, buffer_of, piece_limit};
+ghost use Rattle.deb_syntax.specs.Standing.{hides_line, stands_within, standing_answer, IsPassed};
+ghost use Rattle.deb_base.specs.Devices.{read_failures_after};
+ghost use Rattle.deb_base.specs.Faults.{IsReadersFault};
+ghost use Rattle.deb_syntax.specs.Reading.{IsRefusalOfText};
 
 use crate::begun::Begun;
 use crate::ending::paragraph_extent;
@@ -40,13 +43,11 @@ pub struct Paragraphs {
 }
 
 impl Paragraphs {
-    ghost use Rattle.std.specs.Prelude.{IfErr, IfOk, OnOk, IsSome, option_map, ◌↔◌};
+    ghost use Rattle.std.specs.Prelude.{IsSome, option_map, ◌↔◌};
     ghost use Rattle.std.specs.Borrow.{sem};
     ghost use Rattle.std.specs.Io.BufRead.{Rests};
-    ghost use Rattle.deb_base.specs.Devices.{read_failures_after};
-    ghost use Rattle.deb_base.specs.Faults.{IsReadersFault};
     ghost use Rattle.deb_syntax.specs.contracts.paragraphs.Paragraphs.{the_row};
-    ghost use Rattle.deb_syntax.specs.Reading.{Fits, Answers, FindsFirst, IsRefusalOfText, Passes, Advances, Begins};
+    ghost use Rattle.deb_syntax.specs.Reading.{Fits, Answers, FindsFirst, Passes, Advances, Begins};
     ghost use Rattle.deb_syntax.specs.Paragraphs.{state_of, seen_of, answer_of, advance_answer, end_answer, ShowsFirst, IsQuiet};
 
     /// A reader of paragraphs that has read nothing: whatever its source has left is the file. Takes no memory.
@@ -166,9 +167,11 @@ impl Paragraphs {
         ensures quiet { IsTrue (state_of self.old).ended ⊎ IsTrue (state_of self.old).finished → reader.new ≡ reader.old }
         ensures kept { self.new.fault ≡ self.old.fault }
     {
-        match self.find_first(reader)? {
-            First::End => Ok(None),
-            First::Kept(_) | First::Dropped(_) => Ok(Some(self.feed.lines() + 1)),
+        match self.find_first(reader) {
+            Ok(First::End) => Ok(None),
+            Ok(First::Kept(_)) => Ok(Some(self.feed.lines() + 1)),
+            Ok(First::Dropped(_)) => Ok(Some(self.feed.lines() + 1)),
+            Err(fault) => Err(fault),
         }
     }
 
@@ -179,16 +182,17 @@ impl Paragraphs {
         ensures quiet { IsTrue (state_of self.old).ended ⊎ IsTrue (state_of self.old).finished → reader.new ≡ reader.old }
         ensures kept { self.new.fault ≡ self.old.fault }
     {
-        match self.find_first(reader)? {
-            First::End => Ok(false),
-            First::Dropped(_) => Err(Fault::Refused(Refusal {
+        match self.find_first(reader) {
+            Ok(First::End) => Ok(false),
+            Ok(First::Dropped(_)) => Err(Fault::Refused(Refusal {
                 code: Code::ParagraphTooLong,
                 line: self.feed.lines() + 1,
             })),
-            First::Kept(begun) => {
-                self.find_end(begun, reader)?;
-                Ok(true)
-            }
+            Ok(First::Kept(begun)) => match self.find_end(begun, reader) {
+                Ok(()) => Ok(true),
+                Err(fault) => Err(fault),
+            },
+            Err(fault) => Err(fault),
         }
     }
 
@@ -197,6 +201,7 @@ impl Paragraphs {
         ensures first { (text passed : List ℕ) → Fits text passed (state_of self.old) (R.left reader.old) → FindsFirst text passed result (state_of self.new) (R.left reader.new) }
         ensures shows { ShowsFirst result self.new.hidden self.new.finished (feed_state self.new.feed) }
         ensures none { (state_of self.new).current ≡ None }
+        ensures ended { IsTrue (state_of self.old).finished → result ≡ Ok First.End }
         ensures fault { IfErr result (λ fault. IsReadersFault fault IsRefusalOfText) }
         ensures counted { R.failures reader.new ≡ read_failures_after (R.failures reader.old) result }
         ensures quiet { IsTrue (state_of self.old).ended ⊎ IsTrue (state_of self.old).finished → reader.new ≡ reader.old }
@@ -213,13 +218,22 @@ impl Paragraphs {
                 blank: false,
             }));
         }
-        let first = first_line(&mut self.feed, reader)?;
-        match first {
-            First::End => self.finished = true,
-            First::Dropped(begun) => self.hidden = begun.len as u64,
-            First::Kept(_) => {}
+        match first_line(&mut self.feed, reader) {
+            Ok(First::End) => {
+                self.finished = true;
+                Ok(First::End)
+            }
+            Ok(First::Kept(begun)) => Ok(First::Kept(begun)),
+            Ok(First::Dropped(begun)) => {
+                self.hidden = begun.len as u64;
+                Ok(First::Dropped(begun))
+            }
+            Err(fault) => {
+                // Nothing that is unread is asked for again.
+                self.feed.keep(0);
+                Err(fault)
+            }
         }
-        Ok(first)
     }
 
     /// Finds the end of the paragraph that begins the unread bytes, judges it and passes it.
@@ -235,18 +249,50 @@ impl Paragraphs {
         ensures quiet { IsTrue (state_of self.old).ended → reader.new ≡ reader.old }
         ensures kept { self.new.fault ≡ self.old.fault }
     {
-        let extent = paragraph_extent(&mut self.feed, begun, reader)?;
-        let first_line = self.feed.lines() + 1;
-        let paragraph = &self.feed.unread()[..extent.end];
-        judge(self.alloc, paragraph, first_line, &mut self.places)?;
-        let from = self.feed.start();
-        self.feed.pass(extent.skip, extent.bytes, extent.lines);
-        self.current = Some(Standing {
-            from,
-            to: from + extent.end,
-            first_line,
-        });
-        Ok(())
+        match pass_paragraph(self.alloc, &mut self.feed, begun, reader, &mut self.places) {
+            Ok(standing) => {
+                self.current = Some(standing);
+                Ok(())
+            }
+            Err(fault) => {
+                // Nothing that is unread is asked for again.
+                self.feed.keep(0);
+                Err(fault)
+            }
+        }
+    }
+}
+
+/// Finds the end of the paragraph that begins the unread bytes, judges it and passes it.
+fn pass_paragraph<R: Source>(
+    alloc: Global,
+    feed: &mut Feed,
+    begun: Begun,
+    reader: &mut R,
+    places: &mut Vec<Place>,
+) -> Result<Standing, Fault>
+    requires { KeepsLine begun (feed_state feed.old) }
+    ensures stands { IfOk result (λ at. IsTrue (stands_within (buffer_of feed.new) places.new.items (Some at))) }
+    ensures near { OnOk result (length (feed_state feed.new).unread ≤ piece_limit) }
+    ensures ahead { (text : List ℕ) → IsAhead text [] (feed_state feed.old) (R.left reader.old) → IsPassed text (feed_state feed.old) (standing_answer (buffer_of feed.new) places.new.items result) (feed_state feed.new) (R.left reader.new) }
+    ensures fault { IfErr result (λ fault. IsReadersFault fault IsRefusalOfText) }
+    ensures counted { R.failures reader.new ≡ read_failures_after (R.failures reader.old) result }
+    ensures quiet { IsTrue (feed_state feed.old).ended → reader.new ≡ reader.old }
+{
+    let extent = paragraph_extent(feed, begun, reader)?;
+    let first_line = feed.lines() + 1;
+    let paragraph = &feed.unread()[..extent.end];
+    match judge(alloc, paragraph, first_line, places) {
+        Ok(()) => {
+            let from = feed.start();
+            feed.pass(extent.skip, extent.bytes, extent.lines);
+            Ok(Standing {
+                from,
+                to: from + extent.end,
+                first_line,
+            })
+        }
+        Err(fault) => Err(fault),
     }
 }
 
