@@ -295,3 +295,6 @@ fn pass_paragraph<R: Source>(
         Err(fault) => Err(fault),
     }
 }
+
+#[cfg(test)]
+mod tests;
