@@ -103,6 +103,7 @@ fn extent_beyond<R: Source>(feed: &mut Feed, run: Run, reader: &mut R) -> Result
         → IsExtentAhead text
         (feed_state feed.old) result (feed_state feed.new) (R.left reader.new) }
     ensures same { SameCounts (feed_state feed.old) (feed_state feed.new) }
+    ensures taken { (text : List ℕ) → IsAhead text [] (feed_state feed.old) (R.left reader.old) → TakesNoMore text (room_ahead (feed_state feed.old)) (R.left reader.new) }
     ensures fault { IfErr result (λ fault. IsReadersFault fault IsRefusalOfText) }
     ensures counted { R.failures reader.new ≡ read_failures_after (R.failures reader.old) result }
 {

@@ -1,6 +1,6 @@
 //! The first line ahead that isn't blank (Debian Policy 5.1).
 
-ghost use Rattle.std.specs.Prelude.{◌≡◌, ◌≤◌, ℕ, List, [], length, Option, Ok, IfErr, IsTrue, IsFalse};
+ghost use Rattle.std.specs.Prelude.{◌≡◌, ◌+◌, ◌≤◌, ℕ, List, [], length, Option, Ok, IfErr, IsTrue, IsFalse};
 ghost use Rattle.deb_base.specs.Devices.{read_failures_after};
 ghost use Rattle.deb_base.specs.Faults.{IsReadersFault};
 ghost use Rattle.deb_syntax.specs.Ahead.{TakesNoMore, room_ahead, IsAhead, IsNear, IsFirst, HasFirst};
@@ -91,6 +91,7 @@ fn drop_first<R: Source>(feed: &mut Feed, begun: Begun, reader: &mut R) -> Resul
     requires long { PARAGRAPH_LIMIT ≤ begun.len }
     ensures found { HasFirst result (feed_state feed.new) }
     ensures ahead { (text : List ℕ) → IsAhead text [] (feed_state feed.old) (R.left reader.old) → IsFirst text (feed_state feed.old) result (feed_state feed.new) (R.left reader.new) }
+    ensures taken { (text : List ℕ) → IsAhead text [] (feed_state feed.old) (R.left reader.old) → TakesNoMore text (room_ahead (feed_state feed.old)) (R.left reader.new) }
     ensures fault { IfErr result (λ fault. IsReadersFault fault IsRefusalOfText) }
     ensures counted { R.failures reader.new ≡ read_failures_after (R.failures reader.old) result }
 {
