@@ -1,5 +1,5 @@
 -- How much is taken of a reader: no more than what may be looked at, and one piece.
-use Rattle.std.proofs.Common.{◌≡◌, ℕ, ◌+◌, ◌-◌, ◌<◌, ◌≤◌, inl, inr, List, [], ◌∷◌, ◌++◌, Option, Some, length, take, drop, sym, ap, ◌∙◌, arith, length-append, length-drop, length-take}
+use Rattle.std.proofs.Common.{◌≡◌, ℕ, ◌+◌, ◌≤◌, inl, inr, List, [], ◌∷◌, ◌++◌, Option, length, take, drop, sym, ap, ◌∙◌, arith, length-append, length-drop, length-take}
 use Rattle.std.proofs.Math.Seq.{drop-append_seam}
 use Rattle.deb_base.specs.Bodies.{newline}
 use Rattle.deb_syntax.specs.Lines.{file_limit, with_newlines}
