@@ -36,6 +36,7 @@ pub mod PlaceLemmas
 pub mod PlacesWithin
 pub mod Runs
 pub mod Slices
+pub mod Takings
 pub mod Trims
 pub mod WalkingBlanks
 pub mod WalkingLines

@@ -39,6 +39,12 @@ pub record IsAhead (text hidden : List ℕ) (feed : FeedState) (left : Option (L
   pub whole : text ≡ hidden ++ (feed.unread ++ rest)
   pub ended : IsTrue feed.ended → rest ≡ []
 
+-- Of a text of which so many bytes may be looked at, at most one piece beyond these was taken.
+pub record TakesNoMore (text : List ℕ) (room : ℕ) (left : Option (List ℕ)) : Type 0 where
+  pub rest : List ℕ
+  pub told : left ≡ Some rest
+  pub few : length text ≤ room + piece_limit + length rest
+
 -- Behind each newline among these bytes stand no more than one piece.
 abbrev pub IsNear : List ℕ → Type 0
 IsNear bytes = (front more : List ℕ) → bytes ≡ front ++ newline ∷ more → length more ≤ piece_limit

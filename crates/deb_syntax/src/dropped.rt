@@ -3,7 +3,7 @@
 ghost use Rattle.std.specs.Prelude.{◌≡◌, ◌≤◌, ℕ, List, [], length, drop, IfErr, IsFalse};
 ghost use Rattle.deb_base.specs.Devices.{read_failures_after};
 ghost use Rattle.deb_base.specs.Faults.{IsReadersFault};
-ghost use Rattle.deb_syntax.specs.Ahead.{room_ahead, IsAhead, FindsDropped, IsDropped, SameCounts};
+ghost use Rattle.deb_syntax.specs.Ahead.{TakesNoMore, room_ahead, IsAhead, FindsDropped, IsDropped, SameCounts};
 ghost use Rattle.deb_syntax.specs.Reading.{IsRefusalOfText};
 ghost use Rattle.deb_syntax.specs.Feeding.{feed_state};
 ghost use Rattle.deb_syntax.specs.Walking.{Describes};
@@ -38,6 +38,7 @@ pub(crate) fn drop_line<R: Source>(
     ensures found { FindsDropped (feed_state feed.old) run result (feed_state feed.new) }
     ensures ahead { (text : List ℕ) → IsAhead text [] (feed_state feed.old) (R.left reader.old) → IsDropped text (feed_state feed.old) run result (feed_state feed.new) (R.left reader.new) }
     ensures same { SameCounts (feed_state feed.old) (feed_state feed.new) }
+    ensures taken { (text : List ℕ) → IsAhead text [] (feed_state feed.old) (R.left reader.old) → TakesNoMore text (room_ahead (feed_state feed.old)) (R.left reader.new) }
     ensures fault { IfErr result (λ fault. IsReadersFault fault IsRefusalOfText) }
     ensures counted { R.failures reader.new ≡ read_failures_after (R.failures reader.old) result }
 {

@@ -5,9 +5,10 @@ ghost use Rattle.deb_base.specs.Bodies.{paragraph_limit};
 ghost use Rattle.deb_base.specs.Devices.{read_failures_after};
 ghost use Rattle.deb_base.specs.Faults.{IsReadersFault};
 ghost use Rattle.deb_base.specs.declared.fault.Fault.TheVariants.{Refused};
-ghost use Rattle.deb_syntax.specs.Ahead.{room_ahead, IsAhead, KeepsLine, HasExtent, IsExtentAhead, SameCounts};
+ghost use Rattle.deb_syntax.specs.Ahead.{TakesNoMore, room_ahead, IsAhead, KeepsLine, HasExtent, IsExtentAhead, SameCounts};
 ghost use Rattle.deb_syntax.specs.Reading.{IsRefusalOfText};
-ghost use Rattle.deb_syntax.specs.Feeding.{feed_state};
+ghost use Rattle.deb_syntax.specs.Lines.{file_limit};
+ghost use Rattle.deb_syntax.specs.Feeding.{piece_limit, feed_state};
 ghost use Rattle.deb_syntax.specs.Walking.{Stops};
 ghost use Rattle.deb_syntax.specs.declared.take.Stop.TheVariants.{Open};
 
@@ -42,12 +43,14 @@ pub(crate) fn paragraph_extent<R: Source>(
     begun: Begun,
     reader: &mut R,
 ) -> Result<Extent, Fault>
-    requires { KeepsLine begun (feed_state feed.old) }
+    requires line { KeepsLine begun (feed_state feed.old) }
+    requires reach { (feed_state feed.old).bytes + length (feed_state feed.old).unread ≤ file_limit + piece_limit }
     ensures found { HasExtent result (feed_state feed.new) }
     ensures ahead { (text : List ℕ) → IsAhead text [] (feed_state feed.old) (R.left reader.old)
         → IsExtentAhead text
         (feed_state feed.old) result (feed_state feed.new) (R.left reader.new) }
     ensures same { SameCounts (feed_state feed.old) (feed_state feed.new) }
+    ensures taken { (text : List ℕ) → IsAhead text [] (feed_state feed.old) (R.left reader.old) → TakesNoMore text (room_ahead (feed_state feed.old)) (R.left reader.new) }
     ensures fault { IfErr result (λ fault. IsReadersFault fault IsRefusalOfText) }
     ensures counted { R.failures reader.new ≡ read_failures_after (R.failures reader.old) result }
     ensures quiet { IsTrue (feed_state feed.old).ended → reader.new ≡ reader.old }
@@ -100,6 +103,7 @@ fn extent_beyond<R: Source>(feed: &mut Feed, run: Run, reader: &mut R) -> Result
         → IsExtentAhead text
         (feed_state feed.old) result (feed_state feed.new) (R.left reader.new) }
     ensures same { SameCounts (feed_state feed.old) (feed_state feed.new) }
+    ensures taken { (text : List ℕ) → IsAhead text [] (feed_state feed.old) (R.left reader.old) → TakesNoMore text (room_ahead (feed_state feed.old)) (R.left reader.new) }
     ensures fault { IfErr result (λ fault. IsReadersFault fault IsRefusalOfText) }
     ensures counted { R.failures reader.new ≡ read_failures_after (R.failures reader.old) result }
 {

@@ -1,11 +1,12 @@
 //! The first line ahead that isn't blank (Debian Policy 5.1).
 
-ghost use Rattle.std.specs.Prelude.{◌≡◌, ◌≤◌, ℕ, List, [], length, Option, Ok, IfErr, IsTrue, IsFalse};
+ghost use Rattle.std.specs.Prelude.{◌≡◌, ◌+◌, ◌≤◌, ℕ, List, [], length, Option, Ok, IfErr, IsTrue, IsFalse};
 ghost use Rattle.deb_base.specs.Devices.{read_failures_after};
 ghost use Rattle.deb_base.specs.Faults.{IsReadersFault};
-ghost use Rattle.deb_syntax.specs.Ahead.{room_ahead, IsAhead, IsNear, IsFirst, HasFirst};
+ghost use Rattle.deb_syntax.specs.Ahead.{TakesNoMore, room_ahead, IsAhead, IsNear, IsFirst, HasFirst};
 ghost use Rattle.deb_syntax.specs.Reading.{IsRefusalOfText};
-ghost use Rattle.deb_syntax.specs.Feeding.{feed_state};
+ghost use Rattle.deb_syntax.specs.Lines.{file_limit};
+ghost use Rattle.deb_syntax.specs.Feeding.{piece_limit, feed_state};
 ghost use Rattle.deb_syntax.specs.Walking.{Describes};
 
 use crate::begun::Begun;
@@ -32,9 +33,11 @@ pub(crate) enum First {
 ///
 /// Refused: the file is too long, and no line that isn't blank ends within what it may have (`FileTooLong`).
 pub(crate) fn first_line<R: Source>(feed: &mut Feed, reader: &mut R) -> Result<First, Fault>
-    requires { IsNear (feed_state feed.old).unread }
+    requires near { IsNear (feed_state feed.old).unread }
+    requires reach { (feed_state feed.old).bytes + length (feed_state feed.old).unread ≤ file_limit + piece_limit }
     ensures found { HasFirst result (feed_state feed.new) }
     ensures ahead { (text : List ℕ) → IsAhead text [] (feed_state feed.old) (R.left reader.old) → IsFirst text (feed_state feed.old) result (feed_state feed.new) (R.left reader.new) }
+    ensures taken { (text : List ℕ) → IsAhead text [] (feed_state feed.old) (R.left reader.old) → TakesNoMore text (room_ahead (feed_state feed.old)) (R.left reader.new) }
     ensures fault { IfErr result (λ fault. IsReadersFault fault IsRefusalOfText) }
     ensures counted { R.failures reader.new ≡ read_failures_after (R.failures reader.old) result }
     ensures stays { IsTrue (feed_state feed.old).ended → IsTrue (feed_state feed.new).ended }
@@ -88,6 +91,7 @@ fn drop_first<R: Source>(feed: &mut Feed, begun: Begun, reader: &mut R) -> Resul
     requires long { PARAGRAPH_LIMIT ≤ begun.len }
     ensures found { HasFirst result (feed_state feed.new) }
     ensures ahead { (text : List ℕ) → IsAhead text [] (feed_state feed.old) (R.left reader.old) → IsFirst text (feed_state feed.old) result (feed_state feed.new) (R.left reader.new) }
+    ensures taken { (text : List ℕ) → IsAhead text [] (feed_state feed.old) (R.left reader.old) → TakesNoMore text (room_ahead (feed_state feed.old)) (R.left reader.new) }
     ensures fault { IfErr result (λ fault. IsReadersFault fault IsRefusalOfText) }
     ensures counted { R.failures reader.new ≡ read_failures_after (R.failures reader.old) result }
 {

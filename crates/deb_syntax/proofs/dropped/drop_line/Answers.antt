@@ -2,6 +2,7 @@ use Rattle.std.proofs.Common.{◌∙◌, ◌+◌, ◌-◌, ◌≤◌, refl, sym,
 use Rattle.deb_syntax.specs.Feeding.{feed_state, IsTail}
 use Rattle.deb_syntax.proofs.Feeds.{feed_small}
 use Rattle.deb_syntax.proofs.Dropping.{dropping-start, came, stays-counts, came-counts, came-small, came-bound, came-fits, came-lines, ended-fits, went, went-ended, went-on, ended-longer, ended-found, ended-ahead, more-dropping, more-smaller, none-found, none-ahead, beyond-ahead}
+use Rattle.deb_syntax.proofs.Takings.{stays-takes, dropping-takes, came-takes}
 use Rattle.deb_syntax.proofs.dropped.drop_line.Goals as goal
 
 pub pieces-init : goal.pieces-init
@@ -106,3 +107,16 @@ overflow_add-result g c =
     let fits : c.args.run.bytes + (c.along-next.result.begun.len - c.pieces.begun.len) ≤ c.args.run.bytes + 65536 = ended-fits _ _ _ _ _ _ here _ (went-ended _ _ _ _ _ _ here _ (went _ _ _ _ _ _ here _ _ c.sight-sight.ensures c.along-next.ensures) c.if-next.true) in
     let short : c.args.run.bytes ≤ 16777216 = c.requires.short in
     omega (arith, fits, short)
+
+pub returns-in_err-take-clause-taken : goal.returns-in_err-take-clause-taken
+returns-in_err-take-clause-taken g c = λ text a.
+    stays-takes text _ _ _ _ _ (dropping-takes _ _ _ _ _ _ c.pieces.invariant.dropping text a) c.in_err-take.ensures.failed
+
+pub returns-then-next-clause-taken : goal.returns-then-next-clause-taken
+returns-then-next-clause-taken g c = came-takes _ _ _ _ _ _ (came _ _ _ _ _ _ _ _ _ c.pieces.invariant.dropping c.keep.ensures.keeps c.in_ok-take.ensures.taken)
+
+pub returns-in-Nothing-clause-taken : goal.returns-in-Nothing-clause-taken
+returns-in-Nothing-clause-taken g c = came-takes _ _ _ _ _ _ (came _ _ _ _ _ _ _ _ _ c.pieces.invariant.dropping c.keep.ensures.keeps c.in_ok-take.ensures.taken)
+
+pub returns-in-Beyond-clause-taken : goal.returns-in-Beyond-clause-taken
+returns-in-Beyond-clause-taken g c = came-takes _ _ _ _ _ _ (came _ _ _ _ _ _ _ _ _ c.pieces.invariant.dropping c.keep.ensures.keeps c.in_ok-take.ensures.taken)

@@ -5,11 +5,13 @@ use Rattle.deb_syntax.specs.Feeding.{feed_state, IsTail}
 use Rattle.deb_syntax.specs.declared.take.Stop.TheVariants.{Open, Blank, TooLong}
 use Rattle.deb_syntax.proofs.EndingWalks.{walks-start, walks-more, reads-less, same-ahead, sees-unread, seen-stops, unread-stops, stops-few, blank-some, stop-blank-found, stop-blank-ahead, stop-long-ahead, stop-beyond-ahead}
 use Rattle.deb_syntax.proofs.Feeds.{feed_small}
+use Rattle.deb_syntax.proofs.Takings.{stays-takes, ahead-takes, more-reach, same-takes}
 use Rattle.deb_syntax.proofs.ending.paragraph_extent.Goals as goal
 
 pub pieces-init : goal.pieces-init
 pieces-init g c = record {
-  walks = walks-start (feed_state c.args.feed.now) (g.R.Source.left c.args.reader.now) c.args.begun c.requires;
+  walks = walks-start (feed_state c.args.feed.now) (g.R.Source.left c.args.reader.now) c.args.begun c.requires.line;
+  reach = c.requires.reach;
   counted = refl;
   quiet = λ e. (e, refl);
 }
@@ -86,6 +88,7 @@ pieces-preserved g c =
           (g.R.Source.left c.pieces.reader) (g.R.Source.left c.take.new.reader) c.pieces.invariant.walks
           (unread-stops state c.sight-sight.result c.take_lines-taken.result.stop Open c.take_lines-taken.result.run c.sight-sight.ensures tail.0 c.in-Open.is c.take_lines-taken.ensures)
           (omega (arith, tail.0)) c.in_ok-take-in-More-2.ensures.taken;
+      reach = more-reach state (feed_state c.take.new.self) (g.R.Source.left c.pieces.reader) (g.R.Source.left c.take.new.reader) (feed_small c.pieces.feed) tail.0 c.in_ok-take-in-More-2.ensures.taken;
       counted = c.in_ok-take-in-More-2.ensures.counted ∙ c.pieces.invariant.counted;
       quiet = λ e. absurd (false≢true (sym tail.1 ∙ (c.pieces.invariant.quiet e).0));
     }
@@ -110,3 +113,41 @@ returns-in-Beyond-clause-ahead g c = λ text a.
     (stop-beyond-ahead state c.take_lines-taken.result.run
     (seen-stops state c.sight-sight.result c.take_lines-taken.result.stop Open c.take_lines-taken.result.run c.sight-sight.ensures c.in-Open.is c.take_lines-taken.ensures)
     (omega (arith, tail)) text (g.R.Source.left c.pieces.reader) c.refused-in-Beyond.result c.refused-in-Beyond.ensures (w.ahead text a))
+
+pub returns-in-Blank-clause-taken : goal.returns-in-Blank-clause-taken
+returns-in-Blank-clause-taken g c = λ text a.
+    let state = feed_state c.pieces.feed in
+    let w = c.pieces.invariant.walks in
+    same-takes (feed_state c.args.feed.now) state (g.R.Source.left c.pieces.reader) text w.counts (ahead-takes state (g.R.Source.left c.pieces.reader) (feed_small c.pieces.feed) c.pieces.invariant.reach text (w.ahead text a))
+
+pub returns-in-TooLong-clause-taken : goal.returns-in-TooLong-clause-taken
+returns-in-TooLong-clause-taken g c = λ text a.
+    let state = feed_state c.pieces.feed in
+    let w = c.pieces.invariant.walks in
+    same-takes (feed_state c.args.feed.now) state (g.R.Source.left c.pieces.reader) text w.counts (ahead-takes state (g.R.Source.left c.pieces.reader) (feed_small c.pieces.feed) c.pieces.invariant.reach text (w.ahead text a))
+
+pub returns-in-Nothing-clause-taken : goal.returns-in-Nothing-clause-taken
+returns-in-Nothing-clause-taken g c = λ text a.
+    let state = feed_state c.pieces.feed in
+    let w = c.pieces.invariant.walks in
+    same-takes (feed_state c.args.feed.now) state (g.R.Source.left c.pieces.reader) text w.counts (ahead-takes state (g.R.Source.left c.pieces.reader) (feed_small c.pieces.feed) c.pieces.invariant.reach text (w.ahead text a))
+
+pub returns-in-Beyond-clause-taken : goal.returns-in-Beyond-clause-taken
+returns-in-Beyond-clause-taken g c = λ text a.
+    let state = feed_state c.pieces.feed in
+    let w = c.pieces.invariant.walks in
+    same-takes (feed_state c.args.feed.now) state (g.R.Source.left c.pieces.reader) text w.counts (ahead-takes state (g.R.Source.left c.pieces.reader) (feed_small c.pieces.feed) c.pieces.invariant.reach text (w.ahead text a))
+
+pub returns-in_err-take-in-More-2-clause-taken : goal.returns-in_err-take-in-More-2-clause-taken
+returns-in_err-take-in-More-2-clause-taken g c = λ text a.
+    let state = feed_state c.pieces.feed in
+    let w = c.pieces.invariant.walks in
+    stays-takes text _ state (feed_state c.take.new.self) (g.R.Source.left c.pieces.reader) (g.R.Source.left c.take.new.reader)
+    (same-takes (feed_state c.args.feed.now) state (g.R.Source.left c.pieces.reader) text w.counts (ahead-takes state (g.R.Source.left c.pieces.reader) (feed_small c.pieces.feed) c.pieces.invariant.reach text (w.ahead text a)))
+    c.in_err-take-in-More-2.ensures.failed
+
+pub returns-in-More-clause-taken : goal.returns-in-More-clause-taken
+returns-in-More-clause-taken g c = λ text a.
+    let state = feed_state c.pieces.feed in
+    let w = c.pieces.invariant.walks in
+    same-takes (feed_state c.args.feed.now) state (g.R.Source.left c.extent_beyond.new.reader) text w.counts (c.extent_beyond.ensures.taken text (w.ahead text a))
