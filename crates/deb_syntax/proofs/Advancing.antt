@@ -13,7 +13,7 @@ use Rattle.deb_base.specs.declared.fault.Fault.TheVariants.{Refused, Memory, Rea
 use Rattle.deb_base.specs.declared.refusal.Refusal.{Refusal}
 use Rattle.deb_syntax.specs.declared.begun.Begun.{Begun}
 use Rattle.deb_syntax.specs.declared.ending.Extent.{Extent}
-use Rattle.deb_syntax.specs.Ahead.{left_answer, left_begin, room_ahead, IsAhead, IsFirst, IsNear, PassesBlanks, EndsInSight, HidesLine, PassesAll, IsExtentOf, PassesParagraph, IsNextRun, SameCounts}
+use Rattle.deb_syntax.specs.Ahead.{left_answer, left_begin, room_ahead, IsAhead, IsFirst, IsNear, PassesBlanks, EndsInSight, KeepsLine, HidesLine, TakesNoMore, PassesAll, IsExtentOf, PassesParagraph, IsNextRun, SameCounts}
 use Rattle.deb_syntax.specs.Answers.{Seen, part_within, paragraphs_within, next_answer, next_begin, seen_from}
 use Rattle.deb_syntax.specs.Extents.{AreBlank, AreNotBlank}
 use Rattle.deb_syntax.specs.Feeding.{FeedState, PassesOn, feed_state, buffer_of, start_of, piece_limit}
@@ -529,14 +529,14 @@ if_some (Some f) P none = absurd (none f refl)
 -- a call that fails keeps its error
 pub advance_err : (before : Moment) (after other : State) (source : Shown) (e : Fault) → ((f : Fault) → before.state.fault ≡ Some f → ⊥) → Advances before (Err e) (record { state = after; source = source }) → other.fault ≡ Some e → Passes Advances before (Err e) (record { state = other; source = source })
 advance_err before after other source e none a kept = record {
-  goes = if_none before.state.fault _ (record { answers = λ text passed fits. answers_err text passed e after other source.bytes (a.answers text passed fits); counted = a.counted; fault = a.fault; current = tt });
+  goes = if_none before.state.fault _ (record { answers = λ text passed fits. answers_err text passed e after other source.bytes (a.answers text passed fits); taken = a.taken; counted = a.counted; fault = a.fault; current = tt });
   keeps = if_none before.state.fault _ kept;
   repeats = if_some before.state.fault _ none;
 }
 
 pub begins_err : (before : Moment) (after other : State) (source : Shown) (e : Fault) → ((f : Fault) → before.state.fault ≡ Some f → ⊥) → Begins before (Err e) (record { state = after; source = source }) → other.fault ≡ Some e → other.current ≡ after.current → Passes Begins before (Err e) (record { state = other; source = source })
 begins_err before after other source e none a kept same = record {
-  goes = if_none before.state.fault _ (record { answers = λ text passed fits. begin_err text passed e after other source.bytes (a.answers text passed fits); counted = a.counted; fault = a.fault; current = same ∙ a.current });
+  goes = if_none before.state.fault _ (record { answers = λ text passed fits. begin_err text passed e after other source.bytes (a.answers text passed fits); taken = a.taken; counted = a.counted; fault = a.fault; current = same ∙ a.current });
   keeps = if_none before.state.fault _ kept;
   repeats = if_some before.state.fault _ none;
 }
@@ -544,3 +544,47 @@ begins_err before after other source e none a kept same = record {
 -- a paragraph whose first line is too long is refused at a line
 pub is_line_refusal : (n : ℕ) → IsRefusalOfText (record { code = ParagraphTooLong; line = n + 1 })
 is_line_refusal n = record { least = omega arith; most = omega arith; line = omega arith }
+
+-- what was taken of the text ahead, told of the whole text
+pub taken_of : (text passed ahead : List ℕ) (count lines : ℕ) (left : Option (List ℕ)) → IsCut text passed ahead count lines → count ≤ file_limit → TakesNoMore ahead (file_limit - count) left → TakesNoMore text file_limit left
+taken_of text passed ahead count lines left cut small t = record {
+  rest = t.rest;
+  told = t.told;
+  few = omega (arith, t.few, cut.bytes, ap length cut.whole, length-append passed ahead);
+}
+
+-- the same where nothing was read
+pub taken_none : (text passed : List ℕ) (feed : FeedState) (hidden : ℕ) (finished : Bool) (current : Option Seen) (fault : Option Fault) (left : Option (List ℕ)) → Fits text passed (state_from feed hidden finished current fault) left → feed.bytes + hidden + length feed.unread ≤ file_limit + piece_limit → TakesNoMore text file_limit left
+taken_none text passed feed hidden finished current fault left fits reach = record {
+  rest = fits.rest;
+  told = fits.told;
+  few = omega (arith, reach, fits.bytes, fits.hidden_bytes, ap length fits.whole, length-append passed (fits.hidden ++ (feed.unread ++ fits.rest)), length-append fits.hidden (feed.unread ++ fits.rest), length-append feed.unread fits.rest);
+}
+
+-- a line that begins the unread bytes reaches no further than one piece beyond what may be looked at
+pub keeps_reach : (begun : Begun) (feed : FeedState) → feed.bytes ≤ file_limit → KeepsLine begun feed → feed.bytes + length feed.unread ≤ file_limit + piece_limit
+keeps_reach begun feed small k = go k.ends
+  where
+    go : EndsInSight feed.unread k.line feed → feed.bytes + length feed.unread ≤ file_limit + piece_limit
+    go (inl (more, is, within)) = let near = k.near k.line more is in omega (arith, near, within, ap length is, length-append k.line (newline ∷ more))
+    go (inr (is, ended, within)) = omega (arith, within, ap length is)
+
+pub hides_reach : (begun : Begun) (feed : FeedState) (hidden : List ℕ) (n : ℕ) → n ≡ length hidden → feed.bytes ≤ file_limit → HidesLine begun feed hidden → feed.bytes + n + length feed.unread ≤ file_limit + piece_limit
+hides_reach begun feed hidden n len small h = go h.ends
+  where
+    go : EndsInSight (hidden ++ feed.unread) hidden feed → feed.bytes + n + length feed.unread ≤ file_limit + piece_limit
+    go (inl (more, is, within)) =
+        let first : feed.unread ≡ newline ∷ more = append_cancel_left hidden feed.unread (newline ∷ more) is in
+        let near = h.near [] more first in omega (arith, near, within, len, ap length first)
+    go (inr (is, ended, within)) =
+        let none : feed.unread ≡ [] = append_cancel_left hidden feed.unread [] (is ∙ sym (append-nil hidden)) in
+        omega (arith, within, len, ap length none)
+
+-- the bound on what the buffer and the counts show, as a number
+pub reach_limit : (n : ℕ) → n ≤ 4295032831 → n ≤ file_limit + piece_limit
+unfolding file_limit
+reach_limit n h = omega (arith, h)
+
+pub limit_reach : (n : ℕ) → n ≤ file_limit + piece_limit → n ≤ 4295032831
+unfolding file_limit
+limit_reach n h = omega (arith, h)

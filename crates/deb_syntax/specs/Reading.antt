@@ -10,12 +10,12 @@ use Rattle.deb_base.specs.declared.fault.Fault.TheVariants.{Refused, Memory, Rea
 use Rattle.deb_base.specs.declared.refusal.Refusal.{Refusal}
 use Rattle.deb_syntax.specs.declared.first.First.{First}
 use Rattle.deb_syntax.specs.declared.first.First.TheVariants.{End, Kept, Dropped}
-use Rattle.deb_syntax.specs.Ahead.{IsNear}
+use Rattle.deb_syntax.specs.Ahead.{IsNear, TakesNoMore}
 use Rattle.deb_syntax.specs.Answers.{Seen, paragraphs_within, next_answer, next_begin}
 use Rattle.deb_syntax.specs.Feeding.{FeedState, piece_limit}
 use Rattle.deb_syntax.specs.Fields.{IsShort}
 use Rattle.deb_syntax.specs.Judging.{judged}
-use Rattle.deb_syntax.specs.Lines.{lines_of, IsClosed, Paragraph, paragraphs_of}
+use Rattle.deb_syntax.specs.Lines.{lines_of, IsClosed, Paragraph, paragraphs_of, file_limit}
 
 -- A reader of paragraphs: the bytes of its buffer that haven't passed, the buffer's length, how many bytes and lines
 -- have passed, how many bytes of the first line that hasn't passed aren't kept, whether a read has told the file's end,
@@ -143,16 +143,18 @@ pub record Moment : Type 0 where
   pub state : State
   pub source : Shown
 
--- A call of a reader without error: what it answers of each text that fits, how often its source failed, and which
--- errors there are.
+-- A call of a reader without error: what it answers of each text that fits, and how much of it was taken by then, how
+-- often its source failed, and which errors there are.
 pub record Advances (before : Moment) (answer : Result (Option Seen) Fault) (after : Moment) : Type 0 where
   pub answers : (text passed : List ℕ) → Fits text passed before.state before.source.bytes → Answers text passed answer after.state after.source.bytes
+  pub taken : (text passed : List ℕ) → Fits text passed before.state before.source.bytes → TakesNoMore text file_limit after.source.bytes
   pub counted : after.source.failures ≡ read_failures_after before.source.failures answer
   pub fault : IfErr answer (λ fault. IsReadersFault fault IsRefusalOfText)
   pub current : MatchResult answer (λ seen. after.state.current ≡ seen) (λ fault. Unit {0})
 
 pub record Begins (before : Moment) (answer : Result (Option ℕ) Fault) (after : Moment) : Type 0 where
   pub answers : (text passed : List ℕ) → Fits text passed before.state before.source.bytes → AnswersBegin text passed answer after.state after.source.bytes
+  pub taken : (text passed : List ℕ) → Fits text passed before.state before.source.bytes → TakesNoMore text file_limit after.source.bytes
   pub counted : after.source.failures ≡ read_failures_after before.source.failures answer
   pub fault : IfErr answer (λ fault. IsReadersFault fault IsRefusalOfText)
   pub current : after.state.current ≡ None

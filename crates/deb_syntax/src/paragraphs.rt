@@ -1,8 +1,9 @@
 //! The reader of paragraphs (Debian Policy 5.1; deb822(5)).
 
 ghost use Rattle.std.specs.Prelude.{◌≡◌, ◌+◌, ◌≤◌, ◌⊎◌, ℕ, List, [], Some, None, true, false, length, IsTrue, IfErr, IfOk, OnOk};
-ghost use Rattle.deb_syntax.specs.Ahead.{IsAhead, IsNear, KeepsLine};
+ghost use Rattle.deb_syntax.specs.Ahead.{room_ahead, IsAhead, IsNear, KeepsLine, TakesNoMore};
 ghost use Rattle.deb_syntax.specs.Feeding.{feed_state, buffer_of, piece_limit};
+ghost use Rattle.deb_syntax.specs.Lines.{file_limit};
 ghost use Rattle.deb_syntax.specs.Standing.{hides_line, stands_within, standing_answer, IsPassed};
 ghost use Rattle.deb_base.specs.Devices.{read_failures_after};
 ghost use Rattle.deb_base.specs.Faults.{IsReadersFault};
@@ -38,6 +39,7 @@ pub struct Paragraphs {
     fault: Option<Fault>,
     alloc: Global,
     ghost near: { IsNear (feed_state feed).unread },
+    ghost reach: { (feed_state feed).bytes + hidden + length (feed_state feed).unread ≤ 4295032831 },
     ghost hides: { IsTrue (hides_line hidden (feed_state feed)) },
     ghost stands: { IsTrue (stands_within (buffer_of feed) places.items current) },
 }
@@ -202,6 +204,7 @@ impl Paragraphs {
         ensures shows { ShowsFirst result self.new.hidden self.new.finished (feed_state self.new.feed) }
         ensures none { (state_of self.new).current ≡ None }
         ensures ended { IsTrue (state_of self.old).finished → result ≡ Ok First.End }
+        ensures taken { (text passed : List ℕ) → Fits text passed (state_of self.old) (R.left reader.old) → TakesNoMore text file_limit (R.left reader.new) }
         ensures fault { IfErr result (λ fault. IsReadersFault fault IsRefusalOfText) }
         ensures counted { R.failures reader.new ≡ read_failures_after (R.failures reader.old) result }
         ensures quiet { IsTrue (state_of self.old).ended ⊎ IsTrue (state_of self.old).finished → reader.new ≡ reader.old }
@@ -244,6 +247,7 @@ impl Paragraphs {
         requires line { KeepsLine begun (feed_state self.old.feed) }
         ensures answers { (text passed : List ℕ) → Fits text passed (state_of self.old) (R.left reader.old) → Answers text passed (end_answer (state_of self.new) result) (state_of self.new) (R.left reader.new) }
         ensures found { OnOk result (IsSome (state_of self.new).current) }
+        ensures taken { (text passed : List ℕ) → Fits text passed (state_of self.old) (R.left reader.old) → TakesNoMore text file_limit (R.left reader.new) }
         ensures fault { IfErr result (λ fault. IsReadersFault fault IsRefusalOfText) }
         ensures counted { R.failures reader.new ≡ read_failures_after (R.failures reader.old) result }
         ensures quiet { IsTrue (state_of self.old).ended → reader.new ≡ reader.old }
@@ -271,10 +275,12 @@ fn pass_paragraph<R: Source>(
     reader: &mut R,
     places: &mut Vec<Place>,
 ) -> Result<Standing, Fault>
-    requires { KeepsLine begun (feed_state feed.old) }
+    requires line { KeepsLine begun (feed_state feed.old) }
+    requires reach { (feed_state feed.old).bytes + length (feed_state feed.old).unread ≤ file_limit + piece_limit }
     ensures stands { IfOk result (λ at. IsTrue (stands_within (buffer_of feed.new) places.new.items (Some at))) }
     ensures near { OnOk result (length (feed_state feed.new).unread ≤ piece_limit) }
     ensures ahead { (text : List ℕ) → IsAhead text [] (feed_state feed.old) (R.left reader.old) → IsPassed text (feed_state feed.old) (standing_answer (buffer_of feed.new) places.new.items result) (feed_state feed.new) (R.left reader.new) }
+    ensures taken { (text : List ℕ) → IsAhead text [] (feed_state feed.old) (R.left reader.old) → TakesNoMore text (room_ahead (feed_state feed.old)) (R.left reader.new) }
     ensures fault { IfErr result (λ fault. IsReadersFault fault IsRefusalOfText) }
     ensures counted { R.failures reader.new ≡ read_failures_after (R.failures reader.old) result }
     ensures quiet { IsTrue (feed_state feed.old).ended → reader.new ≡ reader.old }

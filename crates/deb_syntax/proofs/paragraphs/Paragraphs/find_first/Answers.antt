@@ -9,7 +9,7 @@ use Rattle.deb_syntax.specs.Lines.{file_limit}
 use Rattle.deb_syntax.specs.Paragraphs.{state_of}
 use Rattle.deb_syntax.specs.Reading.{State, Fits, FindsFirst, state_from}
 use Rattle.deb_syntax.specs.Standing.{standing_of}
-use Rattle.deb_syntax.proofs.Advancing.{ahead_of, plain_ahead, tell_refusal, tell_begin_refusal, tell_none, tell_begin, stays_none, hidden_begins, near_nothing, hides_nothing, test_from_hides, tell_fault, long_not_blank, long_some}
+use Rattle.deb_syntax.proofs.Advancing.{ahead_of, plain_ahead, tell_refusal, tell_begin_refusal, tell_none, tell_begin, stays_none, hidden_begins, near_nothing, hides_nothing, test_from_hides, tell_fault, long_not_blank, long_some, hides_reach, keeps_reach, limit_reach, reach_limit, taken_of, taken_none, fits_cut}
 use Rattle.deb_syntax.proofs.Feeds.{feed_small}
 use Rattle.deb_syntax.proofs.paragraphs.Paragraphs.find_first.Goals as goal
 
@@ -28,16 +28,16 @@ returns-then-self-gt0-clause-first g c = λ text passed fits.
 pub invariant_of-self-in-Ok-End : goal.invariant_of-self-in-Ok-End
 invariant_of-self-in-Ok-End g c =
     let shows = rw c.in-Ok-End.field-0-is at c.in-Ok-End.ensures.found in
-    record { near = near_nothing _ shows; hides = hides_nothing _ (feed_state c.first_line.new.feed) (omega arith); stands = refl }
+    record { near = near_nothing _ shows; reach = limit_reach _ (omega (arith, feed_small c.first_line.new.feed, ap length shows)); hides = hides_nothing _ (feed_state c.first_line.new.feed) (omega arith); stands = refl }
 
 pub invariant_of-self-in-Ok-Dropped : goal.invariant_of-self-in-Ok-Dropped
 invariant_of-self-in-Ok-Dropped g c =
     let shows = rw c.in-Ok-Dropped.field-0-is at c.in-Ok-Dropped.ensures.found in
-    record { near = shows.1.near; hides = test_from_hides shows.0 _ _ _ shows.1.describes.len shows.1 (feed_small c.first_line.new.feed); stands = refl }
+    record { near = shows.1.near; reach = limit_reach _ (hides_reach _ _ _ _ shows.1.describes.len (feed_small c.first_line.new.feed) shows.1); hides = test_from_hides shows.0 _ _ _ shows.1.describes.len shows.1 (feed_small c.first_line.new.feed); stands = refl }
 
 pub invariant_of-self-in-Err : goal.invariant_of-self-in-Err
 invariant_of-self-in-Err g c =
-    record { near = near_nothing _ c.keep.ensures.keeps.unread; hides = hides_nothing _ (feed_state c.keep.new.self) (omega arith); stands = refl }
+    record { near = near_nothing _ c.keep.ensures.keeps.unread; reach = limit_reach _ (omega (arith, feed_small c.keep.new.self, ap length c.keep.ensures.keeps.unread)); hides = hides_nothing _ (feed_state c.keep.new.self) (omega arith); stands = refl }
 
 pub returns-in-Ok-End-clause-first : goal.returns-in-Ok-End-clause-first
 returns-in-Ok-End-clause-first g c = λ text passed fits.
@@ -79,3 +79,54 @@ returns-in-Err-clause-first g c = λ text passed fits.
     let small = feed_small old.feed in
     let ahead = plain_ahead text passed (feed_state old.feed) old.hidden none old.finished _ old.fault _ fits small in
     tell_fault text passed (feed_state old.feed) old.hidden none old.finished _ old.fault _ fits small c.in-Err.fault (feed_state c.first_line.new.feed) _ _ _ (c.in-Err.ensures.ahead _ ahead)
+
+pub first_line-requires-clause-reach : goal.first_line-requires-clause-reach
+first_line-requires-clause-reach g c = reach_limit _ (omega (arith, c.args.self.now.reach))
+
+pub invariant_of-self-in-Kept-1 : goal.invariant_of-self-in-Kept-1
+invariant_of-self-in-Kept-1 g c =
+    let line = rw c.in-Ok-Kept.field-0-is at c.in-Ok-Kept.ensures.found in
+    record {
+      near = line.near;
+      reach = limit_reach _ (omega (arith, keeps_reach _ (feed_state c.first_line.new.feed) (feed_small c.first_line.new.feed) line));
+      hides = hides_nothing _ (feed_state c.first_line.new.feed) (omega arith);
+      stands = refl;
+    }
+
+pub returns-then-self-clause-taken : goal.returns-then-self-clause-taken
+returns-then-self-clause-taken g c = λ text passed fits.
+    let old = c.args.self.now in
+    taken_none text passed (feed_state old.feed) old.hidden old.finished _ old.fault _ fits (reach_limit _ old.reach)
+
+pub returns-then-self-gt0-clause-taken : goal.returns-then-self-gt0-clause-taken
+returns-then-self-gt0-clause-taken g c = λ text passed fits.
+    let old = c.args.self.now in
+    taken_none text passed (feed_state old.feed) old.hidden old.finished _ old.fault _ fits (reach_limit _ old.reach)
+
+pub returns-in-Ok-End-clause-taken : goal.returns-in-Ok-End-clause-taken
+returns-in-Ok-End-clause-taken g c = λ text passed fits.
+    let old = c.args.self.now in
+    let small = feed_small old.feed in
+    let ahead = plain_ahead text passed (feed_state old.feed) old.hidden (omega arith) old.finished _ old.fault _ fits small in
+    taken_of text passed _ _ _ _ (fits_cut text passed _ _ fits) small (c.in-Ok-End.ensures.taken _ ahead)
+
+pub returns-in-Ok-Kept-clause-taken : goal.returns-in-Ok-Kept-clause-taken
+returns-in-Ok-Kept-clause-taken g c = λ text passed fits.
+    let old = c.args.self.now in
+    let small = feed_small old.feed in
+    let ahead = plain_ahead text passed (feed_state old.feed) old.hidden (omega arith) old.finished _ old.fault _ fits small in
+    taken_of text passed _ _ _ _ (fits_cut text passed _ _ fits) small (c.in-Ok-Kept.ensures.taken _ ahead)
+
+pub returns-in-Ok-Dropped-clause-taken : goal.returns-in-Ok-Dropped-clause-taken
+returns-in-Ok-Dropped-clause-taken g c = λ text passed fits.
+    let old = c.args.self.now in
+    let small = feed_small old.feed in
+    let ahead = plain_ahead text passed (feed_state old.feed) old.hidden (omega arith) old.finished _ old.fault _ fits small in
+    taken_of text passed _ _ _ _ (fits_cut text passed _ _ fits) small (c.in-Ok-Dropped.ensures.taken _ ahead)
+
+pub returns-in-Err-clause-taken : goal.returns-in-Err-clause-taken
+returns-in-Err-clause-taken g c = λ text passed fits.
+    let old = c.args.self.now in
+    let small = feed_small old.feed in
+    let ahead = plain_ahead text passed (feed_state old.feed) old.hidden (omega arith) old.finished _ old.fault _ fits small in
+    taken_of text passed _ _ _ _ (fits_cut text passed _ _ fits) small (c.in-Err.ensures.taken _ ahead)
