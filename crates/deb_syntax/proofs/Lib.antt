@@ -42,4 +42,3 @@ pub mod WalkingBlanks
 pub mod WalkingLines
 pub mod WalkingRuns
 pub mod WalkingSteps
-pub mod ParagraphLines
