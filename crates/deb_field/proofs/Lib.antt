@@ -1,0 +1,4 @@
+pub mod NumberLemmas
+pub mod Trims
+pub mod SourceLemmas
+pub mod KindLemmas

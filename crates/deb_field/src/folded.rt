@@ -1,0 +1,127 @@
+//! Folded fields, and lists of architectures.
+
+ghost use Rattle.std.specs.Prelude.{◌≡◌, List, ℕ, Some, IfOk, IfErr, IsTrue, refl};
+ghost use Rattle.std.specs.List.{list_all};
+ghost use Rattle.deb_base.specs.PackageNames.{is_arch_name};
+ghost use Rattle.deb_field.specs.Words.{SpellsFolded, SpellsArchitectures, architectures_refusal, words_of, words_text};
+
+use crate::canon::Canon;
+use crate::words::{Words, words_into, words_len};
+use deb_base::{Code, is_arch_name};
+use std::alloc::AllocError;
+
+/// A body whose line ends mean nothing: it means its words, in order (Debian Policy 5.1).
+#[derive(Clone, Copy, Debug)]
+pub struct Folded<'a> {
+    body: &'a [u8],
+}
+
+impl<'a> Folded<'a> {
+    /// The words of a body: every body is folded.
+    pub fn new(body: &'a [u8]) -> Folded<'a>
+        ensures { SpellsFolded body.now (words_of result.body.now) }
+    {
+        Folded { body }
+    }
+
+    /// The words, in order.
+    pub fn words(&self) -> Words<'a>
+        ensures { words_of result.rest.now ≡ words_of self.now.body.now }
+    {
+        Words::of(self.body)
+    }
+}
+
+impl Canon for Folded<'_> {
+    ghost use Rattle.deb_field.specs.WordLaws.{folded_law};
+
+    ghost Kinds = { Unit {0} };
+
+    ghost Meaning = { List (List ℕ) };
+
+    ghost kind = { λ _. tt };
+
+    ghost meaning = { λ folded. words_of folded.body.now };
+
+    ghost Spells = { λ _. SpellsFolded };
+
+    ghost text_of = { words_text };
+
+    ghost law = { λ _. folded_law };
+
+    ghost spelled = { λ folded. (folded.body.now, refl) };
+
+    fn canon_len(&self) -> u64 {
+        words_len(self.body)
+    }
+
+    fn canon_into(&self, out: &mut Vec<u8>) -> Result<(), AllocError> {
+        words_into(self.body, out)
+    }
+}
+
+/// The names of architectures, in order, and perhaps none (Debian Policy 5.6.8).
+#[derive(Clone, Copy, Debug)]
+pub struct ArchitectureWords<'a> {
+    body: &'a [u8],
+    ghost well_formed: { IsTrue (list_all is_arch_name (words_of body.now)) },
+}
+
+impl<'a> ArchitectureWords<'a> {
+    /// The names of architectures in a body, with white space between them.
+    ///
+    /// # Errors
+    ///
+    /// `BadArchitecture` where a word of the body is no name of an architecture.
+    pub fn parse(body: &'a [u8]) -> Result<ArchitectureWords<'a>, Code>
+        ensures ok { IfOk result (λ names. SpellsArchitectures body.now (words_of names.body.now)) }
+        ensures refused { IfErr result (λ code. architectures_refusal body.now ≡ Some code) }
+    {
+        if !are_arch_names(body) {
+            return Err(Code::BadArchitecture);
+        }
+        Ok(ArchitectureWords { body })
+    }
+
+    /// The names, in order.
+    pub fn names(&self) -> Words<'a>
+        ensures { words_of result.rest.now ≡ words_of self.now.body.now }
+    {
+        Words::of(self.body)
+    }
+}
+
+impl Canon for ArchitectureWords<'_> {
+    ghost use Rattle.deb_field.specs.WordLaws.{architectures_law};
+
+    ghost Kinds = { Unit {0} };
+
+    ghost Meaning = { List (List ℕ) };
+
+    ghost kind = { λ _. tt };
+
+    ghost meaning = { λ names. words_of names.body.now };
+
+    ghost Spells = { λ _. SpellsArchitectures };
+
+    ghost text_of = { words_text };
+
+    ghost law = { λ _. architectures_law };
+
+    ghost spelled = { λ names. (names.body.now, (refl, names.well_formed)) };
+
+    fn canon_len(&self) -> u64 {
+        words_len(self.body)
+    }
+
+    fn canon_into(&self, out: &mut Vec<u8>) -> Result<(), AllocError> {
+        words_into(self.body, out)
+    }
+}
+
+/// Whether each word of a body is the name of an architecture.
+fn are_arch_names(body: &[u8]) -> bool
+    ensures { result ≡ list_all is_arch_name (words_of body.now) }
+{
+    Words::of(body).all(|name| is_arch_name(name))
+}

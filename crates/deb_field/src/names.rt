@@ -1,0 +1,136 @@
+//! The names of packages and of architectures.
+
+ghost use Rattle.std.specs.Prelude.{◌≡◌, ℕ, List, Some, IfOk, IfErr, IsTrue, refl};
+ghost use Rattle.deb_base.specs.PackageNames.{is_package_name, is_arch_name};
+ghost use Rattle.deb_field.specs.Texts.{SpellsName, name_refusal, SpellsArchitecture, architecture_refusal, text_itself};
+
+use crate::canon::Canon;
+use crate::one_line::holds_newline;
+use deb_base::{Code, is_arch_name, is_package_name};
+use std::alloc::AllocError;
+
+/// The name of a package (Debian Policy 5.6.1). It means its bytes.
+#[derive(Clone, Copy, Debug)]
+pub struct PackageName<'a> {
+    bytes: &'a [u8],
+    ghost well_formed: { IsTrue (is_package_name bytes.now) },
+}
+
+impl<'a> PackageName<'a> {
+    /// The name of a package that a body spells.
+    ///
+    /// # Errors
+    ///
+    /// `NotOneLine` for a body of more than one line, else `BadName` for one that is no name of a
+    /// package.
+    pub fn parse(body: &'a [u8]) -> Result<PackageName<'a>, Code>
+        ensures ok { IfOk result (λ name. SpellsName body.now name.bytes.now) }
+        ensures refused { IfErr result (λ code. name_refusal body.now ≡ Some code) }
+    {
+        if holds_newline(body) {
+            return Err(Code::NotOneLine);
+        }
+        if !is_package_name(body) {
+            return Err(Code::BadName);
+        }
+        Ok(PackageName { bytes: body })
+    }
+
+    /// The bytes of the name.
+    pub fn bytes(&self) -> &'a [u8]
+        ensures { result.now ≡ self.now.bytes.now }
+    {
+        self.bytes
+    }
+}
+
+impl Canon for PackageName<'_> {
+    ghost use Rattle.deb_field.specs.TextLaws.{itself_law};
+
+    ghost Kinds = { Unit {0} };
+
+    ghost Meaning = { List ℕ };
+
+    ghost kind = { λ _. tt };
+
+    ghost meaning = { λ name. name.bytes.now };
+
+    ghost Spells = { λ _. SpellsName };
+
+    ghost text_of = { text_itself };
+
+    ghost law = { λ _. itself_law is_package_name };
+
+    ghost spelled = { λ name. (name.bytes.now, (refl, name.well_formed)) };
+
+    fn canon_len(&self) -> u64 {
+        self.bytes.len() as u64
+    }
+
+    fn canon_into(&self, out: &mut Vec<u8>) -> Result<(), AllocError> {
+        out.extend_from_slice(self.bytes)
+    }
+}
+
+/// The name of an architecture (Debian Policy 5.6.8), or a wildcard (11.1). It means its bytes.
+#[derive(Clone, Copy, Debug)]
+pub struct ArchitectureName<'a> {
+    bytes: &'a [u8],
+    ghost well_formed: { IsTrue (is_arch_name bytes.now) },
+}
+
+impl<'a> ArchitectureName<'a> {
+    /// The name of an architecture that a body spells.
+    ///
+    /// # Errors
+    ///
+    /// `NotOneLine` for a body of more than one line, else `BadArchitecture` for one that is no
+    /// name of an architecture.
+    pub fn parse(body: &'a [u8]) -> Result<ArchitectureName<'a>, Code>
+        ensures ok { IfOk result (λ name. SpellsArchitecture body.now name.bytes.now) }
+        ensures refused { IfErr result (λ code. architecture_refusal body.now ≡ Some code) }
+    {
+        if holds_newline(body) {
+            return Err(Code::NotOneLine);
+        }
+        if !is_arch_name(body) {
+            return Err(Code::BadArchitecture);
+        }
+        Ok(ArchitectureName { bytes: body })
+    }
+
+    /// The bytes of the name.
+    pub fn bytes(&self) -> &'a [u8]
+        ensures { result.now ≡ self.now.bytes.now }
+    {
+        self.bytes
+    }
+}
+
+impl Canon for ArchitectureName<'_> {
+    ghost use Rattle.deb_field.specs.TextLaws.{itself_law};
+
+    ghost Kinds = { Unit {0} };
+
+    ghost Meaning = { List ℕ };
+
+    ghost kind = { λ _. tt };
+
+    ghost meaning = { λ name. name.bytes.now };
+
+    ghost Spells = { λ _. SpellsArchitecture };
+
+    ghost text_of = { text_itself };
+
+    ghost law = { λ _. itself_law is_arch_name };
+
+    ghost spelled = { λ name. (name.bytes.now, (refl, name.well_formed)) };
+
+    fn canon_len(&self) -> u64 {
+        self.bytes.len() as u64
+    }
+
+    fn canon_into(&self, out: &mut Vec<u8>) -> Result<(), AllocError> {
+        out.extend_from_slice(self.bytes)
+    }
+}

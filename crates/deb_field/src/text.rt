@@ -1,0 +1,119 @@
+//! Plain text, and lines.
+
+ghost use Rattle.std.specs.Prelude.{◌≡◌, ℕ, List, Some, IfOk, IfErr, IsTrue, refl};
+ghost use Rattle.deb_field.specs.Texts.{SpellsText, SpellsLine, text_itself, is_one_line, one_line_refusal};
+
+use crate::canon::Canon;
+use crate::one_line::holds_newline;
+use deb_base::Code;
+use std::alloc::AllocError;
+
+/// The body of a field as it stands, of any number of lines. It means its bytes.
+#[derive(Clone, Copy, Debug)]
+pub struct Text<'a> {
+    bytes: &'a [u8],
+}
+
+impl<'a> Text<'a> {
+    /// The text of a body: every body is one.
+    pub fn new(body: &'a [u8]) -> Text<'a>
+        ensures { SpellsText body.now result.bytes.now }
+    {
+        Text { bytes: body }
+    }
+
+    /// The bytes of the text.
+    pub fn bytes(&self) -> &'a [u8]
+        ensures { result.now ≡ self.now.bytes.now }
+    {
+        self.bytes
+    }
+}
+
+impl Canon for Text<'_> {
+    ghost use Rattle.deb_field.specs.TextLaws.{itself_law};
+    ghost use Rattle.deb_field.specs.Texts.{is_any_text};
+
+    ghost Kinds = { Unit {0} };
+
+    ghost Meaning = { List ℕ };
+
+    ghost kind = { λ _. tt };
+
+    ghost meaning = { λ text. text.bytes.now };
+
+    ghost Spells = { λ _. SpellsText };
+
+    ghost text_of = { text_itself };
+
+    ghost law = { λ _. itself_law is_any_text };
+
+    ghost spelled = { λ text. (text.bytes.now, (refl, refl)) };
+
+    fn canon_len(&self) -> u64 {
+        self.bytes.len() as u64
+    }
+
+    fn canon_into(&self, out: &mut Vec<u8>) -> Result<(), AllocError> {
+        out.extend_from_slice(self.bytes)
+    }
+}
+
+/// A body of one line. It means its bytes.
+#[derive(Clone, Copy, Debug)]
+pub struct Line<'a> {
+    bytes: &'a [u8],
+    ghost one_line: { IsTrue (is_one_line bytes.now) },
+}
+
+impl<'a> Line<'a> {
+    /// The line of a body, which may be empty.
+    ///
+    /// # Errors
+    ///
+    /// `NotOneLine` for a body of more lines.
+    pub fn parse(body: &'a [u8]) -> Result<Line<'a>, Code>
+        ensures ok { IfOk result (λ line. SpellsLine body.now line.bytes.now) }
+        ensures refused { IfErr result (λ code. one_line_refusal body.now ≡ Some code) }
+    {
+        if holds_newline(body) {
+            return Err(Code::NotOneLine);
+        }
+        Ok(Line { bytes: body })
+    }
+
+    /// The bytes of the line.
+    pub fn bytes(&self) -> &'a [u8]
+        ensures { result.now ≡ self.now.bytes.now }
+    {
+        self.bytes
+    }
+}
+
+impl Canon for Line<'_> {
+    ghost use Rattle.deb_field.specs.TextLaws.{itself_law};
+
+    ghost Kinds = { Unit {0} };
+
+    ghost Meaning = { List ℕ };
+
+    ghost kind = { λ _. tt };
+
+    ghost meaning = { λ line. line.bytes.now };
+
+    ghost Spells = { λ _. SpellsLine };
+
+    ghost text_of = { text_itself };
+
+    ghost law = { λ _. itself_law is_one_line };
+
+    ghost spelled = { λ line. (line.bytes.now, (refl, line.one_line)) };
+
+    fn canon_len(&self) -> u64 {
+        self.bytes.len() as u64
+    }
+
+    fn canon_into(&self, out: &mut Vec<u8>) -> Result<(), AllocError> {
+        out.extend_from_slice(self.bytes)
+    }
+}

@@ -1,0 +1,122 @@
+//! Words between white space.
+
+ghost use Rattle.std.specs.Prelude.{◌≡◌, ◌+◌, ◌≤◌, ◌++◌, length, OnOk, OnErr, Some, MatchOption, List, [], ◌∷◌, not};
+ghost use Rattle.std.specs.List.{prefix_len};
+ghost use Rattle.deb_version.specs.Canonical.{Extends};
+ghost use Rattle.deb_field.specs.Words.{is_white, words_of, words_text};
+
+use std::alloc::AllocError;
+
+/// The words of a text, in order: its runs of bytes other than spaces, tabs and newlines.
+#[derive(Clone, Copy, Debug)]
+pub struct Words<'a> {
+    rest: &'a [u8],
+}
+
+impl<'a> Words<'a> {
+    /// The words of a text.
+    pub(crate) fn of(text: &'a [u8]) -> Words<'a>
+        ensures { result.rest.now ≡ text.now }
+    {
+        Words { rest: text }
+    }
+}
+
+impl<'a> Iterator for Words<'a> {
+    ghost use Rattle.std.specs.Iterator.{YieldsFirstRef, item_count};
+
+    type Item = &'a [u8];
+
+    ghost next_gives = { YieldsFirstRef (λ words. words_of words.rest.now) };
+
+    ghost remaining = { item_count (λ words. words_of words.rest.now) };
+
+    fn next(&mut self) -> Option<&'a [u8]> {
+        let (word, rest) = cut_word(self.rest)?;
+        self.rest = rest;
+        Some(word)
+    }
+}
+
+/// The first word of a text, and what follows it.
+fn cut_word(text: &[u8]) -> Option<(&[u8], &[u8])>
+    ensures { MatchOption result (words_of text.now ≡ []) (λ cut. words_of text.now ≡ cut.0.now ∷ words_of cut.1.now) }
+{
+    let text = &text[leading_white(text)..];
+    let len = word_len(text);
+    if len == 0 {
+        None
+    } else {
+        Some((&text[..len], &text[len..]))
+    }
+}
+
+/// With how many bytes of white space a text begins.
+fn leading_white(text: &[u8]) -> usize
+    ensures value { result ≡ prefix_len is_white text.now }
+    ensures bound { result ≤ length text.now }
+{
+    text.iter().take_while(|byte| is_white(**byte)).count()
+}
+
+/// With how many bytes other than white space a text begins.
+fn word_len(text: &[u8]) -> usize
+    ensures value { result ≡ prefix_len (λ b. not (is_white b)) text.now }
+    ensures bound { result ≤ length text.now }
+{
+    text.iter().take_while(|byte| !is_white(**byte)).count()
+}
+
+/// Whether a byte is a space, a tab or a newline.
+fn is_white(byte: u8) -> bool
+    ensures { result ≡ is_white byte }
+{
+    matches!(byte, b' ' | b'\t' | b'\n')
+}
+
+/// How many bytes the words of a text have with one space between two of them.
+pub(crate) fn words_len(text: &[u8]) -> u64
+    ensures { result ≡ length (words_text (words_of text.now)) }
+{
+    let mut words = Words::of(text);
+    let Some(first) = words.next() else {
+        return 0;
+    };
+    let mut len = first.len() as u64;
+    for word in words {
+        len += 1 + word.len() as u64;
+    }
+    len
+}
+
+/// Appends the words of a text with one space between two of them. For want of memory `out` is
+/// unchanged.
+pub(crate) fn words_into(text: &[u8], out: &mut Vec<u8>) -> Result<(), AllocError>
+    ensures ok { OnOk result (out.new.items ≡ out.old.items ++ words_text (words_of text.now)) }
+    ensures unchanged { OnErr result (out.new.items ≡ out.old.items) }
+{
+    let len = out.len();
+    let written = append_words(text, out);
+    if written.is_err() {
+        out.truncate(len);
+    }
+    written
+}
+
+/// Appends the words of a text with one space between two of them, or a part of that where memory
+/// is wanting.
+fn append_words(text: &[u8], out: &mut Vec<u8>) -> Result<(), AllocError>
+    ensures ok { OnOk result (out.new.items ≡ out.old.items ++ words_text (words_of text.now)) }
+    ensures begun { OnErr result (Extends out.old.items out.new.items) }
+{
+    let mut words = Words::of(text);
+    let Some(first) = words.next() else {
+        return Ok(());
+    };
+    out.extend_from_slice(first)?;
+    for word in words {
+        out.push(b' ')?;
+        out.extend_from_slice(word)?;
+    }
+    Ok(())
+}
