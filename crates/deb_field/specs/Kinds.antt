@@ -3,7 +3,7 @@
 use Rattle.std.specs.Prelude.{◌≡◌, ℕ, Bool, true, false, cond, List, [], ◌∷◌, codes, refl}
 use Rattle.std.specs.List.{list_any}
 use Rattle.std.specs.Str.{bytes_eq}
-use Rattle.deb_base.specs.Names.{folded}
+use Rattle.deb_base.specs.Names.{folded, canonical_name}
 use Rattle.deb_field.specs.declared.kind.Doc.{Doc}
 use Rattle.deb_field.specs.declared.kind.Doc.TheVariants as docs
 use Rattle.deb_field.specs.declared.kind.Kind.{Kind}
@@ -66,6 +66,10 @@ kind_of doc name = kind_among (table doc) (folded name)
 -- The kind of a field goes by its name without case alone.
 abbrev pub KindGoesByName : Type 0
 KindGoesByName = (doc : Doc) (a b : List ℕ) → folded a ≡ folded b → kind_of doc a ≡ kind_of doc b
+
+-- A field has the kind of the canonical spelling of its name.
+abbrev pub KindOfCanonicalName : Type 0
+KindOfCanonicalName = (doc : Doc) (name : List ℕ) → kind_of doc (canonical_name name) ≡ kind_of doc name
 
 names_without_case : (kind_of docs.Packages (codes "pAcKAGE") ≡ Name) × (kind_of docs.Packages (codes "MULTI-ARCH") ≡ MultiArch) × (kind_of docs.Binary (codes "standards-version") ≡ Line)
 unfolding is_one_of

@@ -21,3 +21,7 @@ pub mod Sources
 pub mod SourceLaws
 pub mod SourceNames
 pub mod SourceSpelled
+pub mod Values
+pub mod Faults
+pub mod ValueLaws
+pub mod ValueMeanings

@@ -1,0 +1,59 @@
+//! Laws of values. Each function does nothing, and its contract is the law.
+
+ghost use Rattle.std.specs.Prelude.{ℕ, List};
+ghost use Rattle.deb_version.specs.Canonical.{digits_of, version_text};
+ghost use Rattle.deb_version.specs.Grammar.{SpellsVersion};
+ghost use Rattle.deb_version.specs.Parts.{Meaning as VersionMeaning};
+ghost use Rattle.deb_field.specs.CanonLaw.{CanonLaw, OneText, RefusalLaw};
+ghost use Rattle.deb_field.specs.Flags.{flag_text, SpellsFlag, multi_arch_text, SpellsMultiArch};
+ghost use Rattle.deb_field.specs.Kinds.{KindGoesByName, KindOfCanonicalName};
+ghost use Rattle.deb_field.specs.Numbers.{SpellsNumber};
+ghost use Rattle.deb_field.specs.Sources.{SourceMeaning, SpellsSource, source_text};
+ghost use Rattle.deb_field.specs.Texts.{text_itself, SpellsArchitecture, SpellsLine, SpellsName, SpellsText};
+ghost use Rattle.deb_field.specs.Values.{ValueMeaning, SpellsKind, SpellsValue, kind_refusal, value_refusal, value_text};
+ghost use Rattle.deb_field.specs.Words.{words_text, SpellsArchitectures, SpellsFolded};
+ghost use Rattle.deb_field.specs.declared.flag.Flag.{Flag as FlagWord};
+ghost use Rattle.deb_field.specs.declared.flag.MultiArch.{MultiArch as MultiArchWord};
+ghost use Rattle.deb_field.specs.declared.kind.Doc.{Doc};
+ghost use Rattle.deb_field.specs.declared.kind.Kind.{Kind as FieldKind};
+
+/// In a field, and as one of a kind, a body spells at most one value; and the canonical text of a
+/// value that is spelled is a body that spells it, at most twice as long as each other one.
+pub fn values_have_canonical_text()
+    ensures of_fields { (doc : Doc) (name : List ℕ) → CanonLaw ValueMeaning (SpellsValue doc name) value_text }
+    ensures of_kinds { (kind : FieldKind) → CanonLaw ValueMeaning (SpellsKind kind) value_text }
+{}
+
+/// The same of each kind's own values.
+pub fn kinds_have_canonical_text()
+    ensures names { CanonLaw (List ℕ) SpellsName text_itself }
+    ensures sources { CanonLaw SourceMeaning SpellsSource source_text }
+    ensures versions { CanonLaw VersionMeaning SpellsVersion version_text }
+    ensures architectures { CanonLaw (List ℕ) SpellsArchitecture text_itself }
+    ensures architecture_words { CanonLaw (List (List ℕ)) SpellsArchitectures words_text }
+    ensures flags { CanonLaw FlagWord SpellsFlag flag_text }
+    ensures multi_archs { CanonLaw MultiArchWord SpellsMultiArch multi_arch_text }
+    ensures numbers { CanonLaw ℕ SpellsNumber digits_of }
+    ensures lines { CanonLaw (List ℕ) SpellsLine text_itself }
+    ensures folded { CanonLaw (List (List ℕ)) SpellsFolded words_text }
+    ensures texts { CanonLaw (List ℕ) SpellsText text_itself }
+{}
+
+/// Values of a kind that are spelled have equal canonical text exactly where they are equal.
+pub fn canonical_text_tells_values()
+    ensures of_fields { (doc : Doc) (name : List ℕ) → OneText ValueMeaning (SpellsValue doc name) value_text }
+    ensures of_kinds { (kind : FieldKind) → OneText ValueMeaning (SpellsKind kind) value_text }
+{}
+
+/// In a field, and as one of a kind, a body has a refusal exactly where it spells no value.
+pub fn bodies_are_spelled_or_refused()
+    ensures of_fields { (doc : Doc) (name : List ℕ) → RefusalLaw ValueMeaning (SpellsValue doc name) (value_refusal doc name) }
+    ensures of_kinds { (kind : FieldKind) → RefusalLaw ValueMeaning (SpellsKind kind) (kind_refusal kind) }
+{}
+
+/// The kind of a field goes by its name without case alone, so that it is the kind of the name's
+/// canonical spelling. What spells a value of the field, and what is refused, goes by its kind.
+pub fn kinds_go_by_names()
+    ensures same { KindGoesByName }
+    ensures canonical { KindOfCanonicalName }
+{}
