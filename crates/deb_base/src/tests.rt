@@ -251,3 +251,178 @@ fn names_are_compared_without_case(rt: HostRuntime) {
         assert_eq!(rt; same_name(b, a), same, "{b:?} and {a:?}");
     }
 }
+
+/// A writer that fails, or takes none, exactly once, at its call `bad`, and takes a byte at each other call.
+#[derive(Drop)]
+struct Hiccup {
+    held: Vec<u8>,
+    calls: u64,
+    bad: u64,
+    then: Then,
+}
+
+impl Write for Hiccup {
+    fn write(&mut self, bytes: &[u8]) -> io::Result<usize> {
+        if self.calls == u64::MAX {
+            return Ok(0);
+        }
+        self.calls += 1;
+        if self.calls == self.bad {
+            return match self.then {
+                Then::Fails => Err(io::Error::from(ErrorKind::Interrupted)),
+                Then::TakesNone => Ok(0),
+            };
+        }
+        let taken = bytes.len().min(1);
+        self.held.extend_from_slice(&bytes[..taken])?;
+        Ok(taken)
+    }
+
+    fn flush(&mut self) -> io::Result<()> {
+        Ok(())
+    }
+}
+
+#[test]
+fn a_failed_write_is_not_tried_again(rt: HostRuntime) -> Result<(), Fail> {
+    let text = b"fault: read\n".as_slice();
+    for then in [Then::Fails, Then::TakesNone] {
+        for bad in 1u64..=13 {
+            let mut writer = Hiccup {
+                held: Vec::new(rt.alloc()),
+                calls: 0,
+                bad,
+                then,
+            };
+            let told = Fault::Read.write_line(&mut Output::new(&mut writer));
+            if bad == 13 {
+                assert_eq!(rt; told, Ok(()), "no write is bad");
+                assert_eq!(rt; writer.held.as_slice(), text);
+            } else {
+                assert_eq!(rt; told, Err(Fault::Write), "write {bad} is bad");
+                assert_eq!(rt; writer.calls, bad, "no write after write {bad}");
+                let before = (bad - 1) as usize;
+                assert!(rt; before <= text.len());
+                assert_eq!(rt;
+                    writer.held.as_slice(),
+                    &text[..before],
+                    "before write {bad}"
+                );
+            }
+        }
+    }
+    Ok(())
+}
+
+/// A reader that fails exactly once, at its call `bad`, and gives a byte at each other call.
+#[derive(Drop)]
+struct Gap<'a> {
+    rest: &'a [u8],
+    calls: u64,
+    bad: u64,
+}
+
+impl Read for Gap<'_> {
+    fn read(&mut self, buffer: &mut [u8]) -> io::Result<usize> {
+        if self.calls == u64::MAX {
+            return Ok(0);
+        }
+        self.calls += 1;
+        if self.calls == self.bad {
+            return Err(io::Error::from(ErrorKind::Interrupted));
+        }
+        let most = buffer.len().min(1);
+        self.rest.read(&mut buffer[..most])
+    }
+}
+
+#[test]
+fn a_failed_read_is_not_tried_again(rt: HostRuntime) {
+    for bad in 1u64..=4 {
+        let mut reader = Gap {
+            rest: b"abc",
+            calls: 0,
+            bad,
+        };
+        let mut input = Input::new(&mut reader);
+        let mut room = [0u8; 2];
+        for call in 1u64..=4 {
+            let wanted = if call == bad { Err(Failed) } else { Ok(1) };
+            assert_eq!(rt;
+                input.read(&mut room),
+                wanted,
+                "read {call}, where read {bad} fails"
+            );
+        }
+        assert_eq!(rt; input.read(&mut room), Ok(0), "the end");
+        assert_eq!(rt; reader.calls, 5, "as many reads as calls");
+    }
+}
+
+#[test]
+fn names_of_packages_architectures_and_profiles(rt: HostRuntime) {
+    // a text; whether it is the name of a package, of an architecture, of a profile, and a wildcard
+    let rows: [(&[u8], bool, bool, bool, bool); 26] = [
+        (b"", false, false, false, false),
+        (b"a", false, true, true, false),
+        (b"3", false, true, true, false),
+        (b"aa", true, true, true, false),
+        (b"0ad", true, true, true, false),
+        (b"g++", true, false, true, false),
+        (b"lib-x.y", true, false, true, false),
+        (b"a-", true, true, true, false),
+        (b"-a", false, false, false, false),
+        (b"+a", false, false, false, false),
+        (b".a", false, false, false, false),
+        (b"aA", false, false, false, false),
+        (b"Aa", false, false, false, false),
+        (b"a_b", false, false, false, false),
+        (b"a b", false, false, false, false),
+        (b"a:b", false, false, false, false),
+        (b"a\xc3\xa9", false, false, false, false),
+        (b"amd64", true, true, true, false),
+        (b"all", true, true, true, false),
+        (b"any", true, true, true, true),
+        (b"linux-any", true, true, true, true),
+        (b"any-amd64", true, true, true, true),
+        (b"gnu-any-arm", true, true, true, true),
+        (b"many", true, true, true, false),
+        (b"linux-anyx", true, true, true, false),
+        (b"any.x", true, false, true, false),
+    ];
+    for (name, package, arch, profile, wildcard) in rows {
+        assert_eq!(rt; is_package_name(name), package, "package {name:?}");
+        assert_eq!(rt; is_arch_name(name), arch, "architecture {name:?}");
+        assert_eq!(rt; is_profile_name(name), profile, "profile {name:?}");
+        assert_eq!(rt; is_wildcard(name), wildcard, "wildcard {name:?}");
+    }
+}
+
+#[test]
+fn bodies_of_fields(rt: HostRuntime) {
+    let rows: [(&[u8], bool); 20] = [
+        (b"", true),
+        (b"aa", true),
+        (b"short  \n one\t\n .\n\ttwo", true),
+        (b"\n aa", true),
+        (b"a\rb\x00", true),
+        (b"caf\xc3\xa9", true),
+        (b" a", false),
+        (b"\ta", false),
+        (b"a ", false),
+        (b"a\t", false),
+        (b"a\n", false),
+        (b"\n", false),
+        (b"a\nb", false),
+        (b"a\n \n b", false),
+        (b"a\n\t \n b", false),
+        (b"a\n\n b", false),
+        (b"caf\xc3", false),
+        (b"\xed\xa0\x80", false),
+        (b"\xc0\x80", false),
+        (b"\xf4\x90\x80\x80", false),
+    ];
+    for (body, wanted) in rows {
+        assert_eq!(rt; is_body(body), wanted, "{body:?}");
+    }
+}

@@ -29,3 +29,5 @@ pub mod ReadingSteps
 pub mod PlacesWithin
 pub mod ReadingAnswers
 pub mod Callers
+pub mod Parts
+pub mod LeftAnswers
