@@ -9,3 +9,4 @@ pub mod Limits
 pub mod FieldValues
 pub mod Passing
 pub mod Accepting
+pub mod DocumentRules

@@ -6,3 +6,5 @@ pub mod ValueFiles
 pub mod Acceptance
 pub mod ValueFileLaws
 pub mod AcceptanceLaws
+pub mod Documents
+pub mod Laws

@@ -1,9 +1,11 @@
 -- What is answered of a file's paragraphs, one after another: the canonical bodies of those that pass, and the first
 -- refusal. Debian Policy 5.1; the order of the refusals, their lines and the limits are this project's own.
-use Rattle.std.specs.Prelude.{ℕ, ◌+◌, ◌&&◌, Bool, true, false, cond, not, List, [], ◌∷◌, ◌++◌, length, drop, map, nat_le, Option, Some, None, Result, Ok, Err}
+use Rattle.std.specs.Prelude.{◌≡◌, ℕ, ◌+◌, ◌&&◌, Bool, true, false, cond, not, List, [], ◌∷◌, ◌++◌, length, drop, map, nat_le, ◌==◌, Option, Some, None, Result, Ok, Err, codes, refl}
+use Rattle.std.specs.Str.{bytes_eq, is_utf8, chars}
+use lib.Utf8.{encode}
 use Rattle.std.specs.List.{list_all}
 use Rattle.deb_base.specs.declared.code.Code.{Code}
-use Rattle.deb_base.specs.declared.code.Code.TheVariants.{ParagraphTooLong, FileTooLong, NoParagraph, TooManyParagraphs, MissingField}
+use Rattle.deb_base.specs.declared.code.Code.TheVariants.{ParagraphTooLong, FileTooLong, NoParagraph, TooManyParagraphs, MissingField, Comment, BadNumber}
 use Rattle.deb_base.specs.declared.refusal.Refusal.{Refusal}
 use Rattle.deb_base.specs.Names.{canonical_name}
 use Rattle.deb_base.specs.Bodies.{paragraph_limit}
@@ -125,3 +127,32 @@ refusal_by rules text = (outcome rules text).refusal
 -- The canonical text of the paragraphs before the first that fails, or of all.
 abbrev pub text_by : Rules → List ℕ → List ℕ
 text_by rules text = file_text (outcome rules text).passed
+
+-- for the worked cases: numbers of one digit under Size, all other bodies as they stand, and Package is asked
+abbrev sample : Bool → Rules
+sample single = record {
+  refusal = λ name body. cond (bytes_eq name (codes "Size") && not (length body == 1)) (Some BadNumber) None;
+  canonical = λ name body. body;
+  required = codes "Package" ∷ [];
+  single = single;
+}
+
+-- the canonical text of a file whose paragraphs pass
+passing : (text_by (sample false) (codes "size:1\nPACKAGE: aa\n\t\n\nPackage:bb") ≡ codes "Package: aa\nSize: 1\n\nPackage: bb\n") × (refusal_by (sample false) (codes "size:1\nPACKAGE: aa\n\t\n\nPackage:bb") ≡ None)
+unfolding file_limit paragraph_limit is_utf8 chars encode
+passing = (refl, refl)
+
+-- the first paragraph that fails decides, and those before it are written
+second_fails : (refusal_by (sample false) (codes "Package: aa\n\nB: 1\n\nSize: 12") ≡ Some (record { code = MissingField; line = 3 })) × (text_by (sample false) (codes "Package: aa\n\nB: 1\n\nSize: 12") ≡ codes "Package: aa\n")
+unfolding file_limit paragraph_limit is_utf8 chars encode
+second_fails = (refl, refl)
+
+-- a value goes before a name that is missing, and a line before a value
+first_step : (refusal_by (sample false) (codes "B: 1\nSize: 12") ≡ Some (record { code = BadNumber; line = 2 })) × (refusal_by (sample false) (codes "Size: 12\n# x") ≡ Some (record { code = Comment; line = 2 }))
+unfolding file_limit paragraph_limit is_utf8 chars encode
+first_step = (refl, refl)
+
+-- a second paragraph is one too many whatever it holds, and a first one that fails goes before it
+one_asked : (refusal_by (sample true) (codes "Package: aa\n\n x") ≡ Some (record { code = TooManyParagraphs; line = 3 })) × (text_by (sample true) (codes "Package: aa\n\n x") ≡ codes "Package: aa\n") × (refusal_by (sample true) (codes "Size: 12\n\n x") ≡ Some (record { code = BadNumber; line = 1 })) × (refusal_by (sample true) (codes "\n \n") ≡ Some (record { code = NoParagraph; line = 3 })) × (refusal_by (sample true) (codes "Package: aa") ≡ None)
+unfolding file_limit paragraph_limit is_utf8 chars encode
+one_asked = (refl, refl, refl, refl, refl)

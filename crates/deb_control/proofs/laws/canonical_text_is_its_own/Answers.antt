@@ -1,5 +1,9 @@
+use Rattle.deb_field.specs.Values.{ValueMeaning, value_text, SpellsValue}
+use Rattle.deb_field.specs.ValueLaws.{value_law}
+use Rattle.deb_control.specs.Documents.{rules_of}
 use Rattle.deb_control.proofs.Accepting.{canonical_text_is_its_own}
+use Rattle.deb_control.proofs.DocumentRules.{document_rules}
 use Rattle.deb_control.proofs.laws.canonical_text_is_its_own.Goals as goal
 
 pub returns : goal.returns
-returns g c = λ kind rules are. canonical_text_is_its_own g.V.Canon.Meaning (λ name. g.V.Canon.Spells (kind name)) g.V.Canon.text_of (λ name. g.met.V.Canon.law (kind name)) rules are
+returns c = λ doc. canonical_text_is_its_own ValueMeaning (SpellsValue doc) value_text (value_law doc) (rules_of doc) (document_rules doc)
