@@ -1,12 +1,12 @@
--- What a caller's loop over `next` reads from its clause, while no error has come.
-use Rattle.std.proofs.Common.{◌≡◌, ℕ, List, Option, None, Result, Ok, subst, IfNone}
+-- What a caller's loop reads from the clauses of a reader of paragraphs, while no error has come.
+use Rattle.std.proofs.Common.{◌≡◌, ℕ, Option, None, Result, Ok, subst, IfNone}
 use Rattle.deb_base.specs.declared.fault.Fault.{Fault}
-use Rattle.deb_syntax.specs.Reading.{State, Seen, Advances, Passes}
+use Rattle.deb_syntax.specs.Reading.{Moment, Passes}
 
 -- a reader of paragraphs without an error goes on
-pub Advances-from_passes : (old new : State) (left left_after : Option (List ℕ)) (failures failures_after : ℕ) (answer : Result (Option Seen) Fault) → old.fault ≡ None → Passes old left failures answer new left_after failures_after → Advances old left failures answer new left_after failures_after
-Advances-from_passes old new left left_after failures failures_after answer sound passes = subst (λ fault. IfNone fault (Advances old left failures answer new left_after failures_after)) sound passes.goes
+pub goes-from_passes : {A : Type 0} (Goes : Moment → Result A Fault → Moment → Type 0) (before after : Moment) (answer : Result A Fault) → before.state.fault ≡ None → Passes Goes before answer after → Goes before answer after
+goes-from_passes Goes before after answer sound passes = subst (λ fault. IfNone fault (Goes before answer after)) sound passes.goes
 
 -- and has none after an answer that is no error
-pub sound-from_passes : (old new : State) (left left_after : Option (List ℕ)) (failures failures_after : ℕ) (answer : Option Seen) → old.fault ≡ None → Passes old left failures (Ok answer) new left_after failures_after → new.fault ≡ None
-sound-from_passes old new left left_after failures failures_after answer sound passes = subst (λ fault. IfNone fault (new.fault ≡ None)) sound passes.keeps
+pub sound-from_passes : {A : Type 0} (Goes : Moment → Result A Fault → Moment → Type 0) (before after : Moment) (answer : A) → before.state.fault ≡ None → Passes Goes before (Ok answer) after → after.state.fault ≡ None
+sound-from_passes Goes before after answer sound passes = subst (λ fault. IfNone fault (after.state.fault ≡ None)) sound passes.keeps

@@ -1,5 +1,6 @@
 -- What is judged of one line, and of the lines up to it.
-use Rattle.std.proofs.Common.{◌≡◌, ℕ, ◌+◌, ◌≤◌, true, false, not, cond, List, [], ◌∷◌, length, drop, slice_range, Ok, Err, ap, ◌∙◌, IsUtf8, IsTrue}
+use Rattle.std.proofs.Common.{◌≡◌, ℕ, ◌+◌, ◌≤◌, true, false, not, cond, List, [], ◌∷◌, length, drop, slice_range, Ok, Err, ap, sym, subst, ◌∙◌, IsUtf8, IsTrue}
+use Rattle.std.specs.List.{AllByRecursion}
 use Rattle.std.specs.Str.{is_utf8}
 use Rattle.std.proofs.lemmas.Bool.{false≢true, le-ltb}
 use Rattle.std.proofs.lemmas.Str.{IsUtf8-from_is_utf8, is_utf8-from_IsUtf8}
@@ -10,6 +11,8 @@ use Rattle.deb_syntax.specs.Fields.{Field}
 use Rattle.deb_syntax.specs.Judging.{line_judged, lines_judged, judged, continuation_line, field_line, ended}
 use Rattle.deb_syntax.specs.Places.{begun_at, begun_fields, fields_at, pieces_behind}
 use Rattle.deb_syntax.specs.declared.place.Place.{Place}
+use Rattle.deb_base.proofs.TextLines.{IsUtf8-lines}
+use Rattle.deb_syntax.proofs.LinesLaws.{joined-pieces_of}
 use Rattle.deb_syntax.proofs.Pieces.{not_true}
 
 -- what a check for UTF-8 answered
@@ -43,3 +46,7 @@ module _ (text : List ℕ) (first n start end : ℕ) (places : List Place)
       ∙ ap (λ r. lines_judged (n + 1) r (pieces_behind text end)) ok
       ∙ ap (λ t. lines_judged (n + 1) (Ok (begun_fields text more)) (cond t (pieces_of (drop (end + 1) text)) [])) (le-ltb end (length text) le)
       ∙ ap Ok (map-map ended (begun_at text) more)
+
+-- the pieces of a text that is UTF-8 are
+pub utf8_pieces : (text : List ℕ) → IsUtf8 text → AllByRecursion IsUtf8 (pieces_of text)
+utf8_pieces text utf8 = IsUtf8-lines (pieces_of text) (subst IsUtf8 (sym (joined-pieces_of text)) utf8)

@@ -87,7 +87,7 @@ lines_judged-continuations (line ∷ rest) more n fields field blank text =
     ∙ ap (λ t. lines_judged (n + 1 + length rest) (Ok (fields ++ with_text field t ∷ [])) more) (joined-grow field.body line rest)
     ∙ ap (λ k. lines_judged k (Ok (fields ++ with_text field (joined (field.body ∷ line ∷ rest)) ∷ [])) more) (let e : n + 1 + length rest ≡ n + suc (length rest) = omega arith in e)
 
-begun-field : (n : ℕ) (name more : List ℕ) → is_name name ≡ true → begun n (name ++ colon ∷ more) ≡ record { name = name; line = n; body = more }
+pub begun-field : (n : ℕ) (name more : List ℕ) → is_name name ≡ true → begun n (name ++ colon ∷ more) ≡ record { name = name; line = n; body = more }
 begun-field n name more h = λ i. record { name = before-first (λ b. eqb b 58) name 58 more (name-no_colon name h) refl i; line = n; body = after-first (λ b. eqb b 58) name 58 more (name-no_colon name h) refl i }
 
 -- a line that begins a field

@@ -10,11 +10,11 @@ use Rattle.deb_syntax.specs.Answers.{Seen, part_within, line_beyond, line_too_lo
 use Rattle.deb_syntax.specs.Extents.{AreBlank, AreNotBlank}
 use Rattle.deb_syntax.specs.Judging.{judged}
 use Rattle.deb_syntax.specs.Lines.{Paragraph, lines_of, begins_blank, paragraphs_from, paragraphs_of, total_length, file_limit, with_line}
-use Rattle.deb_syntax.specs.Reading.{IsClosed}
+use Rattle.deb_syntax.specs.Lines.{IsClosed}
 use Rattle.deb_syntax.proofs.Boundaries.{lines_of-append}
 use Rattle.deb_syntax.proofs.NextParagraph.{paragraphs_from-append, no_paragraph, total-cons}
 use Rattle.deb_syntax.proofs.Parts.{part_within-all, part_within-append, line_beyond-none, line_beyond-some, line_beyond-append}
-use Rattle.deb_syntax.proofs.ReadingSteps.{IsBehind}
+use Rattle.deb_syntax.proofs.Passing.{IsBehind}
 use Rattle.deb_syntax.proofs.Runs.{joins, paragraphs_from-run}
 
 -- the answer on a text of which so many bytes may be looked at, and whose first line has number n
@@ -50,7 +50,7 @@ left-nothing f room passed within =
     ∙ ap (λ t. f None (drop (length (paragraphs_of passed)) (paragraphs_of t))) (part_within-all room passed within)
     ∙ ap (f None) (drop-length (paragraphs_of passed))
 
-left-empty : {A : Type 0} (f : Option ℕ → List Paragraph → A) → (n room : ℕ) → f (line_beyond n room []) (paragraphs_from n (lines_of (part_within room []))) ≡ f None []
+pub left-empty : {A : Type 0} (f : Option ℕ → List Paragraph → A) → (n room : ℕ) → f (line_beyond n room []) (paragraphs_from n (lines_of (part_within room []))) ≡ f None []
 left-empty f n room =
     let none : length {A = ℕ} [] ≤ room = omega arith in
     ap (λ b. f b (paragraphs_from n (lines_of (part_within room [])))) (line_beyond-none n room [] none)
@@ -163,6 +163,7 @@ module _ (n room : ℕ) (text : List ℕ) where
       at_paragraph : (p : Paragraph) (ps : List Paragraph) (at : ℕ) → paragraphs_from n (lines_of (part_within room text)) ≡ p ∷ ps → line_too_long p.first paragraph_limit p.lines ≡ Some at → left_answer n room text ≡ Err (record { code = ParagraphTooLong; line = at })
       at_paragraph p ps at found too_long =
           ap (answer_of_first (line_beyond n room text)) found ∙ answer_at (line_beyond n room text) p ps ∙ ap (λ t. paragraph_answer t (line_beyond n room text) p) too_long
+
       go : (run : List Line) → lines_of (part_within room text) ≡ run ++ line ∷ rest → AreNotBlank run → total_length run ≤ paragraph_limit → paragraph_limit < total_length run + line_length line → left_answer n room text ≡ Err (record { code = ParagraphTooLong; line = n + length run })
       go [] is not_blank short long =
           let found = first_paragraph n line [] rest (line_not, tt) in

@@ -1,19 +1,18 @@
 -- Places of fields: the last one goes on to a line's end, or a further one begins at a line.
-use Rattle.std.proofs.Common.{◌≡◌, ℕ, zero, suc, ◌+◌, ◌-◌, ◌<◌, ◌≤◌, Bool, true, ◌&&◌, List, [], ◌∷◌, ◌++◌, length, map, set, nat_le, nat_lt, slice_index, slice_index_or, slice_range, refl, sym, ap, ◌∙◌, arith, Ok}
-use Rattle.std.specs.List.{list_all, list_any}
+use Rattle.std.proofs.Common.{◌≡◌, ℕ, zero, suc, ◌+◌, ◌-◌, ◌<◌, ◌≤◌, Bool, true, ◌&&◌, List, [], ◌∷◌, ◌++◌, length, map, set, nat_le, nat_lt, slice_index, slice_index_or, slice_range, refl, sym, ap, subst, ◌∙◌, arith, Ok}
+use Rattle.std.specs.List.{list_all}
 use Rattle.std.specs.Str.{bytes_eq}
 use Rattle.std.proofs.lemmas.Bool.{eq-eqb, eqb-true, and_parts, and_from, leb-true, ltb-true, le-leb, lt-ltb}
 use Rattle.std.proofs.lemmas.List.{map_push}
 use Rattle.std.proofs.lemmas.List.Folds.{list_all-append}
-use Rattle.std.specs.Cmp.Lexicographic.{nat_list_eq_equiv}
 use Rattle.deb_base.specs.Names.{folded}
 use Rattle.deb_base.specs.Bodies.{newline}
 use Rattle.deb_syntax.specs.Fields.{has_name}
 use Rattle.deb_syntax.specs.Judging.{continuation_line, continued, with_text}
-use Rattle.deb_syntax.specs.Places.{name_at, begun_at, begun_fields, lies_within, with_last_end, ends_before, StandsAt}
+use Rattle.deb_syntax.specs.Places.{name_at, begun_at, begun_fields, lies_within, with_last_end, ends_before, has_stood, Keeps, StandsAt}
 use Rattle.deb_syntax.specs.declared.place.Place.{Place}
-use Rattle.deb_syntax.specs.declared.folded_name.FoldedName.{FoldedName}
-use Rattle.deb_syntax.proofs.Slices.{slice_range-join, list_any-map, list_any-same}
+use Rattle.deb_syntax.specs.declared.names.Names.{Names}
+use Rattle.deb_syntax.proofs.Slices.{slice_range-join, list_any-map}
 
 -- the parts of `lies_within`
 pub record LiesWithin (n : ℕ) (place : Place) : Type 0 where
@@ -62,7 +61,7 @@ module _ (text : List ℕ) (start end : ℕ) (ordered : start ≤ end) (within :
       let rest = (and_parts (lies_within (length text) p) (list_all (lies_within (length text)) (q ∷ ps)) lie).1 in
       ap (λ l. begun_at text p ∷ l) (continued-begun (q ∷ ps) break (omega arith) rest reached)
 
-  pub continuation_line-begun : (n : ℕ) (places : List Place) (names : List FoldedName) → (0 < start → slice_index text (start - 1) ≡ newline) → 0 < length places → StandsAt text start places names → continuation_line n (begun_fields text places) (slice_range text start end) ≡ Ok (begun_fields text (with_last_end end places))
+  pub continuation_line-begun : (n : ℕ) (places : List Place) (names : Names) → (0 < start → slice_index text (start - 1) ≡ newline) → 0 < length places → StandsAt text start places names → continuation_line n (begun_fields text places) (slice_range text start end) ≡ Ok (begun_fields text (with_last_end end places))
   continuation_line-begun n [] names break some stands = absurd (omega arith)
   continuation_line-begun n (p ∷ ps) names break some stands = ap Ok (continued-begun (p ∷ ps) break some stands.within stands.reached)
 
@@ -87,11 +86,11 @@ module _ (text : List ℕ) (start end : ℕ) (ordered : start ≤ end) (within :
   names-longer (p ∷ []) = refl
   names-longer (p ∷ q ∷ ps) = ap (λ l. name_at text p ∷ l) (names-longer (q ∷ ps))
 
-  pub StandsAt-longer : (places : List Place) (names : List FoldedName) → StandsAt text start places names → StandsAt text (end + 1) (with_last_end end places) names
+  pub StandsAt-longer : (places : List Place) (names : Names) → StandsAt text start places names → StandsAt text (end + 1) (with_last_end end places) names
   StandsAt-longer places names stands = record {
     within = lie-longer places stands.within stands.reached;
     reached = ends_before-longer places;
-    named = stands.named ∙ sym (names-longer places);
+    kept = subst (λ stood. Keeps stood names) (sym (names-longer places)) stands.kept;
   }
 
 ends_before-push : (places : List Place) (p : Place) (start : ℕ) → p.end + 1 ≡ start → ends_before start (places ++ p ∷ []) ≡ true
@@ -100,19 +99,15 @@ ends_before-push (q ∷ []) p start at = eq-eqb _ _ at
 ends_before-push (q ∷ r ∷ rs) p start at = ends_before-push (r ∷ rs) p start at
 
 -- a further field
-pub StandsAt-push : (text : List ℕ) (start : ℕ) (places : List Place) (names : List FoldedName) (p : Place) (name : FoldedName) → StandsAt text start places names → LiesWithin (length text) p → name.0.now ≡ name_at text p → StandsAt text (p.end + 1) (places ++ p ∷ []) (names ++ name ∷ [])
-StandsAt-push text start places names p name stands lies is = record {
+pub StandsAt-push : (text : List ℕ) (start : ℕ) (places : List Place) (names more : Names) (p : Place) → StandsAt text start places names → LiesWithin (length text) p → Keeps (map (name_at text) places ++ name_at text p ∷ []) more → StandsAt text (p.end + 1) (places ++ p ∷ []) more
+StandsAt-push text start places names more p stands lies keeps = record {
   within = list_all-append (lies_within (length text)) places (p ∷ []) ∙ and_from _ _ stands.within (and_from _ _ (lies_within-from (length text) p lies) refl);
   reached = ends_before-push places p (p.end + 1) refl;
-  named = map_push (λ n. n.0.now) names name ∙ ap (λ l. l ++ name.0.now ∷ []) stands.named ∙ ap (λ s. map (name_at text) places ++ s ∷ []) is ∙ sym (map_push (name_at text) places p);
+  kept = subst (λ stood. Keeps stood more) (sym (map_push (name_at text) places p)) keeps;
 }
 
--- a set of the names tells whether a field has a name
-pub has_name-begun : (text : List ℕ) (start : ℕ) (places : List Place) (names : List FoldedName) (name : List ℕ) → StandsAt text start places names → has_name name (begun_fields text places) ≡ list_any (λ other. bytes_eq (folded name) (folded other.0.now)) names
-has_name-begun text start places names name stands =
+-- the names at the places are those of the fields
+pub has_name-begun : (text name : List ℕ) (places : List Place) → has_name name (begun_fields text places) ≡ has_stood name (map (name_at text) places)
+has_name-begun text name places =
     let test : List ℕ → Bool = λ s. bytes_eq (folded s) (folded name) in
-    list_any-map (λ field. test field.name) (begun_at text) places
-    ∙ sym (list_any-map test (name_at text) places)
-    ∙ ap (list_any test) (sym stands.named)
-    ∙ list_any-map test (λ other. other.0.now) names
-    ∙ list_any-same _ _ names (λ other. nat_list_eq_equiv.symm (folded other.0.now) (folded name))
+    list_any-map (λ field. test field.name) (begun_at text) places ∙ sym (list_any-map test (name_at text) places)

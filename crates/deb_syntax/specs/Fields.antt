@@ -1,9 +1,10 @@
 -- Fields: names, bodies, and what spells them. Debian Policy 5.1; deb822(5), "Syntax".
-use Rattle.std.specs.Prelude.{◌≡◌, ℕ, ◌+◌, ◌≤◌, Bool, true, IsTrue, IsFalse, List, [], ◌∷◌, ◌++◌, length, IsUtf8, codes, refl}
+use Rattle.std.specs.Prelude.{◌≡◌, ℕ, ◌+◌, ◌≤◌, ◌&&◌, Bool, true, false, not, IsTrue, IsFalse, List, [], ◌∷◌, ◌++◌, length, IsUtf8, codes, refl}
 use Rattle.std.specs.List.{list_any, AllByRecursion}
-use Rattle.std.specs.Str.{bytes_eq}
+use Rattle.std.specs.Str.{bytes_eq, is_utf8, chars}
+use lib.Utf8.{encode}
 use Rattle.deb_base.specs.Names.{folded}
-use Rattle.deb_base.specs.Bodies.{Line, is_all_blank, is_body_shape, joined, paragraph_limit}
+use Rattle.deb_base.specs.Bodies.{Line, is_all_blank, is_body, is_body_shape, joined, paragraph_limit}
 use Rattle.deb_base.specs.FieldNames.{colon, is_name}
 use Rattle.deb_syntax.specs.Lines.{Paragraph, total_length}
 
@@ -37,6 +38,15 @@ abbrev pub AreDistinct : List Field → Type 0
 AreDistinct [] = Unit {0}
 AreDistinct (field ∷ fields) = IsFalse (has_name field.name fields) × AreDistinct fields
 
+-- whether a field's name is one, and its body one
+abbrev pub is_field : Field → Bool
+is_field field = is_name field.name && is_body field.body
+
+-- whether fields can be a paragraph's: each is one, and no two have one name
+abbrev pub are_fields : List Field → Bool
+are_fields [] = true
+are_fields (field ∷ fields) = is_field field && not (has_name field.name fields) && are_fields fields
+
 -- The lengths of the paragraph's lines add up to no more than a paragraph may have.
 abbrev pub IsShort : Paragraph → Type 0
 IsShort paragraph = total_length paragraph.lines ≤ paragraph_limit
@@ -59,3 +69,18 @@ files = record { before = []; after = []; spelt = refl; before_blank = refl; aft
 
 name_twice : has_name (codes "pACKAGE") (record { name = codes "Package"; line = 1; body = codes "aa" } ∷ []) ≡ true
 name_twice = refl
+
+other_name : has_name (codes "Package-") (record { name = codes "Package"; line = 1; body = codes "aa" } ∷ []) ≡ false
+other_name = refl
+
+two_fields : are_fields (record { name = codes "A"; line = 1; body = codes "1" } ∷ record { name = codes "B"; line = 2; body = [] } ∷ []) ≡ true
+unfolding is_utf8 chars encode
+two_fields = refl
+
+one_name_for_two : are_fields (record { name = codes "A"; line = 1; body = codes "1" } ∷ record { name = codes "a"; line = 2; body = [] } ∷ []) ≡ false
+unfolding is_utf8 chars encode
+one_name_for_two = refl
+
+no_name_and_no_body : (is_field (record { name = codes "-A"; line = 1; body = [] }) ≡ false) × (is_field (record { name = codes "A"; line = 1; body = codes "1 " }) ≡ false)
+unfolding is_utf8 chars encode
+no_name_and_no_body = (refl, refl)

@@ -1,6 +1,6 @@
 -- What is judged of a paragraph's lines, one after another: its fields, or the first refusal of a line.
 -- Debian Policy 5.1; deb822(5), "Syntax". The order of the refusals is this project's own.
-use Rattle.std.specs.Prelude.{◌≡◌, ℕ, ◌+◌, ◌==◌, Bool, false, cond, not, List, [], ◌∷◌, ◌++◌, map, Result, Ok, Err, codes, refl}
+use Rattle.std.specs.Prelude.{◌≡◌, ℕ, ◌+◌, ◌==◌, ◌&&◌, Bool, true, false, cond, not, nat_lt, List, [], ◌∷◌, ◌++◌, length, take, slice_index, map, Result, Ok, Err, codes, refl}
 use Rattle.std.specs.List.{list_any, starts_with, before_first, after_first}
 use Rattle.std.specs.Str.{is_utf8, chars}
 use lib.Utf8.{encode}
@@ -55,6 +55,10 @@ begins_comment (b ∷ bs) = b == 35
 abbrev pub has_colon : Line → Bool
 has_colon line = list_any (λ b. b == colon) line
 
+-- whether the first n bytes of a line are a name that a colon follows
+abbrev pub is_named : Line → ℕ → Bool
+is_named line n = nat_lt n (length line) && (slice_index line n == colon) && is_name (take n line)
+
 -- the field that a line begins
 abbrev pub begun : ℕ → Line → Field
 begun n line = record { name = before_first (λ b. b == colon) line; line = n; body = after_first (λ b. b == colon) line }
@@ -98,36 +102,111 @@ two_bodies : judged 1 (lines_of (codes "Package: aa\nDescription:  short  \n one
 unfolding is_utf8 chars encode
 two_bodies = refl
 
-no_colon : judged 1 (lines_of (codes "Package aa")) ≡ Err (record { code = NoColon; line = 1 })
+-- spaces and tabs go at the ends of a body alone, so a first line without bytes leaves its newline
+empty_first_line : judged 1 (lines_of (codes "A: \t\n  b\nX:")) ≡ Ok (record { name = codes "A"; line = 1; body = codes "\n  b" } ∷ record { name = codes "X"; line = 3; body = [] } ∷ [])
+unfolding is_utf8 chars encode
+empty_first_line = refl
+
+-- a mark of a comment or an armour behind a space is a body's
+marks_within : judged 1 (lines_of (codes "A: #\n # x\n -----BEGIN PGP")) ≡ Ok (record { name = codes "A"; line = 1; body = codes "#\n # x\n -----BEGIN PGP" } ∷ [])
+unfolding is_utf8 chars encode
+marks_within = refl
+
+no_colon : judged 1 (codes "Package aa" ∷ []) ≡ Err (record { code = NoColon; line = 1 })
 unfolding is_utf8 chars encode
 no_colon = refl
 
-bad_name : judged 1 (lines_of (codes "Package : aa")) ≡ Err (record { code = BadFieldName; line = 1 })
+-- a space, nothing, a hyphen and a byte that is not ASCII in place of a name
+bad_name : judged 1 (codes "Package : aa" ∷ []) ≡ Err (record { code = BadFieldName; line = 1 })
 unfolding is_utf8 chars encode
 bad_name = refl
 
-duplicate : judged 1 (lines_of (codes "Package: aa\npackage: bb")) ≡ Err (record { code = DuplicateField; line = 2 })
+no_name : judged 1 (codes ": 1" ∷ []) ≡ Err (record { code = BadFieldName; line = 1 })
+unfolding is_utf8 chars encode
+no_name = refl
+
+hyphen_first : judged 1 (codes "-a: 1" ∷ []) ≡ Err (record { code = BadFieldName; line = 1 })
+unfolding is_utf8 chars encode
+hyphen_first = refl
+
+name_beyond_ascii : judged 1 ((99 ∷ 97 ∷ 102 ∷ 195 ∷ 169 ∷ 58 ∷ []) ∷ []) ≡ Err (record { code = BadFieldName; line = 1 })
+unfolding is_utf8 chars encode
+name_beyond_ascii = refl
+
+duplicate : judged 1 (codes "Package: aa" ∷ codes " b" ∷ codes "package: bb" ∷ []) ≡ Err (record { code = DuplicateField; line = 3 })
 unfolding is_utf8 chars encode
 duplicate = refl
 
-comment : judged 1 (lines_of (codes "# x")) ≡ Err (record { code = Comment; line = 1 })
+-- a comment has no colon, or no name before it
+comment : judged 1 (codes "A: 1" ∷ codes "# x" ∷ []) ≡ Err (record { code = Comment; line = 2 })
 unfolding is_utf8 chars encode
 comment = refl
 
-armour : judged 1 (lines_of (codes "-----BEGIN PGP SIGNED MESSAGE-----")) ≡ Err (record { code = Armour; line = 1 })
+comment_with_colon : judged 1 (codes "#a: x" ∷ []) ≡ Err (record { code = Comment; line = 1 })
+unfolding is_utf8 chars encode
+comment_with_colon = refl
+
+-- an armour has no colon, or no name before it; less than its mark is none
+armour : judged 1 (codes "-----BEGIN PGP SIGNED MESSAGE-----" ∷ []) ≡ Err (record { code = Armour; line = 1 })
 unfolding is_utf8 chars encode
 armour = refl
 
-stray : judged 1 (lines_of (codes " x")) ≡ Err (record { code = StrayContinuation; line = 1 })
+armour_with_colon : judged 1 (codes "-----BEGIN PGP: x" ∷ []) ≡ Err (record { code = Armour; line = 1 })
+unfolding is_utf8 chars encode
+armour_with_colon = refl
+
+no_armour : judged 1 (codes "-----BEGIN PGO: x" ∷ []) ≡ Err (record { code = BadFieldName; line = 1 })
+unfolding is_utf8 chars encode
+no_armour = refl
+
+-- a continuation line has no colon, or no name before it
+stray : judged 1 (codes " x" ∷ []) ≡ Err (record { code = StrayContinuation; line = 1 })
 unfolding is_utf8 chars encode
 stray = refl
 
--- a line that isn't UTF-8 is no comment
+stray_with_colon : judged 1 (codes "\tx: y" ∷ []) ≡ Err (record { code = StrayContinuation; line = 1 })
+unfolding is_utf8 chars encode
+stray_with_colon = refl
+
+-- neither a colon nor a name
+no_colon_and_bad_name : judged 1 (codes "-a b" ∷ []) ≡ Err (record { code = NoColon; line = 1 })
+unfolding is_utf8 chars encode
+no_colon_and_bad_name = refl
+
+-- a line that is not UTF-8 is refused for this, whatever else it is
 not_utf8 : judged 1 ((35 ∷ 255 ∷ []) ∷ []) ≡ Err (record { code = NotUtf8; line = 1 })
 unfolding is_utf8 chars encode
 not_utf8 = refl
+
+armour_not_utf8 : judged 1 ((45 ∷ 45 ∷ 45 ∷ 45 ∷ 45 ∷ 66 ∷ 69 ∷ 71 ∷ 73 ∷ 78 ∷ 32 ∷ 80 ∷ 71 ∷ 80 ∷ 255 ∷ []) ∷ []) ≡ Err (record { code = NotUtf8; line = 1 })
+unfolding is_utf8 chars encode
+armour_not_utf8 = refl
+
+stray_not_utf8 : judged 1 ((32 ∷ 255 ∷ []) ∷ []) ≡ Err (record { code = NotUtf8; line = 1 })
+unfolding is_utf8 chars encode
+stray_not_utf8 = refl
+
+no_colon_not_utf8 : judged 1 ((97 ∷ 255 ∷ []) ∷ []) ≡ Err (record { code = NotUtf8; line = 1 })
+unfolding is_utf8 chars encode
+no_colon_not_utf8 = refl
+
+bad_name_not_utf8 : judged 1 ((255 ∷ 58 ∷ []) ∷ []) ≡ Err (record { code = NotUtf8; line = 1 })
+unfolding is_utf8 chars encode
+bad_name_not_utf8 = refl
+
+duplicate_not_utf8 : judged 1 (codes "A: 1" ∷ (97 ∷ 58 ∷ 255 ∷ []) ∷ []) ≡ Err (record { code = NotUtf8; line = 2 })
+unfolding is_utf8 chars encode
+duplicate_not_utf8 = refl
 
 -- `X: caf` and half of a character, in the second line
 half_character : judged 1 (codes "A: 1" ∷ (88 ∷ 58 ∷ 32 ∷ 99 ∷ 97 ∷ 102 ∷ 195 ∷ []) ∷ []) ≡ Err (record { code = NotUtf8; line = 2 })
 unfolding is_utf8 chars encode
 half_character = refl
+
+-- the first line that is refused is told
+first_line_wins : judged 1 (codes "A: 1" ∷ codes "B" ∷ codes "A: 2" ∷ (255 ∷ []) ∷ []) ≡ Err (record { code = NoColon; line = 2 })
+unfolding is_utf8 chars encode
+first_line_wins = refl
+
+named_front : (is_named (codes "A: x") 1 ≡ true) × (is_named (codes "A: x") 0 ≡ false) × (is_named (codes "A") 1 ≡ false) × (is_named (codes ":x") 0 ≡ false) × (is_named (codes "-A:") 2 ≡ false)
+named_front = (refl, refl, refl, refl, refl)

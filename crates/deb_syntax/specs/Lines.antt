@@ -38,6 +38,10 @@ ends_blank [] = true
 ends_blank (line ∷ []) = is_blank line
 ends_blank (line ∷ next ∷ lines) = ends_blank (next ∷ lines)
 
+-- a text that is nothing, or ends with a blank line and its newline
+abbrev pub IsClosed : List ℕ → Type 0
+IsClosed passed = (ends_line passed ≡ true) × (ends_blank (lines_of passed) ≡ true)
+
 -- line n before the paragraphs of the lines behind it, of which the first is blank or not
 abbrev pub with_line : ℕ → Line → Bool → List Paragraph → List Paragraph
 with_line n line false (p ∷ ps) = record { first = n; lines = line ∷ p.lines } ∷ ps

@@ -1,6 +1,9 @@
 -- Where the fields of a paragraph stand in its bytes, and what stands there. Debian Policy 5.1; deb822(5), "Syntax".
-use Rattle.std.specs.Prelude.{◌≡◌, ℕ, ◌+◌, ◌==◌, ◌&&◌, Bool, true, false, List, [], ◌∷◌, length, map, nat_le, nat_lt, drop, slice_range, if◌then◌else◌, IsTrue, Result, Err, codes, refl}
-use Rattle.std.specs.List.{list_all}
+use Rattle.std.specs.Prelude.{◌≡◌, ℕ, ◌+◌, ◌-◌, ◌*◌, ◌%◌, ◌<◌, ◌≤◌, ◌==◌, ◌&&◌, Bool, true, false, List, [], ◌∷◌, length, map, nat_le, nat_lt, drop, get_or, slice_index, slice_range, if◌then◌else◌, IsTrue, Result, Err, codes, refl}
+use Rattle.std.specs.List.{list_all, list_any}
+use Rattle.std.specs.Str.{bytes_eq}
+use Rattle.std.specs.Char.{to_ascii_lowercase}
+use Rattle.deb_base.specs.Names.{folded}
 use Rattle.deb_base.specs.declared.fault.Fault.{Fault}
 use Rattle.deb_base.specs.declared.fault.Fault.TheVariants.{Refused, Memory, Read, Write}
 use Rattle.deb_base.specs.declared.refusal.Refusal.{Refusal}
@@ -8,6 +11,7 @@ use Rattle.deb_base.specs.Bodies.{Line, pieces_of}
 use Rattle.deb_syntax.specs.Fields.{Field}
 use Rattle.deb_syntax.specs.Judging.{trimmed}
 use Rattle.deb_syntax.specs.declared.folded_name.FoldedName.{FoldedName}
+use Rattle.deb_syntax.specs.declared.names.Names.{Names}
 use Rattle.deb_syntax.specs.declared.place.Place.{Place}
 
 -- the name of the field at a place of a paragraph's bytes
@@ -48,12 +52,35 @@ ends_before start [] = true
 ends_before start (place ∷ []) = place.end + 1 == start
 ends_before start (place ∷ next ∷ places) = ends_before start (next ∷ places)
 
+-- whether a name is one of those that stood before, without ASCII case
+abbrev pub has_stood : List ℕ → List (List ℕ) → Bool
+has_stood name stood = list_any (λ other. bytes_eq (folded other) (folded name)) stood
+
+-- whether it is one of those in a set
+abbrev pub is_kept : List ℕ → List FoldedName → Bool
+is_kept name names = list_any (λ other. bytes_eq (folded name) (folded other.0.now)) names
+
+-- a number below 256 that names have in common which are equal without ASCII case: of a name's length, its first and
+-- its last byte
+unfoldable pub mark_of : List ℕ → ℕ
+mark_of name = (length name % 256 * 5 + to_ascii_lowercase (slice_index name 0) * 7 + to_ascii_lowercase (slice_index name (length name - 1)) * 31) % 256
+
+-- whether the mark of a name is set
+abbrev pub is_marked : List Bool → List ℕ → Bool
+is_marked marks name = get_or marks (mark_of name) false
+
+-- What is kept of the names that stood before: their marks while they are few, and else all in a set.
+pub record Keeps (stood : List (List ℕ)) (names : Names) : Type 0 where
+  pub few : length stood ≤ 32 → names.all.keys ≡ []
+  pub marked : length stood ≤ 32 → list_all (is_marked names.marks) stood ≡ true
+  pub all : 32 < length stood → (name : List ℕ) → is_kept name names.all.keys ≡ has_stood name stood
+
 -- What is kept of the lines before the one that begins at `start`: the places lie within the text, the last of them
--- ends at that line, and these are their names.
-pub record StandsAt (text : List ℕ) (start : ℕ) (places : List Place) (names : List FoldedName) : Type 0 where
+-- ends at that line, and their names are kept.
+pub record StandsAt (text : List ℕ) (start : ℕ) (places : List Place) (names : Names) : Type 0 where
   pub within : IsTrue (list_all (lies_within (length text)) places)
   pub reached : IsTrue (ends_before start places)
-  pub named : map (λ name. name.0.now) names ≡ map (name_at text) places
+  pub kept : Keeps (map (name_at text) places) names
 
 -- the fault is the refusal that is judged, or want of memory
 abbrev pub IsFaultOf : Result (List Field) Refusal → Fault → Type 0
@@ -71,3 +98,25 @@ places_within = refl
 
 place_beyond : lies_within 10 (record { line = 3; start = 9; colon = 10; end = 11 }) ≡ false
 place_beyond = refl
+
+-- of places that end before the line's begin the last goes on to the line's end
+last_place_goes_on : with_last_end 11 (record { line = 1; start = 0; colon = 1; end = 4 } ∷ record { line = 2; start = 5; colon = 6; end = 8 } ∷ []) ≡ record { line = 1; start = 0; colon = 1; end = 4 } ∷ record { line = 2; start = 5; colon = 6; end = 11 } ∷ []
+last_place_goes_on = refl
+
+no_place_goes_on : (with_last_end 11 [] ≡ []) × (ends_before 0 [] ≡ true)
+no_place_goes_on = (refl, refl)
+
+places_before : (ends_before 9 (record { line = 1; start = 0; colon = 1; end = 8 } ∷ []) ≡ true) × (ends_before 8 (record { line = 1; start = 0; colon = 1; end = 8 } ∷ []) ≡ false)
+places_before = (refl, refl)
+
+pieces_behind_place : (pieces_behind (codes "a\nb") 1 ≡ codes "b" ∷ []) × (pieces_behind (codes "a\n") 1 ≡ [] ∷ []) × (pieces_behind (codes "a") 1 ≡ [])
+pieces_behind_place = (refl, refl, refl)
+
+-- a colon at the end of a place, or before its begin
+place_of_no_field : (lies_within 10 (record { line = 1; start = 0; colon = 2; end = 2 }) ≡ false) × (lies_within 10 (record { line = 1; start = 3; colon = 2; end = 4 }) ≡ false)
+place_of_no_field = (refl, refl)
+
+-- names without case have one mark, and the mark goes by the length, the first byte and the last
+marks_of_names : (mark_of (codes "Package") ≡ mark_of (codes "pACKAGE")) × (mark_of (codes "Package") ≡ 110) × (mark_of (codes "Packages") ≡ 37) × (mark_of [] ≡ 0)
+unfolding mark_of
+marks_of_names = (refl, refl, refl, refl)

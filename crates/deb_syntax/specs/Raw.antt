@@ -4,6 +4,7 @@ use Rattle.std.specs.Str.{bytes_eq}
 use Rattle.deb_base.specs.Names.{folded}
 use Rattle.deb_syntax.specs.Fields.{Field}
 use Rattle.deb_syntax.specs.Places.{fields_at}
+use Rattle.deb_syntax.specs.declared.raw.Fields.{Fields}
 use Rattle.deb_syntax.specs.declared.raw.Raw.{Raw}
 use Rattle.deb_syntax.specs.declared.raw.RawField.{RawField}
 
@@ -16,6 +17,10 @@ fields_of raw = fields_at raw.text.now raw.places.now
 
 abbrev pub first_line_of : Raw → ℕ
 first_line_of raw = raw.first_line
+
+-- the fields that an iterator over them has left
+abbrev pub fields_left : Fields → List Field
+fields_left fields = fields_at fields.text.now fields.places.now
 
 -- the first field of the name, without ASCII case
 abbrev pub field_named : List ℕ → List Field → Option Field

@@ -1,94 +1,165 @@
--- What a reader of paragraphs is to its callers, and what one answer of it says of a text. Debian Policy 5.1.
-use Rattle.std.specs.Prelude.{◌≡◌, ℕ, ◌≤◌, ◌⊎◌, Bool, true, List, [], ◌∷◌, ◌++◌, length, Option, Some, None, IfSome, IfNone, Result, Ok, Err, IfErr, MatchResult, IsTrue}
+-- What a reader of paragraphs is to its callers, which texts fit it, and what its calls say of them. Debian Policy 5.1;
+-- what is kept and how far is read is this project's own.
+use Rattle.std.specs.Prelude.{◌≡◌, ℕ, ◌+◌, ◌≤◌, ◌⊎◌, Bool, true, List, [], ◌∷◌, ◌++◌, length, Option, Some, None, IfSome, IfNone, Result, Ok, Err, IfErr, MatchResult, IsTrue}
+use Rattle.deb_base.specs.Bodies.{HasNoNewline}
 use Rattle.deb_base.specs.Codes.{number_of}
-use Rattle.deb_base.specs.Devices.{read_failures_after}
+use Rattle.deb_base.specs.Devices.{Shown, read_failures_after}
+use Rattle.deb_base.specs.Faults.{IsReadersFault}
 use Rattle.deb_base.specs.declared.fault.Fault.{Fault}
 use Rattle.deb_base.specs.declared.fault.Fault.TheVariants.{Refused, Memory, Read, Write}
 use Rattle.deb_base.specs.declared.refusal.Refusal.{Refusal}
-use Rattle.deb_syntax.specs.Lines.{lines_of, ends_line, ends_blank, Paragraph, paragraphs_of, file_limit}
-use Rattle.deb_syntax.specs.Fields.{Field, IsShort, SpellsParagraph}
-use Rattle.deb_syntax.specs.Meaning.{Entries, Accepted}
+use Rattle.deb_syntax.specs.declared.first.First.{First}
+use Rattle.deb_syntax.specs.declared.first.First.TheVariants.{End, Kept, Dropped}
+use Rattle.deb_syntax.specs.Ahead.{IsNear}
+use Rattle.deb_syntax.specs.Answers.{Seen, paragraphs_within, next_answer, next_begin}
+use Rattle.deb_syntax.specs.Feeding.{FeedState, piece_limit}
+use Rattle.deb_syntax.specs.Fields.{IsShort}
+use Rattle.deb_syntax.specs.Judging.{judged}
+use Rattle.deb_syntax.specs.Lines.{lines_of, IsClosed, Paragraph, paragraphs_of}
 
--- a reader of paragraphs: the bytes of its buffer that haven't passed, the buffer's length, how many bytes and lines
--- have passed, whether it has answered that no paragraph follows, and its error
+-- A reader of paragraphs: the bytes of its buffer that haven't passed, the buffer's length, how many bytes and lines
+-- have passed, how many bytes of the first line that hasn't passed aren't kept, whether a read has told the file's end,
+-- whether it was answered that no paragraph follows, the paragraph that was found last, and the error.
 pub record State : Type 0 where
   pub unread : List ℕ
   pub held : ℕ
   pub bytes : ℕ
   pub lines : ℕ
+  pub hidden : ℕ
+  pub ended : Bool
   pub finished : Bool
+  pub current : Option Seen
   pub fault : Option Fault
 
--- what has passed is nothing, or ends with a blank line and its newline
-abbrev pub IsClosed : List ℕ → Type 0
-IsClosed passed = (ends_line passed ≡ true) × (ends_blank (lines_of passed) ≡ true)
+-- the same by what has come of the file
+abbrev pub state_from : FeedState → ℕ → Bool → Option Seen → Option Fault → State
+state_from feed hidden finished current fault = record {
+  unread = feed.unread;
+  held = feed.held;
+  bytes = feed.bytes;
+  lines = feed.lines;
+  hidden = hidden;
+  ended = feed.ended;
+  finished = finished;
+  current = current;
+  fault = fault;
+}
 
--- The text fits: it is what has passed, then the unread bytes, then what the source has left. What has passed has the
--- bytes and lines that are counted; it is closed, or nothing follows it. After the last answer nothing follows it.
+-- The text fits: it is what has passed, then the bytes that aren't kept, whichever they are, then the unread ones, then
+-- what the source has left. What has passed has the bytes and lines that are counted; it is closed, or nothing follows it.
 pub record Fits (text passed : List ℕ) (state : State) (left : Option (List ℕ)) : Type 0 where
+  pub hidden : List ℕ
   pub rest : List ℕ
   pub told : left ≡ Some rest
-  pub whole : text ≡ passed ++ (state.unread ++ rest)
+  pub whole : text ≡ passed ++ (hidden ++ (state.unread ++ rest))
   pub bytes : state.bytes ≡ length passed
   pub lines : state.lines ≡ length (lines_of passed)
-  pub closed : IsClosed passed ⊎ (state.unread ++ rest ≡ [])
-  pub finished : IsTrue state.finished → state.unread ++ rest ≡ []
+  pub hidden_bytes : length hidden ≡ state.hidden
+  pub hidden_line : HasNoNewline hidden
+  pub closed : IsClosed passed ⊎ (hidden ++ (state.unread ++ rest) ≡ [])
+  pub ended : IsTrue state.ended → rest ≡ []
+  pub finished : IsTrue state.finished → hidden ++ (state.unread ++ rest) ≡ []
 
--- what is seen of a paragraph: the number of its first line, and its fields in the order of the file
-pub record Seen : Type 0 where
-  pub first : ℕ
-  pub fields : List Field
+-- how many paragraphs have passed
+abbrev pub passed_count : List ℕ → ℕ
+passed_count passed = length (paragraphs_of passed)
 
--- The answer is the next paragraph of the text behind those that have passed, which then has passed too.
+-- The answer is the next paragraph of the text behind those that have passed, which then has passed too: it, and no
+-- more than one blank line behind it. At most one piece was taken beyond that.
 pub record GivesNext (text passed : List ℕ) (seen : Seen) (new : State) (left : Option (List ℕ)) : Type 0 where
+  pub answer : next_answer text (passed_count passed) ≡ Ok (Some seen)
   pub paragraph : Paragraph
   pub more : List Paragraph
-  pub passed_now : List ℕ
-  pub next : paragraphs_of text ≡ paragraphs_of passed ++ paragraph ∷ more
-  pub passes : paragraphs_of passed_now ≡ paragraphs_of passed ++ paragraph ∷ []
-  pub again : Fits text passed_now new left
+  pub next : paragraphs_within text ≡ paragraphs_of passed ++ paragraph ∷ more
   pub first : seen.first ≡ paragraph.first
-  pub fields : SpellsParagraph paragraph seen.fields
+  pub fields : judged paragraph.first paragraph.lines ≡ Ok seen.fields
   pub short : IsShort paragraph
-  pub small : length text ≤ file_limit
+  pub passed_now : List ℕ
+  pub again : Fits text passed_now new left
+  pub passes : paragraphs_of passed_now ≡ paragraphs_of passed ++ paragraph ∷ []
+  pub ends : new.lines ≤ paragraph.first + length paragraph.lines
+  pub near : length new.unread ≤ piece_limit
 
 -- The text has no further paragraph, and all of it has passed.
 pub record GivesNone (text passed : List ℕ) (new : State) (left : Option (List ℕ)) : Type 0 where
-  pub none : paragraphs_of text ≡ paragraphs_of passed
+  pub answer : next_answer text (passed_count passed) ≡ Ok None
+  pub begin : next_begin text (passed_count passed) ≡ Ok None
   pub again : Fits text text new left
+  pub passes : paragraphs_of text ≡ paragraphs_of passed
   pub finished : IsTrue new.finished
-  pub small : length text ≤ file_limit
 
--- The text isn't accepted, and the refusal is at one of its lines.
-pub record IsRefused (text : List ℕ) (refusal : Refusal) : Type 0 where
-  pub not_accepted : (meaning : List Entries) → ¬ (Accepted text meaning)
-  pub line : refusal.line ≤ length (lines_of text)
+-- The next paragraph begins at this line. Only blank lines have passed, and at most one piece was taken beyond that line.
+pub record GivesLine (text passed : List ℕ) (line : ℕ) (new : State) (left : Option (List ℕ)) : Type 0 where
+  pub begin : next_begin text (passed_count passed) ≡ Ok (Some line)
+  pub passed_now : List ℕ
+  pub again : Fits text passed_now new left
+  pub passes : paragraphs_of passed_now ≡ paragraphs_of passed
+  pub at : line ≡ new.lines + 1
+  pub near : IsNear new.unread
 
--- What an answer says of a text that fits, where `passed` has passed.
+-- Only blank lines have passed, and a paragraph begins behind them.
+pub record BeginsHere (text passed : List ℕ) (new : State) (left : Option (List ℕ)) : Type 0 where
+  pub passed_now : List ℕ
+  pub again : Fits text passed_now new left
+  pub passes : paragraphs_of passed_now ≡ paragraphs_of passed
+  pub begin : next_begin text (passed_count passed) ≡ Ok (Some (new.lines + 1))
+
+-- What an answer that there is a paragraph, or none, says of a text that fits, where `passed` has passed.
 abbrev pub Answers : (text passed : List ℕ) → Result (Option Seen) Fault → State → Option (List ℕ) → Type 0
 Answers text passed (Ok None) new left = GivesNone text passed new left
 Answers text passed (Ok (Some seen)) new left = GivesNext text passed seen new left
-Answers text passed (Err (Refused refusal)) new left = IsRefused text refusal
+Answers text passed (Err (Refused refusal)) new left = next_answer text (passed_count passed) ≡ Err refusal
 Answers text passed (Err Memory) new left = Unit {0}
 Answers text passed (Err Read) new left = Unit {0}
 Answers text passed (Err Write) new left = ⊥
 
--- a refusal of a file has a code from 1 to 9 and a line; nothing is written
-abbrev pub IsReaderFault : Fault → Type 0
-IsReaderFault (Refused refusal) = (1 ≤ number_of refusal.code) × (number_of refusal.code ≤ 9) × (1 ≤ refusal.line)
-IsReaderFault Memory = Unit {0}
-IsReaderFault Read = Unit {0}
-IsReaderFault Write = ⊥
+-- What is told of the first line ahead that isn't blank: it is there, or none is, or why the file is refused.
+abbrev pub FindsFirst : (text passed : List ℕ) → Result First Fault → State → Option (List ℕ) → Type 0
+FindsFirst text passed (Ok End) new left = GivesNone text passed new left
+FindsFirst text passed (Ok (Kept begun)) new left = BeginsHere text passed new left
+FindsFirst text passed (Ok (Dropped begun)) new left = BeginsHere text passed new left
+FindsFirst text passed (Err (Refused refusal)) new left = (next_answer text (passed_count passed) ≡ Err refusal) × (next_begin text (passed_count passed) ≡ Err refusal)
+FindsFirst text passed (Err Memory) new left = Unit {0}
+FindsFirst text passed (Err Read) new left = Unit {0}
+FindsFirst text passed (Err Write) new left = ⊥
 
--- A call of a reader without error: what it answers, what it leaves, and how often its source failed.
-pub record Advances (old : State) (left : Option (List ℕ)) (failures : ℕ) (answer : Result (Option Seen) Fault) (new : State) (left_after : Option (List ℕ)) (failures_after : ℕ) : Type 0 where
-  pub answers : (text passed : List ℕ) → Fits text passed old left → Answers text passed answer new left_after
-  pub counted : failures_after ≡ read_failures_after failures answer
-  pub fault : IfErr answer IsReaderFault
+-- What an answer that a paragraph begins, or none, says of one.
+abbrev pub AnswersBegin : (text passed : List ℕ) → Result (Option ℕ) Fault → State → Option (List ℕ) → Type 0
+AnswersBegin text passed (Ok None) new left = GivesNone text passed new left
+AnswersBegin text passed (Ok (Some line)) new left = GivesLine text passed line new left
+AnswersBegin text passed (Err (Refused refusal)) new left = next_begin text (passed_count passed) ≡ Err refusal
+AnswersBegin text passed (Err Memory) new left = Unit {0}
+AnswersBegin text passed (Err Read) new left = Unit {0}
+AnswersBegin text passed (Err Write) new left = ⊥
+
+-- a refusal of a file that is read has a code from 1 to 9 and a line
+pub record IsRefusalOfText (refusal : Refusal) : Type 0 where
+  pub least : 1 ≤ number_of refusal.code
+  pub most : number_of refusal.code ≤ 9
+  pub line : 1 ≤ refusal.line
+
+-- a reader of paragraphs, and what its source shows
+pub record Moment : Type 0 where
+  pub state : State
+  pub source : Shown
+
+-- A call of a reader without error: what it answers of each text that fits, how often its source failed, and which
+-- errors there are.
+pub record Advances (before : Moment) (answer : Result (Option Seen) Fault) (after : Moment) : Type 0 where
+  pub answers : (text passed : List ℕ) → Fits text passed before.state before.source.bytes → Answers text passed answer after.state after.source.bytes
+  pub counted : after.source.failures ≡ read_failures_after before.source.failures answer
+  pub fault : IfErr answer (λ fault. IsReadersFault fault IsRefusalOfText)
+  pub current : MatchResult answer (λ seen. after.state.current ≡ seen) (λ fault. Unit {0})
+
+pub record Begins (before : Moment) (answer : Result (Option ℕ) Fault) (after : Moment) : Type 0 where
+  pub answers : (text passed : List ℕ) → Fits text passed before.state before.source.bytes → AnswersBegin text passed answer after.state after.source.bytes
+  pub counted : after.source.failures ≡ read_failures_after before.source.failures answer
+  pub fault : IfErr answer (λ fault. IsReadersFault fault IsRefusalOfText)
+  pub current : after.state.current ≡ None
 
 -- A call of a reader: without an error it goes on, and keeps the error that it then answers; with one it answers that
 -- error, and neither reads nor changes.
-pub record Passes (old : State) (left : Option (List ℕ)) (failures : ℕ) (answer : Result (Option Seen) Fault) (new : State) (left_after : Option (List ℕ)) (failures_after : ℕ) : Type 0 where
-  pub goes : IfNone old.fault (Advances old left failures answer new left_after failures_after)
-  pub keeps : IfNone old.fault (MatchResult answer (λ _. new.fault ≡ None) (λ fault. new.fault ≡ Some fault))
-  pub repeats : IfSome old.fault (λ fault. (answer ≡ Err fault) × (new ≡ old) × (left_after ≡ left) × (failures_after ≡ failures))
+pub record Passes {A : Type 0} (Goes : Moment → Result A Fault → Moment → Type 0) (before : Moment) (answer : Result A Fault) (after : Moment) : Type 0 where
+  pub goes : IfNone before.state.fault (Goes before answer after)
+  pub keeps : IfNone before.state.fault (MatchResult answer (λ _. after.state.fault ≡ None) (λ fault. after.state.fault ≡ Some fault))
+  pub repeats : IfSome before.state.fault (λ fault. (answer ≡ Err fault) × (after ≡ before))

@@ -1,18 +1,20 @@
 //! Judging the bytes of one paragraph.
 
-ghost use Rattle.std.specs.Prelude.{◌≡◌, ℕ, ◌+◌, ◌-◌, ◌^◌, ◌<◌, ◌≤◌, List, [], ◌∷◌, ◌++◌, length, take, drop, slice_index, slice_range, if◌then◌else◌, IsTrue, IfOk, IfErr, OnOk};
+ghost use Rattle.std.specs.Prelude.{◌≡◌, ℕ, ◌+◌, ◌-◌, ◌^◌, ◌<◌, ◌≤◌, List, [], ◌∷◌, ◌++◌, length, take, drop, slice_index, slice_range, if◌then◌else◌, ◌↔◌, IsTrue, IsFalse, IsUtf8, Some, IfOk, IfErr, OnOk};
 ghost use Rattle.std.specs.List.{list_all};
+ghost use Rattle.memchr.specs.Find.{IsFirstByte, is_byte};
+ghost use Rattle.deb_base.specs.FieldNames.{colon, is_name, is_name_byte};
 ghost use Rattle.deb_base.specs.Bodies.{newline, pieces_of, begins_with_blank};
 ghost use Rattle.deb_syntax.specs.Fields.{Field, has_name};
-ghost use Rattle.deb_syntax.specs.Judging.{begins_comment, field_line, judged, line_judged};
+ghost use Rattle.deb_syntax.specs.Judging.{begins_comment, is_named, field_line, judged, line_judged};
 ghost use Rattle.deb_syntax.specs.Places.{begun_fields, fields_at, lies_within, pieces_behind, with_last_end, StandsAt, IsFaultOf};
 
-use crate::folded_name::FoldedName;
-use crate::name::is_name;
+use crate::name::{is_name, name_bytes};
+use crate::names::{Names, add};
 use crate::place::Place;
 use deb_base::{Code, Fault, Refusal};
-use indexmap::IndexSet;
 use memchr::memchr;
+use simdutf8::is_utf8;
 use std::alloc::Global;
 
 /// How the first line of an armoured message or signature begins.
@@ -53,12 +55,13 @@ pub(crate) fn judge(
     ensures fault { IfErr result (IsFaultOf (judged first_line (pieces_of text.now))) }
 {
     places.clear();
-    let mut names = IndexSet::new(alloc);
+    let utf8 = is_utf8(text);
+    let mut names = Names::new(alloc);
     let mut number = first_line;
     let mut start = 0;
     loop {
         let end = line_end(text, start);
-        judge_line(text, Line { number, start, end }, places, &mut names)?;
+        judge_line(text, Line { number, start, end }, utf8, places, &mut names)?;
         if end == text.len() {
             return Ok(());
         }
@@ -82,27 +85,29 @@ fn line_end(text: &[u8], start: usize) -> usize
     }
 }
 
-/// Judges one line after the lines before it.
+/// Judges one line after the lines before it. `utf8` says that it is UTF-8; else it is asked.
 fn judge_line<'a>(
     text: &'a [u8],
     line: Line,
+    utf8: bool,
     places: &mut Vec<Place>,
-    names: &mut IndexSet<FoldedName<'a>>,
+    names: &mut Names<'a>,
 ) -> Result<(), Fault>
     requires after { line.start ≤ line.end }
     requires within { line.end ≤ length text.now }
     requires newline { 0 < line.start → slice_index text.now (line.start - 1) ≡ newline }
-    requires stands { StandsAt text.now line.start places.old.items names.old.keys }
+    requires stands { StandsAt text.now line.start places.old.items names.old }
+    requires utf8 { IsTrue utf8 → IsUtf8 (slice_range text.now line.start line.end) }
     ensures ok { let content = slice_range text.now line.start line.end in
         OnOk result (line_judged line.number (begun_fields text.now places.old.items) content
         ≡ Ok (begun_fields text.now places.new.items)) }
-    ensures stands { OnOk result (StandsAt text.now (line.end + 1) places.new.items names.new.keys) }
+    ensures stands { OnOk result (StandsAt text.now (line.end + 1) places.new.items names.new) }
     ensures fault { let content = slice_range text.now line.start line.end in
         IfErr result (IsFaultOf
         (line_judged line.number (begun_fields text.now places.old.items) content)) }
 {
     let content = &text[line.start..line.end];
-    if !simdutf8::is_utf8(content) {
+    if !is_line_utf8(content, utf8) {
         return Err(refused(Code::NotUtf8, line));
     }
     if begins_with_blank(content) {
@@ -110,6 +115,14 @@ fn judge_line<'a>(
     } else {
         begin_field(text, line, places, names)
     }
+}
+
+/// Whether a line is UTF-8, where that may be known.
+fn is_line_utf8(content: &[u8], known: bool) -> bool
+    requires { IsTrue known → IsUtf8 content.now }
+    ensures { IsTrue result ↔ IsUtf8 content.now }
+{
+    known || is_utf8(content)
 }
 
 /// The refusal of a line.
@@ -149,25 +162,22 @@ fn begin_field<'a>(
     text: &'a [u8],
     line: Line,
     places: &mut Vec<Place>,
-    names: &mut IndexSet<FoldedName<'a>>,
+    names: &mut Names<'a>,
 ) -> Result<(), Fault>
     requires after { line.start ≤ line.end }
     requires within { line.end ≤ length text.now }
-    requires stands { StandsAt text.now line.start places.old.items names.old.keys }
+    requires stands { StandsAt text.now line.start places.old.items names.old }
     ensures ok { let content = slice_range text.now line.start line.end in
         OnOk result (field_line line.number (begun_fields text.now places.old.items) content
         ≡ Ok (begun_fields text.now places.new.items)) }
-    ensures stands { OnOk result (StandsAt text.now (line.end + 1) places.new.items names.new.keys) }
+    ensures stands { OnOk result (StandsAt text.now (line.end + 1) places.new.items names.new) }
     ensures fault { let content = slice_range text.now line.start line.end in
         IfErr result (IsFaultOf
         (field_line line.number (begun_fields text.now places.old.items) content)) }
 {
     let content = &text[line.start..line.end];
     let colon = colon_of(content).map_err(|code| refused(code, line))?;
-    let added = names
-        .insert(FoldedName(&content[..colon]))
-        .map_err(|_| Fault::Memory)?;
-    if !added {
+    if !add(names, text, places.as_slice(), &content[..colon])? {
         return Err(refused(Code::DuplicateField, line));
     }
     let place = Place {
@@ -193,16 +203,39 @@ fn colon_of(content: &[u8]) -> Result<usize, Code>
     ensures refused { IfErr result (λ code. (n : ℕ) (fields : List Field) →
         field_line n fields content.now ≡ Err (record { code = code; line = n })) }
 {
+    let len = name_bytes(content);
+    if is_named(content, len) {
+        Ok(len)
+    } else {
+        Err(no_name(content))
+    }
+}
+
+/// Whether the first bytes of a line, which are all the bytes of a name at its front, are a name that a colon follows.
+fn is_named(content: &[u8], len: usize) -> bool
+    requires { IsTrue (list_all is_name_byte (take len content.now)) }
+    ensures { result ≡ is_named content.now len }
+{
+    content.get(len) == Some(&b':') && is_name(content, len)
+}
+
+/// Why a line that begins no field is refused: the first reason in the order of the refusals.
+#[cold]
+fn no_name(content: &[u8]) -> Code
+    requires { (k : ℕ) → IsFirstByte (is_byte colon) content.now (Some k)
+        → IsFalse (is_name (take k content.now)) }
+    ensures { (n : ℕ) (fields : List Field) →
+        field_line n fields content.now ≡ Err (record { code = result; line = n }) }
+{
     if content.starts_with(ARMOUR) {
-        return Err(Code::Armour);
+        return Code::Armour;
     }
     if begins_comment(content) {
-        return Err(Code::Comment);
+        return Code::Comment;
     }
     match memchr(b':', content) {
-        None => Err(Code::NoColon),
-        Some(colon) if is_name(&content[..colon]) => Ok(colon),
-        Some(_) => Err(Code::BadFieldName),
+        None => Code::NoColon,
+        Some(_) => Code::BadFieldName,
     }
 }
 

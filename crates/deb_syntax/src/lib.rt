@@ -13,20 +13,25 @@
 //! - An error repeats for good, and a read that failed is never taken for the end.
 #![tactic(auto)]
 
-mod blanks;
-mod extent;
-mod fill;
+mod begun;
+mod dropped;
+mod ending;
+mod feed;
+mod first;
 mod folded_name;
 mod judge;
-mod judge_next;
 pub mod laws;
 mod line;
 mod name;
+mod names;
 mod paragraphs;
 mod place;
 mod raw;
-mod run;
+mod skip;
+mod standing;
+mod take;
 mod trim;
+mod window;
 
 pub use paragraphs::Paragraphs;
-pub use raw::{Raw, RawField};
+pub use raw::{Fields, Raw, RawField};

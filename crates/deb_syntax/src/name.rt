@@ -1,16 +1,28 @@
 //! Names of fields.
 
-ghost use Rattle.std.specs.Prelude.{◌≡◌};
+ghost use Rattle.std.specs.Prelude.{◌≡◌, ◌≤◌, length, take, IsTrue};
+ghost use Rattle.std.specs.List.{list_all, prefix_len};
 ghost use Rattle.deb_base.specs.FieldNames.{is_name, is_name_byte, may_begin_name};
 
-/// Whether these bytes are the name of a field (Debian Policy 5.1).
-pub(crate) fn is_name(name: &[u8]) -> bool
-    ensures { result ≡ is_name name.now }
+/// How many bytes of a name stand at the front.
+pub(crate) fn name_bytes(text: &[u8]) -> usize
+    ensures most { result ≡ prefix_len is_name_byte text.now }
+    ensures all { IsTrue (list_all is_name_byte (take result text.now)) }
 {
-    match name.first() {
-        Some(first) => may_begin_name(*first) && name.iter().all(|byte| is_name_byte(*byte)),
-        None => false,
+    let mut len = 0;
+    while len < text.len() && is_name_byte(text[len]) {
+        len += 1;
     }
+    len
+}
+
+/// Whether the first `len` bytes, each of which is one of a name, are the name of a field (Debian Policy 5.1).
+pub(crate) fn is_name(text: &[u8], len: usize) -> bool
+    requires within { len ≤ length text.now }
+    requires all { IsTrue (list_all is_name_byte (take len text.now)) }
+    ensures { result ≡ is_name (take len text.now) }
+{
+    len > 0 && may_begin_name(text[0])
 }
 
 /// Whether a byte is neither `#` nor `-`.

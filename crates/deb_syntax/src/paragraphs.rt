@@ -1,80 +1,123 @@
 //! The reader of paragraphs (Debian Policy 5.1; deb822(5)).
 
-ghost use Rattle.std.specs.Prelude.{◌≡◌, ◌<◌, ◌≤◌, ◌^◌, ◌==◌, count_by, vec_len};
-ghost use Rattle.deb_base.specs.Bodies.{newline};
+ghost use Rattle.std.specs.Prelude.{◌≡◌, ◌+◌, ◌≤◌, ◌⊎◌, ℕ, List, [], Some, None, true, false, length, IsTrue, IfErr, IfOk, OnOk};
+ghost use Rattle.deb_syntax.specs.Ahead.{IsAhead, IsNear, KeepsLine};
+ghost use Rattle.deb_syntax.specs.Feeding.{feed_state, buffer_of, piece_limit};
+ghost use Rattle.deb_syntax.specs.Standing.{hides_line, stands_within, standing_answer, IsPassed};
+ghost use Rattle.deb_base.specs.Devices.{read_failures_after};
+ghost use Rattle.deb_base.specs.Faults.{IsReadersFault};
+ghost use Rattle.deb_syntax.specs.Reading.{IsRefusalOfText};
 
-use crate::extent::Next;
-use crate::fill::fill;
-use crate::judge_next::judge_next;
+use crate::begun::Begun;
+use crate::ending::paragraph_extent;
+use crate::feed::Feed;
+use crate::first::{First, first_line};
+use crate::judge::judge;
 use crate::place::Place;
 use crate::raw::Raw;
+use crate::standing::Standing;
 use deb_base::{Code, Fault, Refusal, Source};
 use std::alloc::Global;
-
-/// The most bytes that a file may have (this project's own).
-const FILE_LIMIT: u64 = 4_294_967_295;
 
 /// Reads the paragraphs of a file, one after another (Debian Policy 5.1).
 ///
 /// A file has at most 4,294,967,295 bytes, and the lengths of a paragraph's lines, with their newlines, add up to at
-/// most 16,777,216. `next` is handed the file's reader at each call: the file is what was taken so far, followed by
-/// what that reader has left.
+/// most 16,777,216. Each call is handed the file's reader: the file is what was taken so far, followed by what that
+/// reader has left. It is taken by pieces of at most 65,536 bytes; one paragraph and the rest of one piece are kept.
+/// The reader's end is asked for once: after a read of no byte it isn't read again.
 #[derive(Drop)]
 pub struct Paragraphs {
-    buffer: Vec<u8>,
-    /// Where the bytes that haven't passed begin in the buffer.
-    start: usize,
-    /// How many bytes and lines have passed.
-    bytes: u64,
-    lines: u64,
-    /// Whether `None` was answered.
+    feed: Feed,
+    /// How many bytes of the first unread line aren't kept, since it is longer than a paragraph may be.
+    hidden: u64,
+    /// Whether it was answered that no paragraph follows.
     finished: bool,
-    fault: Option<Fault>,
-    /// Where the fields of the paragraph that was read last stand in its bytes.
+    /// The paragraph that was found last, and where its fields stand in its bytes.
+    current: Option<Standing>,
     places: Vec<Place>,
-    /// Where its bytes begin and end in the buffer, and the number of its first line.
-    from: usize,
-    to: usize,
-    first_line: u64,
+    fault: Option<Fault>,
     alloc: Global,
-    ghost within: { start ≤ vec_len buffer },
-    ghost few: { lines ≤ bytes },
-    ghost small: { bytes < 2 ^ 32 },
+    ghost near: { IsNear (feed_state feed).unread },
+    ghost hides: { IsTrue (hides_line hidden (feed_state feed)) },
+    ghost stands: { IsTrue (stands_within (buffer_of feed) places.items current) },
 }
 
 impl Paragraphs {
-    ghost use Rattle.std.specs.Prelude.{ℕ, List, [], Some, None, false, length, take, drop, ◌+◌, ◌-◌, IsTrue, IfOk};
+    ghost use Rattle.std.specs.Prelude.{IsSome, option_map, ◌↔◌};
     ghost use Rattle.std.specs.Borrow.{sem};
     ghost use Rattle.std.specs.Io.BufRead.{Rests};
     ghost use Rattle.deb_syntax.specs.contracts.paragraphs.Paragraphs.{the_row};
-    ghost use Rattle.deb_syntax.specs.Reading.{Fits, Passes, Advances};
-    ghost use Rattle.deb_syntax.specs.Paragraphs.{state_of, seen_of, answer_of, current_of, are_within, step_answer, StepPasses, IsFound};
+    ghost use Rattle.deb_syntax.specs.Reading.{Fits, Answers, FindsFirst, Passes, Advances, Begins};
+    ghost use Rattle.deb_syntax.specs.Paragraphs.{state_of, seen_of, answer_of, advance_answer, end_answer, ShowsFirst, IsQuiet};
 
     /// A reader of paragraphs that has read nothing: whatever its source has left is the file. Takes no memory.
     pub fn new(alloc: Global) -> Paragraphs
-        ensures state { state_of result ≡ record { unread = []; held = 0; bytes = 0; lines = 0; finished = false; fault = None } }
+        ensures state { state_of result ≡ record { unread = []; held = 0; bytes = 0; lines = 0; hidden = 0; ended = false; finished = false; current = None; fault = None } }
         ensures fits { (text : List ℕ) → Fits text [] (state_of result) (Some text) }
     {
         Paragraphs {
-            buffer: Vec::new(alloc),
-            start: 0,
-            bytes: 0,
-            lines: 0,
+            feed: Feed::new(alloc),
+            hidden: 0,
             finished: false,
-            fault: None,
+            current: None,
             places: Vec::new(alloc),
-            from: 0,
-            to: 0,
-            first_line: 0,
+            fault: None,
             alloc,
         }
     }
 
-    /// The length in bytes of the buffer, the one list of bytes that is kept.
+    /// The length in bytes of the buffer, the one list of bytes that is kept: at most 16,842,752, the most that a
+    /// paragraph may have and one piece.
     pub fn held(&self) -> usize
-        ensures { result ≡ (state_of self.now).held }
+        ensures value { result ≡ (state_of self.now).held }
+        ensures bounded { result ≤ 16842752 }
     {
-        self.buffer.len()
+        self.feed.held()
+    }
+
+    /// How many lines the file has, once it was answered that no paragraph follows, and else 0.
+    pub fn lines(&self) -> u64
+        ensures finished { (state_of self.now).finished ≡ true → result ≡ (state_of self.now).lines }
+        ensures unfinished { (state_of self.now).finished ≡ false → result ≡ 0 }
+    {
+        if self.finished { self.feed.lines() } else { 0 }
+    }
+
+    /// The paragraph that `advance` found last, or `None` where it found none since, or `begins` was called.
+    pub fn current(&self) -> Option<Raw<'_>>
+        ensures { option_map seen_of result ≡ (state_of self.now).current }
+    {
+        let at = self.current?;
+        Some(Raw::new(
+            self.feed.slice(at.from, at.to),
+            self.places.as_slice(),
+            at.first_line,
+        ))
+    }
+
+    /// The line at which the next paragraph begins, or `None` where there is no further one. Blank lines before it pass;
+    /// `next` answers afterwards what it would have answered before. After `None` it goes on answering `None`.
+    ///
+    /// # Errors
+    ///
+    /// After an error every later call answers the same error, and reads nothing.
+    ///
+    /// - `Fault::Refused`: the file is too long, and no further paragraph begins within what it may have
+    ///   (`FileTooLong`).
+    /// - `Fault::Memory`: a growth of memory was refused.
+    /// - `Fault::Read`: a read of `reader` failed in this call.
+    pub fn begins<R: Source>(&mut self, reader: &mut R) -> Result<Option<u64>, Fault>
+        ensures passes { Passes Begins (record { state = state_of self.old; source = record { bytes = R.left reader.old; failures = R.failures reader.old } }) result (record { state = state_of self.new; source = record { bytes = R.left reader.new; failures = R.failures reader.new } }) }
+        ensures quiet { IsQuiet (state_of self.old) → reader.new ≡ reader.old }
+    {
+        if let Some(fault) = self.fault {
+            return Err(fault);
+        }
+        let answer = self.find_line(reader);
+        if let Err(fault) = answer {
+            self.fault = Some(fault);
+        }
+        answer
     }
 
     /// The next paragraph of the file, or `None` where there is no further one. After `None` it goes on answering `None`.
@@ -83,113 +126,172 @@ impl Paragraphs {
     ///
     /// After an error every later call answers the same error, and reads nothing.
     ///
-    /// - `Fault::Refused`: the file isn't accepted. It has a code from 1 to 9 and a line of the file: a line isn't
-    ///   UTF-8, begins an armoured message or a comment, continues no field, has no colon, has no name of a field before
-    ///   it, or one that stood before in its paragraph; or the paragraph or the file is too long.
+    /// - `Fault::Refused`: the file is refused there, for the first of these. The paragraph's lines are too long
+    ///   (`ParagraphTooLong`, at the line with which they are), the file is too long and no blank line behind the
+    ///   paragraph was seen before (`FileTooLong`, at the line that is cut off), or a line is refused: it isn't UTF-8,
+    ///   begins an armoured message or a comment, continues no field, has no colon, has no name of a field before it, or
+    ///   one that stood before in its paragraph. Behind the last paragraph: the file is too long.
     /// - `Fault::Memory`: a growth of memory was refused.
     /// - `Fault::Read`: a read of `reader` failed in this call.
     pub fn next<'a, R: Source>(&'a mut self, reader: &mut R) -> Result<Option<Raw<'a>>, Fault>
-        ensures* after { sem 𝓛 (Rests the_row self.entry (λ new. Passes (state_of self.old) (R.left reader.old) (R.failures reader.old) (answer_of result) (state_of new) (R.left reader.new) (R.failures reader.new))) }
+        ensures* after { sem 𝓛 (Rests the_row self.entry (λ new. Passes Advances (record { state = state_of self.old; source = record { bytes = R.left reader.old; failures = R.failures reader.old } }) (answer_of result) (record { state = state_of new; source = record { bytes = R.left reader.new; failures = R.failures reader.new } }))) }
+        ensures quiet { IsQuiet (state_of self.old) → reader.new ≡ reader.old }
     {
-        if self.step(reader)? {
-            Ok(Some(self.current()))
+        if self.advance(reader)? {
+            Ok(self.current())
         } else {
             Ok(None)
         }
     }
 
-    /// Goes on to the next paragraph, and says whether there is one. Keeps an error for good.
-    fn step<R: Source>(&mut self, reader: &mut R) -> Result<bool, Fault>
-        ensures { StepPasses self.old self.new (R.left reader.old) (R.left reader.new) (R.failures reader.old) (R.failures reader.new) result }
+    /// Goes on to the next paragraph, which `current` then gives, and says whether there is one. The answers, errors
+    /// among them, are those of `next`.
+    pub fn advance<R: Source>(&mut self, reader: &mut R) -> Result<bool, Fault>
+        ensures passes { Passes Advances (record { state = state_of self.old; source = record { bytes = R.left reader.old; failures = R.failures reader.old } }) (advance_answer (state_of self.new) result) (record { state = state_of self.new; source = record { bytes = R.left reader.new; failures = R.failures reader.new } }) }
+        ensures found { IfOk result (λ found. IsTrue found ↔ IsSome (state_of self.new).current) }
+        ensures quiet { IsQuiet (state_of self.old) → reader.new ≡ reader.old }
     {
         if let Some(fault) = self.fault {
             return Err(fault);
         }
-        let answer = self.advance(reader);
+        let answer = self.find(reader);
         if let Err(fault) = answer {
             self.fault = Some(fault);
         }
         answer
     }
 
-    /// Goes on to the next paragraph, and says whether there is one.
-    fn advance<R: Source>(&mut self, reader: &mut R) -> Result<bool, Fault>
-        ensures advances { Advances (state_of self.old) (R.left reader.old) (R.failures reader.old) (step_answer self.new result) (state_of self.new) (R.left reader.new) (R.failures reader.new) }
-        ensures within { IfOk result (λ found. IsTrue found → IsTrue (are_within self.new)) }
+    /// The line at which the next paragraph begins.
+    fn find_line<R: Source>(&mut self, reader: &mut R) -> Result<Option<u64>, Fault>
+        ensures begins { Begins (record { state = state_of self.old; source = record { bytes = R.left reader.old; failures = R.failures reader.old } }) result (record { state = state_of self.new; source = record { bytes = R.left reader.new; failures = R.failures reader.new } }) }
+        ensures quiet { IsTrue (state_of self.old).ended ⊎ IsTrue (state_of self.old).finished → reader.new ≡ reader.old }
         ensures kept { self.new.fault ≡ self.old.fault }
     {
+        match self.find_first(reader) {
+            Ok(First::End) => Ok(None),
+            Ok(First::Kept(_)) => Ok(Some(self.feed.lines() + 1)),
+            Ok(First::Dropped(_)) => Ok(Some(self.feed.lines() + 1)),
+            Err(fault) => Err(fault),
+        }
+    }
+
+    /// Finds the next paragraph and passes it.
+    fn find<R: Source>(&mut self, reader: &mut R) -> Result<bool, Fault>
+        ensures advances { Advances (record { state = state_of self.old; source = record { bytes = R.left reader.old; failures = R.failures reader.old } }) (advance_answer (state_of self.new) result) (record { state = state_of self.new; source = record { bytes = R.left reader.new; failures = R.failures reader.new } }) }
+        ensures found { IfOk result (λ found. IsTrue found ↔ IsSome (state_of self.new).current) }
+        ensures quiet { IsTrue (state_of self.old).ended ⊎ IsTrue (state_of self.old).finished → reader.new ≡ reader.old }
+        ensures kept { self.new.fault ≡ self.old.fault }
+    {
+        match self.find_first(reader) {
+            Ok(First::End) => Ok(false),
+            Ok(First::Dropped(_)) => Err(Fault::Refused(Refusal {
+                code: Code::ParagraphTooLong,
+                line: self.feed.lines() + 1,
+            })),
+            Ok(First::Kept(begun)) => match self.find_end(begun, reader) {
+                Ok(()) => Ok(true),
+                Err(fault) => Err(fault),
+            },
+            Err(fault) => Err(fault),
+        }
+    }
+
+    /// Passes blank lines up to the first other line. From then on there is no current paragraph.
+    fn find_first<R: Source>(&mut self, reader: &mut R) -> Result<First, Fault>
+        ensures first { (text passed : List ℕ) → Fits text passed (state_of self.old) (R.left reader.old) → FindsFirst text passed result (state_of self.new) (R.left reader.new) }
+        ensures shows { ShowsFirst result self.new.hidden self.new.finished (feed_state self.new.feed) }
+        ensures none { (state_of self.new).current ≡ None }
+        ensures ended { IsTrue (state_of self.old).finished → result ≡ Ok First.End }
+        ensures fault { IfErr result (λ fault. IsReadersFault fault IsRefusalOfText) }
+        ensures counted { R.failures reader.new ≡ read_failures_after (R.failures reader.old) result }
+        ensures quiet { IsTrue (state_of self.old).ended ⊎ IsTrue (state_of self.old).finished → reader.new ≡ reader.old }
+        ensures stays { IsTrue (state_of self.old).ended → IsTrue (state_of self.new).ended }
+        ensures kept { self.new.fault ≡ self.old.fault }
+    {
+        self.current = None;
         if self.finished {
-            return Ok(false);
+            return Ok(First::End);
         }
-        let room = (FILE_LIMIT - self.bytes) as usize;
-        if !fill(&mut self.buffer, self.start + room, reader)? {
-            return Err(Fault::Refused(self.too_long(room)));
+        if self.hidden > 0 {
+            return Ok(First::Dropped(Begun {
+                len: self.hidden as usize,
+                blank: false,
+            }));
         }
-        self.locate()
+        match first_line(&mut self.feed, reader) {
+            Ok(First::End) => {
+                self.finished = true;
+                Ok(First::End)
+            }
+            Ok(First::Kept(begun)) => Ok(First::Kept(begun)),
+            Ok(First::Dropped(begun)) => {
+                self.hidden = begun.len as u64;
+                Ok(First::Dropped(begun))
+            }
+            Err(fault) => {
+                // Nothing that is unread is asked for again.
+                self.feed.keep(0);
+                Err(fault)
+            }
+        }
     }
 
-    /// Finds the next paragraph in the unread bytes, which are all that is left of the file, and passes it.
-    fn locate(&mut self) -> Result<bool, Fault>
-        requires { self.old.bytes + (vec_len self.old.buffer - self.old.start) ≤ FILE_LIMIT }
-        ensures found { IsFound (state_of self.old) self.new result }
+    /// Finds the end of the paragraph that begins the unread bytes, judges it and passes it.
+    fn find_end<R: Source>(&mut self, begun: Begun, reader: &mut R) -> Result<(), Fault>
+        requires unhidden { self.old.hidden ≡ 0 }
+        requires unfinished { self.old.finished ≡ false }
+        requires none { self.old.current ≡ None }
+        requires line { KeepsLine begun (feed_state self.old.feed) }
+        ensures answers { (text passed : List ℕ) → Fits text passed (state_of self.old) (R.left reader.old) → Answers text passed (end_answer (state_of self.new) result) (state_of self.new) (R.left reader.new) }
+        ensures found { OnOk result (IsSome (state_of self.new).current) }
+        ensures fault { IfErr result (λ fault. IsReadersFault fault IsRefusalOfText) }
+        ensures counted { R.failures reader.new ≡ read_failures_after (R.failures reader.old) result }
+        ensures quiet { IsTrue (state_of self.old).ended → reader.new ≡ reader.old }
         ensures kept { self.new.fault ≡ self.old.fault }
     {
-        let (_, unread) = self.buffer.as_slice().split_at(self.start);
-        let count = unread.len();
-        match judge_next(self.alloc, unread, self.lines, &mut self.places)? {
-            Next::End(lines) => {
-                self.start += count;
-                self.bytes += count as u64;
-                self.lines += lines;
-                self.finished = true;
-                Ok(false)
+        match pass_paragraph(self.alloc, &mut self.feed, begun, reader, &mut self.places) {
+            Ok(standing) => {
+                self.current = Some(standing);
+                Ok(())
             }
-            Next::Paragraph(extent) => {
-                self.first_line = extent.first_line;
-                self.from = self.start + extent.start;
-                self.to = self.start + extent.end;
-                self.start += extent.passed;
-                self.bytes += extent.passed as u64;
-                self.lines += extent.lines;
-                Ok(true)
+            Err(fault) => {
+                // Nothing that is unread is asked for again.
+                self.feed.keep(0);
+                Err(fault)
             }
         }
-    }
-
-    /// The refusal of a file of which more than the first `room` bytes of the unread ones come: it is at the line of
-    /// the byte behind these.
-    fn too_long(&self, room: usize) -> Refusal
-        requires room { self.now.start + room < vec_len self.now.buffer }
-        requires small { self.now.bytes + room ≤ FILE_LIMIT }
-        ensures code { result.code ≡ Code.FileTooLong }
-        ensures line { result.line ≡ self.now.lines + count_by (λ b. b == newline) (take room (drop self.now.start self.now.buffer.items)) + 1 }
-    {
-        let (_, unread) = self.buffer.as_slice().split_at(self.start);
-        let (front, _) = unread.split_at(room);
-        Refusal {
-            code: Code::FileTooLong,
-            line: self.lines + newlines(front) + 1,
-        }
-    }
-
-    fn current(&self) -> Raw<'_>
-        requires { IsTrue (are_within self.now) }
-        ensures { seen_of result ≡ current_of self.now }
-    {
-        Raw::new(
-            &self.buffer.as_slice()[self.from..self.to],
-            self.places.as_slice(),
-            self.first_line,
-        )
     }
 }
 
-/// How many newlines the text has.
-fn newlines(text: &[u8]) -> u64
-    ensures { result ≡ count_by (λ b. b == newline) text.now }
+/// Finds the end of the paragraph that begins the unread bytes, judges it and passes it.
+fn pass_paragraph<R: Source>(
+    alloc: Global,
+    feed: &mut Feed,
+    begun: Begun,
+    reader: &mut R,
+    places: &mut Vec<Place>,
+) -> Result<Standing, Fault>
+    requires { KeepsLine begun (feed_state feed.old) }
+    ensures stands { IfOk result (λ at. IsTrue (stands_within (buffer_of feed.new) places.new.items (Some at))) }
+    ensures near { OnOk result (length (feed_state feed.new).unread ≤ piece_limit) }
+    ensures ahead { (text : List ℕ) → IsAhead text [] (feed_state feed.old) (R.left reader.old) → IsPassed text (feed_state feed.old) (standing_answer (buffer_of feed.new) places.new.items result) (feed_state feed.new) (R.left reader.new) }
+    ensures fault { IfErr result (λ fault. IsReadersFault fault IsRefusalOfText) }
+    ensures counted { R.failures reader.new ≡ read_failures_after (R.failures reader.old) result }
+    ensures quiet { IsTrue (feed_state feed.old).ended → reader.new ≡ reader.old }
 {
-    text.iter().filter(|b| **b == b'\n').count() as u64
+    let extent = paragraph_extent(feed, begun, reader)?;
+    let first_line = feed.lines() + 1;
+    let paragraph = &feed.unread()[..extent.end];
+    match judge(alloc, paragraph, first_line, places) {
+        Ok(()) => {
+            let from = feed.start();
+            feed.pass(extent.skip, extent.bytes, extent.lines);
+            Ok(Standing {
+                from,
+                to: from + extent.end,
+                first_line,
+            })
+        }
+        Err(fault) => Err(fault),
+    }
 }
-
-#[cfg(test)]
-mod tests;

@@ -1,7 +1,10 @@
 //! The fields of a paragraph, as a view of its bytes.
 
-ghost use Rattle.std.specs.Prelude.{◌≡◌, ◌↔◌, [], length, slice_get, option_map, IsTrue};
+ghost use Rattle.std.specs.Prelude.{◌≡◌, ◌↔◌, [], length, slice_get, option_map, IsTrue, IfSome};
 ghost use Rattle.std.specs.List.{list_all};
+ghost use Rattle.deb_base.specs.Bodies.{IsBody};
+ghost use Rattle.deb_base.specs.FieldNames.{is_name};
+ghost use Rattle.deb_syntax.specs.Fields.{is_field, are_fields};
 ghost use Rattle.deb_syntax.specs.Places.{field_at, fields_at, lies_within};
 
 use crate::place::Place;
@@ -20,7 +23,27 @@ pub struct RawField<'a> {
     pub body: &'a [u8],
 }
 
-/// A paragraph, as a view of its bytes: its fields, of which no two have one name (Debian Policy 5.1).
+impl<'a> RawField<'a> {
+    ghost use Rattle.deb_syntax.specs.Raw.{field_of};
+
+    /// The field at a place of a paragraph's bytes.
+    fn at(text: &'a [u8], place: Place) -> RawField<'a>
+        requires within { IsTrue (lies_within (length text.now) place) }
+        requires field { IsTrue (is_field (field_at text.now place)) }
+        ensures field { field_of result ≡ field_at text.now place }
+        ensures name { IsTrue (is_name result.name.now) }
+        ensures body { IsBody result.body.now }
+    {
+        RawField {
+            name: &text[place.start..place.colon],
+            line: place.line,
+            body: trimmed(&text[place.colon + 1..place.end]),
+        }
+    }
+}
+
+/// A paragraph, as a view of its bytes: its fields, each with the name and a body of a field, of which no two have one
+/// name (Debian Policy 5.1).
 ///
 /// No call takes memory.
 #[derive(Clone, Copy)]
@@ -29,14 +52,16 @@ pub struct Raw<'a> {
     places: &'a [Place],
     first_line: u64,
     ghost within: { IsTrue (list_all (lies_within (length text.now)) places.now) },
+    ghost fields: { IsTrue (are_fields (fields_at text.now places.now)) },
 }
 
 impl<'a> Raw<'a> {
-    ghost use Rattle.deb_syntax.specs.Raw.{field_of, fields_of, first_line_of, field_named};
+    ghost use Rattle.deb_syntax.specs.Raw.{field_of, fields_of, fields_left, first_line_of, field_named};
 
     /// The paragraph of these bytes, whose fields stand at the places.
     pub(crate) fn new(text: &'a [u8], places: &'a [Place], first_line: u64) -> Raw<'a>
-        requires { IsTrue (list_all (lies_within (length text.now)) places.now) }
+        requires within { IsTrue (list_all (lies_within (length text.now)) places.now) }
+        requires fields { IsTrue (are_fields (fields_at text.now places.now)) }
         ensures fields { fields_of result ≡ fields_at text.now places.now }
         ensures first_line { first_line_of result ≡ first_line }
     {
@@ -70,33 +95,62 @@ impl<'a> Raw<'a> {
 
     /// The field at an index from 0, in the order of the file, or `None` where there are no more.
     pub fn field(&self, index: usize) -> Option<RawField<'a>>
-        ensures { option_map field_of result ≡ slice_get (fields_of self.now) index }
+        ensures field { option_map field_of result ≡ slice_get (fields_of self.now) index }
+        ensures name { IfSome result (λ field. IsTrue (is_name field.name.now)) }
+        ensures body { IfSome result (λ field. IsBody field.body.now) }
     {
         let place = self.places.get(index)?;
-        Some(self.field_at(*place))
+        Some(RawField::at(self.text, *place))
     }
 
     /// The field of a name, where names that differ in ASCII case alone are the same, or `None` where
     /// there is no such field.
     pub fn get(&self, name: &[u8]) -> Option<RawField<'a>>
-        ensures { option_map field_of result ≡ field_named name.now (fields_of self.now) }
+        ensures field { option_map field_of result ≡ field_named name.now (fields_of self.now) }
+        ensures name { IfSome result (λ field. IsTrue (is_name field.name.now)) }
+        ensures body { IfSome result (λ field. IsBody field.body.now) }
     {
         for place in self.places {
             if same_name(&self.text[place.start..place.colon], name) {
-                return Some(self.field_at(*place));
+                return Some(RawField::at(self.text, *place));
             }
         }
         None
     }
 
-    fn field_at(&self, place: Place) -> RawField<'a>
-        requires { IsTrue (lies_within (length self.now.text.now) place) }
-        ensures { field_of result ≡ field_at self.now.text.now place }
+    /// The fields in the order of the file.
+    pub fn fields(&self) -> Fields<'a>
+        ensures { fields_left result ≡ fields_of self.now }
     {
-        RawField {
-            name: &self.text[place.start..place.colon],
-            line: place.line,
-            body: trimmed(&self.text[place.colon + 1..place.end]),
+        Fields {
+            text: self.text,
+            places: self.places,
         }
+    }
+}
+
+/// The fields of a paragraph that are left, in the order of the file.
+#[derive(Clone, Copy)]
+pub struct Fields<'a> {
+    text: &'a [u8],
+    places: &'a [Place],
+    ghost within: { IsTrue (list_all (lies_within (length text.now)) places.now) },
+    ghost fields: { IsTrue (are_fields (fields_at text.now places.now)) },
+}
+
+impl<'a> Iterator for Fields<'a> {
+    ghost use Rattle.std.specs.Iterator.{item_count, YieldsFirstBy};
+    ghost use Rattle.deb_syntax.specs.Raw.{field_of, fields_left};
+
+    type Item = RawField<'a>;
+
+    ghost next_gives = { YieldsFirstBy field_of fields_left };
+
+    ghost remaining = { item_count fields_left };
+
+    fn next(&mut self) -> Option<RawField<'a>> {
+        let (first, others) = self.places.split_first()?;
+        self.places = others;
+        Some(RawField::at(self.text, *first))
     }
 }

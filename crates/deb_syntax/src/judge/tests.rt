@@ -1,9 +1,28 @@
 //! Paragraphs, with their fields or their first refusal.
 
+ghost use Rattle.deb_base.specs.Bodies.{IsBody};
+
 use super::*;
-use crate::Raw;
+use crate::{Paragraphs, Raw};
+use deb_base::Input;
 use std::io::Write;
 use std::test::Fail;
+
+/// Asks for the body of a field.
+fn body_len(body: &[u8]) -> usize
+    requires { IsBody body.now }
+{
+    body.len()
+}
+
+/// How long the longest body is.
+fn longest_body(paragraph: &Raw<'_>) -> usize {
+    let mut longest = 0;
+    for field in paragraph.fields() {
+        longest = longest.max(body_len(field.body));
+    }
+    longest
+}
 
 /// A paragraph whose first line has number 1, and its fields: name, line and body.
 struct Accepted(
@@ -106,11 +125,11 @@ const REFUSED: [Refused; 24] = [
 
 #[test]
 fn fields_of_paragraphs(rt: HostRuntime) -> Result<(), Fail> {
-    let mut places = Vec::new(rt.alloc());
     for Accepted(text, fields) in &ACCEPTED {
         let shown = text.escape_ascii();
-        assert_eq!(rt; judge(rt.alloc(), text, 1, &mut places), Ok(()), "{shown}");
-        let paragraph = Raw::new(text, places.as_slice(), 1);
+        let mut reader = Input::new(*text);
+        let mut paragraphs = Paragraphs::new(rt.alloc());
+        let paragraph = paragraphs.next(&mut reader)?.ok_or("no paragraph")?;
         assert_eq!(rt; paragraph.len(), fields.len(), "{shown}");
         assert!(rt; !paragraph.is_empty(), "{shown}");
         assert_eq!(rt; paragraph.first_line(), 1, "{shown}");
@@ -123,6 +142,11 @@ fn fields_of_paragraphs(rt: HostRuntime) -> Result<(), Fail> {
             assert_eq!(rt; found.line, *line, "{shown}");
         }
         assert!(rt; paragraph.field(fields.len()).is_none(), "{shown}");
+        let longest = fields.iter().map(|(_, _, body)| body.len()).max();
+        assert_eq!(rt; Some(longest_body(&paragraph)), longest, "{shown}");
+        for (field, (name, _, _)) in paragraph.fields().zip(fields.iter()) {
+            assert_eq!(rt; field.name, *name, "{shown}");
+        }
         assert!(rt; paragraph.get(b"Absent").is_none(), "{shown}");
         assert!(rt; paragraph.get(b"").is_none(), "{shown}");
     }
@@ -131,10 +155,10 @@ fn fields_of_paragraphs(rt: HostRuntime) -> Result<(), Fail> {
 
 #[test]
 fn names_are_found_without_case(rt: HostRuntime) -> Result<(), Fail> {
-    let text: &[u8] = b"Pre-Depends: a\nX_Y: b";
-    let mut places = Vec::new(rt.alloc());
-    assert_eq!(rt; judge(rt.alloc(), text, 7, &mut places), Ok(()));
-    let paragraph = Raw::new(text, places.as_slice(), 7);
+    let text: &[u8] = b"\n\n\n\n\n\nPre-Depends: a\nX_Y: b";
+    let mut reader = Input::new(text);
+    let mut paragraphs = Paragraphs::new(rt.alloc());
+    let paragraph = paragraphs.next(&mut reader)?.ok_or("no paragraph")?;
     assert_eq!(rt; paragraph.first_line(), 7);
     let names: [(&[u8], Option<u64>); 6] = [
         (b"Pre-Depends", Some(7)),
@@ -171,13 +195,14 @@ fn a_hundred_thousand_fields(rt: HostRuntime) -> Result<(), Fail> {
         write!(text, "F{i}: x\n")?;
     }
     text.extend_from_slice(b"last:")?;
-    let mut places = Vec::new(rt.alloc());
-    assert_eq!(rt; judge(rt.alloc(), text.as_slice(), 11, &mut places), Ok(()));
-    let paragraph = Raw::new(text.as_slice(), places.as_slice(), 11);
+    let mut reader = Input::new(text.as_slice());
+    let mut paragraphs = Paragraphs::new(rt.alloc());
+    let paragraph = paragraphs.next(&mut reader)?.ok_or("no paragraph")?;
     assert_eq!(rt; paragraph.len(), 100_001);
     let last = paragraph.get(b"LAST").ok_or("no last field")?;
-    assert_eq!(rt; last.line, 100_011);
+    assert_eq!(rt; last.line, 100_001);
 
+    let mut places = Vec::new(rt.alloc());
     text.truncate(text.len() - 5);
     text.extend_from_slice(b"f0: x\nlast")?;
     let want = Fault::Refused(Refusal {
@@ -188,5 +213,31 @@ fn a_hundred_thousand_fields(rt: HostRuntime) -> Result<(), Fail> {
         judge(rt.alloc(), text.as_slice(), 11, &mut places),
         Err(want)
     );
+    Ok(())
+}
+
+#[test]
+fn names_beyond_the_few(rt: HostRuntime) -> Result<(), Fail> {
+    let mut places = Vec::new(rt.alloc());
+    for count in 30..36u64 {
+        let mut front = Vec::new(rt.alloc());
+        for i in 0..count {
+            write!(front, "F{i}: x\n")?;
+        }
+        for twice in [0, 29, count - 1] {
+            let mut text = Vec::new(rt.alloc());
+            text.extend_from_slice(front.as_slice())?;
+            write!(text, "f{twice}:")?;
+            let want = Fault::Refused(Refusal {
+                code: Code::DuplicateField,
+                line: count + 1,
+            });
+            let answer = judge(rt.alloc(), text.as_slice(), 1, &mut places);
+            assert_eq!(rt; answer, Err(want), "{count} {twice}");
+        }
+        front.extend_from_slice(b"G: x")?;
+        let answer = judge(rt.alloc(), front.as_slice(), 1, &mut places);
+        assert_eq!(rt; answer, Ok(()), "{count}");
+    }
     Ok(())
 }

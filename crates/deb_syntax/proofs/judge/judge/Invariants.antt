@@ -1,4 +1,5 @@
-use Rattle.std.proofs.Common.{◌≡◌, ◌+◌, ◌-◌, ◌<◌, ◌≤◌, length, drop, slice_index, Ok}
+use Rattle.std.proofs.Common.{◌≡◌, ◌+◌, ◌-◌, ◌<◌, ◌≤◌, length, drop, slice_index, Ok, IsTrue, IsUtf8}
+use Rattle.std.specs.List.{AllByRecursion}
 use Rattle.deb_base.specs.Bodies.{newline, pieces_of}
 use Rattle.deb_syntax.specs.Judging.{judged, lines_judged}
 use Rattle.deb_syntax.specs.Places.{begun_fields, StandsAt}
@@ -10,7 +11,8 @@ invariant-loop-names l = record {
   within : l.start ≤ length l.text;
   numbered : l.number ≤ l.first_line + l.start;
   behind : 0 < l.start → slice_index l.text (l.start - 1) ≡ newline;
-  stands : StandsAt l.text l.start l.places.items l.names.keys;
+  stands : StandsAt l.text l.start l.places.items l.names;
+  utf8 : IsTrue l.utf8 → AllByRecursion IsUtf8 (pieces_of (drop l.start l.text));
   so_far : judged l.first_line (pieces_of l.text) ≡ lines_judged l.number (Ok (begun_fields l.text l.places.items)) (pieces_of (drop l.start l.text));
 }
 

@@ -1,0 +1,331 @@
+-- A line that is read to its end, of whose bytes only those that came last are kept.
+use Rattle.std.proofs.Common.{◌≡◌, ℕ, ◌+◌, ◌-◌, ◌<◌, ◌≤◌, true, false, List, [], ◌∷◌, ◌++◌, Option, Some, None, Ok, Err, length, take, drop, IsTrue, IsFalse, refl, sym, ap, subst, ◌∙◌, append_assoc, arith, length-append, length-drop, length-take, append-nil}
+use Rattle.std.proofs.Math.Seq.{take-append-add, take-append_seam, drop-append-add, drop-append_seam}
+use Rattle.std.proofs.lemmas.List.{take-append-drop, take-append-le, take_all, take_rest, length-take-le}
+use Rattle.std.specs.Bool.{MatchBool}
+use Rattle.deb_base.specs.Bodies.{newline}
+use Rattle.deb_base.specs.declared.code.Code.TheVariants.{FileTooLong}
+use Rattle.deb_base.specs.declared.fault.Fault.TheVariants.{Refused}
+use Rattle.deb_base.specs.declared.refusal.Refusal.{Refusal}
+use Rattle.deb_syntax.specs.Lines.{file_limit}
+use Rattle.deb_syntax.specs.Feeding.{FeedState, piece_limit, Comes, Stays, KeepsFirst, Sees, room_of}
+use Rattle.deb_syntax.specs.Walking.{Describes, EndsIn, GoesAlong}
+use Rattle.deb_syntax.specs.Ahead.{room_ahead, IsAhead, DropsLine, FindsDropped, HasNewline, IsDropped, SameCounts}
+use Rattle.deb_syntax.specs.declared.begun.Begun.{Begun}
+use Rattle.deb_syntax.specs.declared.begun.AlongLine.{AlongLine}
+use Rattle.deb_syntax.specs.declared.take.Run.{Run}
+use Rattle.deb_syntax.specs.declared.feed.Sight.{Sight}
+use Rattle.deb_syntax.specs.declared.dropped.DroppedLine.{DroppedLine}
+use Rattle.deb_syntax.proofs.Feeds.{comes_whole, comes_end}
+
+-- so much of the line was seen, and the file goes on
+pub record Dropping (before : FeedState) (left_before : Option (List ℕ)) (run : Run) (feed : FeedState) (left : Option (List ℕ)) (begun : Begun) : Type 0 where
+  pub seen : List ℕ
+  pub describes : Describes begun seen
+  pub added : List ℕ
+  pub begins : seen ≡ drop run.bytes before.unread ++ added
+  pub bytes : feed.bytes ≡ before.bytes
+  pub lines : feed.lines ≡ before.lines
+  pub kept : take run.bytes feed.unread ≡ take run.bytes before.unread
+  pub within : run.bytes ≤ length feed.unread
+  pub more : IsFalse feed.ended
+  pub small : before.bytes ≤ file_limit
+  pub room : run.bytes + length seen ≤ room_ahead before
+  pub ahead : (text : List ℕ) → IsAhead text [] before left_before → (rest : List ℕ) × (left ≡ Some rest) × (text ≡ take run.bytes before.unread ++ (seen ++ rest))
+
+pub dropping-start : (before : FeedState) (left : Option (List ℕ)) (run : Run) → IsFalse before.ended → run.bytes ≤ length before.unread → length before.unread ≤ room_ahead before → Describes run.begun (drop run.bytes before.unread) → before.bytes ≤ file_limit → Dropping before left run before left run.begun
+dropping-start before left run more within room described small = record {
+  seen = drop run.bytes before.unread;
+  describes = described;
+  added = [];
+  begins = sym (append-nil (drop run.bytes before.unread));
+  bytes = refl;
+  lines = refl;
+  kept = refl;
+  within = within;
+  more = more;
+  small = small;
+  room = omega (arith, length-drop run.bytes before.unread);
+  ahead = λ text a. (
+    a.rest,
+    a.told,
+    a.whole
+        ∙ ap (λ zs. zs ++ a.rest) (sym (take-append-drop run.bytes before.unread))
+        ∙ append_assoc (take run.bytes before.unread) (drop run.bytes before.unread) a.rest,
+  );
+}
+
+-- what of a text stands behind the bytes that were seen: a piece, and what the source has left
+pub record PieceAhead (text front seen piece : List ℕ) (feed : FeedState) (left : Option (List ℕ)) : Type 0 where
+  pub rest : List ℕ
+  pub told : left ≡ Some rest
+  pub whole : text ≡ front ++ (seen ++ (piece ++ rest))
+  pub ended : IsTrue feed.ended → rest ≡ []
+
+-- a piece came behind what was seen of the line
+pub record Came (before : FeedState) (left_before : Option (List ℕ)) (run : Run) (feed : FeedState) (left : Option (List ℕ)) (begun : Begun) : Type 0 where
+  pub seen : List ℕ
+  pub describes : Describes begun seen
+  pub added : List ℕ
+  pub begins : seen ≡ drop run.bytes before.unread ++ added
+  pub bytes : feed.bytes ≡ before.bytes
+  pub lines : feed.lines ≡ before.lines
+  pub piece : List ℕ
+  pub front : length (take run.bytes before.unread) ≡ run.bytes
+  pub unread : feed.unread ≡ take run.bytes before.unread ++ piece
+  pub short : length piece ≤ piece_limit
+  pub small : before.bytes ≤ file_limit
+  pub room : run.bytes + length seen ≤ room_ahead before
+  pub ended : IsTrue feed.ended → piece ≡ []
+  pub more : IsFalse feed.ended → 0 < length piece
+  pub ahead : (text : List ℕ) → IsAhead text [] before left_before → PieceAhead text (take run.bytes before.unread) seen piece feed left
+
+pub came : (before : FeedState) (left_before : Option (List ℕ)) (run : Run) (feed mid after : FeedState) (left left_after : Option (List ℕ)) (begun : Begun) → Dropping before left_before run feed left begun → KeepsFirst feed run.bytes mid → Comes mid left after left_after → Came before left_before run after left_after begun
+came before left_before run feed mid after left left_after begun d keeps come = record {
+  seen = d.seen;
+  describes = d.describes;
+  added = d.added;
+  begins = d.begins;
+  bytes = come.bytes ∙ keeps.bytes ∙ d.bytes;
+  lines = come.lines ∙ keeps.lines ∙ d.lines;
+  piece = come.piece;
+  front = ap length (sym d.kept) ∙ length-take-le run.bytes feed.unread d.within;
+  unread = come.unread ∙ ap (λ zs. zs ++ come.piece) (keeps.unread ∙ d.kept);
+  short = come.short;
+  small = d.small;
+  room = d.room;
+  ended = come.ended;
+  more = come.more;
+  ahead = λ text a.
+      let so_far = d.ahead text a in
+      let next = comes_whole mid after so_far.0 left left_after so_far.1 come in
+      record {
+        rest = next.0;
+        told = next.1;
+        whole = so_far.2 ∙ ap (λ zs. take run.bytes before.unread ++ (d.seen ++ zs)) next.2;
+        ended = comes_end mid after next.0 left left_after next.1 come;
+      };
+}
+
+-- nothing has passed where nothing came
+pub stays-counts : (before : FeedState) (left_before : Option (List ℕ)) (run : Run) (feed mid after : FeedState) (left left_after : Option (List ℕ)) (begun : Begun) → Dropping before left_before run feed left begun → KeepsFirst feed run.bytes mid → Stays mid left after left_after → SameCounts before after
+stays-counts before left_before run feed mid after left left_after begun d keeps stays = record {
+  bytes = stays.bytes ∙ keeps.bytes ∙ d.bytes;
+  lines = stays.lines ∙ keeps.lines ∙ d.lines;
+}
+
+module _ (before : FeedState) (left_before : Option (List ℕ)) (run : Run) (after : FeedState) (left : Option (List ℕ)) (begun : Begun) (c : Came before left_before run after left begun) where
+  pub came-counts : SameCounts before after
+  came-counts = record { bytes = c.bytes; lines = c.lines }
+
+  pub came-small : after.bytes + begun.len ≤ file_limit
+  came-small = omega (arith, c.bytes, c.small, c.room, c.describes.len)
+
+  came-kept : take run.bytes after.unread ≡ take run.bytes before.unread
+  came-kept = ap (take run.bytes) c.unread ∙ ap (λ n. take n (take run.bytes before.unread ++ c.piece)) (sym c.front) ∙ take-append_seam (take run.bytes before.unread) c.piece
+
+  came-length : length after.unread ≡ run.bytes + length c.piece
+  came-length = omega (arith, ap length c.unread, length-append (take run.bytes before.unread) c.piece, c.front)
+
+  pub came-lines : (n : ℕ) → n ≡ after.lines → ◌≡◌ {A = Refusal} (record { code = FileTooLong; line = n + run.lines + 1 }) (record { code = FileTooLong; line = before.lines + run.lines + 1 })
+  came-lines n is = ap refusal (is ∙ c.lines)
+    where
+      refusal : ℕ → Refusal
+      refusal m = record { code = FileTooLong; line = m + run.lines + 1 }
+
+  -- how many bytes of the piece may be looked at
+  abbrev pub fresh_room : ℕ
+  fresh_room = room_ahead before - (run.bytes + length c.seen)
+
+  room-is : room_of after begun.len ≡ length (take run.bytes before.unread) + fresh_room
+  room-is = omega (arith, c.bytes, c.front, c.room, c.describes.len)
+
+  seen-is : (sight : Sight) → Sees after begun.len sight → sight.seen.now ≡ take run.bytes before.unread ++ take fresh_room c.piece
+  seen-is sight sees =
+      sees.seen ∙ ap (take (room_of after begun.len)) c.unread ∙ ap (λ n. take n (take run.bytes before.unread ++ c.piece)) room-is
+      ∙ take-append-add (take run.bytes before.unread) c.piece fresh_room
+
+  pub came-fresh : (sight : Sight) → Sees after begun.len sight → drop run.bytes sight.seen.now ≡ take fresh_room c.piece
+  came-fresh sight sees =
+      ap (drop run.bytes) (seen-is sight sees) ∙ ap (λ n. drop n (take run.bytes before.unread ++ take fresh_room c.piece)) (sym c.front)
+      ∙ drop-append_seam (take run.bytes before.unread) (take fresh_room c.piece)
+
+  pub came-bound : (sight : Sight) → Sees after begun.len sight → run.bytes ≤ length sight.seen.now
+  came-bound sight sees = omega (arith, ap length (seen-is sight sees), length-append (take run.bytes before.unread) (take fresh_room c.piece), c.front)
+
+  pub fresh-short : length (take fresh_room c.piece) ≤ length c.piece
+  fresh-short = omega (arith, ap length (take-append-drop fresh_room c.piece), length-append (take fresh_room c.piece) (drop fresh_room c.piece))
+
+  all-fresh : length after.unread ≤ room_of after begun.len → take fresh_room c.piece ≡ c.piece
+  all-fresh le = take_all fresh_room c.piece (omega (arith, le, came-length, room-is, c.front))
+
+  begins-with : (fresh : List ℕ) → c.seen ++ fresh ≡ drop run.bytes before.unread ++ (c.added ++ fresh)
+  begins-with fresh = ap (λ zs. zs ++ fresh) c.begins ∙ append_assoc (drop run.bytes before.unread) c.added fresh
+
+  abbrev drops : (next : DroppedLine) (fresh : List ℕ) → Describes next.line (c.seen ++ fresh) → DropsLine before run next after
+  drops next fresh described = record {
+    line = c.seen ++ fresh;
+    describes = described;
+    more = c.added ++ fresh;
+    begins = begins-with fresh;
+    bytes = c.bytes;
+    lines = c.lines;
+    kept = came-kept;
+    within = omega (arith, came-length);
+  }
+
+  -- what the line is with these bytes
+  pub went : (sight : Sight) (next : AlongLine) → Sees after begun.len sight → ((seen : List ℕ) → Describes begun seen → GoesAlong seen (take (length sight.seen.now - run.bytes) (drop run.bytes sight.seen.now)) next) → GoesAlong c.seen (take fresh_room c.piece) next
+  went sight next sees goes = subst (λ zs. GoesAlong c.seen zs next) (take_rest sight.seen.now run.bytes ∙ came-fresh sight sees) (goes c.seen c.describes)
+
+  -- it is no longer than a number can be
+  pub came-fits : (sight : Sight) → Sees after begun.len sight → begun.len + length (take (length sight.seen.now - run.bytes) (drop run.bytes sight.seen.now)) < 18446744073709551616
+  unfolding file_limit
+  came-fits sight sees =
+      let fresh : length (take (length sight.seen.now - run.bytes) (drop run.bytes sight.seen.now)) ≡ length (take fresh_room c.piece) = ap length (take_rest sight.seen.now run.bytes ∙ came-fresh sight sees) in
+      omega (arith, fresh, fresh-short, c.short, came-small)
+
+  pub went-ended : (next : AlongLine) → GoesAlong c.seen (take fresh_room c.piece) next → next.ended ≡ true → EndsIn c.seen (take fresh_room c.piece) next.begun
+  went-ended next goes is = subst (λ t. MatchBool t (EndsIn c.seen (take fresh_room c.piece) next.begun) (Describes next.begun (c.seen ++ take fresh_room c.piece))) is goes
+
+  pub went-on : (next : AlongLine) → GoesAlong c.seen (take fresh_room c.piece) next → next.ended ≡ false → Describes next.begun (c.seen ++ take fresh_room c.piece)
+  went-on next goes is = subst (λ t. MatchBool t (EndsIn c.seen (take fresh_room c.piece) next.begun) (Describes next.begun (c.seen ++ take fresh_room c.piece))) is goes
+
+  -- the line's newline is among these bytes
+  module _ (next : Begun) (e : EndsIn c.seen (take fresh_room c.piece) next) where
+    pub ended-longer : begun.len ≤ next.len
+    ended-longer = omega (arith, e.describes.len, c.describes.len, length-append c.seen e.more)
+
+    fresh-length : length (take fresh_room c.piece) ≡ length e.more + (length e.rest + 1)
+    fresh-length = omega (arith, ap length e.whole, length-append e.more (newline ∷ e.rest))
+
+    pub ended-fits : run.bytes + (next.len - begun.len) ≤ run.bytes + piece_limit
+    ended-fits = omega (arith, e.describes.len, c.describes.len, length-append c.seen e.more, fresh-length, fresh-short, c.short)
+
+    abbrev behind : List ℕ
+    behind = e.rest ++ drop fresh_room c.piece
+
+    piece-is : c.piece ≡ e.more ++ newline ∷ behind
+    piece-is = sym (take-append-drop fresh_room c.piece) ∙ ap (λ zs. zs ++ drop fresh_room c.piece) e.whole ∙ append_assoc e.more (newline ∷ e.rest) (drop fresh_room c.piece)
+
+    at-is : run.bytes + (next.len - begun.len) ≡ length (take run.bytes before.unread) + (length e.more + 0)
+    at-is = omega (arith, e.describes.len, c.describes.len, length-append c.seen e.more, c.front)
+
+    drop-at : drop (run.bytes + (next.len - begun.len)) after.unread ≡ newline ∷ behind
+    drop-at =
+        ap (drop (run.bytes + (next.len - begun.len))) (c.unread ∙ ap (λ zs. take run.bytes before.unread ++ zs) piece-is)
+        ∙ ap (λ n. drop n (take run.bytes before.unread ++ (e.more ++ newline ∷ behind))) at-is
+        ∙ drop-append-add (take run.bytes before.unread) (e.more ++ newline ∷ behind) (length e.more + 0)
+        ∙ drop-append-add e.more (newline ∷ behind) 0
+
+    ended-room : run.bytes + length (c.seen ++ e.more) + 1 ≤ room_ahead before
+    ended-room = omega (arith, length-append c.seen e.more, fresh-length, length-take fresh_room c.piece, c.room)
+
+    has-newline : HasNewline before run (c.seen ++ e.more) (Some (run.bytes + (next.len - begun.len))) after
+    has-newline = (
+      behind,
+      omega arith,
+      drop-at,
+      omega (arith, c.short, ap length piece-is, length-append e.more (newline ∷ behind)),
+      ended-room,
+    )
+
+    pub ended-found : FindsDropped before run (Ok (record { line = next; newline = Some (run.bytes + (next.len - begun.len)) })) after
+    ended-found = (drops _ e.more e.describes, has-newline)
+
+    pub ended-ahead : (text : List ℕ) → IsAhead text [] before left_before → IsDropped text before run (Ok (record { line = next; newline = Some (run.bytes + (next.len - begun.len)) })) after left
+    ended-ahead text a =
+        let p = c.ahead text a in (
+          drops _ e.more e.describes,
+          has-newline,
+          (
+            p.rest,
+            p.told,
+            p.whole
+                ∙ ap (λ zs. take run.bytes before.unread ++ (c.seen ++ (zs ++ p.rest))) piece-is
+                ∙ ap (λ zs. take run.bytes before.unread ++ (c.seen ++ zs)) (append_assoc e.more (newline ∷ behind) p.rest)
+                ∙ ap (λ zs. take run.bytes before.unread ++ zs) (sym (append_assoc c.seen e.more ((newline ∷ behind) ++ p.rest)))
+                ∙ ap (λ zs. take run.bytes before.unread ++ ((c.seen ++ e.more) ++ (zs ++ p.rest))) (sym drop-at),
+            p.ended,
+          ),
+        )
+
+  -- the line goes on through all of them
+  module _ (next : Begun) (d : Describes next (c.seen ++ take fresh_room c.piece)) where
+    abbrev whole-line : length after.unread ≤ room_of after begun.len → Describes next (c.seen ++ c.piece)
+    whole-line le = subst (λ zs. Describes next (c.seen ++ zs)) (all-fresh le) d
+
+    whole-room : length after.unread ≤ room_of after begun.len → run.bytes + length (c.seen ++ c.piece) ≤ room_ahead before
+    whole-room le = omega (arith, length-append c.seen c.piece, came-length, room-is, c.front, c.room, le)
+
+    -- and goes on behind them
+    pub more-dropping : length after.unread ≤ room_of after begun.len → IsFalse after.ended → Dropping before left_before run after left next
+    more-dropping le more = record {
+      seen = c.seen ++ c.piece;
+      describes = whole-line le;
+      added = c.added ++ c.piece;
+      begins = begins-with c.piece;
+      bytes = c.bytes;
+      lines = c.lines;
+      kept = came-kept;
+      within = omega (arith, came-length);
+      more = more;
+      small = c.small;
+      room = whole-room le;
+      ahead = λ text a.
+          let p = c.ahead text a in
+          (p.rest, p.told, p.whole ∙ ap (λ zs. take run.bytes before.unread ++ zs) (sym (append_assoc c.seen c.piece p.rest)));
+    }
+
+    pub more-smaller : length after.unread ≤ room_of after begun.len → IsFalse after.ended → file_limit - next.len < file_limit - begun.len
+    more-smaller le more = omega (arith, (whole-line le).len, length-append c.seen c.piece, whole-room le, c.more more, c.describes.len, c.small)
+
+    -- and the file ends
+    none-has : IsTrue after.ended → after.unread ≡ take run.bytes before.unread
+    none-has ended = c.unread ∙ ap (λ zs. take run.bytes before.unread ++ zs) (c.ended ended) ∙ append-nil (take run.bytes before.unread)
+
+    pub none-found : length after.unread ≤ room_of after begun.len → IsTrue after.ended → FindsDropped before run (Ok (record { line = next; newline = None })) after
+    none-found le ended = (drops _ c.piece (whole-line le), (none-has ended, ended, whole-room le))
+
+    pub none-ahead : length after.unread ≤ room_of after begun.len → IsTrue after.ended → (text : List ℕ) → IsAhead text [] before left_before → IsDropped text before run (Ok (record { line = next; newline = None })) after left
+    none-ahead le ended text a =
+        let p = c.ahead text a in (
+          drops _ c.piece (whole-line le),
+          (none-has ended, ended, whole-room le),
+          (
+            p.whole
+                ∙ ap (λ zs. take run.bytes before.unread ++ (c.seen ++ (c.piece ++ zs))) (p.ended ended)
+                ∙ ap (λ zs. take run.bytes before.unread ++ (c.seen ++ zs)) (append-nil c.piece),
+            p.told ∙ ap (λ zs. Some zs) (p.ended ended),
+          ),
+        )
+
+    -- and beyond what may be looked at
+    pub beyond-ahead : (refusal : Refusal) → room_of after begun.len < length after.unread → refusal ≡ record { code = FileTooLong; line = before.lines + run.lines + 1 } → (text : List ℕ) → IsAhead text [] before left_before → IsDropped text before run (Err (Refused refusal)) after left
+    beyond-ahead refusal long is text a =
+        let p = c.ahead text a in
+        let room : room_ahead before ≡ length (take run.bytes before.unread) + (length c.seen + fresh_room) = omega (arith, c.front, c.room) in
+        let few : fresh_room ≤ length c.piece = omega (arith, came-length, room-is, c.front, long) in (
+          is,
+          omega (
+            arith,
+            ap length p.whole,
+            length-append (take run.bytes before.unread) (c.seen ++ (c.piece ++ p.rest)),
+            length-append c.seen (c.piece ++ p.rest),
+            length-append c.piece p.rest,
+            came-length,
+            room-is,
+            c.front,
+            long,
+            room,
+          ),
+          (
+            c.seen ++ take fresh_room c.piece,
+            ap (take (room_ahead before)) p.whole
+                ∙ ap (λ n. take n (take run.bytes before.unread ++ (c.seen ++ (c.piece ++ p.rest)))) room
+                ∙ take-append-add (take run.bytes before.unread) (c.seen ++ (c.piece ++ p.rest)) (length c.seen + fresh_room)
+                ∙ ap (λ zs. take run.bytes before.unread ++ zs) (take-append-add c.seen (c.piece ++ p.rest) fresh_room)
+                ∙ ap (λ zs. take run.bytes before.unread ++ (c.seen ++ zs)) (take-append-le fresh_room c.piece p.rest few),
+            d.line,
+          ),
+        )

@@ -1,0 +1,58 @@
+-- Fields that pass the test of a paragraph's fields: those that lines spell.
+use Rattle.std.proofs.Common.{◌&&◌, ◌≡◌, ℕ, zero, suc, ◌+◌, ◌<◌, ◌≤◌, true, not, List, [], ◌∷◌, ◌++◌, length, get_or, subst, refl, ap, arith, Ok, IsTrue, IsUtf8}
+use Rattle.std.specs.List.{AllByRecursion}
+use Rattle.std.proofs.lemmas.Bool.{and_parts, and_from}
+use Rattle.deb_base.specs.Bodies.{Line, IsBody, is_body, paragraph_limit, pieces_of}
+use Rattle.deb_base.specs.FieldNames.{is_name}
+use Rattle.deb_base.proofs.BodyLemmas.{IsBody-from_test, is_body-from_IsBody}
+use Rattle.deb_syntax.specs.Lines.{Paragraph, total_length}
+use Rattle.deb_syntax.specs.Fields.{Field, SpellsField, SpellsFields, SpellsParagraph, AreDistinct, has_name, is_field, are_fields}
+use Rattle.deb_syntax.specs.Judging.{judged}
+use Rattle.deb_syntax.specs.Extents.{AreNotBlank}
+use Rattle.deb_syntax.specs.Places.{field_at, fields_at}
+use Rattle.deb_syntax.specs.declared.place.Place.{Place}
+use Rattle.deb_syntax.proofs.FieldBytes.{IsUtf8-body}
+use Rattle.deb_syntax.proofs.JudgingLaws.{all_left, all_right}
+use Rattle.deb_syntax.proofs.JudgingLawsRefusals.{not_blank-solid}
+use Rattle.deb_syntax.proofs.JudgingLawsSound.{judged-sound_from}
+use Rattle.deb_syntax.proofs.LinesLawsTexts.{pieces_of-no_newline}
+
+is_field-from_spells : (own : List Line) (field : Field) → AllByRecursion IsUtf8 own → SpellsField own field → is_field field ≡ true
+is_field-from_spells own field text spells =
+    and_from _ _ spells.name (is_body-from_IsBody field.body (record { shape = spells.body; text = IsUtf8-body own field text spells }))
+
+are_fields-from : (fields : List Field) (n : ℕ) (lines : List Line) → AllByRecursion IsUtf8 lines → SpellsFields n lines fields → AreDistinct fields → are_fields fields ≡ true
+are_fields-from [] n lines text spelt distinct = refl
+are_fields-from (field ∷ fields) n lines text spelt distinct =
+    let text' : AllByRecursion IsUtf8 (spelt.0 ++ spelt.1) = subst (AllByRecursion IsUtf8) spelt.2 text in
+    let rest = are_fields-from fields (n + length spelt.0) spelt.1 (all_right IsUtf8 spelt.0 spelt.1 text') spelt.5 distinct.1 in
+    and_from _ _ (and_from _ _ (is_field-from_spells spelt.0 field (all_left IsUtf8 spelt.0 spelt.1 text') spelt.4) (ap not distinct.0)) rest
+
+-- the fields that a paragraph's lines spell
+pub are_fields-from_spells : (paragraph : Paragraph) (fields : List Field) → SpellsParagraph paragraph fields → are_fields fields ≡ true
+are_fields-from_spells paragraph fields s = are_fields-from fields paragraph.first paragraph.lines s.text s.spelt s.distinct
+
+-- what is judged of the pieces of a text, none blank and within the limit
+pub are_fields-judged : (n : ℕ) (text : List ℕ) (fields : List Field) → AreNotBlank (pieces_of text) → total_length (pieces_of text) ≤ paragraph_limit → judged n (pieces_of text) ≡ Ok fields → are_fields fields ≡ true
+are_fields-judged n text fields not_blank short is =
+    are_fields-from_spells _ fields (judged-sound_from n (pieces_of text) fields (pieces_of-no_newline text) (not_blank-solid (pieces_of text) not_blank short) is)
+
+-- the field at one of the places
+pub is_field-at : (text : List ℕ) (places : List Place) (i : ℕ) (d : Place) → i < length places → are_fields (fields_at text places) ≡ true → is_field (field_at text (get_or places i d)) ≡ true
+is_field-at text [] i d h are = absurd (omega arith)
+is_field-at text (p ∷ ps) zero d h are =
+    (and_parts (is_field (field_at text p)) _ (and_parts _ (are_fields (fields_at text ps)) are).0).0
+is_field-at text (p ∷ ps) (suc i) d h are = is_field-at text ps i d (omega arith) (and_parts _ (are_fields (fields_at text ps)) are).1
+
+-- the parts of the test of one field
+pub is_field-body : (field : Field) → is_field field ≡ true → IsBody field.body
+is_field-body field h = IsBody-from_test field.body (and_parts (is_name field.name) (is_body field.body) h).1
+
+pub is_field-name : (field : Field) → is_field field ≡ true → IsTrue (is_name field.name)
+is_field-name field h = (and_parts (is_name field.name) (is_body field.body) h).0
+
+-- the first of fields that are a paragraph's
+pub IsBody-first : (fields more : List Field) (field : Field) → fields ≡ field ∷ more → are_fields fields ≡ true → IsBody field.body
+IsBody-first fields more field is are =
+    let parts = and_parts (is_field field && not (has_name field.name more)) (are_fields more) (subst (λ fs. are_fields fs ≡ true) is are) in
+    is_field-body field (and_parts (is_field field) _ parts.0).0

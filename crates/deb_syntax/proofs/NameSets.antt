@@ -1,0 +1,61 @@
+-- Names that stood before, one after another, and a set that keeps them.
+use Rattle.std.proofs.Common.{◌≡◌, ℕ, ◌+◌, ◌<◌, Bool, true, false, cond, ◌||◌, List, [], ◌∷◌, ◌++◌, length, map, take, drop, get_or, refl, sym, ap, ◌∙◌, subst}
+use Rattle.std.specs.List.{list_any}
+use Rattle.std.specs.Str.{bytes_eq}
+use Rattle.std.specs.Cmp.Lexicographic.{nat_list_eq_equiv}
+use Rattle.std.proofs.lemmas.List.{drop_more, take_more, map_push}
+use Rattle.std.proofs.lemmas.List.Folds.{list_any-append}
+use Rattle.std.proofs.lemmas.Slice.Eq.{bytes_eq-Decides}
+use Rattle.deb_base.specs.Names.{folded}
+use Rattle.deb_syntax.specs.Places.{name_at, has_stood, is_kept}
+use Rattle.deb_syntax.specs.declared.folded_name.FoldedName.{FoldedName}
+use Rattle.deb_syntax.specs.declared.place.Place.{Place}
+use Rattle.deb_syntax.proofs.Pieces.{not_true}
+
+or_false : (b : Bool) → (b || false) ≡ b
+or_false true = refl
+or_false false = refl
+
+-- a search from one place on
+module _ (text name : List ℕ) (places : List Place) (i : ℕ) (d : Place) (within : i < length places) where
+  step : has_stood name (map (name_at text) (drop i places)) ≡ (bytes_eq (folded (name_at text (get_or places i d))) (folded name) || has_stood name (map (name_at text) (drop (i + 1) places)))
+  step = ap (λ l. has_stood name (map (name_at text) l)) (drop_more places i d within)
+
+  pub has_stood-found : folded (name_at text (get_or places i d)) ≡ folded name → has_stood name (map (name_at text) (drop i places)) ≡ true
+  has_stood-found same = step ∙ ap (λ t. t || has_stood name (map (name_at text) (drop (i + 1) places))) ((bytes_eq-Decides (folded (name_at text (get_or places i d))) (folded name)).1 same)
+
+  pub has_stood-passed : (folded (name_at text (get_or places i d)) ≡ folded name → ⊥) → has_stood name (map (name_at text) (drop i places)) ≡ has_stood name (map (name_at text) (drop (i + 1) places))
+  has_stood-passed other = step ∙ ap (λ t. t || has_stood name (map (name_at text) (drop (i + 1) places))) (not_true _ (λ e. other ((bytes_eq-Decides (folded (name_at text (get_or places i d))) (folded name)).0 e)))
+
+-- one name more
+pub has_stood-push : (stood : List (List ℕ)) (name other : List ℕ) → has_stood other (stood ++ name ∷ []) ≡ (has_stood other stood || bytes_eq (folded name) (folded other))
+has_stood-push stood name other = list_any-append (λ s. bytes_eq (folded s) (folded other)) stood (name ∷ []) ∙ ap (λ t. has_stood other stood || t) (or_false (bytes_eq (folded name) (folded other)))
+
+pub has_stood-more : (text name : List ℕ) (places : List Place) (i : ℕ) (d : Place) → i < length places → has_stood name (map (name_at text) (take (i + 1) places)) ≡ (has_stood name (map (name_at text) (take i places)) || bytes_eq (folded (name_at text (get_or places i d))) (folded name))
+has_stood-more text name places i d within =
+    ap (λ l. has_stood name (map (name_at text) l)) (take_more places i d within)
+    ∙ ap (has_stood name) (map_push (name_at text) (take i places) (get_or places i d))
+    ∙ has_stood-push (map (name_at text) (take i places)) (name_at text (get_or places i d)) name
+
+pub is_kept-push : (names : List FoldedName) (n : FoldedName) (other : List ℕ) → is_kept other (names ++ n ∷ []) ≡ (is_kept other names || bytes_eq (folded n.0.now) (folded other))
+is_kept-push names n other =
+    list_any-append (λ o. bytes_eq (folded other) (folded o.0.now)) names (n ∷ [])
+    ∙ ap (λ t. is_kept other names || t) (or_false (bytes_eq (folded other) (folded n.0.now)) ∙ nat_list_eq_equiv.symm (folded other) (folded n.0.now))
+
+-- a name that is kept already
+pub is_kept-again : (names : List FoldedName) (name other : List ℕ) → is_kept name names ≡ true → is_kept other names ≡ (is_kept other names || bytes_eq (folded name) (folded other))
+is_kept-again names name other kept = go (bytes_eq (folded name) (folded other)) refl
+  where
+    go : (b : Bool) → bytes_eq (folded name) (folded other) ≡ b → is_kept other names ≡ (is_kept other names || b)
+    go true is =
+        let same : is_kept other names ≡ true = subst (λ f. list_any (λ o. bytes_eq f (folded o.0.now)) names ≡ true) ((bytes_eq-Decides (folded name) (folded other)).0 is) kept in
+        same ∙ ap (λ t. t || true) (sym same)
+    go false is = sym (or_false (is_kept other names))
+
+-- a name is inserted
+pub is_kept-insert : (names more : List FoldedName) (n : FoldedName) (other : List ℕ) → more ≡ cond (is_kept n.0.now names) names (names ++ n ∷ []) → is_kept other more ≡ (is_kept other names || bytes_eq (folded n.0.now) (folded other))
+is_kept-insert names more n other is = go (is_kept n.0.now names) refl is
+  where
+    go : (b : Bool) → is_kept n.0.now names ≡ b → more ≡ cond b names (names ++ n ∷ []) → is_kept other more ≡ (is_kept other names || bytes_eq (folded n.0.now) (folded other))
+    go true kept e = ap (is_kept other) e ∙ is_kept-again names n.0.now other kept
+    go false new e = ap (is_kept other) e ∙ is_kept-push names n other

@@ -1,0 +1,119 @@
+-- What passes of a text: blank lines, a paragraph, or all that is left.
+use Rattle.std.proofs.Common.{◌≡◌, ◌≢◌, ℕ, ◌+◌, ◌≤◌, ◌⊎◌, inl, inr, true, List, [], ◌∷◌, ◌++◌, length, refl, sym, ap, ◌∙◌, append_assoc, arith, length-append}
+use Rattle.std.proofs.lemmas.List.{append-nil}
+use Rattle.std.specs.List.{AllByRecursion}
+use Rattle.deb_base.specs.Bodies.{Line, HasNoNewline, newline}
+use Rattle.deb_syntax.specs.Extents.{AreBlank, AreNotBlank}
+use Rattle.deb_syntax.specs.Lines.{lines_of, with_newlines, ends_line, ends_blank, IsClosed, Paragraph, paragraphs_from, paragraphs_of}
+use Rattle.deb_syntax.specs.Walking.{StandInFront}
+use Rattle.deb_syntax.proofs.Boundaries.{lines_of-append, ends_line-both, ends_line-append}
+use Rattle.deb_syntax.proofs.LinesLawsTexts.{lines_of-with_newlines}
+use Rattle.deb_syntax.proofs.NextParagraph.{paragraphs_from-append, no_paragraph, next_paragraph, blank-ends, ends_blank-append}
+
+-- what has passed is closed, or nothing follows it
+abbrev pub IsBehind : (passed more : List ℕ) → Type 0
+IsBehind passed more = IsClosed passed ⊎ (more ≡ [])
+
+pub lines_behind : (passed more : List ℕ) → IsBehind passed more → lines_of (passed ++ more) ≡ lines_of passed ++ lines_of more
+lines_behind passed more (inl closed) = lines_of-append passed more closed.0
+lines_behind passed more (inr none) =
+    ap (λ zs. lines_of (passed ++ zs)) none ∙ ap lines_of (append-nil passed) ∙ sym (append-nil (lines_of passed)) ∙ ap (λ zs. lines_of passed ++ lines_of zs) (sym none)
+
+pub paragraphs_behind : (passed more : List ℕ) → IsBehind passed more → paragraphs_of (passed ++ more) ≡ paragraphs_of passed ++ paragraphs_from (1 + length (lines_of passed)) (lines_of more)
+paragraphs_behind passed more (inl closed) =
+    ap (paragraphs_from 1) (lines_of-append passed more closed.0) ∙ paragraphs_from-append 1 (lines_of passed) (lines_of more) closed.1
+paragraphs_behind passed more (inr none) =
+    ap (λ zs. paragraphs_of (passed ++ zs)) none ∙ ap paragraphs_of (append-nil passed) ∙ sym (append-nil (paragraphs_of passed))
+    ∙ ap (λ zs. paragraphs_of passed ++ paragraphs_from (1 + length (lines_of passed)) (lines_of zs)) (sym none)
+
+-- a text is what has passed and what hasn't; the first has so many bytes and lines
+pub record IsCut (text passed ahead : List ℕ) (count lines_count : ℕ) : Type 0 where
+  pub whole : text ≡ passed ++ ahead
+  pub bytes : count ≡ length passed
+  pub lines : lines_count ≡ length (lines_of passed)
+  pub behind : IsBehind passed ahead
+
+nothing : (a b : List ℕ) → a ++ b ≡ [] → (a ≡ []) × (b ≡ [])
+nothing [] b e = (refl, e)
+nothing (x ∷ a) b e = absurd cc
+
+-- whole lines end a line
+pub ends_line-with_newlines : (lines : List Line) → ends_line (with_newlines lines) ≡ true
+ends_line-with_newlines [] = refl
+ends_line-with_newlines (line ∷ lines) =
+    let apart : line ++ newline ∷ with_newlines lines ≡ (line ++ newline ∷ []) ++ with_newlines lines = sym (append_assoc line (newline ∷ []) (with_newlines lines)) in
+    ap ends_line apart ∙ ends_line-both (line ++ newline ∷ []) (with_newlines lines) (ends_line-append [] line) (ends_line-with_newlines lines)
+
+-- closed lines and more of them
+closed_more : (passed more : List ℕ) → IsClosed passed → IsClosed more → IsClosed (passed ++ more)
+closed_more passed more a b = (ends_line-both passed more a.0 b.0, go (lines_of more) refl)
+  where
+    go : (lines : List Line) → lines_of more ≡ lines → ends_blank (lines_of (passed ++ more)) ≡ true
+    go [] is = ap ends_blank (lines_of-append passed more a.0 ∙ ap (λ ls. lines_of passed ++ ls) is ∙ append-nil (lines_of passed)) ∙ a.1
+    go (line ∷ lines) is =
+        let some : line ∷ lines ≢ [] = λ e. cc in
+        ap ends_blank (lines_of-append passed more a.0 ∙ ap (λ ls. lines_of passed ++ ls) is) ∙ ends_blank-append (lines_of passed) (line ∷ lines) some (ap ends_blank (sym is) ∙ b.1)
+
+module _ (text passed ahead : List ℕ) (bytes lines : ℕ) (cut : IsCut text passed ahead bytes lines) where
+  -- a front of what hasn't passed has passed
+  pub cut_more : (front more : List ℕ) → ahead ≡ front ++ more → (IsClosed front ⊎ (more ≡ [])) → IsCut text (passed ++ front) more (bytes + length front) (lines + length (lines_of front))
+  cut_more front more is closed = record {
+    whole = cut.whole ∙ ap (λ zs. passed ++ zs) is ∙ sym (append_assoc passed front more);
+    bytes = omega (arith, cut.bytes, length-append passed front);
+    lines = omega (arith, cut.lines, ap length (lines_behind passed front front_behind), length-append (lines_of passed) (lines_of front));
+    behind = go cut.behind closed;
+  }
+    where
+      front_behind : IsBehind passed front
+      front_behind = elim cut.behind [ inl c ↦ inl c | inr none ↦ inr (nothing front more (sym is ∙ none)).0 ]
+
+      go : IsBehind passed ahead → (IsClosed front ⊎ (more ≡ [])) → IsBehind (passed ++ front) more
+      go b (inr none) = inr none
+      go (inl c) (inl d) = inl (closed_more passed front c d)
+      go (inr none) (inl d) = inr (nothing front more (sym is ∙ none)).1
+
+  front_paragraphs : (front more : List ℕ) → ahead ≡ front ++ more → paragraphs_of (passed ++ front) ≡ paragraphs_of passed ++ paragraphs_from (1 + length (lines_of passed)) (lines_of front)
+  front_paragraphs front more is =
+      paragraphs_behind passed front (elim cut.behind [ inl c ↦ inl c | inr none ↦ inr (nothing front more (sym is ∙ none)).0 ])
+
+  -- blank lines in front
+  pub cut_blanks : (blanks : List Line) (more : List ℕ) → StandInFront ahead blanks more → AreBlank blanks → IsCut text (passed ++ with_newlines blanks) more (bytes + length (with_newlines blanks)) (lines + length blanks) × (paragraphs_of (passed ++ with_newlines blanks) ≡ paragraphs_of passed)
+  cut_blanks blanks more front blank =
+      let is = lines_of-with_newlines blanks front.lines in
+      let closed : IsClosed (with_newlines blanks) = (ends_line-with_newlines blanks, ap ends_blank is ∙ blank-ends blanks blank) in (
+        subst_lines (with_newlines blanks) is (cut_more (with_newlines blanks) more front.text (inl closed)),
+        front_paragraphs (with_newlines blanks) more front.text ∙ ap (λ ls. paragraphs_of passed ++ paragraphs_from (1 + length (lines_of passed)) ls) is
+            ∙ ap (λ ps. paragraphs_of passed ++ ps) (no_paragraph (1 + length (lines_of passed)) blanks blank) ∙ append-nil (paragraphs_of passed),
+      )
+    where
+      subst_lines : (front : List ℕ) → lines_of front ≡ blanks → IsCut text (passed ++ front) more (bytes + length front) (lines + length (lines_of front)) → IsCut text (passed ++ front) more (bytes + length front) (lines + length blanks)
+      subst_lines front is c = record { whole = c.whole; bytes = c.bytes; lines = ap (λ ls. lines + length ls) (sym is) ∙ c.lines; behind = c.behind }
+
+  -- only blank lines are left
+  pub cut_all : AreBlank (lines_of ahead) → IsCut text text [] (bytes + length ahead) (lines + length (lines_of ahead)) × (paragraphs_of text ≡ paragraphs_of passed)
+  cut_all blank =
+      let whole : passed ++ ahead ≡ text = sym cut.whole in
+      let c = cut_more ahead [] (sym (append-nil ahead)) (inr refl) in (
+        record {
+          whole = sym (append-nil text);
+          bytes = c.bytes ∙ ap length whole;
+          lines = c.lines ∙ ap (λ zs. length (lines_of zs)) whole;
+          behind = inr refl;
+        },
+        ap paragraphs_of cut.whole ∙ front_paragraphs ahead [] (sym (append-nil ahead))
+            ∙ ap (λ ps. paragraphs_of passed ++ ps) (no_paragraph (1 + length (lines_of passed)) (lines_of ahead) blank) ∙ append-nil (paragraphs_of passed),
+      )
+
+  -- a paragraph, and blank lines behind it
+  pub paragraphs-passed : (front more : List ℕ) (line : Line) (run ending : List Line) → ahead ≡ front ++ more → lines_of front ≡ (line ∷ run) ++ ending → AreNotBlank (line ∷ run) → AreBlank ending → paragraphs_of (passed ++ front) ≡ paragraphs_of passed ++ record { first = lines + 1; lines = line ∷ run } ∷ []
+  paragraphs-passed front more line run ending is front_lines not_blank blank =
+      let number : 1 + length (lines_of passed) + 0 ≡ lines + 1 = omega (arith, cut.lines) in
+      let some : line ∷ run ≢ [] = λ e. cc in
+      front_paragraphs front more is ∙ ap (λ ls. paragraphs_of passed ++ paragraphs_from (1 + length (lines_of passed)) ls) front_lines
+      ∙ ap (λ ps. paragraphs_of passed ++ ps) (next_paragraph (1 + length (lines_of passed)) [] (line ∷ run) ending tt not_blank some (begins ending blank)
+      ∙ ap (λ ps. record { first = 1 + length (lines_of passed) + 0; lines = line ∷ run } ∷ ps) (no_paragraph (1 + length (lines_of passed) + 0 + length (line ∷ run)) ending blank)
+      ∙ ap (λ n. record { first = n; lines = line ∷ run } ∷ []) number)
+    where
+      begins : (lines : List Line) → AreBlank lines → Rattle.deb_syntax.specs.Lines.begins_blank lines ≡ true
+      begins [] h = refl
+      begins (l ∷ ls) h = h.0

@@ -1,0 +1,20 @@
+use Rattle.std.proofs.Common.{take, drop, suc, arith}
+use Rattle.std.proofs.lemmas.Bool.{eqb-true}
+use Rattle.deb_syntax.proofs.WalkingSteps.{line-found, line-none, newline_at}
+use Rattle.deb_syntax.proofs.begun.along.Goals as goal
+
+pub returns-in-Some : goal.returns-in-Some
+returns-in-Some c = λ seen described.
+    let fresh = c.args.fresh.now in
+    let found = c.in-Some.ensures in
+    let n = c.in-Some.len in
+    record {
+      more = take n fresh;
+      rest = drop (suc n) fresh;
+      whole = newline_at fresh n found.0.high (eqb-true _ _ found.1);
+      describes = c.with.ensures seen described (line-found fresh n (λ k lt. found.0.before k (omega arith) lt) found.0.high);
+    }
+
+pub returns-in-None : goal.returns-in-None
+returns-in-None c = λ seen described.
+    c.with-in-None.ensures seen described (line-none c.args.fresh.now (λ k lt. c.in-None.ensures k (omega arith) lt))

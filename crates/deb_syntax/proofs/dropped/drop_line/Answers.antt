@@ -1,0 +1,108 @@
+use Rattle.std.proofs.Common.{◌∙◌, ◌+◌, ◌-◌, ◌≤◌, refl, sym, subst, arith, IsFalse}
+use Rattle.deb_syntax.specs.Feeding.{feed_state, IsTail}
+use Rattle.deb_syntax.proofs.Feeds.{feed_small}
+use Rattle.deb_syntax.proofs.Dropping.{dropping-start, came, stays-counts, came-counts, came-small, came-bound, came-fits, came-lines, ended-fits, went, went-ended, went-on, ended-longer, ended-found, ended-ahead, more-dropping, more-smaller, none-found, none-ahead, beyond-ahead}
+use Rattle.deb_syntax.proofs.dropped.drop_line.Goals as goal
+
+pub pieces-init : goal.pieces-init
+pieces-init g c = record {
+  dropping = dropping-start (feed_state c.args.feed.now) (g.R.Source.left c.args.reader.now) c.args.run c.requires.more c.requires.within c.requires.room c.requires.seen (feed_small c.args.feed.now);
+  counted = refl;
+}
+
+pub keep-requires : goal.keep-requires
+keep-requires g c = c.pieces.invariant.dropping.within
+
+pub take-requires-clause-more : goal.take-requires-clause-more
+take-requires-clause-more g c = subst IsFalse (sym c.keep.ensures.keeps.ended) c.pieces.invariant.dropping.more
+
+pub returns-in_err-take-clause-same : goal.returns-in_err-take-clause-same
+returns-in_err-take-clause-same g c = stays-counts _ _ _ _ _ _ _ _ _ c.pieces.invariant.dropping c.keep.ensures.keeps c.in_err-take.ensures.failed
+
+pub sight-sight-requires : goal.sight-sight-requires
+sight-sight-requires g c =
+    let here = came _ _ _ _ _ _ _ _ _ c.pieces.invariant.dropping c.keep.ensures.keeps c.in_ok-take.ensures.taken in
+    came-small _ _ _ _ _ _ here
+
+pub slice_bounds-along-count : goal.slice_bounds-along-count
+slice_bounds-along-count g c =
+    let here = came _ _ _ _ _ _ _ _ _ c.pieces.invariant.dropping c.keep.ensures.keeps c.in_ok-take.ensures.taken in
+    came-bound _ _ _ _ _ _ here _ c.sight-sight.ensures
+
+pub overflow_sub-result : goal.overflow_sub-result
+overflow_sub-result g c =
+    let here = came _ _ _ _ _ _ _ _ _ c.pieces.invariant.dropping c.keep.ensures.keeps c.in_ok-take.ensures.taken in
+    ended-longer _ _ _ _ _ _ here _ (went-ended _ _ _ _ _ _ here _ (went _ _ _ _ _ _ here _ _ c.sight-sight.ensures c.along-next.ensures) c.if-next.true)
+
+pub returns-then-next-clause-found : goal.returns-then-next-clause-found
+returns-then-next-clause-found g c =
+    let here = came _ _ _ _ _ _ _ _ _ c.pieces.invariant.dropping c.keep.ensures.keeps c.in_ok-take.ensures.taken in
+    ended-found _ _ _ _ _ _ here _ (went-ended _ _ _ _ _ _ here _ (went _ _ _ _ _ _ here _ _ c.sight-sight.ensures c.along-next.ensures) c.if-next.true)
+
+pub returns-then-next-clause-ahead : goal.returns-then-next-clause-ahead
+returns-then-next-clause-ahead g c =
+    let here = came _ _ _ _ _ _ _ _ _ c.pieces.invariant.dropping c.keep.ensures.keeps c.in_ok-take.ensures.taken in
+    ended-ahead _ _ _ _ _ _ here _ (went-ended _ _ _ _ _ _ here _ (went _ _ _ _ _ _ here _ _ c.sight-sight.ensures c.along-next.ensures) c.if-next.true)
+
+pub returns-then-next-clause-same : goal.returns-then-next-clause-same
+returns-then-next-clause-same g c = came-counts _ _ _ _ _ _ (came _ _ _ _ _ _ _ _ _ c.pieces.invariant.dropping c.keep.ensures.keeps c.in_ok-take.ensures.taken)
+
+pub returns-in-Nothing-clause-same : goal.returns-in-Nothing-clause-same
+returns-in-Nothing-clause-same g c = came-counts _ _ _ _ _ _ (came _ _ _ _ _ _ _ _ _ c.pieces.invariant.dropping c.keep.ensures.keeps c.in_ok-take.ensures.taken)
+
+pub returns-in-Beyond-clause-same : goal.returns-in-Beyond-clause-same
+returns-in-Beyond-clause-same g c = came-counts _ _ _ _ _ _ (came _ _ _ _ _ _ _ _ _ c.pieces.invariant.dropping c.keep.ensures.keeps c.in_ok-take.ensures.taken)
+
+pub pieces-preserved : goal.pieces-preserved
+pieces-preserved g c =
+    let here = came _ _ _ _ _ _ _ _ _ c.pieces.invariant.dropping c.keep.ensures.keeps c.in_ok-take.ensures.taken in
+    let tail = subst (IsTail (feed_state c.take.new.self) c.pieces.begun.len) c.in-More.is c.sight-sight.ensures.tail in
+    record {
+      dropping = more-dropping _ _ _ _ _ _ here _ (went-on _ _ _ _ _ _ here _ (went _ _ _ _ _ _ here _ _ c.sight-sight.ensures c.along-next.ensures) c.if-next.false) tail.0 tail.1;
+      counted = c.in_ok-take.ensures.counted ∙ c.pieces.invariant.counted;
+    }
+
+pub pieces-smaller : goal.pieces-smaller
+pieces-smaller g c =
+    let here = came _ _ _ _ _ _ _ _ _ c.pieces.invariant.dropping c.keep.ensures.keeps c.in_ok-take.ensures.taken in
+    let tail = subst (IsTail (feed_state c.take.new.self) c.pieces.begun.len) c.in-More.is c.sight-sight.ensures.tail in
+    more-smaller _ _ _ _ _ _ here _ (went-on _ _ _ _ _ _ here _ (went _ _ _ _ _ _ here _ _ c.sight-sight.ensures c.along-next.ensures) c.if-next.false) tail.0 tail.1
+
+pub returns-in-Nothing-clause-found : goal.returns-in-Nothing-clause-found
+returns-in-Nothing-clause-found g c =
+    let here = came _ _ _ _ _ _ _ _ _ c.pieces.invariant.dropping c.keep.ensures.keeps c.in_ok-take.ensures.taken in
+    let tail = subst (IsTail (feed_state c.take.new.self) c.pieces.begun.len) c.in-Nothing.is c.sight-sight.ensures.tail in
+    none-found _ _ _ _ _ _ here _ (went-on _ _ _ _ _ _ here _ (went _ _ _ _ _ _ here _ _ c.sight-sight.ensures c.along-next.ensures) c.if-next.false) tail.0 tail.1
+
+pub returns-in-Nothing-clause-ahead : goal.returns-in-Nothing-clause-ahead
+returns-in-Nothing-clause-ahead g c =
+    let here = came _ _ _ _ _ _ _ _ _ c.pieces.invariant.dropping c.keep.ensures.keeps c.in_ok-take.ensures.taken in
+    let tail = subst (IsTail (feed_state c.take.new.self) c.pieces.begun.len) c.in-Nothing.is c.sight-sight.ensures.tail in
+    none-ahead _ _ _ _ _ _ here _ (went-on _ _ _ _ _ _ here _ (went _ _ _ _ _ _ here _ _ c.sight-sight.ensures c.along-next.ensures) c.if-next.false) tail.0 tail.1
+
+pub returns-in-Beyond-clause-ahead : goal.returns-in-Beyond-clause-ahead
+returns-in-Beyond-clause-ahead g c =
+    let here = came _ _ _ _ _ _ _ _ _ c.pieces.invariant.dropping c.keep.ensures.keeps c.in_ok-take.ensures.taken in
+    let tail = subst (IsTail (feed_state c.take.new.self) c.pieces.begun.len) c.in-Beyond.is c.sight-sight.ensures.tail in
+    beyond-ahead _ _ _ _ _ _ here _ (went-on _ _ _ _ _ _ here _ (went _ _ _ _ _ _ here _ _ c.sight-sight.ensures c.along-next.ensures) c.if-next.false) _ tail (came-lines _ _ _ _ _ _ here _ c.lines.ensures)
+
+pub returns-then-next-clause-counted : goal.returns-then-next-clause-counted
+returns-then-next-clause-counted g c = c.in_ok-take.ensures.counted ∙ c.pieces.invariant.counted
+
+pub returns-in-Nothing-clause-counted : goal.returns-in-Nothing-clause-counted
+returns-in-Nothing-clause-counted g c = c.in_ok-take.ensures.counted ∙ c.pieces.invariant.counted
+
+pub returns-in-Beyond-clause-counted : goal.returns-in-Beyond-clause-counted
+returns-in-Beyond-clause-counted g c = c.in_ok-take.ensures.counted ∙ c.pieces.invariant.counted
+
+pub along-next-requires : goal.along-next-requires
+along-next-requires g c =
+    let here = came _ _ _ _ _ _ _ _ _ c.pieces.invariant.dropping c.keep.ensures.keeps c.in_ok-take.ensures.taken in
+    came-fits _ _ _ _ _ _ here _ c.sight-sight.ensures
+
+pub overflow_add-result : goal.overflow_add-result
+overflow_add-result g c =
+    let here = came _ _ _ _ _ _ _ _ _ c.pieces.invariant.dropping c.keep.ensures.keeps c.in_ok-take.ensures.taken in
+    let fits : c.args.run.bytes + (c.along-next.result.begun.len - c.pieces.begun.len) ≤ c.args.run.bytes + 65536 = ended-fits _ _ _ _ _ _ here _ (went-ended _ _ _ _ _ _ here _ (went _ _ _ _ _ _ here _ _ c.sight-sight.ensures c.along-next.ensures) c.if-next.true) in
+    let short : c.args.run.bytes ≤ 16777216 = c.requires.short in
+    omega (arith, fits, short)

@@ -1,0 +1,53 @@
+use Rattle.std.proofs.Common.{◌∙◌, sym, arith}
+use Rattle.deb_base.specs.Bodies.{paragraph_limit}
+use Rattle.deb_syntax.specs.Feeding.{feed_state}
+use Rattle.deb_syntax.proofs.EndingSteps.{open-few, file-some, file-none-found, file-none-ahead, file-last-found, file-last-ahead, file-long-ahead}
+use Rattle.deb_syntax.proofs.Feeds.{feed_few}
+use Rattle.deb_syntax.proofs.ending.ended_by_file.Goals as goal
+
+pub ended_by_end-requires-clause-some : goal.ended_by_end-requires-clause-some
+ended_by_end-requires-clause-some c =
+    file-some (feed_state c.args.feed.now) c.args.run c.requires.stops (sym (c.is_blank.ensures _ c.requires.stops.stands.describes) ∙ c.if-is_blank.true)
+
+pub ended_by_end-requires-clause-lines : goal.ended_by_end-requires-clause-lines
+unfolding paragraph_limit
+ended_by_end-requires-clause-lines c =
+    omega (arith, open-few (feed_state c.args.feed.now).unread c.args.run c.requires.stops, c.requires.stops.stands.short)
+
+pub returns-then-is_blank-clause-found : goal.returns-then-is_blank-clause-found
+returns-then-is_blank-clause-found c =
+    let r = c.ended_by_end.ensures in
+    file-none-found (feed_state c.args.feed.now) c.args.run c.requires.stops _ (sym (c.is_blank.ensures _ c.requires.stops.stands.describes) ∙ c.if-is_blank.true) c.requires.room r.end r.skip r.bytes r.none r.one
+
+pub returns-then-is_blank-clause-ahead : goal.returns-then-is_blank-clause-ahead
+returns-then-is_blank-clause-ahead c =
+    let r = c.ended_by_end.ensures in
+    λ text left a.
+    file-none-ahead (feed_state c.args.feed.now) c.args.run c.requires.stops text left _ (sym (c.is_blank.ensures _ c.requires.stops.stands.describes) ∙ c.if-is_blank.true) c.requires.room r.end r.skip r.bytes r.none r.one c.requires.ended a
+
+pub refused-requires : goal.refused-requires
+unfolding paragraph_limit
+refused-requires c =
+    omega (arith, open-few (feed_state c.args.feed.now).unread c.args.run c.requires.stops, c.requires.stops.stands.short, feed_few c.args.feed.now, c.args.feed.now.small)
+
+pub returns-then-all-ge-PARAGRAPH_LIMIT-clause-ahead : goal.returns-then-all-ge-PARAGRAPH_LIMIT-clause-ahead
+unfolding paragraph_limit
+returns-then-all-ge-PARAGRAPH_LIMIT-clause-ahead c =
+    λ text left a.
+    file-long-ahead (feed_state c.args.feed.now) c.args.run c.requires.stops text left _ (sym (c.is_blank.ensures _ c.requires.stops.stands.describes) ∙ c.if-is_blank.false) c.requires.room c.if-all-ge-PARAGRAPH_LIMIT.true c.requires.ended c.refused.ensures a
+
+pub overflow_add-result : goal.overflow_add-result
+unfolding paragraph_limit
+overflow_add-result c =
+    omega (arith, open-few (feed_state c.args.feed.now).unread c.args.run c.requires.stops, c.requires.stops.stands.short)
+
+pub returns-clause-found : goal.returns-clause-found
+unfolding paragraph_limit
+returns-clause-found c =
+    file-last-found (feed_state c.args.feed.now) c.args.run c.requires.stops (sym (c.is_blank.ensures _ c.requires.stops.stands.describes) ∙ c.if-is_blank.false) c.requires.room c.if-all-ge-PARAGRAPH_LIMIT.false
+
+pub returns-clause-ahead : goal.returns-clause-ahead
+unfolding paragraph_limit
+returns-clause-ahead c =
+    λ text left a.
+    file-last-ahead (feed_state c.args.feed.now) c.args.run c.requires.stops text left (sym (c.is_blank.ensures _ c.requires.stops.stands.describes) ∙ c.if-is_blank.false) c.requires.room c.if-all-ge-PARAGRAPH_LIMIT.false c.requires.ended a

@@ -1,0 +1,112 @@
+use Rattle.std.proofs.Common.{◌∙◌, length, Ok, Err, refl, sym, ap, subst, arith}
+use Rattle.std.proofs.lemmas.Bool.{false≢true}
+use Rattle.deb_base.specs.Bodies.{paragraph_limit}
+use Rattle.deb_syntax.specs.Feeding.{feed_state, IsTail}
+use Rattle.deb_syntax.specs.declared.take.Stop.TheVariants.{Open, Blank, TooLong}
+use Rattle.deb_syntax.proofs.EndingWalks.{walks-start, walks-more, reads-less, same-ahead, sees-unread, seen-stops, unread-stops, stops-few, blank-some, stop-blank-found, stop-blank-ahead, stop-long-ahead, stop-beyond-ahead}
+use Rattle.deb_syntax.proofs.Feeds.{feed_small}
+use Rattle.deb_syntax.proofs.ending.paragraph_extent.Goals as goal
+
+pub pieces-init : goal.pieces-init
+pieces-init g c = record {
+  walks = walks-start (feed_state c.args.feed.now) (g.R.Source.left c.args.reader.now) c.args.begun c.requires;
+  counted = refl;
+  quiet = λ e. (e, refl);
+}
+
+pub sight-sight-requires : goal.sight-sight-requires
+sight-sight-requires g c = omega (arith, feed_small c.pieces.feed)
+
+pub ended_by_blank-requires-clause-some : goal.ended_by_blank-requires-clause-some
+ended_by_blank-requires-clause-some g c =
+    blank-some (feed_state c.pieces.feed) c.take_lines-taken.result.run
+    (seen-stops (feed_state c.pieces.feed) c.sight-sight.result c.take_lines-taken.result.stop Blank c.take_lines-taken.result.run c.sight-sight.ensures c.in-Blank.is c.take_lines-taken.ensures)
+
+pub ended_by_blank-requires-clause-lines : goal.ended_by_blank-requires-clause-lines
+unfolding paragraph_limit
+ended_by_blank-requires-clause-lines g c = omega (arith, stops-few _ _ _ c.take_lines-taken.ensures, c.take_lines-taken.ensures.stands.short)
+
+pub returns-in-Blank-clause-found : goal.returns-in-Blank-clause-found
+returns-in-Blank-clause-found g c =
+    stop-blank-found (feed_state c.pieces.feed) c.take_lines-taken.result.run
+    (seen-stops (feed_state c.pieces.feed) c.sight-sight.result c.take_lines-taken.result.stop Blank c.take_lines-taken.result.run c.sight-sight.ensures c.in-Blank.is c.take_lines-taken.ensures)
+    _ c.pieces.invariant.walks.near c.ended_by_blank.ensures
+
+pub returns-in-Blank-clause-ahead : goal.returns-in-Blank-clause-ahead
+returns-in-Blank-clause-ahead g c = λ text a.
+    let state = feed_state c.pieces.feed in
+    let w = c.pieces.invariant.walks in
+    same-ahead text (feed_state c.args.feed.now) state state (g.R.Source.left c.pieces.reader) (Ok c.ended_by_blank.result) w.counts
+    (stop-blank-ahead state c.take_lines-taken.result.run
+    (seen-stops state c.sight-sight.result c.take_lines-taken.result.stop Blank c.take_lines-taken.result.run c.sight-sight.ensures c.in-Blank.is c.take_lines-taken.ensures)
+    text (g.R.Source.left c.pieces.reader) c.ended_by_blank.result w.near c.ended_by_blank.ensures (w.ahead text a))
+
+pub refused-requires : goal.refused-requires
+unfolding paragraph_limit
+refused-requires g c =
+    omega (arith, stops-few _ _ _ c.take_lines-taken.ensures, c.take_lines-taken.ensures.stands.short, c.pieces.feed.few, c.pieces.feed.small)
+
+pub returns-in-TooLong-clause-ahead : goal.returns-in-TooLong-clause-ahead
+returns-in-TooLong-clause-ahead g c = λ text a.
+    let state = feed_state c.pieces.feed in
+    let w = c.pieces.invariant.walks in
+    same-ahead text (feed_state c.args.feed.now) state state (g.R.Source.left c.pieces.reader) (Err c.refused.result) w.counts
+    (stop-long-ahead state c.take_lines-taken.result.run
+    (seen-stops state c.sight-sight.result c.take_lines-taken.result.stop TooLong c.take_lines-taken.result.run c.sight-sight.ensures c.in-TooLong.is c.take_lines-taken.ensures)
+    text (g.R.Source.left c.pieces.reader) c.refused.result c.refused.ensures (w.ahead text a))
+
+pub extent_beyond-requires-clause-full : goal.extent_beyond-requires-clause-full
+unfolding paragraph_limit
+extent_beyond-requires-clause-full g c =
+    let state = feed_state c.pieces.feed in
+    let tail = subst (IsTail state 0) c.in-More.is c.sight-sight.ensures.tail in
+    let size = ap length (sees-unread state c.sight-sight.result c.sight-sight.ensures tail.0) in
+    omega (arith, size, c.if-is_full.true)
+
+pub returns-in-More-clause-ahead : goal.returns-in-More-clause-ahead
+returns-in-More-clause-ahead g c = λ text a.
+    let w = c.pieces.invariant.walks in
+    same-ahead text (feed_state c.args.feed.now) (feed_state c.pieces.feed) (feed_state c.extent_beyond.new.feed) _ _ w.counts
+    (c.extent_beyond.ensures.ahead text (w.ahead text a))
+
+pub pieces-smaller : goal.pieces-smaller
+unfolding paragraph_limit
+pieces-smaller g c =
+    let state = feed_state c.pieces.feed in
+    let tail = subst (IsTail state 0) c.in-More-2.is c.sight-sight.ensures.tail in
+    let size = ap length (sees-unread state c.sight-sight.result c.sight-sight.ensures tail.0) in
+    reads-less state (feed_state c.take.new.self) _ _ tail.1 (omega (arith, size, c.if-is_full.false)) c.in_ok-take-in-More-2.ensures.taken
+
+pub pieces-preserved : goal.pieces-preserved
+pieces-preserved g c =
+    let state = feed_state c.pieces.feed in
+    let tail = subst (IsTail state 0) c.in-More-2.is c.sight-sight.ensures.tail in
+    record {
+      walks = walks-more (feed_state c.args.feed.now) (g.R.Source.left c.args.reader.now) c.pieces.run c.take_lines-taken.result.run state (feed_state c.take.new.self)
+          (g.R.Source.left c.pieces.reader) (g.R.Source.left c.take.new.reader) c.pieces.invariant.walks
+          (unread-stops state c.sight-sight.result c.take_lines-taken.result.stop Open c.take_lines-taken.result.run c.sight-sight.ensures tail.0 c.in-Open.is c.take_lines-taken.ensures)
+          (omega (arith, tail.0)) c.in_ok-take-in-More-2.ensures.taken;
+      counted = c.in_ok-take-in-More-2.ensures.counted ∙ c.pieces.invariant.counted;
+      quiet = λ e. absurd (false≢true (sym tail.1 ∙ (c.pieces.invariant.quiet e).0));
+    }
+
+pub returns-in-Nothing-clause-ahead : goal.returns-in-Nothing-clause-ahead
+returns-in-Nothing-clause-ahead g c = λ text a.
+    let w = c.pieces.invariant.walks in
+    same-ahead text (feed_state c.args.feed.now) (feed_state c.pieces.feed) (feed_state c.pieces.feed) _ _ w.counts
+    (c.ended_by_file.ensures.ahead text _ (w.ahead text a))
+
+pub refused-requires-in-Beyond : goal.refused-requires-in-Beyond
+unfolding paragraph_limit
+refused-requires-in-Beyond g c =
+    omega (arith, stops-few _ _ _ c.take_lines-taken.ensures, c.take_lines-taken.ensures.stands.short, c.pieces.feed.few, c.pieces.feed.small)
+
+pub returns-in-Beyond-clause-ahead : goal.returns-in-Beyond-clause-ahead
+returns-in-Beyond-clause-ahead g c = λ text a.
+    let state = feed_state c.pieces.feed in
+    let w = c.pieces.invariant.walks in
+    let tail = subst (IsTail state 0) c.in-Beyond.is c.sight-sight.ensures.tail in
+    same-ahead text (feed_state c.args.feed.now) state state (g.R.Source.left c.pieces.reader) (Err c.refused-in-Beyond.result) w.counts
+    (stop-beyond-ahead state c.take_lines-taken.result.run
+    (seen-stops state c.sight-sight.result c.take_lines-taken.result.stop Open c.take_lines-taken.result.run c.sight-sight.ensures c.in-Open.is c.take_lines-taken.ensures)
+    (omega (arith, tail)) text (g.R.Source.left c.pieces.reader) c.refused-in-Beyond.result c.refused-in-Beyond.ensures (w.ahead text a))

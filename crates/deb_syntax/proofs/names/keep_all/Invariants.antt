@@ -1,0 +1,7 @@
+use Rattle.std.proofs.Common.{◌≡◌, ℕ, List, take, map}
+use Rattle.deb_syntax.specs.Places.{name_at, has_stood, is_kept}
+use Rattle.deb_syntax.proofs.names.keep_all.Given as goal
+
+-- the names so far are kept
+abbrev pub invariant-loop-place : goal.invariant-loop-place
+invariant-loop-place l = (name : List ℕ) → is_kept name l.all.keys ≡ has_stood name (map (name_at l.text) (take l.place-index l.places))

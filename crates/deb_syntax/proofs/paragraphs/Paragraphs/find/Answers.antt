@@ -1,0 +1,54 @@
+use Rattle.std.proofs.Common.{◌≡◌, ◌+◌, ◌≤◌, Ok, Err, refl, sym, ap, ◌∙◌, arith}
+use Rattle.deb_base.specs.Devices.{read_failures_after}
+use Rattle.deb_syntax.specs.Feeding.{feed_state}
+use Rattle.deb_syntax.specs.Paragraphs.{state_of}
+use Rattle.deb_syntax.proofs.Advancing.{answers_behind, first_err, dropped_answer, is_line_refusal}
+use Rattle.deb_syntax.proofs.Feeds.{feed_small}
+use Rattle.deb_syntax.proofs.paragraphs.Paragraphs.find.Goals as goal
+
+pub returns-in-Ok-End-clause-advances : goal.returns-in-Ok-End-clause-advances
+returns-in-Ok-End-clause-advances g c = record {
+  answers = λ text passed fits. rw c.in-Ok-End.field-0-is at (c.in-Ok-End.ensures.first text passed fits);
+  counted = c.in-Ok-End.ensures.counted;
+  fault = tt;
+  current = c.in-Ok-End.ensures.none;
+}
+
+pub returns-in-Ok-Dropped-clause-advances : goal.returns-in-Ok-Dropped-clause-advances
+returns-in-Ok-Dropped-clause-advances g c =
+    let new = c.find_first.new.self in
+    let shows = rw c.in-Ok-Dropped.field-0-is at c.in-Ok-Dropped.ensures.shows in
+    record {
+      answers = λ text passed fits. dropped_answer text passed (feed_state new.feed) new.hidden new.finished _ new.fault _ _ (rw c.in-Ok-Dropped.field-0-is at (c.in-Ok-Dropped.ensures.first text passed fits)) shows.0 new.hides (feed_small new.feed) (ap (λ n. n + 1) c.lines.ensures);
+      counted = c.in-Ok-Dropped.ensures.counted;
+      fault = is_line_refusal c.lines.result;
+      current = tt;
+    }
+
+pub returns-in-Ok-clause-advances : goal.returns-in-Ok-clause-advances
+returns-in-Ok-clause-advances g c = record {
+  answers = λ text passed fits.
+      let b = rw c.in-Ok-Kept.field-0-is at (c.in-Ok-Kept.ensures.first text passed fits) in
+      answers_behind text passed b.passed_now (Ok (state_of c.find_end.new.self).current) (state_of c.find_end.new.self) (g.R.Source.left c.find_end.new.reader) b.passes (c.in-Ok.ensures.answers text b.passed_now b.again);
+  counted = c.in-Ok.ensures.counted ∙ c.in-Ok-Kept.ensures.counted;
+  fault = tt;
+  current = refl;
+}
+
+pub returns-in-Err-find_end-clause-advances : goal.returns-in-Err-find_end-clause-advances
+returns-in-Err-find_end-clause-advances g c = record {
+  answers = λ text passed fits.
+      let b = rw c.in-Ok-Kept.field-0-is at (c.in-Ok-Kept.ensures.first text passed fits) in
+      answers_behind text passed b.passed_now (Err c.in-Err-find_end.fault) (state_of c.find_end.new.self) (g.R.Source.left c.find_end.new.reader) b.passes (c.in-Err-find_end.ensures.answers text b.passed_now b.again);
+  counted = c.in-Err-find_end.ensures.counted ∙ ap (λ n. read_failures_after {T = Unit {0}} n (Err c.in-Err-find_end.fault)) c.in-Ok-Kept.ensures.counted;
+  fault = c.in-Err-find_end.ensures.fault;
+  current = tt;
+}
+
+pub returns-in-Err-clause-advances : goal.returns-in-Err-clause-advances
+returns-in-Err-clause-advances g c = record {
+  answers = λ text passed fits. first_err text passed c.in-Err.fault _ _ _ (c.in-Err.ensures.first text passed fits);
+  counted = c.in-Err.ensures.counted;
+  fault = c.in-Err.ensures.fault;
+  current = tt;
+}

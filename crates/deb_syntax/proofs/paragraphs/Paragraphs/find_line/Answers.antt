@@ -1,0 +1,36 @@
+use Rattle.std.proofs.Common.{◌+◌, ap}
+use Rattle.deb_syntax.specs.Feeding.{feed_state}
+use Rattle.deb_syntax.proofs.Advancing.{begins_line, first_begin_err}
+use Rattle.deb_syntax.proofs.paragraphs.Paragraphs.find_line.Goals as goal
+
+pub returns-in-Ok-End-clause-begins : goal.returns-in-Ok-End-clause-begins
+returns-in-Ok-End-clause-begins g c = record {
+  answers = λ text passed fits. rw c.in-Ok-End.field-0-is at (c.in-Ok-End.ensures.first text passed fits);
+  counted = c.in-Ok-End.ensures.counted;
+  fault = tt;
+  current = c.in-Ok-End.ensures.none;
+}
+
+pub returns-in-Ok-Kept-clause-begins : goal.returns-in-Ok-Kept-clause-begins
+returns-in-Ok-Kept-clause-begins g c = record {
+  answers = λ text passed fits. begins_line text passed _ _ _ (ap (λ n. n + 1) c.lines.ensures) c.find_first.new.self.near (rw c.in-Ok-Kept.field-0-is at (c.in-Ok-Kept.ensures.first text passed fits));
+  counted = c.in-Ok-Kept.ensures.counted;
+  fault = tt;
+  current = c.in-Ok-Kept.ensures.none;
+}
+
+pub returns-in-Ok-Dropped-clause-begins : goal.returns-in-Ok-Dropped-clause-begins
+returns-in-Ok-Dropped-clause-begins g c = record {
+  answers = λ text passed fits. begins_line text passed _ _ _ (ap (λ n. n + 1) c.lines-in-Ok-Dropped.ensures) c.find_first.new.self.near (rw c.in-Ok-Dropped.field-0-is at (c.in-Ok-Dropped.ensures.first text passed fits));
+  counted = c.in-Ok-Dropped.ensures.counted;
+  fault = tt;
+  current = c.in-Ok-Dropped.ensures.none;
+}
+
+pub returns-in-Err-clause-begins : goal.returns-in-Err-clause-begins
+returns-in-Err-clause-begins g c = record {
+  answers = λ text passed fits. first_begin_err text passed c.in-Err.fault _ _ _ (c.in-Err.ensures.first text passed fits);
+  counted = c.in-Err.ensures.counted;
+  fault = c.in-Err.ensures.fault;
+  current = c.in-Err.ensures.none;
+}

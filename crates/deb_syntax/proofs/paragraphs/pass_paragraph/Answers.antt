@@ -1,0 +1,38 @@
+use Rattle.std.proofs.Common.{◌≡◌, ◌+◌, ◌∷◌, Ok, IsTrue, List, ℕ, take, length, subst, arith}
+use Rattle.std.specs.List.{list_all}
+use Rattle.deb_base.specs.Bodies.{pieces_of}
+use Rattle.deb_syntax.specs.Feeding.{feed_state, buffer_of}
+use Rattle.deb_syntax.specs.Judging.{judged}
+use Rattle.deb_syntax.specs.Places.{IsFaultOf, fields_at, lies_within}
+use Rattle.deb_syntax.proofs.Advancing.{passes_next, judged_fault, judged_is_readers, stands_test, standing_fields}
+use Rattle.deb_syntax.proofs.paragraphs.pass_paragraph.Goals as goal
+
+pub returns-in-Err-clause-ahead : goal.returns-in-Err-clause-ahead
+returns-in-Err-clause-ahead g c = λ text is.
+    let found = c.in_ok-extent.ensures.ahead text is in
+    let number : c.lines-first_line.result + 1 ≡ (feed_state c.args.feed.now).lines + 1 = omega (arith, c.lines-first_line.ensures, c.in_ok-extent.ensures.same.lines) in
+    let judges = subst (λ (zs : List ℕ). IsFaultOf (judged (c.lines-first_line.result + 1) (pieces_of (take c.in_ok-extent.extent.end zs))) c.in-Err.fault) c.unread.ensures c.in-Err.ensures.fault in
+    judged_fault text (feed_state c.args.feed.now) (feed_state c.paragraph_extent.new.feed) _ (found.0.first ∷ found.0.run) _ c.in-Err.fault number found.2
+    (subst (λ ls. IsFaultOf (judged (c.lines-first_line.result + 1) ls) c.in-Err.fault) found.0.pieces judges)
+
+pub returns-in-Err-clause-fault : goal.returns-in-Err-clause-fault
+returns-in-Err-clause-fault g c = judged_is_readers (c.lines-first_line.result + 1) _ c.in-Err.fault (omega arith) c.in-Err.ensures.fault
+
+pub returns-in-Ok-clause-stands : goal.returns-in-Ok-clause-stands
+returns-in-Ok-clause-stands g c =
+    let n = c.lines-first_line.result + 1 in
+    let end = c.in_ok-extent.extent.end in
+    stands_test c.paragraph_extent.new.feed (buffer_of c.pass.new.self) c.in_ok-extent.extent c.start-from.result c.judge.new.places.items c.pass.ensures.buffer c.start-from.ensures c.in_ok-extent.ensures.found n
+    (subst (λ (zs : List ℕ). judged n (pieces_of (take end zs)) ≡ Ok (fields_at (take end zs) c.judge.new.places.items)) c.unread.ensures c.in-Ok.ensures.ok)
+    (subst (λ (zs : List ℕ). IsTrue (list_all (lies_within (length (take end zs))) c.judge.new.places.items)) c.unread.ensures c.in-Ok.ensures.within)
+
+pub returns-in-Ok-clause-ahead : goal.returns-in-Ok-clause-ahead
+returns-in-Ok-clause-ahead g c = λ text is.
+    let found = c.in_ok-extent.ensures.ahead text is in
+    let n = c.lines-first_line.result + 1 in
+    let end = c.in_ok-extent.extent.end in
+    let number : n ≡ (feed_state c.args.feed.now).lines + 1 = omega (arith, c.lines-first_line.ensures, c.in_ok-extent.ensures.same.lines) in
+    passes_next text (feed_state c.args.feed.now) (feed_state c.paragraph_extent.new.feed) (feed_state c.pass.new.self) _ c.in_ok-extent.extent found.0 _ c.in_ok-extent.ensures.same found.1 found.2 number
+    (standing_fields c.paragraph_extent.new.feed (buffer_of c.pass.new.self) c.in_ok-extent.extent c.start-from.result c.judge.new.places.items c.pass.ensures.buffer c.start-from.ensures found.0 _ _ number
+    (subst (λ (zs : List ℕ). judged n (pieces_of (take end zs)) ≡ Ok (fields_at (take end zs) c.judge.new.places.items)) c.unread.ensures c.in-Ok.ensures.ok))
+    c.pass.ensures.passes

@@ -1,0 +1,74 @@
+use Rattle.std.proofs.Common.{◌∙◌, ◌+◌, ◌∷◌, ◌≤◌, refl, sym, subst, arith}
+use Rattle.std.proofs.lemmas.Bool.{not-true, not-false}
+use Rattle.std.proofs.lemmas.List.{take_rest}
+use Rattle.deb_base.specs.Bodies.{newline, paragraph_limit}
+use Rattle.deb_syntax.specs.Walking.{GoesAlong}
+use Rattle.deb_syntax.proofs.WalkingRuns.{CanGoOn-within, CanGoOn-few, run-open-from, run-ended-from, run-step}
+use Rattle.deb_syntax.proofs.take.take_lines.Goals as goal
+
+pub loop-next-init : goal.loop-next-init
+loop-next-init c = record {
+  stands = c.requires;
+  within = CanGoOn-within c.args.text.now c.args.run c.requires;
+  few = CanGoOn-few c.args.text.now c.args.run c.requires;
+}
+
+pub returns-then-not-next : goal.returns-then-not-next
+returns-then-not-next c =
+    let text = c.args.text.now in
+    let l = c.loop-next in
+    run-open-from text (record { bytes = l.bytes; lines = l.lines; begun = l.begun }) c.along-next.result l.invariant.stands
+    (λ seen d. subst (λ zs. GoesAlong seen zs c.along-next.result) (take_rest text (l.bytes + l.begun.len)) (c.along-next.ensures seen d))
+    (not-true _ c.if-not-next.true)
+
+pub returns-then-is_blank : goal.returns-then-is_blank
+returns-then-is_blank c =
+    let text = c.args.text.now in
+    let l = c.loop-next in
+    let e = run-ended-from text (record { bytes = l.bytes; lines = l.lines; begun = l.begun }) c.along-next.result l.invariant.stands
+    (λ seen d. subst (λ zs. GoesAlong seen zs c.along-next.result) (take_rest text (l.bytes + l.begun.len)) (c.along-next.ensures seen d))
+    (not-false _ c.if-not-next.false) in
+    record {
+      lines = e.lines;
+      seen = e.seen;
+      fresh = newline ∷ e.rest;
+      stands = e.stands;
+      stopped = ((e.rest, refl), sym (c.is_blank.ensures e.seen e.stands.describes) ∙ c.if-is_blank.true);
+    }
+
+pub returns-then-bytes-next-ge-PARAGRAPH_LIMIT : goal.returns-then-bytes-next-ge-PARAGRAPH_LIMIT
+unfolding paragraph_limit
+returns-then-bytes-next-ge-PARAGRAPH_LIMIT c =
+    let text = c.args.text.now in
+    let l = c.loop-next in
+    let e = run-ended-from text (record { bytes = l.bytes; lines = l.lines; begun = l.begun }) c.along-next.result l.invariant.stands
+    (λ seen d. subst (λ zs. GoesAlong seen zs c.along-next.result) (take_rest text (l.bytes + l.begun.len)) (c.along-next.ensures seen d))
+    (not-false _ c.if-not-next.false) in
+    record {
+      lines = e.lines;
+      seen = e.seen;
+      fresh = newline ∷ e.rest;
+      stands = e.stands;
+      stopped = (
+        (e.rest, refl),
+        sym (c.is_blank.ensures e.seen e.stands.describes) ∙ c.if-is_blank.false,
+        omega (arith, e.stands.describes.len, c.if-bytes-next-ge-PARAGRAPH_LIMIT.true),
+      );
+    }
+
+pub loop-next-preserved : goal.loop-next-preserved
+unfolding paragraph_limit
+loop-next-preserved c =
+    let text = c.args.text.now in
+    let l = c.loop-next in
+    let e = run-ended-from text (record { bytes = l.bytes; lines = l.lines; begun = l.begun }) c.along-next.result l.invariant.stands
+    (λ seen d. subst (λ zs. GoesAlong seen zs c.along-next.result) (take_rest text (l.bytes + l.begun.len)) (c.along-next.ensures seen d))
+    (not-false _ c.if-not-next.false) in
+    let short : l.bytes + (c.along-next.result.begun.len + 1) ≤ paragraph_limit = omega (arith, c.if-bytes-next-ge-PARAGRAPH_LIMIT.false) in
+    let stands = run-step text (record { bytes = l.bytes; lines = l.lines; begun = c.along-next.result.begun }) c.nothing-begun.result e c.nothing-begun.ensures
+    (sym (c.is_blank.ensures e.seen e.stands.describes) ∙ c.if-is_blank.false) short in
+    record {
+      stands = stands;
+      within = CanGoOn-within text _ stands;
+      few = CanGoOn-few text _ stands;
+    }

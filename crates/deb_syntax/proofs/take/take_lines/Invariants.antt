@@ -1,0 +1,14 @@
+use Rattle.std.proofs.Common.{◌+◌, ◌-◌, ◌≤◌, length}
+use Rattle.deb_syntax.specs.Walking.{CanGoOn}
+use Rattle.deb_syntax.proofs.take.take_lines.Given as goal
+
+-- lines can be taken from there on
+abbrev pub invariant-loop-next : goal.invariant-loop-next
+invariant-loop-next l = record {
+  stands : CanGoOn l.text (record { bytes = l.bytes; lines = l.lines; begun = l.begun });
+  within : l.bytes + l.begun.len ≤ length l.text;
+  few : l.lines ≤ l.bytes;
+}
+
+abbrev pub decreases-loop-next : goal.decreases-loop-next
+decreases-loop-next l = length l.text - l.bytes

@@ -1,0 +1,74 @@
+//! Lines that come in pieces: what was seen of a line before its newline came (Debian Policy 5.1).
+
+ghost use Rattle.std.specs.Prelude.{◌≡◌, ◌+◌, ◌<◌, ◌^◌, ◌++◌, ℕ, List, [], length};
+ghost use Rattle.deb_base.specs.Bodies.{HasNoNewline, is_blank};
+ghost use Rattle.deb_syntax.specs.Walking.{Describes, GoesAlong};
+
+use crate::line::{PARAGRAPH_LIMIT, is_only_blanks};
+use memchr::memchr;
+
+/// What was seen of a line whose newline hasn't come yet.
+#[derive(Clone, Copy, Debug)]
+pub(crate) struct Begun {
+    /// How many bytes, none of them a newline.
+    pub(crate) len: usize,
+    /// Whether all of them are spaces and tabs.
+    pub(crate) blank: bool,
+}
+
+impl Begun {
+    /// A line of which nothing was seen.
+    pub(crate) fn nothing() -> Begun
+        ensures { Describes result [] }
+    {
+        Begun {
+            len: 0,
+            blank: true,
+        }
+    }
+
+    /// Whether the line is blank if it ends here.
+    #[tactic(auto, unfolding(deb_base::specs::Bodies::paragraph_limit))]
+    pub(crate) fn is_blank(self) -> bool
+        ensures { (seen : List ℕ) → Describes self seen → result ≡ is_blank seen }
+    {
+        self.len < PARAGRAPH_LIMIT && self.blank
+    }
+
+    /// The same line with more bytes of it.
+    fn with(self, bytes: &[u8]) -> Begun
+        requires { self.len + length bytes.now < 2 ^ 64 }
+        ensures { (seen : List ℕ) → Describes self seen → HasNoNewline bytes.now → Describes result (seen ++ bytes.now) }
+    {
+        Begun {
+            len: self.len + bytes.len(),
+            blank: self.blank && is_only_blanks(bytes),
+        }
+    }
+}
+
+/// How far a line goes in bytes that hadn't been looked at.
+#[derive(Clone, Copy, Debug)]
+pub(crate) struct AlongLine {
+    /// The line, with what these bytes add to it.
+    pub(crate) begun: Begun,
+    /// Whether its newline is among them.
+    pub(crate) ended: bool,
+}
+
+/// Goes on along a line through bytes that haven't been looked at: to its newline, or through all of them.
+pub(crate) fn along(fresh: &[u8], begun: Begun) -> AlongLine
+    requires { begun.len + length fresh.now < 2 ^ 64 }
+    ensures { (seen : List ℕ) → Describes begun seen → GoesAlong seen fresh.now result }
+{
+    match memchr(b'\n', fresh) {
+        Some(len) => AlongLine {
+            begun: begun.with(&fresh[..len]),
+            ended: true,
+        },
+        None => AlongLine {
+            begun: begun.with(fresh),
+            ended: false,
+        },
+    }
+}

@@ -1,0 +1,73 @@
+//! A line that is read to its end and not kept (this project's own: a paragraph's lines have a limit).
+
+ghost use Rattle.std.specs.Prelude.{◌≡◌, ◌≤◌, ℕ, List, [], length, drop, IfErr, IsFalse};
+ghost use Rattle.deb_base.specs.Devices.{read_failures_after};
+ghost use Rattle.deb_base.specs.Faults.{IsReadersFault};
+ghost use Rattle.deb_syntax.specs.Ahead.{room_ahead, IsAhead, FindsDropped, IsDropped, SameCounts};
+ghost use Rattle.deb_syntax.specs.Reading.{IsRefusalOfText};
+ghost use Rattle.deb_syntax.specs.Feeding.{feed_state};
+ghost use Rattle.deb_syntax.specs.Walking.{Describes};
+
+use crate::begun::{Begun, along};
+use crate::feed::{Feed, Tail};
+use crate::take::Run;
+use deb_base::{Code, Fault, Refusal, Source};
+
+/// A line of which no bytes are kept but those that came last.
+#[derive(Clone, Copy, Debug)]
+pub(crate) struct DroppedLine {
+    pub(crate) line: Begun,
+    /// Where its newline stands among the unread bytes, or `None` where the file ends with it.
+    pub(crate) newline: Option<usize>,
+}
+
+/// Goes to the end of the line behind a run of lines, and keeps none of its bytes but those that came last.
+///
+/// Refused: the line goes on beyond what a file may have (`FileTooLong`, at that line).
+pub(crate) fn drop_line<R: Source>(
+    feed: &mut Feed,
+    run: Run,
+    reader: &mut R,
+) -> Result<DroppedLine, Fault>
+    requires more { IsFalse (feed_state feed.old).ended }
+    requires short { run.bytes ≤ 16777216 }
+    requires within { run.bytes ≤ length (feed_state feed.old).unread }
+    requires room { length (feed_state feed.old).unread ≤ room_ahead (feed_state feed.old) }
+    requires seen { Describes run.begun (drop run.bytes (feed_state feed.old).unread) }
+    requires few { run.lines ≤ run.bytes }
+    ensures found { FindsDropped (feed_state feed.old) run result (feed_state feed.new) }
+    ensures ahead { (text : List ℕ) → IsAhead text [] (feed_state feed.old) (R.left reader.old) → IsDropped text (feed_state feed.old) run result (feed_state feed.new) (R.left reader.new) }
+    ensures same { SameCounts (feed_state feed.old) (feed_state feed.new) }
+    ensures fault { IfErr result (λ fault. IsReadersFault fault IsRefusalOfText) }
+    ensures counted { R.failures reader.new ≡ read_failures_after (R.failures reader.old) result }
+{
+    let mut begun = run.begun;
+    'pieces: loop {
+        feed.keep(run.bytes);
+        feed.take(reader)?;
+        let sight = feed.sight(begun.len as u64);
+        let tail = sight.tail;
+        let next = along(&sight.seen[run.bytes..], begun);
+        if next.ended {
+            return Ok(DroppedLine {
+                line: next.begun,
+                newline: Some(run.bytes + (next.begun.len - begun.len)),
+            });
+        }
+        match tail {
+            Tail::More => begun = next.begun,
+            Tail::Nothing => {
+                return Ok(DroppedLine {
+                    line: next.begun,
+                    newline: None,
+                });
+            }
+            Tail::Beyond => {
+                return Err(Fault::Refused(Refusal {
+                    code: Code::FileTooLong,
+                    line: feed.lines() + run.lines + 1,
+                }));
+            }
+        }
+    }
+}

@@ -1,0 +1,189 @@
+//! Where the next paragraph ends (Debian Policy 5.1).
+
+ghost use Rattle.std.specs.Prelude.{◌≡◌, ◌+◌, ◌-◌, ◌<◌, ◌≤◌, ◌^◌, ℕ, List, [], Option, length, IfErr, IsTrue, IsFalse};
+ghost use Rattle.deb_base.specs.Bodies.{paragraph_limit};
+ghost use Rattle.deb_base.specs.Devices.{read_failures_after};
+ghost use Rattle.deb_base.specs.Faults.{IsReadersFault};
+ghost use Rattle.deb_base.specs.declared.fault.Fault.TheVariants.{Refused};
+ghost use Rattle.deb_syntax.specs.Ahead.{room_ahead, IsAhead, KeepsLine, HasExtent, IsExtentAhead, SameCounts};
+ghost use Rattle.deb_syntax.specs.Reading.{IsRefusalOfText};
+ghost use Rattle.deb_syntax.specs.Feeding.{feed_state};
+ghost use Rattle.deb_syntax.specs.Walking.{Stops};
+ghost use Rattle.deb_syntax.specs.declared.take.Stop.TheVariants.{Open};
+
+use crate::begun::Begun;
+use crate::dropped::drop_line;
+use crate::feed::{Feed, Tail};
+use crate::line::PARAGRAPH_LIMIT;
+use crate::take::{Run, Stop, take_lines};
+use deb_base::{Code, Fault, Refusal, Source};
+
+/// Where the paragraph ends that begins the unread bytes.
+#[derive(Clone, Copy, Debug)]
+pub(crate) struct Extent {
+    /// Where its last line ends, without its newline.
+    pub(crate) end: usize,
+    /// How many unread bytes pass with it and with the blank line behind it.
+    pub(crate) skip: usize,
+    /// How many bytes of the file those are, with such as aren't kept.
+    pub(crate) bytes: u64,
+    /// How many lines.
+    pub(crate) lines: u64,
+}
+
+/// Where the paragraph ends that begins the unread bytes; so much was seen of its first line, which
+/// isn't blank.
+///
+/// Refused: with a line that isn't blank its lines are too long (`ParagraphTooLong`, at that line),
+/// or the file is too long and no blank line behind the paragraph is in sight (`FileTooLong`, at
+/// the line that is cut off).
+pub(crate) fn paragraph_extent<R: Source>(
+    feed: &mut Feed,
+    begun: Begun,
+    reader: &mut R,
+) -> Result<Extent, Fault>
+    requires { KeepsLine begun (feed_state feed.old) }
+    ensures found { HasExtent result (feed_state feed.new) }
+    ensures ahead { (text : List ℕ) → IsAhead text [] (feed_state feed.old) (R.left reader.old)
+        → IsExtentAhead text
+        (feed_state feed.old) result (feed_state feed.new) (R.left reader.new) }
+    ensures same { SameCounts (feed_state feed.old) (feed_state feed.new) }
+    ensures fault { IfErr result (λ fault. IsReadersFault fault IsRefusalOfText) }
+    ensures counted { R.failures reader.new ≡ read_failures_after (R.failures reader.old) result }
+    ensures quiet { IsTrue (feed_state feed.old).ended → reader.new ≡ reader.old }
+{
+    let mut run = Run {
+        bytes: 0,
+        lines: 0,
+        begun,
+    };
+    'pieces: loop {
+        let sight = feed.sight(0);
+        let tail = sight.tail;
+        let is_full = sight.seen.len() >= PARAGRAPH_LIMIT;
+        let taken = take_lines(sight.seen, run);
+        run = taken.run;
+        match taken.stop {
+            Stop::Blank => return Ok(ended_by_blank(run, run.bytes + run.begun.len)),
+            Stop::TooLong => return Err(refused(feed, Code::ParagraphTooLong, run)),
+            Stop::Open => {}
+        }
+        match tail {
+            Tail::More if is_full => return extent_beyond(feed, run, reader),
+            Tail::More => feed.take(reader)?,
+            Tail::Nothing => return ended_by_file(feed, run),
+            Tail::Beyond => return Err(refused(feed, Code::FileTooLong, run)),
+        }
+    }
+}
+
+/// The refusal at the line behind a run.
+fn refused(feed: &Feed, code: Code, run: Run) -> Fault
+    requires { (feed_state feed.now).lines + run.lines + 1 < 2 ^ 64 }
+    ensures { result
+        ≡ Refused (record { code = code; line = (feed_state feed.now).lines + run.lines + 1 }) }
+{
+    Fault::Refused(Refusal {
+        code,
+        line: feed.lines() + run.lines + 1,
+    })
+}
+
+/// The same where there is no room for the line behind the run beside it.
+fn extent_beyond<R: Source>(feed: &mut Feed, run: Run, reader: &mut R) -> Result<Extent, Fault>
+    requires more { IsFalse (feed_state feed.old).ended }
+    requires room { length (feed_state feed.old).unread ≤ room_ahead (feed_state feed.old) }
+    requires full { paragraph_limit ≤ length (feed_state feed.old).unread }
+    requires stops { Stops (feed_state feed.old).unread Open run }
+    ensures found { HasExtent result (feed_state feed.new) }
+    ensures ahead { (text : List ℕ) → IsAhead text [] (feed_state feed.old) (R.left reader.old)
+        → IsExtentAhead text
+        (feed_state feed.old) result (feed_state feed.new) (R.left reader.new) }
+    ensures same { SameCounts (feed_state feed.old) (feed_state feed.new) }
+    ensures fault { IfErr result (λ fault. IsReadersFault fault IsRefusalOfText) }
+    ensures counted { R.failures reader.new ≡ read_failures_after (R.failures reader.old) result }
+{
+    let dropped = drop_line(feed, run, reader)?;
+    if !dropped.line.is_blank() {
+        return Err(refused(feed, Code::ParagraphTooLong, run));
+    }
+    let ended = Run {
+        bytes: run.bytes,
+        lines: run.lines,
+        begun: dropped.line,
+    };
+    Ok(match dropped.newline {
+        Some(newline) => ended_by_blank(ended, newline),
+        None => ended_by_end(ended, run.bytes),
+    })
+}
+
+/// The same where no byte is left behind the line behind the run, whose newline is missing.
+fn ended_by_file(feed: &Feed, run: Run) -> Result<Extent, Fault>
+    requires ended { IsTrue (feed_state feed.now).ended }
+    requires room { length (feed_state feed.now).unread ≤ room_ahead (feed_state feed.now) }
+    requires stops { Stops (feed_state feed.now).unread Open run }
+    ensures found { HasExtent result (feed_state feed.now) }
+    ensures ahead { (text : List ℕ) → (left : Option (List ℕ))
+        → IsAhead text [] (feed_state feed.now) left
+        → IsExtentAhead text (feed_state feed.now) result (feed_state feed.now) left }
+    ensures fault { IfErr result (λ fault. IsReadersFault fault IsRefusalOfText) }
+    ensures counted { (failures : ℕ) → failures ≡ read_failures_after failures result }
+{
+    let all = run.bytes + run.begun.len;
+    if run.begun.is_blank() {
+        return Ok(ended_by_end(run, all));
+    }
+    if all >= PARAGRAPH_LIMIT {
+        return Err(refused(feed, Code::ParagraphTooLong, run));
+    }
+    Ok(Extent {
+        end: all,
+        skip: all,
+        bytes: all as u64,
+        lines: run.lines + 1,
+    })
+}
+
+/// A run that is ended by the blank line behind it, whose newline stands at `newline` of the unread
+/// bytes.
+fn ended_by_blank(run: Run, newline: usize) -> Extent
+    requires some { 0 < run.bytes }
+    requires bytes { run.bytes + run.begun.len + 1 < 2 ^ 64 }
+    requires lines { run.lines + 1 < 2 ^ 64 }
+    requires newline { newline + 1 < 2 ^ 64 }
+    ensures { result
+        ≡ record {
+          end = run.bytes - 1;
+          skip = newline + 1;
+          bytes = run.bytes + run.begun.len + 1;
+          lines = run.lines + 1;
+        } }
+{
+    Extent {
+        end: run.bytes - 1,
+        skip: newline + 1,
+        bytes: (run.bytes + run.begun.len) as u64 + 1,
+        lines: run.lines + 1,
+    }
+}
+
+/// A run that is ended by the file's end, behind a blank line without newline or behind nothing;
+/// `skip` bytes are unread.
+fn ended_by_end(run: Run, skip: usize) -> Extent
+    requires some { 0 < run.bytes }
+    requires bytes { run.bytes + run.begun.len < 2 ^ 64 }
+    requires lines { run.lines + 1 < 2 ^ 64 }
+    ensures end { result.end ≡ run.bytes - 1 }
+    ensures skip { result.skip ≡ skip }
+    ensures bytes { result.bytes ≡ run.bytes + run.begun.len }
+    ensures none { run.begun.len ≡ 0 → result.lines ≡ run.lines }
+    ensures one { 0 < run.begun.len → result.lines ≡ run.lines + 1 }
+{
+    Extent {
+        end: run.bytes - 1,
+        skip,
+        bytes: (run.bytes + run.begun.len) as u64,
+        lines: run.lines + u64::from(run.begun.len > 0),
+    }
+}

@@ -1,0 +1,188 @@
+//! The one buffer: a window on the file, whose bytes stay where they are until no room is left behind them.
+
+ghost use Rattle.std.specs.Prelude.{◌≡◌, ◌+◌, ◌<◌, ◌≤◌, cond, vec_len, IfOk, IfErr, OnOk, OnErr, IsErrOf, length, take, drop};
+ghost use Rattle.std.specs.Io.KnownBytes.{Keeps, ReadConsumes};
+ghost use Rattle.deb_base.specs.Devices.{read_failures_after, failures_after};
+
+use crate::line::PARAGRAPH_LIMIT;
+use deb_base::{Failed, Fault, Source};
+use std::alloc::Global;
+
+/// The most bytes that one read is lent.
+const PIECE: usize = 65_536;
+
+/// The most bytes that the buffer has: those of a paragraph, and one piece.
+const MOST_HELD: usize = PARAGRAPH_LIMIT + PIECE;
+
+/// A window on the file. `buffer[start..filled]` are its unread bytes. Those before them have passed; behind them is
+/// room: bytes of no meaning, which are written once, when the buffer grows, and are never cleared again.
+#[derive(Drop)]
+pub(crate) struct Window {
+    buffer: Vec<u8>,
+    start: usize,
+    filled: usize,
+    ghost ordered: { start ≤ filled },
+    ghost within: { filled ≤ vec_len buffer },
+    ghost small: { vec_len buffer ≤ 16842752 },
+}
+
+impl Window {
+    ghost use Rattle.std.specs.Prelude.{[], slice_range};
+    ghost use Rattle.deb_syntax.specs.Feeding.{unread_of, Fills, IsMemoryOrRead};
+
+    /// A window without bytes. Takes no memory.
+    pub(crate) fn new(alloc: Global) -> Window
+        ensures unread { unread_of result ≡ [] }
+        ensures held { vec_len result.buffer ≡ 0 }
+        ensures start { result.start ≡ 0 }
+    {
+        Window {
+            buffer: Vec::new(alloc),
+            start: 0,
+            filled: 0,
+        }
+    }
+
+    /// The length of the buffer.
+    pub(crate) fn held(&self) -> usize
+        ensures value { result ≡ vec_len self.now.buffer }
+        ensures small { result ≤ 16842752 }
+    {
+        self.buffer.len()
+    }
+
+    /// The unread bytes.
+    pub(crate) fn unread(&self) -> &[u8]
+        ensures value { result.now ≡ unread_of self.now }
+    {
+        self.slice(self.start, self.filled)
+    }
+
+    /// Where the unread bytes begin in the buffer.
+    pub(crate) fn start(&self) -> usize
+        ensures { result ≡ self.now.start }
+    {
+        self.start
+    }
+
+    /// Bytes of the buffer, also such as have passed.
+    pub(crate) fn slice(&self, from: usize, to: usize) -> &[u8]
+        requires ordered { from ≤ to }
+        requires within { to ≤ vec_len self.now.buffer }
+        ensures value { result.now ≡ slice_range self.now.buffer.items from to }
+    {
+        &self.buffer.as_slice()[from..to]
+    }
+
+    /// Passes the first `count` unread bytes.
+    pub(crate) fn pass(&mut self, count: usize)
+        requires { count ≤ length (unread_of self.old) }
+        ensures unread { unread_of self.new ≡ drop count (unread_of self.old) }
+        ensures buffer { self.new.buffer ≡ self.old.buffer }
+        ensures start { self.new.start ≡ self.old.start + count }
+    {
+        self.start += count;
+    }
+
+    /// Forgets the unread bytes behind the first `count`.
+    pub(crate) fn keep(&mut self, count: usize)
+        requires { count ≤ length (unread_of self.old) }
+        ensures unread { unread_of self.new ≡ take count (unread_of self.old) }
+        ensures buffer { self.new.buffer ≡ self.old.buffer }
+        ensures start { self.new.start ≡ self.old.start }
+    {
+        self.filled = self.start + count;
+    }
+
+    /// Takes one piece of the reader behind the unread bytes, and says how many bytes came.
+    pub(crate) fn take<R: Source>(&mut self, reader: &mut R) -> Result<usize, Fault>
+        requires { length (unread_of self.old) ≤ PARAGRAPH_LIMIT }
+        ensures taken { IfOk result (λ count. Fills self.old (R.left reader.old) count self.new (R.left reader.new)) }
+        ensures unread { OnErr result (unread_of self.new ≡ unread_of self.old) }
+        ensures kept { OnErr result (Keeps (R.left reader.old) (R.left reader.new)) }
+        ensures fault { IfErr result IsMemoryOrRead }
+        ensures untouched { IsErrOf result Fault.Memory → reader.new ≡ reader.old }
+        ensures counted { R.failures reader.new ≡ read_failures_after (R.failures reader.old) result }
+    {
+        self.make_room()?;
+        let filled = self.filled;
+        match read_behind(self.buffer.as_mut_slice(), filled, reader) {
+            Ok(count) => {
+                self.filled = filled + count;
+                Ok(count)
+            }
+            Err(Failed) => Err(Fault::Read),
+        }
+    }
+
+    /// Makes room for at least one byte behind the unread bytes.
+    ///
+    /// Bytes are moved only where others have passed before them, and these then make the room; else the buffer grows.
+    fn make_room(&mut self) -> Result<(), Fault>
+        requires { length (unread_of self.old) ≤ PARAGRAPH_LIMIT }
+        ensures unread { unread_of self.new ≡ unread_of self.old }
+        ensures room { OnOk result (self.new.filled < vec_len self.new.buffer) }
+        ensures fault { IfErr result (λ fault. fault ≡ Fault.Memory) }
+    {
+        if self.filled < self.buffer.len() {
+            return Ok(());
+        }
+        if self.start > 0 {
+            self.move_to_front();
+            return Ok(());
+        }
+        self.grow()
+    }
+
+    /// Moves the unread bytes to the buffer's front.
+    fn move_to_front(&mut self)
+        ensures unread { unread_of self.new ≡ unread_of self.old }
+        ensures held { vec_len self.new.buffer ≡ vec_len self.old.buffer }
+        ensures filled { self.new.filled + self.old.start ≡ self.old.filled }
+    {
+        let (start, filled) = (self.start, self.filled);
+        self.buffer.as_mut_slice().copy_within(start..filled, 0);
+        self.start = 0;
+        self.filled = filled - start;
+    }
+
+    /// Doubles the buffer, to at least two pieces and at most what it may have.
+    fn grow(&mut self) -> Result<(), Fault>
+        requires { vec_len self.old.buffer < MOST_HELD }
+        ensures unread { unread_of self.new ≡ unread_of self.old }
+        ensures room { OnOk result (vec_len self.old.buffer < vec_len self.new.buffer) }
+        ensures filled { self.new.filled ≡ self.old.filled }
+        ensures fault { IfErr result (λ fault. fault ≡ Fault.Memory) }
+    {
+        let held = self.buffer.len();
+        let wanted = (2 * held).max(2 * PIECE).min(MOST_HELD);
+        if grown(&mut self.buffer, wanted) {
+            Ok(())
+        } else {
+            Err(Fault::Memory)
+        }
+    }
+}
+
+/// Grows the buffer to the length `wanted`, and takes no more memory than that. Says whether it could.
+fn grown(buffer: &mut Vec<u8>, wanted: usize) -> bool
+    requires { vec_len buffer.old ≤ wanted }
+    ensures kept { take (vec_len buffer.old) buffer.new.items ≡ buffer.old.items }
+    ensures len { vec_len buffer.new ≡ cond result wanted (vec_len buffer.old) }
+{
+    let more = wanted - buffer.len();
+    buffer.try_reserve_exact(more).is_ok() && buffer.resize(wanted, 0).is_ok()
+}
+
+/// Reads one piece into the room behind the first `filled` bytes.
+fn read_behind<R: Source>(buffer: &mut [u8], filled: usize, reader: &mut R) -> Result<usize, Failed>
+    requires { filled < length buffer.old }
+    ensures kept { take filled buffer.new ≡ take filled buffer.old }
+    ensures within { IfOk result (λ count. filled + count ≤ length buffer.new) }
+    ensures short { IfOk result (λ count. count ≤ PIECE) }
+    ensures bytes { ReadConsumes (R.left reader.old) (R.left reader.new) result (drop filled buffer.new) }
+    ensures counted { R.failures reader.new ≡ failures_after (R.failures reader.old) result }
+{
+    let end = buffer.len().min(filled + PIECE);
+    reader.read(&mut buffer[filled..end])
+}
