@@ -10,3 +10,7 @@ pub mod FieldValues
 pub mod Passing
 pub mod Accepting
 pub mod DocumentRules
+pub mod SortedFields
+pub mod FieldsRead
+pub mod Building
+pub mod ValueLookups

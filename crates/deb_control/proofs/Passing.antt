@@ -150,7 +150,7 @@ passes-from_answer rules beyond n before p left entries h =
       is = values.is;
     }
 
-built-from_parts : (rules : Rules) (seen : Seen) → value_refusal_of rules seen.fields ≡ None → have_names seen.fields rules.required ≡ true → length (paragraph_text (canonical_entries rules seen.fields)) ≤ paragraph_limit → built rules seen ≡ Ok (canonical_entries rules seen.fields)
+pub built-from_parts : (rules : Rules) (seen : Seen) → value_refusal_of rules seen.fields ≡ None → have_names seen.fields rules.required ≡ true → length (paragraph_text (canonical_entries rules seen.fields)) ≤ paragraph_limit → built rules seen ≡ Ok (canonical_entries rules seen.fields)
 built-from_parts rules seen good named short =
     ap (refused_or_built rules seen) good
     ∙ rw (named, le-leb (length (paragraph_text (canonical_entries rules seen.fields))) paragraph_limit short) refl

@@ -8,3 +8,6 @@ pub mod ValueFileLaws
 pub mod AcceptanceLaws
 pub mod Documents
 pub mod Laws
+pub mod Sorting
+pub mod Paragraphs
+pub mod ParagraphValues
