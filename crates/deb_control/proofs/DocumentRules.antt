@@ -1,0 +1,23 @@
+-- The rules of a kind of document are those of its values.
+use Rattle.std.proofs.Common.{◌≡◌, ℕ, List, Option, None, Some, refl, sym, ap, ◌∙◌}
+use Rattle.deb_base.specs.declared.code.Code.{Code}
+use Rattle.deb_field.specs.declared.kind.Doc.{Doc}
+use Rattle.deb_field.specs.Values.{ValueMeaning, value_text, SpellsValue, value_refusal}
+use Rattle.deb_field.specs.ValueLaws.{value_law, value_refusals}
+use Rattle.deb_control.specs.Rules.{AreRulesOf}
+use Rattle.deb_control.specs.Documents.{rules_of, text_unless_refused}
+
+text_is : (doc : Doc) (name body : List ℕ) (v : ValueMeaning) (o : Option Code) (e : value_refusal doc name body ≡ o) → SpellsValue doc name body v → text_unless_refused doc name body o e ≡ value_text v
+text_is doc name body v None e s =
+    let found = (value_refusals doc name).spelled body e in
+    ap value_text ((value_law doc name).one_meaning body found.0 v found.1 s)
+text_is doc name body v (Some code) e s =
+    let none : None ≡ Some code = sym ((value_refusals doc name).unrefused body v s) ∙ e in
+    absurd (cc)
+
+pub document_rules : (doc : Doc) → AreRulesOf ValueMeaning (SpellsValue doc) value_text (rules_of doc)
+document_rules doc = record {
+  spelled = λ name body none. (value_refusals doc name).spelled body none;
+  unrefused = λ name body v s. (value_refusals doc name).unrefused body v s;
+  text = λ name body v s. text_is doc name body v (value_refusal doc name body) refl s;
+}

@@ -1,0 +1,104 @@
+-- The fields of a paragraph that have been read so far.
+use Rattle.std.proofs.Common.{◌≡◌, ℕ, suc, ◌+◌, ◌<◌, ◌&&◌, Bor, inl, inr, Bool, true, false, is_some, Option, None, Some, List, [], ◌∷◌, ◌++◌, length, map, drop, slice_get, option_map, add-one, append_assoc, append-nil, refl, sym, ap, ◌∙◌, subst, arith}
+use Rattle.std.proofs.Math.Seq.{drop-cons}
+use Rattle.std.proofs.lemmas.List.{map-append}
+use Rattle.std.proofs.lemmas.Option.{slice_get_within, slice_get_cases, get_or_from_slice_get}
+use Rattle.std.specs.List.{AllByRecursion, list_all}
+use Rattle.std.specs.Str.{bytes_eq}
+use Rattle.deb_base.specs.declared.fault.Fault.{Fault}
+use Rattle.deb_base.specs.declared.fault.Fault.TheVariants.{Refused, Memory, Read, Write}
+use Rattle.deb_base.specs.declared.refusal.Refusal.{Refusal}
+use Rattle.deb_base.specs.Faults.{RefusedOrMemory}
+use Rattle.deb_base.specs.Names.{folded, canonical_name}
+use Rattle.deb_syntax.specs.Fields.{Field, has_name}
+use Rattle.deb_syntax.specs.Raw.{field_of, field_named}
+use Rattle.deb_syntax.specs.declared.raw.RawField.{RawField}
+use Rattle.deb_field.specs.declared.kind.Doc.{Doc}
+use Rattle.deb_field.specs.Values.{value_refusal}
+use Rattle.deb_control.specs.Documents.{rules_of}
+use Rattle.deb_control.specs.Paragraphs.{field_in, IsTypedField}
+use Rattle.deb_control.specs.Refusals.{refusal_or, value_refusal_of, have_names}
+use Rattle.deb_control.specs.declared.typed_field.TypedField.{TypedField}
+use Rattle.deb_control.proofs.DocumentRules.{document_rules}
+
+-- those before an index, none of which is refused
+pub record HasRead (doc : Doc) (fields : List Field) (items : List TypedField) (i : ℕ) : Type 0 where
+  pub read : map field_in items ++ drop i fields ≡ fields
+  pub good : AllByRecursion (IsTypedField doc) items
+  pub refusal : value_refusal_of (rules_of doc) fields ≡ value_refusal_of (rules_of doc) (drop i fields)
+
+pub HasRead-start : (doc : Doc) (fields : List Field) → HasRead doc fields [] 0
+HasRead-start doc fields = record { read = refl; good = tt; refusal = refl }
+
+-- the field at an index, and those behind it
+drop-at : (fields : List Field) (i : ℕ) (field : Field) → slice_get fields i ≡ Some field → drop i fields ≡ field ∷ drop (i + 1) fields
+drop-at fields i field is =
+    drop-cons fields i field (slice_get_within fields i field is)
+    ∙ ap (λ first. first ∷ drop (suc i) fields) (get_or_from_slice_get fields i field field is)
+    ∙ ap (λ n. field ∷ drop n fields) (sym (add-one i))
+
+all-push : {X : Type 0} (P : X → Type 0) (xs : List X) (x : X) → AllByRecursion P xs → P x → AllByRecursion P (xs ++ x ∷ [])
+all-push P [] x h p = (p, tt)
+all-push P (y ∷ ys) x h p = (h.0, all-push P ys x h.1 p)
+
+refusal-at : (doc : Doc) (fields : List Field) (i : ℕ) (field : Field) → slice_get fields i ≡ Some field → value_refusal_of (rules_of doc) (drop i fields) ≡ refusal_or (value_refusal doc (canonical_name field.name) field.body) field.line (value_refusal_of (rules_of doc) (drop (i + 1) fields))
+refusal-at doc fields i field is = ap (value_refusal_of (rules_of doc)) (drop-at fields i field is)
+
+pub HasRead-next : (doc : Doc) (fields : List Field) (items new : List TypedField) (i : ℕ) (raw : RawField) (typed : TypedField) → option_map field_of (Some raw) ≡ slice_get fields i → field_in typed ≡ field_of raw → IsTypedField doc typed → new ≡ items ++ typed ∷ [] → HasRead doc fields items i → HasRead doc fields new (i + 1)
+HasRead-next doc fields items new i raw typed is same good pushed before =
+    let found : slice_get fields i ≡ Some (field_in typed) = sym is ∙ ap Some (sym same) in
+    let field = field_in typed in
+    let unrefused = (document_rules doc).unrefused (canonical_name field.name) field.body _ good in
+    record {
+      read =
+          ap (λ m. map field_in m ++ drop (i + 1) fields) pushed
+          ∙ ap (λ m. m ++ drop (i + 1) fields) (map-append field_in items (typed ∷ []))
+          ∙ append_assoc (map field_in items) (field ∷ []) (drop (i + 1) fields)
+          ∙ ap (λ m. map field_in items ++ m) (sym (drop-at fields i field found))
+          ∙ before.read;
+      good = subst (AllByRecursion (IsTypedField doc)) (sym pushed) (all-push (IsTypedField doc) items typed before.good good);
+      refusal = before.refusal ∙ refusal-at doc fields i field found ∙ ap (λ o. refusal_or o field.line (value_refusal_of (rules_of doc) (drop (i + 1) fields))) unrefused;
+    }
+
+-- the body of the field at the index is refused
+pub HasRead-refused : (doc : Doc) (fields : List Field) (items : List TypedField) (i : ℕ) (raw : RawField) (refusal : Refusal) → option_map field_of (Some raw) ≡ slice_get fields i → HasRead doc fields items i → (refusal.line ≡ raw.line) × (value_refusal doc (canonical_name raw.name.now) raw.body.now ≡ Some refusal.code) → value_refusal_of (rules_of doc) fields ≡ Some refusal
+HasRead-refused doc fields items i raw refusal is before refused =
+    before.refusal
+    ∙ refusal-at doc fields i (field_of raw) (sym is)
+    ∙ ap (λ o. refusal_or o raw.line (value_refusal_of (rules_of doc) (drop (i + 1) fields))) refused.1
+    ∙ ap (λ line. Some (record { code = refusal.code; line = line })) (sym refused.0)
+
+-- a fact about a refusal gives another
+pub RefusedOrMemory-to : (P Q : Refusal → Type 0) → ((refusal : Refusal) → P refusal → Q refusal) → (fault : Fault) → RefusedOrMemory fault P → RefusedOrMemory fault Q
+RefusedOrMemory-to P Q f (Refused refusal) h = f refusal h
+RefusedOrMemory-to P Q f Memory h = tt
+RefusedOrMemory-to P Q f Read h = absurd h
+RefusedOrMemory-to P Q f Write h = absurd h
+
+-- all of them, at the end
+pub HasRead-all : (doc : Doc) (fields : List Field) (items : List TypedField) (i : ℕ) → drop i fields ≡ [] → HasRead doc fields items i → (map field_in items ≡ fields) × (value_refusal_of (rules_of doc) fields ≡ None)
+HasRead-all doc fields items i none before =
+    (sym (append-nil (map field_in items)) ∙ ap (λ m. map field_in items ++ m) (sym none) ∙ before.read, before.refusal ∙ ap (value_refusal_of (rules_of doc)) none)
+
+-- an index with no element is past the end
+pub none_is_past : {X : Type 0} (xs : List X) (i : ℕ) → i < length xs → None ≡ slice_get xs i → ⊥
+none_is_past xs i below none =
+    elim (slice_get_cases xs i).1 [ inl found ↦ (let e : None ≡ Some found.0 = none ∙ found.2 in cc) | inr past ↦ omega arith ]
+
+is_some-named : (name : List ℕ) (fields : List Field) → is_some (field_named name fields) ≡ has_name name fields
+is_some-named name [] = refl
+is_some-named name (field ∷ fields) = go (bytes_eq (folded field.name) (folded name)) refl (is_some-named name fields)
+  where
+    go : (t : Bool) → bytes_eq (folded field.name) (folded name) ≡ t → is_some (field_named name fields) ≡ has_name name fields → is_some (field_named name (field ∷ fields)) ≡ has_name name (field ∷ fields)
+    go true e h = rw e refl
+    go false e h = rw e h
+
+-- what was found by a name tells that the name stands there
+pub has_name-found : (o : Option RawField) (name : List ℕ) (fields : List Field) → option_map field_of o ≡ field_named name fields → is_some o ≡ has_name name fields
+has_name-found None name fields h = ap is_some h ∙ is_some-named name fields
+has_name-found (Some raw) name fields h = ap is_some h ∙ is_some-named name fields
+
+-- names that are slices
+pub have_names-slices : (fields : List Field) (names : List (Bor (List ℕ))) → list_all (λ name. has_name name.now fields) names ≡ have_names fields (map (λ name. name.now) names)
+have_names-slices fields [] = refl
+have_names-slices fields (name ∷ names) = ap (λ t. has_name name.now fields && t) (have_names-slices fields names)

@@ -1,0 +1,16 @@
+pub mod CanonicalNameBytes
+pub mod Entries
+pub mod EntryLines
+pub mod ParagraphText
+pub mod FileText
+pub mod ValueBodies
+pub mod ValueFiles
+pub mod Limits
+pub mod FieldValues
+pub mod Passing
+pub mod Accepting
+pub mod DocumentRules
+pub mod SortedFields
+pub mod FieldsRead
+pub mod Building
+pub mod ValueLookups

@@ -1,0 +1,82 @@
+-- Fields that are sorted by the canonical spellings of their names: what they mean is they themselves, in that order.
+use Rattle.std.proofs.Common.{◌≡◌, ℕ, suc, ◌<◌, Bool, false, List, [], ◌∷◌, ◌++◌, length, map, get_or, Ordering, Less, Equal, Greater, bytes_eq, is_eq, add-one, refl, sym, ap, ◌∙◌, subst, append-nil, append_assoc, arith}
+use Rattle.std.proofs.lemmas.Bool.{or_parts, both_ways}
+use Rattle.std.proofs.lemmas.Cmp.{nat_list_cmp_total}
+use Rattle.std.proofs.lemmas.List.Sorted.{sorted_far, ranks_by, IsPermutation-map}
+use Rattle.std.proofs.lemmas.Map.Text.{is_eq-slice_cmp}
+use Rattle.std.proofs.lemmas.Slice.Eq.{bytes_eq-Decides}
+use Rattle.std.specs.List.{AllByRecursion}
+use Rattle.std.specs.List.Sorted.{IsPermutation, IsSortedBy}
+use Rattle.std.specs.Ordering.{is_lt, ordering_reverse}
+use Rattle.deb_base.specs.Names.{folded, canonical_name}
+use Rattle.deb_base.proofs.CanonicalNames.{folded-from_canonical_name}
+use Rattle.deb_syntax.specs.Fields.{Field, has_name, AreDistinct}
+use Rattle.deb_syntax.specs.Meaning.{byte_order, Entries, entries_after, entries_of}
+use Rattle.deb_syntax.proofs.JudgingLawsMeaning.{distinct-permutation, entries_of-permutation}
+use Rattle.deb_control.proofs.Entries.{IsAscending}
+use Rattle.deb_control.proofs.ParagraphText.{insert_last, AllAbove, AllAbove-push, AllAbove-nil}
+
+-- a field's body under the canonical spelling of its name
+abbrev pub entry_of : Field → List ℕ × List ℕ
+entry_of field = (canonical_name field.name, field.body)
+
+-- one name comes before another
+abbrev pub comes_before : Field → Field → Bool
+comes_before field other = is_lt (byte_order (canonical_name field.name) (canonical_name other.name))
+
+-- fields in ascending order are put behind one another
+entries_after-ascending : (before : Entries) (fields : List Field) → IsAscending (map entry_of fields) → AllAbove before (map entry_of fields) → entries_after before fields ≡ before ++ map entry_of fields
+entries_after-ascending before [] ascending above = sym (append-nil before)
+entries_after-ascending before (field ∷ fields) ascending above =
+    ap (λ entries. entries_after entries fields) (insert_last before (canonical_name field.name) field.body above.0)
+    ∙ entries_after-ascending (before ++ entry_of field ∷ []) fields ascending.1 (AllAbove-push before (entry_of field) (map entry_of fields) above.1 ascending.0)
+    ∙ append_assoc before (entry_of field ∷ []) (map entry_of fields)
+
+entries_of-ascending : (fields : List Field) → IsAscending (map entry_of fields) → entries_of fields ≡ map entry_of fields
+entries_of-ascending fields ascending = entries_after-ascending [] fields ascending (AllAbove-nil (map entry_of fields))
+
+-- neither before nor the same is behind
+before_from_not : (a b : List ℕ) (o : Ordering) → byte_order a b ≡ o → is_lt (byte_order b a) ≡ false → (a ≡ b → ⊥) → byte_order a b ≡ Less
+before_from_not a b Less e not_below apart = e
+before_from_not a b Equal e not_below apart = absurd (apart ((bytes_eq-Decides a b).0 (sym (is_eq-slice_cmp a b) ∙ ap is_eq e)))
+before_from_not a b Greater e not_below apart =
+    let less : byte_order b a ≡ Less = nat_list_cmp_total.antisymm b a ∙ ap ordering_reverse e in
+    absurd (both_ways (is_lt (byte_order b a)) not_below (ap is_lt less))
+
+module _ {X : Type 0} (field_in : X → Field) where
+  -- one comes before another by the name
+  abbrev pub below : X → X → Bool
+  below x y = comes_before (field_in x) (field_in y)
+
+  first_least : (x : X) (xs : List X) → ((j : ℕ) (d : X) → j < length xs → below (get_or xs j d) x ≡ false) → AllByRecursion (λ y. below y x ≡ false) xs
+  first_least x [] h = tt
+  first_least x (y ∷ ys) h = (h 0 y (omega arith), first_least x ys (λ j d within. h (suc j) d (omega (arith, within))))
+
+  sorted_tail : (x : X) (xs : List X) → IsSortedBy below (x ∷ xs) → IsSortedBy below xs
+  sorted_tail x xs up k d low within =
+      subst (λ n. below (get_or xs n d) (get_or xs k d) ≡ false) (sym (add-one k))
+      (subst (λ n. below (get_or (x ∷ xs) n d) (get_or xs k d) ≡ false) (add-one (suc k)) (up (suc k) d (omega arith) (omega (arith, within))))
+
+  all_behind : (x : X) (xs : List X) → has_name (field_in x).name (map field_in xs) ≡ false → AllByRecursion (λ y. below y x ≡ false) xs → AllByRecursion (λ other. byte_order (canonical_name (field_in x).name) other.0 ≡ Less) (map entry_of (map field_in xs))
+  all_behind x [] none h = tt
+  all_behind x (y ∷ ys) none h =
+      let name = (field_in x).name in
+      let other = (field_in y).name in
+      let p = or_parts (bytes_eq (folded other) (folded name)) (has_name name (map field_in ys)) none in
+      let apart : canonical_name name ≡ canonical_name other → ⊥ =
+      λ same. both_ways (bytes_eq (folded other) (folded name)) p.0 ((bytes_eq-Decides (folded other) (folded name)).1 (sym (folded-from_canonical_name name other same))) in
+      (before_from_not (canonical_name name) (canonical_name other) (byte_order (canonical_name name) (canonical_name other)) refl h.0 apart, all_behind x ys p.1 h.1)
+
+  ascending_from_sorted : (xs : List X) → IsSortedBy below xs → AreDistinct (map field_in xs) → IsAscending (map entry_of (map field_in xs))
+  ascending_from_sorted [] up d = tt
+  ascending_from_sorted (x ∷ xs) up d =
+      let order = ranks_by nat_list_cmp_total (λ y. canonical_name (field_in y).name) in
+      let least = first_least x xs (λ j e within. sorted_far below order (x ∷ xs) up 0 (suc j) e (omega arith) (omega (arith, within))) in
+      (all_behind x xs d.0 least, ascending_from_sorted xs (sorted_tail x xs up) d.1)
+
+  -- what fields mean that were sorted
+  pub entries_of-sorted_fields : (was now : List X) → IsPermutation was now → IsSortedBy below now → AreDistinct (map field_in was) → entries_of (map field_in was) ≡ map entry_of (map field_in now)
+  entries_of-sorted_fields was now moved up d =
+      let moves = IsPermutation-map field_in was now moved in
+      entries_of-permutation (map field_in was) (map field_in now) moves d
+      ∙ entries_of-ascending (map field_in now) (ascending_from_sorted now up (distinct-permutation (map field_in was) (map field_in now) moves d))

@@ -1,0 +1,6 @@
+use Rattle.std.proofs.Common.{◌≡◌, ◌++◌, drop}
+use Rattle.deb_base.specs.Names.{capitalised, canonical_name}
+use Rattle.deb_control.proofs.name.append_name.Given as goal
+
+abbrev pub invariant-loop-byte : goal.invariant-loop-byte
+invariant-loop-byte l = l.text.items ++ capitalised l.begins_word (drop l.byte-index l.name) ≡ l.initial.text.items ++ canonical_name l.name

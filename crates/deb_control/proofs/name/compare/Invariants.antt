@@ -1,0 +1,10 @@
+use Rattle.std.proofs.Common.{◌≡◌, length}
+use Rattle.deb_base.specs.Names.{capitalised, canonical_name}
+use Rattle.deb_syntax.specs.Meaning.{byte_order}
+use Rattle.deb_control.proofs.name.compare.Given as goal
+
+abbrev pub invariant-loop-rest : goal.invariant-loop-rest
+invariant-loop-rest l = byte_order (capitalised l.begins_word l.rest) (capitalised l.begins_word l.rest_beside) ≡ byte_order (canonical_name l.name) (canonical_name l.other)
+
+abbrev pub decreases-loop-rest : goal.decreases-loop-rest
+decreases-loop-rest l = length l.rest

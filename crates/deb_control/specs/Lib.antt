@@ -1,0 +1,13 @@
+pub mod Canonical
+pub mod Pairs
+pub mod Rules
+pub mod Refusals
+pub mod ValueFiles
+pub mod Acceptance
+pub mod ValueFileLaws
+pub mod AcceptanceLaws
+pub mod Documents
+pub mod Laws
+pub mod Sorting
+pub mod Paragraphs
+pub mod ParagraphValues

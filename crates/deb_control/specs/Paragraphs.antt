@@ -1,0 +1,41 @@
+-- What a paragraph whose values have been read shows of it. Debian Policy 5.1.
+use Rattle.std.specs.Prelude.{◌≡◌, ℕ, List, map, Ok}
+use Rattle.deb_base.specs.Names.{canonical_name}
+use Rattle.deb_syntax.specs.Fields.{Field}
+use Rattle.deb_syntax.specs.Meaning.{entries_of}
+use Rattle.deb_syntax.specs.Answers.{Seen}
+use Rattle.deb_syntax.specs.Raw.{field_of}
+use Rattle.deb_field.specs.declared.kind.Doc.{Doc}
+use Rattle.deb_field.specs.Values.{ValueMeaning, value_text, SpellsValue}
+use Rattle.deb_field.specs.ValueMeanings.{value_meaning}
+use Rattle.deb_control.specs.Canonical.{paragraph_text}
+use Rattle.deb_control.specs.Documents.{rules_of}
+use Rattle.deb_control.specs.Pairs.{Pairwise}
+use Rattle.deb_control.specs.Refusals.{built}
+use Rattle.deb_control.specs.ValueFiles.{ValueEntries, SpellsEntry, body_under}
+use Rattle.deb_control.specs.declared.typed_field.TypedField.{TypedField}
+
+-- the field as it stands in the file
+abbrev pub field_in : TypedField → Field
+field_in field = field_of field.raw
+
+-- the value under the canonical spelling of the field's name
+abbrev pub value_in : TypedField → List ℕ × ValueMeaning
+value_in field = (canonical_name field.raw.name.now, value_meaning field.value)
+
+abbrev pub values_in : List TypedField → ValueEntries ValueMeaning
+values_in fields = map value_in fields
+
+-- the canonical text of a paragraph with these values
+abbrev pub text_of_values : ValueEntries ValueMeaning → List ℕ
+text_of_values values = paragraph_text (map (body_under value_text) values)
+
+-- The body of the field spells its value.
+abbrev pub IsTypedField : Doc → TypedField → Type 0
+IsTypedField doc field = SpellsValue doc (canonical_name field.raw.name.now) field.raw.body.now (value_meaning field.value)
+
+-- These are the values of a paragraph that passes by itself: its bodies spell them, and their texts are its canonical
+-- bodies.
+pub record AreValuesOf (doc : Doc) (seen : Seen) (values : ValueEntries ValueMeaning) : Type 0 where
+  pub spelled : Pairwise (SpellsEntry (SpellsValue doc)) (entries_of seen.fields) values
+  pub passes : built (rules_of doc) seen ≡ Ok (map (body_under value_text) values)

@@ -1,0 +1,33 @@
+//! Laws of documents. Each function does nothing, and its contract is the law.
+
+ghost use Rattle.deb_control.specs.Laws.{RefusedOrAccepted, AcceptedMeansOneThing, AcceptedIsWritten, CanonicalTextIsAccepted, CanonicalTextTellsMeanings, CanonicalTextIsItsOwn};
+
+/// A file has no refusal exactly where it is accepted with some meaning.
+pub fn a_file_is_refused_or_accepted()
+    ensures { RefusedOrAccepted }
+{}
+
+/// A file is accepted with at most one meaning.
+pub fn an_accepted_file_means_one_thing()
+    ensures { AcceptedMeansOneThing }
+{}
+
+/// What is written of an accepted file is the canonical text of its meaning.
+pub fn canonical_text_is_written_of_an_accepted_file()
+    ensures { AcceptedIsWritten }
+{}
+
+/// The canonical text of an accepted file is accepted with the same meaning: both limits hold of it too.
+pub fn canonical_text_is_accepted()
+    ensures { CanonicalTextIsAccepted }
+{}
+
+/// Two files that are accepted as one kind of document have equal canonical text exactly where they mean the same.
+pub fn canonical_text_tells_meanings()
+    ensures { CanonicalTextTellsMeanings }
+{}
+
+/// The canonical text of an accepted file has no refusal, and what is written of it is itself.
+pub fn canonical_text_is_its_own()
+    ensures { CanonicalTextIsItsOwn }
+{}

@@ -1,0 +1,171 @@
+//! Paragraphs whose values have been read.
+
+ghost use Rattle.std.specs.Prelude.{◌≡◌, ◌++◌, Some, None, Err, IfOk, IfErr, OnOk, OnErr, find, length, map};
+ghost use Rattle.std.specs.Option.{option_map};
+ghost use Rattle.std.specs.FinMap.{find as value_under};
+ghost use Rattle.std.specs.List.{AllByRecursion};
+ghost use Rattle.deb_base.specs.Bodies.{IsBody};
+ghost use Rattle.deb_base.specs.Faults.{RefusedOrMemory};
+ghost use Rattle.deb_base.specs.Names.{canonical_name};
+ghost use Rattle.deb_syntax.specs.Fields.{has_name};
+ghost use Rattle.deb_syntax.specs.Meaning.{byte_order};
+ghost use Rattle.deb_syntax.specs.Raw.{fields_of};
+ghost use Rattle.deb_field.specs.Kinds.{required};
+ghost use Rattle.deb_field.specs.Values.{SpellsValue, value_refusal};
+ghost use Rattle.deb_field.specs.ValueMeanings.{value_meaning};
+ghost use Rattle.deb_control.specs.Documents.{rules_of};
+ghost use Rattle.deb_control.specs.Refusals.{built, value_refusal_of, have_names};
+ghost use Rattle.deb_control.specs.Paragraphs.{field_in, values_in, text_of_values, IsTypedField, AreValuesOf};
+ghost use Rattle.deb_syntax.specs.Paragraphs.{seen_of};
+
+use crate::typed_field::{TypedField, append_fields, sort};
+use deb_base::{Code, Fault, Refusal, same_name};
+use deb_field::{Doc, Value, ValueFault, required};
+use deb_syntax::{Raw, RawField};
+use std::alloc::{AllocError, Global};
+
+/// The most bytes that the canonical text of a paragraph may have.
+const PARAGRAPH_LIMIT: usize = 16_777_216;
+
+/// A paragraph of a document of a kind: its fields with their values, by the canonical spellings of their names.
+///
+/// It owns the list of its fields and its canonical text, and borrows the bytes that the fields stand in.
+#[derive(Drop)]
+pub struct Paragraph<'a> {
+    fields: Vec<TypedField<'a>>,
+    text: Vec<u8>,
+    ghost written: { text.items ≡ text_of_values (values_in fields.items) },
+}
+
+impl<'a> Paragraph<'a> {
+    ghost use Rattle.deb_control.specs.ParagraphValues.{values_of};
+
+    /// Reads the values of a paragraph's fields.
+    ///
+    /// # Errors
+    ///
+    /// The first body that is refused, in the order of the file, at the line of its field; else `MissingField` where a
+    /// field that the kind of document asks for is missing, and `ParagraphTooLong` where the canonical text has more
+    /// than 16,777,216 bytes, both at the paragraph's first line. `Fault::Memory` where a growth was refused.
+    pub fn build(alloc: Global, doc: Doc, paragraph: &Raw<'a>) -> Result<Paragraph<'a>, Fault>
+        ensures ok { IfOk result (λ typed. AreValuesOf doc (seen_of paragraph.now) (values_of typed)) }
+        ensures fault { IfErr result (λ fault. RefusedOrMemory fault (λ refusal. built (rules_of doc) (seen_of paragraph.now) ≡ Err refusal)) }
+    {
+        let mut fields = fields_with_values(alloc, doc, paragraph)?;
+        if !has_required(doc, paragraph) {
+            return Err(Fault::Refused(Refusal {
+                code: Code::MissingField,
+                line: paragraph.first_line(),
+            }));
+        }
+        sort(&mut fields);
+        let mut text = Vec::new(alloc);
+        append_fields(fields.as_slice(), &mut text)?;
+        if text.len() > PARAGRAPH_LIMIT {
+            return Err(Fault::Refused(Refusal {
+                code: Code::ParagraphTooLong,
+                line: paragraph.first_line(),
+            }));
+        }
+        Ok(Paragraph { fields, text })
+    }
+
+    /// The fields with their values, in ascending order of the canonical spellings of their names.
+    pub fn fields(&self) -> &[TypedField<'a>]
+        ensures { values_in result.now ≡ values_of self.now }
+    {
+        self.fields.as_slice()
+    }
+
+    /// The value of the field of a name, without ASCII case, or `None` where there is no such field.
+    pub fn get(&self, name: &[u8]) -> Option<&Value<'a>>
+        ensures { option_map (λ value. value_meaning value.now) result ≡ value_under byte_order (canonical_name name.now) (values_of self.now) }
+    {
+        for field in self.fields.as_slice() {
+            if same_name(field.raw.name, name) {
+                return Some(&field.value);
+            }
+        }
+        None
+    }
+
+    /// The length in bytes of the canonical text.
+    pub fn canon_len(&self) -> u64
+        ensures { result ≡ length (text_of_values (values_of self.now)) }
+    {
+        self.text.len() as u64
+    }
+
+    /// Appends the canonical text: each field on lines of its own, in ascending order of the canonical spellings of
+    /// their names.
+    ///
+    /// # Errors
+    ///
+    /// Want of memory, and `out` is then unchanged.
+    pub fn canon_into(&self, out: &mut Vec<u8>) -> Result<(), AllocError>
+        ensures ok { OnOk result (out.new.items ≡ out.old.items ++ text_of_values (values_of self.now)) }
+        ensures unchanged { OnErr result (out.new.items ≡ out.old.items) }
+    {
+        out.extend_from_slice(self.text.as_slice())
+    }
+}
+
+/// The fields of a paragraph with their values, in the order of the file.
+fn fields_with_values<'a>(
+    alloc: Global,
+    doc: Doc,
+    paragraph: &Raw<'a>,
+) -> Result<Vec<TypedField<'a>>, Fault>
+    ensures fields { IfOk result (λ fields. map field_in fields.items ≡ fields_of paragraph.now) }
+    ensures values { IfOk result (λ fields. AllByRecursion (IsTypedField doc) fields.items) }
+    ensures good { IfOk result (λ fields. value_refusal_of (rules_of doc) (fields_of paragraph.now) ≡ None) }
+    ensures fault { IfErr result (λ fault. RefusedOrMemory fault (λ refusal. value_refusal_of (rules_of doc) (fields_of paragraph.now) ≡ Some refusal)) }
+{
+    let mut fields = Vec::new(alloc);
+    for index in 0..paragraph.len() {
+        if let Some(raw) = paragraph.field(index) {
+            let value = value_of(alloc, doc, &raw)?;
+            fields.push(TypedField { raw, value })?;
+        }
+    }
+    Ok(fields)
+}
+
+/// The value of one field.
+fn value_of<'a>(alloc: Global, doc: Doc, field: &RawField<'a>) -> Result<Value<'a>, Fault>
+    requires { IsBody field.now.body.now }
+    ensures ok { IfOk result (λ value. SpellsValue doc (canonical_name field.now.name.now) field.now.body.now (value_meaning value)) }
+    ensures fault { IfErr result (λ fault. RefusedOrMemory fault (λ refusal. (refusal.line ≡ field.now.line) × (value_refusal doc (canonical_name field.now.name.now) field.now.body.now ≡ Some refusal.code))) }
+{
+    match Value::parse(alloc, doc, field.name, field.body) {
+        Ok(value) => Ok(value),
+        Err(ValueFault::Refused(code)) => Err(Fault::Refused(Refusal {
+            code,
+            line: field.line,
+        })),
+        Err(ValueFault::Memory) => Err(Fault::Memory),
+    }
+}
+
+/// Whether the paragraph has each field that a document of this kind asks for.
+fn has_required(doc: Doc, paragraph: &Raw<'_>) -> bool
+    ensures { result ≡ have_names (fields_of paragraph.now) (required doc) }
+{
+    has_fields(paragraph, required(doc))
+}
+
+/// Whether the paragraph has a field of each name.
+fn has_fields(paragraph: &Raw<'_>, names: &[&[u8]]) -> bool
+    ensures { result ≡ have_names (fields_of paragraph.now) (map (λ name. name.now) names.now) }
+{
+    names.iter().all(|name| has_field(paragraph, name))
+}
+
+fn has_field(paragraph: &Raw<'_>, name: &[u8]) -> bool
+    ensures { result ≡ has_name name.now (fields_of paragraph.now) }
+{
+    paragraph.get(name).is_some()
+}
+
+#[cfg(test)]
+mod tests;
