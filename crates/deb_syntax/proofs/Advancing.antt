@@ -1,5 +1,5 @@
 -- What the calls of a reader of paragraphs say of a text that fits, from what its walk finds ahead.
-use Rattle.std.proofs.Common.{◌≡◌, ◌≢◌, ℕ, ◌+◌, ◌-◌, ◌<◌, ◌≤◌, ◌==◌, ◌&&◌, ◌⊎◌, inl, inr, Bool, true, false, List, [], ◌∷◌, ◌++◌, Option, Some, None, Result, Ok, Err, length, take, drop, leb, refl, sym, ap, ◌∙◌, subst, append_assoc, arith, IsTrue, length-append}
+use Rattle.std.proofs.Common.{◌≡◌, ◌≢◌, ℕ, ◌+◌, ◌-◌, ◌<◌, ◌≤◌, ◌==◌, ◌&&◌, ◌⊎◌, inl, inr, Bool, true, false, List, [], ◌∷◌, ◌++◌, Option, Some, None, Result, Ok, Err, length, take, leb, refl, sym, ap, ◌∙◌, subst, append_assoc, arith, IsTrue, length-append}
 use Rattle.std.specs.Prelude.{◌||◌, IfNone, IfSome}
 use Rattle.deb_base.specs.Devices.{Shown}
 use Rattle.std.proofs.lemmas.Bool.{lt-leb, le-leb, leb-true, and_parts, and_from, eqb-true}
@@ -26,7 +26,7 @@ use Rattle.deb_syntax.proofs.Feeds.{front_of_unread, unread_within}
 use Rattle.deb_syntax.proofs.FieldTests.{are_fields-judged}
 use Rattle.deb_syntax.proofs.PlacesWithin.{within_test}
 use Rattle.deb_syntax.specs.Judging.{judged}
-use Rattle.deb_syntax.specs.Lines.{lines_of, with_newlines, IsClosed, Paragraph, paragraphs_from, paragraphs_of, total_length, file_limit}
+use Rattle.deb_syntax.specs.Lines.{lines_of, with_newlines, Paragraph, paragraphs_from, paragraphs_of, total_length, file_limit}
 use Rattle.deb_syntax.specs.Reading.{State, state_from, Fits, passed_count, GivesNext, GivesNone, GivesLine, BeginsHere, FindsFirst, Answers, AnswersBegin, IsRefusalOfText, Moment, Advances, Begins, Passes}
 use Rattle.deb_base.specs.Faults.{IsReadersFault}
 use Rattle.deb_syntax.specs.Places.{IsFaultOf, fields_at, lies_within}

@@ -1,6 +1,6 @@
 -- What the answers on a file say of the whole file: a refusal is of one of its lines, and none comes exactly where the
 -- file is accepted.
-use Rattle.std.proofs.Common.{◌≡◌, ◌≢◌, ℕ, zero, suc, ◌+◌, ◌-◌, ◌<◌, ◌≤◌, ◌==◌, ◌⊎◌, inl, inr, Bool, true, false, cond, List, [], ◌∷◌, ◌++◌, Option, Some, None, Result, Ok, Err, length, drop, take, leb, refl, sym, ap, ◌∙◌, subst, append_assoc, arith, length-append, length-drop}
+use Rattle.std.proofs.Common.{◌≡◌, ℕ, zero, suc, ◌+◌, ◌-◌, ◌<◌, ◌≤◌, ◌==◌, inl, inr, Bool, true, false, cond, List, [], ◌∷◌, ◌++◌, Option, Some, None, Result, Ok, Err, length, drop, take, leb, refl, sym, ap, ◌∙◌, subst, append_assoc, arith, length-append, length-drop}
 use Rattle.std.proofs.lemmas.Bool.{cases_lt, leb-true}
 use Rattle.std.proofs.lemmas.List.{drop_all}
 use Rattle.std.proofs.Math.Seq.{drop-length}
@@ -9,9 +9,9 @@ use Rattle.deb_base.specs.declared.code.Code.TheVariants.{ParagraphTooLong, File
 use Rattle.deb_base.specs.declared.refusal.Refusal.{Refusal}
 use Rattle.deb_base.specs.Bodies.{Line, newline, with_byte, line_length, paragraph_limit}
 use Rattle.deb_syntax.specs.Answers.{Seen, with_whole, whole_lines, part_within, line_beyond, line_too_long, is_line, seen_from, short_answer, paragraph_answer, answer_of_first, paragraphs_within, next_answer}
-use Rattle.deb_syntax.specs.Fields.{Field, IsShort, SpellsParagraph}
+use Rattle.deb_syntax.specs.Fields.{Field, IsShort}
 use Rattle.deb_syntax.specs.Judging.{judged}
-use Rattle.deb_syntax.specs.Laws.{IsRun, StandsAmong, IsRefusalWithin, IsTextRefusal}
+use Rattle.deb_syntax.specs.Laws.{IsRun, StandsAmong, IsTextRefusal}
 use Rattle.deb_syntax.specs.Lines.{Paragraph, lines_of, paragraphs_of, ends_line, total_length, file_limit}
 use Rattle.deb_syntax.specs.Meaning.{Entries, entries_of, HaveMeanings, Accepted}
 use Rattle.deb_syntax.proofs.Boundaries.{lines_of-append}

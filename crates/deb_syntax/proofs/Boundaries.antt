@@ -1,13 +1,7 @@
 -- Cutting a text behind whole lines.
-use Rattle.std.proofs.Common.{◌≡◌, ℕ, zero, suc, ◌+◌, ◌-◌, ◌<◌, ◌≤◌, ◌==◌, inl, inr, true, false, cond, List, [], ◌∷◌, ◌++◌, length, take, drop, refl, sym, ap, ◌∙◌, subst, append_assoc, arith, length-drop}
-use Rattle.std.proofs.Math.Seq.{take-add, take-nil, drop-nil}
-use Rattle.std.proofs.lemmas.List.{take_all, take-append-drop, append-nil}
-use Rattle.std.proofs.Math.ListN.{drop_of_length-le}
-use Rattle.std.proofs.lemmas.Bool.{cases_lt}
-use Rattle.std.specs.List.{slice_range}
-use Rattle.deb_base.specs.Bodies.{Line, newline, with_byte, pieces_of, HasNoNewline}
+use Rattle.std.proofs.Common.{◌≡◌, ℕ, ◌==◌, true, false, cond, List, [], ◌∷◌, ◌++◌, refl, ap, ◌∙◌, subst, append_assoc}
+use Rattle.deb_base.specs.Bodies.{Line, newline, with_byte, pieces_of}
 use Rattle.deb_syntax.specs.Lines.{lines_of, ends_line}
-use Rattle.deb_syntax.proofs.Runs.{lines_of-line, lines_of-last, pieces_of-last}
 
 -- a text that isn't empty has a line
 pub first_line : (b : ℕ) (bs : List ℕ) → (line : Line) × (lines : List Line) × (lines_of (b ∷ bs) ≡ line ∷ lines)

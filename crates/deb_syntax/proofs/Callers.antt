@@ -1,5 +1,5 @@
 -- What a caller's loop reads from the clauses of a reader of paragraphs, while no error has come.
-use Rattle.std.proofs.Common.{◌≡◌, ℕ, Option, None, Result, Ok, subst, IfNone}
+use Rattle.std.proofs.Common.{◌≡◌, None, Result, Ok, subst, IfNone}
 use Rattle.deb_base.specs.declared.fault.Fault.{Fault}
 use Rattle.deb_syntax.specs.Reading.{Moment, Passes}
 

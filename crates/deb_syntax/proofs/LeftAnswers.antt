@@ -6,7 +6,7 @@ use Rattle.std.proofs.Math.Seq.{drop-append_seam, drop-length}
 use Rattle.deb_base.specs.declared.code.Code.TheVariants.{ParagraphTooLong, FileTooLong}
 use Rattle.deb_base.specs.declared.refusal.Refusal.{Refusal}
 use Rattle.deb_base.specs.Bodies.{Line, line_length, paragraph_limit, is_blank}
-use Rattle.deb_syntax.specs.Answers.{Seen, part_within, line_beyond, line_too_long, is_line, seen_from, short_answer, paragraph_answer, answer_of_first, begin_of_first, paragraphs_within, next_answer, next_begin}
+use Rattle.deb_syntax.specs.Answers.{Seen, part_within, line_beyond, line_too_long, is_line, seen_from, paragraph_answer, answer_of_first, begin_of_first, paragraphs_within, next_answer, next_begin}
 use Rattle.deb_syntax.specs.Extents.{AreBlank, AreNotBlank}
 use Rattle.deb_syntax.specs.Judging.{judged}
 use Rattle.deb_syntax.specs.Lines.{Paragraph, lines_of, begins_blank, paragraphs_from, paragraphs_of, total_length, file_limit, with_line}

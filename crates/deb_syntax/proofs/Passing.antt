@@ -1,8 +1,7 @@
 -- What passes of a text: blank lines, a paragraph, or all that is left.
-use Rattle.std.proofs.Common.{◌≡◌, ◌≢◌, ℕ, ◌+◌, ◌≤◌, ◌⊎◌, inl, inr, true, List, [], ◌∷◌, ◌++◌, length, refl, sym, ap, ◌∙◌, append_assoc, arith, length-append}
+use Rattle.std.proofs.Common.{◌≡◌, ◌≢◌, ℕ, ◌+◌, ◌⊎◌, inl, inr, true, List, [], ◌∷◌, ◌++◌, length, refl, sym, ap, ◌∙◌, append_assoc, arith, length-append}
 use Rattle.std.proofs.lemmas.List.{append-nil}
-use Rattle.std.specs.List.{AllByRecursion}
-use Rattle.deb_base.specs.Bodies.{Line, HasNoNewline, newline}
+use Rattle.deb_base.specs.Bodies.{Line, newline}
 use Rattle.deb_syntax.specs.Extents.{AreBlank, AreNotBlank}
 use Rattle.deb_syntax.specs.Lines.{lines_of, with_newlines, ends_line, ends_blank, IsClosed, Paragraph, paragraphs_from, paragraphs_of}
 use Rattle.deb_syntax.specs.Walking.{StandInFront}

@@ -1,6 +1,6 @@
 -- What a reader of paragraphs is to its callers, which texts fit it, and what its calls say of them. Debian Policy 5.1;
 -- what is kept and how far is read is this project's own.
-use Rattle.std.specs.Prelude.{◌≡◌, ℕ, ◌+◌, ◌≤◌, ◌⊎◌, Bool, true, List, [], ◌∷◌, ◌++◌, length, Option, Some, None, IfSome, IfNone, Result, Ok, Err, IfErr, MatchResult, IsTrue}
+use Rattle.std.specs.Prelude.{◌≡◌, ℕ, ◌+◌, ◌≤◌, ◌⊎◌, Bool, List, [], ◌∷◌, ◌++◌, length, Option, Some, None, IfSome, IfNone, Result, Ok, Err, IfErr, MatchResult, IsTrue}
 use Rattle.deb_base.specs.Bodies.{HasNoNewline}
 use Rattle.deb_base.specs.Codes.{number_of}
 use Rattle.deb_base.specs.Devices.{Shown, read_failures_after}

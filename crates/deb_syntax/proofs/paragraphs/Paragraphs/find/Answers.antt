@@ -1,4 +1,4 @@
-use Rattle.std.proofs.Common.{◌≡◌, ◌+◌, ◌≤◌, Ok, Err, refl, sym, ap, ◌∙◌, arith}
+use Rattle.std.proofs.Common.{◌+◌, Ok, Err, refl, ap, ◌∙◌}
 use Rattle.deb_base.specs.Devices.{read_failures_after}
 use Rattle.deb_syntax.specs.Feeding.{feed_state}
 use Rattle.deb_syntax.specs.Paragraphs.{state_of}

@@ -1,15 +1,10 @@
-use Rattle.std.proofs.Common.{◌≡◌, ℕ, Bool, ◌<◌, ◌≤◌, List, [], ◌++◌, length, true, false, Ok, Err, None, Some, refl, sym, ap, ◌∙◌, subst, arith, take}
+use Rattle.std.proofs.Common.{◌≡◌, Bool, ◌≤◌, [], length, true, None, refl, sym, ap, subst, arith}
 use Rattle.std.specs.Option.{option_map}
 use Rattle.deb_base.specs.Bodies.{paragraph_limit}
-use Rattle.deb_base.specs.declared.fault.Fault.{Fault}
-use Rattle.deb_base.specs.declared.fault.Fault.TheVariants.{Refused, Memory, Read, Write}
-use Rattle.deb_syntax.specs.Ahead.{IsAhead, IsFirst, HasFirst}
 use Rattle.deb_syntax.specs.Feeding.{feed_state, buffer_of}
-use Rattle.deb_syntax.specs.Lines.{file_limit}
-use Rattle.deb_syntax.specs.Paragraphs.{state_of}
-use Rattle.deb_syntax.specs.Reading.{State, Fits, FindsFirst, state_from}
+use Rattle.deb_syntax.specs.Reading.{State, Fits, state_from}
 use Rattle.deb_syntax.specs.Standing.{standing_of}
-use Rattle.deb_syntax.proofs.Advancing.{ahead_of, plain_ahead, tell_refusal, tell_begin_refusal, tell_none, tell_begin, stays_none, hidden_begins, near_nothing, hides_nothing, test_from_hides, tell_fault, long_not_blank, long_some, hides_reach, keeps_reach, limit_reach, reach_limit, taken_of, taken_none, fits_cut}
+use Rattle.deb_syntax.proofs.Advancing.{plain_ahead, tell_none, tell_begin, stays_none, hidden_begins, near_nothing, hides_nothing, test_from_hides, tell_fault, long_not_blank, long_some, hides_reach, keeps_reach, limit_reach, reach_limit, taken_of, taken_none, fits_cut}
 use Rattle.deb_syntax.proofs.Feeds.{feed_small}
 use Rattle.deb_syntax.proofs.paragraphs.Paragraphs.find_first.Goals as goal
 

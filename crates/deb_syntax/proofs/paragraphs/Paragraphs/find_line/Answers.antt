@@ -1,5 +1,4 @@
 use Rattle.std.proofs.Common.{◌+◌, ap}
-use Rattle.deb_syntax.specs.Feeding.{feed_state}
 use Rattle.deb_syntax.proofs.Advancing.{begins_line, first_begin_err}
 use Rattle.deb_syntax.proofs.paragraphs.Paragraphs.find_line.Goals as goal
 
