@@ -8,3 +8,4 @@ pub mod ParagraphText
 pub mod ReadSoFar
 pub mod SameText
 pub mod Telling
+pub mod Shapes

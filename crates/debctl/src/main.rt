@@ -22,6 +22,9 @@
 #![tactic(auto)]
 
 mod canonical;
+mod commands;
+mod document;
+pub mod jobs;
 pub mod laws;
 mod normalise;
 mod run;
