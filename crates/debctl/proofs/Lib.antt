@@ -9,3 +9,5 @@ pub mod ReadSoFar
 pub mod SameText
 pub mod Telling
 pub mod Shapes
+pub mod Answering
+pub mod VersionTelling

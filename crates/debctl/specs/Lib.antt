@@ -1,6 +1,9 @@
+pub mod Asked
 pub mod Canonical
 pub mod CanonicalLaws
 pub mod Commands
+pub mod Documents
 pub mod EntryMap
 pub mod Normalising
 pub mod Running
+pub mod VersionJobs
