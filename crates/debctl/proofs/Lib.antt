@@ -11,3 +11,4 @@ pub mod Telling
 pub mod Shapes
 pub mod Answering
 pub mod VersionTelling
+pub mod TakenWords

@@ -126,3 +126,6 @@ fn holds(operator: Cmp, order: Ordering) -> bool
         Cmp::Greater => order == Ordering::Greater,
     }
 }
+
+#[cfg(test)]
+mod tests;

@@ -236,7 +236,7 @@ fn help_text(
     name: &str,
 ) -> Result<String, AllocError> {
     let mut command = command?.bin_name(name)?;
-    let text = command.render_long_help()?;
+    let text = command.render_help()?;
     String::from_str(alloc, text.trim_end())
 }
 
@@ -249,3 +249,6 @@ fn usage(alloc: Global, text: &str) -> UsageFault
         Err(_) => UsageFault::Memory,
     }
 }
+
+#[cfg(test)]
+mod tests;
