@@ -1,8 +1,10 @@
 -- From what a parse by `clap` answers to what `job_of` answers.
-use Rattle.std.proofs.Common.{◌≡◌, ◌⊎◌, ℕ, Bool, true, false, List, [], ◌∷◌, ◌∙◌, Option, Some, None, Result, Ok, Err, IfErr, IfOk, not, ◌||◌, ap, sym, refl, inl, inr}
+use Rattle.std.proofs.Common.{◌≡◌, ℕ, Bool, true, false, List, [], ◌∷◌, ◌∙◌, Option, Some, None, Result, Ok, Err, IfErr, IfOk, not, ◌||◌, ap, sym, refl, inl, inr}
 use Rattle.std.specs.List.{list_any}
 use Rattle.std.proofs.Math.Bool.{or-true}
-use Rattle.clap.specs.Faults.{is_simple_and_free}
+use Rattle.clap.specs.Faults.{fault_of, is_simple_and_free}
+use Rattle.clap.specs.Takes.{takes}
+use Rattle.debctl.proofs.TakenWords.{taken_where_no_kind}
 use Rattle.clap.specs.Simple.{is_simple}
 use Rattle.clap.specs.Kinds.{Kinds, HasKind, IsAmong}
 use Rattle.clap.specs.Values.{kind_of}
@@ -20,6 +22,9 @@ is_simple_app = refl
 
 pub is_free_app : is_simple_and_free debctl_app ≡ true
 is_free_app = refl
+
+pub is_taken : (words : List (List ℕ)) → fault_of debctl_app words ≡ [] → takes debctl_app words ≡ true
+is_taken words none = taken_where_no_kind debctl_app words is_simple_app refl refl none
 
 -- words that are taken are answered by what they ask
 pub taken_means : (kinds : Kinds) (asked : Option Asked) (result : Result Call UsageFault) → kinds ≡ [] → AnswersMet asked result → IfErr result (MeansError kinds asked)

@@ -1,5 +1,5 @@
 -- A command with one more command below it is what `clap` reads so.
-use Rattle.std.proofs.Common.{◌≡◌, ◌∙◌, ap, ap₂, ◌||◌}
+use Rattle.std.proofs.Common.{◌∙◌, ap, ap₂, ◌||◌}
 use Rattle.clap.specs.Built.{AddsSubcommand}
 use Rattle.clap.specs.Simple.{App, with_subcommand}
 use Rattle.clap.specs.declared.builder.command.Command.{Command}

@@ -1,18 +1,18 @@
 -- Words at which a parse by `clap` has no kind of error are taken: what `fault_of` and `takes` have in common, step by
 -- step, for a command whose arguments have no default values.
-use Rattle.std.proofs.Common.{◌≡◌, ◌⊎◌, ◌<◌, ℕ, ◌==◌, ◌&&◌, ◌||◌, Bool, true, false, not, cond, List, [], ◌∷◌, ◌∙◌, Option, Some, None, length, is_some, inl, inr, refl, ap, sym, arith, zero, suc}
+use Rattle.std.proofs.Common.{◌≡◌, ◌⊎◌, ℕ, ◌==◌, ◌&&◌, ◌||◌, Bool, true, false, not, cond, List, [], ◌∷◌, Option, Some, None, length, is_some, inl, inr, refl, sym, arith, zero, suc}
 use Rattle.std.specs.Prelude.{nat_lt, nat_le, find, drop, slice_get, encode_utf8}
 use Rattle.std.specs.List.{list_all, list_any}
 use Rattle.std.specs.Option.{option_map_or}
 use Rattle.std.specs.Str.{bytes_eq, chars}
 use Rattle.std.proofs.lemmas.Bool.{and_from}
-use Rattle.std.proofs.lemmas.Grind.{common_steps}
+use Rattle.std.proofs.lemmas.Bool.Decides.{nat_tests}
 use Rattle.clap.proofs.WalkLemmas.{both}
 use Rattle.clap.specs.Lexer.{long_of, short_of}
 use Rattle.clap.specs.Facts.{explicit_source, unwrap_or_range, parser_of_value}
-use Rattle.clap.specs.Kinds.{Kinds, or_else, values_kinds, value_kinds, range_kinds, check_kinds}
+use Rattle.clap.specs.Kinds.{Kinds, or_else, values_kinds, value_kinds, range_kinds}
 use Rattle.clap.specs.Faults.{action_fault, bundle_fault, bundle_step_fault, check_fault, count_fault, defaults_fault, entered_fault, fault_of, flag_word_fault, flags_fault, level_fault, long_fault, option_fault, other_fault, positional_fault, react_fault, repeat_fault, set_fault, settle_fault, short_fault, step_fault, stray_fault, turn_fault, use_fault, values_fault, walk_fault, word_fault}
-use Rattle.clap.specs.Takes.{action_passes, bundle_passes, bundle_step_passes, count_passes, default_passes, entered_passes, flag_word_passes, flags_pass, is_given, is_valid, level_passes, long_passes, option_passes, other_passes, positional_passes, react_passes, set_passes, settle_passes, short_passes, step_passes, takes, turn_passes, use_passes, values_pass, walk_passes, word_passes}
+use Rattle.clap.specs.Takes.{action_passes, bundle_passes, bundle_step_passes, count_passes, default_passes, entered_passes, flag_word_passes, flags_pass, is_given, is_valid, level_passes, long_passes, option_passes, other_passes, positional_passes, react_passes, set_passes, settle_passes, short_passes, step_passes, takes, turn_passes, use_passes, walk_passes, word_passes}
 use Rattle.clap.specs.ValueTests.{accepts}
 use Rattle.clap.specs.Walk.{Held, Names, Row, Rule, Step, Text, Waiting, Walk, action_of, arg_by_id, arg_by_index, arg_by_long, arg_by_short, answers_to, attached_value, finished, has_row, is_pending, most_values, nothing_held, reacted, settled, subcommand_met, takes_several, takes_values, next, trailing, subcommand, value, values_or_missing, walk, walk_from, walked, word_met}
 use Rattle.clap.specs.Simple.{App, Shape, argument_words, built, entered, is_simple, label_of, names_of}
@@ -83,10 +83,19 @@ action_none action.HelpShort again a values rows e = some_kind _ _ e
 action_none action.HelpLong again a values rows e = some_kind _ _ e
 action_none action.Version again a values rows e = some_kind _ _ e
 
+-- the same of the tests alone: they are equal and that is the count, or the count is within
+within : (same first fewer more : Bool) (k l m : ErrorKind) → cond same (cond first [] (k ∷ [])) (cond fewer (l ∷ []) (cond more (m ∷ []) [])) ≡ [] → ((same ≡ true) × (first ≡ true)) ⊎ ((fewer ≡ false) × (more ≡ false))
+within true first fewer more k l m e = inl (refl, holds_if_none first k [] e)
+within false first fewer more k l m e =
+    let least = fails_if_none fewer l [] _ e in
+    inr (least.0, (fails_if_none more m [] _ least.1).0)
+
 range_none : (least most n : ℕ) → range_kinds least most n ≡ [] → (nat_le least n ≡ true) × (nat_le n most ≡ true)
-range_none least most n e =
-    let rest = (fails_if_none (nat_lt 0 least && n == 0) _ _ _ e).1 in
-    ?
+range_none least most n e = by_tests (within (least == most) (least == n) (nat_lt n least) (nat_lt most n) _ _ _ (fails_if_none (nat_lt 0 least && n == 0) _ _ _ e).1)
+  where
+    by_tests : (((least == most) ≡ true) × ((least == n) ≡ true)) ⊎ ((nat_lt n least ≡ false) × (nat_lt most n ≡ false)) → (nat_le least n ≡ true) × (nat_le n most ≡ true)
+    by_tests (inl (same, is)) = (grind (arith, nat_tests), grind (arith, nat_tests))
+    by_tests (inr (fewer, more)) = (grind (arith, nat_tests), grind (arith, nat_tests))
 
 use_none : (again : Bool) (a : Rule) (values : List Text) (rows : List Row) → use_fault again a values rows ≡ [] → use_passes again a values rows ≡ true
 use_none again a values rows e =
@@ -134,17 +143,19 @@ short_none c again None rest h fault passes then e = some_kind _ _ e
 short_none c again (Some a) rest h fault passes then e = if_none (takes_values a) _ _ _ _ (option_none c again a (attached_value rest) h)
     (λ none. let parts = or_none (react_fault c again a [] h) (fault (reacted c a [] h)) none in and_from _ _ (react_none c again a [] h parts.0) (then (reacted c a [] h) parts.1)) e
 
+step_of_bundle : (c : List Rule) (again : Bool) (first : Option ℕ) (flags : Text) (skip : ℕ) (h : Held) (fault : Text → ℕ → Held → Kinds) (passes : Text → ℕ → Held → Bool)
+    → ((rest : Text) (left : ℕ) (after : Held) → fault rest left after ≡ [] → passes rest left after ≡ true)
+    → bundle_step_fault c again first flags skip h fault ≡ [] → bundle_step_passes c again first flags skip h passes ≡ true
+step_of_bundle c again None flags skip h fault passes then e = refl
+step_of_bundle c again (Some x) flags zero h fault passes then e =
+    let rest = drop (length (encode_utf8 x)) flags in
+    short_none c again (arg_by_short c x) rest h (fault rest 0) (passes rest 0) (then rest 0) e
+step_of_bundle c again (Some x) flags (suc skip) h fault passes then e = then (drop (length (encode_utf8 x)) flags) skip h e
+
 flags_none : (c : List Rule) (again : Bool) (k : ℕ) (flags : Text) (skip : ℕ) (h : Held) → flags_fault c again k flags skip h ≡ [] → flags_pass c again k flags skip h ≡ true
 unfolding flags_fault flags_pass
 flags_none c again zero flags skip h e = refl
-flags_none c again (suc k) flags skip h e = go (slice_get (chars flags) 0) skip e
-  where
-    go : (first : Option ℕ) (skip : ℕ) → bundle_step_fault c again first flags skip h (flags_fault c again k) ≡ [] → bundle_step_passes c again first flags skip h (flags_pass c again k) ≡ true
-    go None skip e = refl
-    go (Some x) zero e =
-        let rest = drop (length (encode_utf8 x)) flags in
-        short_none c again (arg_by_short c x) rest h (flags_fault c again k rest 0) (flags_pass c again k rest 0) (λ after. flags_none c again k rest 0 after) e
-    go (Some x) (suc skip) e = flags_none c again k (drop (length (encode_utf8 x)) flags) skip h e
+flags_none c again (suc k) flags skip h e = step_of_bundle c again (slice_get (chars flags) 0) flags skip h (flags_fault c again k) (flags_pass c again k) (λ rest left after. flags_none c again k rest left after) e
 
 flag_word_none : (c : List Rule) (again : Bool) (long : Option (Text × Option Text)) (word : Text) (h : Held) → flag_word_fault c again long word h ≡ [] → flag_word_passes c again long word h ≡ true
 flag_word_none c again (Some p) word h e = long_none c again (arg_by_long c p.0) p.1 h e
@@ -164,13 +175,13 @@ other_none s None word h e = or_holds (bytes_eq word (45 ∷ 45 ∷ [])) _ _ (fl
 word_none : (s : Shape) (names : Names) (is_trailing : Bool) (waiting : Waiting) (word : Text) (h : Held) → word_fault s names is_trailing waiting word h ≡ [] → word_passes s names is_trailing waiting word h ≡ true
 word_none s names is_trailing waiting word h e = or_holds is_trailing _ _ (other_none s (subcommand_met names waiting word) word h) e
 
+either_kind : {P : Type 0} (b : Bool) (k l : ErrorKind) (ks ls : Kinds) → cond b (k ∷ ks) (l ∷ ls) ≡ [] → P
+either_kind true k l ks ls e = some_kind k ks e
+either_kind false k l ks ls e = some_kind l ls e
+
 value_none : (s : Shape) (h : Held) (found : Option Rule)
     → option_map_or (λ a. positional_fault s.rules s.args_override_self a h) found (stray_fault s) ≡ [] → option_map_or (λ a. positional_passes s.rules s.args_override_self a h) found false ≡ true
-value_none s h None e = stray s.is_leaf e
-  where
-    stray : {k l m : ErrorKind} (leaf : Bool) → cond leaf (k ∷ []) (l ∷ m ∷ []) ≡ [] → false ≡ true
-    stray true e = some_kind _ _ e
-    stray false e = some_kind _ _ e
+value_none s h None e = either_kind s.is_leaf _ _ _ _ e
 value_none s h (Some a) e = or_holds (is_pending a h.pending && takes_several a) _ _ (settle_none s.rules s.args_override_self h) e
 
 step_none : (s : Shape) (position : ℕ) (h : Held) (step : Step) → step_fault s position h step ≡ [] → step_passes s position h step ≡ true
@@ -195,15 +206,14 @@ walk_none s names w (word ∷ rest) e =
 
 -- ---- after the walk
 
+given_first : (required given missing all : Bool) → (missing ≡ false → all ≡ true) → ((required && not given) || missing) ≡ false → ((not required || given) && all) ≡ true
+given_first true true missing all then e = then e
+given_first true false missing all then e = let bad : true ≡ false = e in cc
+given_first false given missing all then e = then e
+
 each_given : (rows : List Row) (rules : List Rule) → list_any (λ a. a.required && not (is_given a.id rows)) rules ≡ false → list_all (λ a. not a.required || is_given a.id rows) rules ≡ true
 each_given rows [] e = refl
-each_given rows (a ∷ rest) e = go a.required (is_given a.id rows) e
-  where
-    go : (required given : Bool) → ((required && not given) || list_any (λ a. a.required && not (is_given a.id rows)) rest) ≡ false
-        → ((not required || given) && list_all (λ a. not a.required || is_given a.id rows) rest) ≡ true
-    go true true e = each_given rows rest e
-    go true false e = let bad : true ≡ false = e in cc
-    go false given e = each_given rows rest e
+each_given rows (a ∷ rest) e = given_first a.required (is_given a.id rows) _ _ (each_given rows rest) e
 
 -- no argument has a default value or a rule on another
 abbrev pub is_bare : Shape → Bool
@@ -245,15 +255,16 @@ level_none s names h words has below bare e =
           (and_from _ _ parts.0 (check_none s (finished s.rules end) has parts.1 four.1))),
     )
 
+first_or_rest : (here : Bool) (s : Shape) (rest : Option Shape) (words : List Text) → is_bare s ≡ true
+    → (option_map_or (λ s. level_fault s [] nothing_held words false []) rest [] ≡ [] → option_map_or (λ s. level_passes s [] nothing_held words false) rest true ≡ true)
+    → option_map_or (λ s. level_fault s [] nothing_held words false []) (cond here (Some s) rest) [] ≡ [] → option_map_or (λ s. level_passes s [] nothing_held words false) (cond here (Some s) rest) true ≡ true
+first_or_rest true s rest words bare then e = (level_none s [] nothing_held words false [] bare e).1
+first_or_rest false s rest words bare then e = then e
+
 found_is_bare : (p : Shape → Bool) (subs : List Shape) (words : List Text) → list_all is_bare subs ≡ true
     → option_map_or (λ s. level_fault s [] nothing_held words false []) (find p subs) [] ≡ [] → option_map_or (λ s. level_passes s [] nothing_held words false) (find p subs) true ≡ true
 found_is_bare p [] words bare e = refl
-found_is_bare p (s ∷ subs) words bare e = go (p s) e
-  where
-    go : (here : Bool) → option_map_or (λ s. level_fault s [] nothing_held words false []) (cond here (Some s) (find p subs)) [] ≡ []
-        → option_map_or (λ s. level_passes s [] nothing_held words false) (cond here (Some s) (find p subs)) true ≡ true
-    go true e = (level_none s [] nothing_held words false [] (both _ _ bare).0 e).1
-    go false e = found_is_bare p subs words (both _ _ bare).1 e
+found_is_bare p (s ∷ subs) words bare e = first_or_rest (p s) s (find p subs) words (both _ _ bare).0 (found_is_bare p subs words (both _ _ bare).1) e
 
 entered_none : (a : App) (stop : Option (Text × List Text)) → list_all is_bare a.subs ≡ true → entered_fault a stop ≡ [] → entered_passes a stop ≡ true
 entered_none a None bare e = refl

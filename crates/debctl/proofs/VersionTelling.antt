@@ -1,8 +1,8 @@
 -- What status 2 says of a job on versions.
-use Rattle.std.proofs.Common.{◌≡◌, ◌⊎◌, ℕ, Bool, inl, inr, List, Option, Err, arith, refl, subst}
+use Rattle.std.proofs.Common.{◌≡◌, ℕ, inl, inr, List, Option, Err, arith, refl, subst}
 use Rattle.std.specs.Prelude.{⊤}
 use Rattle.std.specs.Io.KnownBytes.{Appends}
-use Rattle.deb_base.specs.Lines.{fault_line, refusal_line}
+use Rattle.deb_base.specs.Lines.{refusal_line}
 use Rattle.deb_base.specs.declared.fault.Fault.{Fault}
 use Rattle.deb_base.specs.declared.fault.Fault.TheVariants.{Refused, Memory, Read, Write}
 use Rattle.deb_base.specs.declared.refusal.Refusal.{Refusal}

@@ -1,5 +1,5 @@
 -- What the program's words ask, as a function of what `clap` makes of them. (The words are this project's own.)
-use Rattle.std.specs.Prelude.{◌≡◌, ◌⊎◌, ℕ, Bool, true, false, not, List, [], ◌∷◌, Option, Some, None, unwrap_or, option_map, if◌then◌else◌, codes, string_bytes, bytes_eq, Result, Ok, Err, refl}
+use Rattle.std.specs.Prelude.{◌≡◌, ◌⊎◌, Bool, true, false, not, List, [], Option, Some, None, unwrap_or, option_map, if◌then◌else◌, codes, string_bytes, bytes_eq, Result, Ok, Err}
 use Rattle.std.specs.List.{list_any}
 use Rattle.std.specs.Option.{option_map_or}
 use Rattle.clap.specs.Kinds.{Kinds}

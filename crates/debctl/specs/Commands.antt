@@ -1,6 +1,6 @@
 -- The commands, as what `clap` reads of them: their names, their options and the words that they take.
 -- (This project's own.)
-use Rattle.std.specs.Prelude.{◌≡◌, ℕ, List, true, false, Some, codes}
+use Rattle.std.specs.Prelude.{◌≡◌, true, false, Some, codes}
 use Rattle.clap.specs.Simple.{App, app_of, new_app, new_rule, on_top, with_rule, with_subcommand}
 use Rattle.clap.specs.Walk.{Rule, Text}
 use Rattle.clap.specs.declared.builder.command.Command.{Command}

@@ -51,7 +51,8 @@ impl From<AllocError> for UsageFault {
 /// - `UsageFault::Memory`: a growth of memory was refused.
 pub fn job_of(alloc: Global, words: &[String]) -> Result<Call, UsageFault>
     // A call is what `clap` takes the words for.
-    ensures taken { IfOk result (λ _. fault_of debctl_app (map string_bytes words.now) ≡ []) }
+    ensures taken { IfOk result (λ _. takes debctl_app (map string_bytes words.now) ≡ true) }
+    ensures faultless { IfOk result (λ _. fault_of debctl_app (map string_bytes words.now) ≡ []) }
     ensures ok { IfOk result (λ call. asked_of (map string_bytes words.now) ≡ Some (asks (request_of call))) }
 
     // An error comes by what `clap` refuses, or by what isn't known.

@@ -1,18 +1,23 @@
-use Rattle.std.proofs.Common.{◌≡◌, ◌∙◌, ap, map, List, [], Some, ℕ, string_bytes, true, sym, subst}
-use Rattle.clap.specs.Simple.{App, app_of, is_simple, subcommand_of}
+use Rattle.std.proofs.Common.{◌≡◌, ◌∙◌, ap, map, [], string_bytes, sym, subst}
+use Rattle.clap.specs.Simple.{app_of, is_simple, subcommand_of}
 use Rattle.clap.specs.Faults.{fault_of, is_simple_and_free}
 use Rattle.clap.specs.Kinds.{HasKind}
 use Rattle.clap.specs.Takes.{takes}
 use Rattle.clap.specs.Words.{kind_of, subcommand_rows_of}
 use Rattle.debctl.specs.Asked.{asked_in, asked_of, AnswersMet}
 use Rattle.debctl.specs.Commands.{debctl_app}
-use Rattle.debctl.proofs.Answering.{is_simple_app, is_free_app, taken_means, asked_is_met, on_any_call, kind_means, memory_is_told}
+use Rattle.debctl.proofs.Answering.{is_simple_app, is_free_app, is_taken, taken_means, on_any_call, kind_means, memory_is_told}
 use Rattle.debctl.proofs.words.job_of.Goals as goal
+
+pub returns-in-Ok-clause-faultless : goal.returns-in-Ok-clause-faultless
+returns-in-Ok-clause-faultless c =
+    let is : app_of c.in_ok-command.command ≡ debctl_app = c.in_ok-command.ensures.is in
+    on_any_call c.call_of.result _ (ap (λ a. fault_of a (map string_bytes c.args.words.now)) (sym is) ∙ c.in-Ok.ensures.kinds (ap is_simple_and_free is ∙ is_free_app))
 
 pub returns-in-Ok-clause-taken : goal.returns-in-Ok-clause-taken
 returns-in-Ok-clause-taken c =
     let is : app_of c.in_ok-command.command ≡ debctl_app = c.in_ok-command.ensures.is in
-    on_any_call c.call_of.result _ (ap (λ a. fault_of a (map string_bytes c.args.words.now)) (sym is) ∙ c.in-Ok.ensures.kinds (ap is_simple_and_free is ∙ is_free_app))
+    on_any_call c.call_of.result _ (is_taken (map string_bytes c.args.words.now) (ap (λ a. fault_of a (map string_bytes c.args.words.now)) (sym is) ∙ c.in-Ok.ensures.kinds (ap is_simple_and_free is ∙ is_free_app)))
 
 pub returns-in-Ok-clause-refused : goal.returns-in-Ok-clause-refused
 returns-in-Ok-clause-refused c =
