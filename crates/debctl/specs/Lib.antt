@@ -1,4 +1,5 @@
 pub mod Asked
+pub mod AskedCases
 pub mod Canonical
 pub mod CanonicalLaws
 pub mod Commands
