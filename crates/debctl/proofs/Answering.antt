@@ -1,17 +1,18 @@
 -- From what a parse by `clap` answers to what `job_of` answers.
-use Rattle.std.proofs.Common.{◌≡◌, ℕ, Bool, true, false, List, [], ◌∷◌, ◌∙◌, Option, Some, None, Result, Ok, Err, IfErr, IfOk, not, ◌||◌, ap, sym, refl, inl, inr}
+use Rattle.std.proofs.Common.{◌≡◌, ◌⊎◌, ℕ, Bool, true, false, List, [], ◌∷◌, ◌∙◌, Option, Some, None, Result, Ok, Err, IfErr, IfOk, not, ◌||◌, ap, sym, refl, inl, inr}
 use Rattle.std.specs.List.{list_any}
 use Rattle.std.proofs.Math.Bool.{or-true}
 use Rattle.clap.specs.Faults.{fault_of, is_simple_and_free}
 use Rattle.clap.specs.Takes.{takes}
 use Rattle.debctl.proofs.TakenWords.{taken_where_no_kind}
+use Rattle.debctl.proofs.UnmixedKinds.{Unmixed, faults_unmixed}
 use Rattle.clap.specs.Simple.{is_simple}
 use Rattle.clap.specs.Kinds.{Kinds, HasKind, IsAmong}
 use Rattle.clap.specs.Values.{kind_of}
 use Rattle.clap.specs.declared.error.Error.{Error}
 use Rattle.clap.specs.declared.error.kind.ErrorKind.{ErrorKind}
 use Rattle.clap.specs.declared.error.kind.ErrorKind.TheVariants.{OutOfMemory}
-use Rattle.debctl.specs.Asked.{Asked, Request, asks, asks_help, unknown_kind, unknown_operator, unknown_command, is_request_kind, Answers, AnswersMet, MeansError, TellsKind}
+use Rattle.debctl.specs.Asked.{Asked, Request, asks, asks_help, unknown_kind, unknown_operator, unknown_command, has_mistake, has_request, is_request_kind, Answers, AreMistakes, AreRequests, AnswersMet, MeansError, TellsKind}
 use Rattle.debctl.specs.Commands.{debctl_app}
 use Rattle.debctl.specs.declared.jobs.Call.{Call}
 use Rattle.debctl.specs.declared.words.UsageFault.{UsageFault}
@@ -57,13 +58,24 @@ is_among p [] kind among passes = absurd among
 is_among p (k ∷ ks) kind (inl here) passes = ap (λ b. b || list_any p ks) (ap p (sym here) ∙ passes)
 is_among p (k ∷ ks) kind (inr there) passes = ap (λ b. p k || b) (is_among p ks kind there passes) ∙ or-true (p k)
 
+mistakes : (kinds : Kinds) → (has_request kinds ≡ false) ⊎ (has_mistake kinds ≡ false) → has_mistake kinds ≡ true → AreMistakes kinds
+mistakes kinds (inl no_request) is = (is, no_request)
+mistakes kinds (inr no_mistake) is = let bad : true ≡ false = sym is ∙ no_mistake in cc
+
+requests : (kinds : Kinds) → (has_request kinds ≡ false) ⊎ (has_mistake kinds ≡ false) → has_request kinds ≡ true → AreRequests kinds
+requests kinds (inl no_request) is = let bad : true ≡ false = sym is ∙ no_request in cc
+requests kinds (inr no_mistake) is = (is, no_mistake)
+
+pub app_unmixed : (words : List (List ℕ)) → Unmixed (fault_of debctl_app words)
+app_unmixed words = faults_unmixed debctl_app words refl refl
+
 -- an error of `clap` is told by its kind
-pub kind_means : (kinds : Kinds) (asked : Option Asked) (error : Error) (told : UsageFault) → HasKind kinds error → TellsKind (kind_of error) told → MeansError kinds asked told
-kind_means kinds asked error (Usage text) (inl memory) (is, isnt) = absurd (isnt memory)
-kind_means kinds asked error (Usage text) (inr among) (is, isnt) = inl (is_among (λ kind. not (is_request_kind kind)) kinds (kind_of error) among (ap not is))
-kind_means kinds asked error (Help text) (inl memory) is = let bad : false ≡ true = ap is_request_kind (sym memory) ∙ is in cc
-kind_means kinds asked error (Help text) (inr among) is = inl (is_among is_request_kind kinds (kind_of error) among is)
-kind_means kinds asked error Memory has is = tt
+pub kind_means : (kinds : Kinds) (asked : Option Asked) (error : Error) (told : UsageFault) → Unmixed kinds → HasKind kinds error → TellsKind (kind_of error) told → MeansError kinds asked told
+kind_means kinds asked error (Usage text) unmixed (inl memory) (is, isnt) = absurd (isnt memory)
+kind_means kinds asked error (Usage text) unmixed (inr among) (is, isnt) = inl (mistakes kinds unmixed.is (is_among (λ kind. not (is_request_kind kind)) kinds (kind_of error) among (ap not is)))
+kind_means kinds asked error (Help text) unmixed (inl memory) is = let bad : false ≡ true = ap is_request_kind (sym memory) ∙ is in cc
+kind_means kinds asked error (Help text) unmixed (inr among) is = inl (requests kinds unmixed.is (is_among is_request_kind kinds (kind_of error) among is))
+kind_means kinds asked error Memory unmixed has is = tt
 
 -- and want of memory by nothing else
 pub memory_is_told : (kind : ErrorKind) (told : UsageFault) → TellsKind kind told → kind ≡ OutOfMemory → told ≡ Memory

@@ -12,3 +12,4 @@ pub mod Shapes
 pub mod Answering
 pub mod VersionTelling
 pub mod TakenWords
+pub mod UnmixedKinds

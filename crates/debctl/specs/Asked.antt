@@ -163,10 +163,17 @@ abbrev pub AnswersMet : Option Asked → Result Call UsageFault → Type 0
 AnswersMet None result = ⊥
 AnswersMet (Some asked) result = Answers asked result
 
+-- all of the kinds are mistakes, and all are calls for help or for the version; there is one at least
+abbrev pub AreMistakes : Kinds → Type 0
+AreMistakes kinds = (has_mistake kinds ≡ true) × (has_request kinds ≡ false)
+
+abbrev pub AreRequests : Kinds → Type 0
+AreRequests kinds = (has_request kinds ≡ true) × (has_mistake kinds ≡ false)
+
 -- why words give no call: by the kinds of `clap`'s error, or where that has none, by what is asked
 abbrev pub MeansError : Kinds → Option Asked → UsageFault → Type 0
-MeansError kinds asked (Usage text) = (has_mistake kinds ≡ true) ⊎ ((kinds ≡ []) × AnswersMet asked (Err (Usage text)))
-MeansError kinds asked (Help text) = (has_request kinds ≡ true) ⊎ ((kinds ≡ []) × AnswersMet asked (Err (Help text)))
+MeansError kinds asked (Usage text) = AreMistakes kinds ⊎ ((kinds ≡ []) × AnswersMet asked (Err (Usage text)))
+MeansError kinds asked (Help text) = AreRequests kinds ⊎ ((kinds ≡ []) × AnswersMet asked (Err (Help text)))
 MeansError kinds asked Memory = Unit {0}
 
 -- ---- what the parts of `job_of` answer

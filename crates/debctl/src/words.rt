@@ -1,8 +1,8 @@
 //! What the program's words ask it to do.
 
-ghost use Rattle.std.specs.Prelude.{◌≡◌, [], Some, None, List, map, true, codes, string_bytes, option_map, IfOk, IfErr, option_copied};
+ghost use Rattle.std.specs.Prelude.{◌≡◌, [], Some, None, map, true, codes, string_bytes, option_map, IfOk, IfErr, option_copied};
 ghost use Rattle.clap.specs.Words.{fault_of, first_of, found_of, has_subcommand, kind_of, rows_of, subcommand_rows_of, takes};
-ghost use Rattle.debctl.specs.Asked.{asked_by, asked_in, asked_of, asks, canon_version_asked, checks, compare_asked, document_asked, help_asked, kind_asked, normalises, request_of, wanted_of, word_in, Answers, AnswersError, AnswersMet, IsHelp, MeansError, MeansKind, Request, TellsKind, UsesText};
+ghost use Rattle.debctl.specs.Asked.{asked_by, asked_in, asked_of, asks, canon_version_asked, checks, compare_asked, document_asked, help_asked, kind_asked, normalises, request_of, word_in, Answers, AnswersError, AnswersMet, IsHelp, MeansError, MeansKind, Request, TellsKind, UsesText};
 ghost use Rattle.debctl.specs.Commands.{debctl_app};
 
 use crate::commands::{

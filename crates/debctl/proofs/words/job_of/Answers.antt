@@ -6,7 +6,7 @@ use Rattle.clap.specs.Takes.{takes}
 use Rattle.clap.specs.Words.{kind_of, subcommand_rows_of}
 use Rattle.debctl.specs.Asked.{asked_in, asked_of, AnswersMet}
 use Rattle.debctl.specs.Commands.{debctl_app}
-use Rattle.debctl.proofs.Answering.{is_simple_app, is_free_app, is_taken, taken_means, on_any_call, kind_means, memory_is_told}
+use Rattle.debctl.proofs.Answering.{is_simple_app, is_free_app, is_taken, taken_means, on_any_call, app_unmixed, kind_means, memory_is_told}
 use Rattle.debctl.proofs.words.job_of.Goals as goal
 
 pub returns-in-Ok-clause-faultless : goal.returns-in-Ok-clause-faultless
@@ -30,7 +30,7 @@ pub returns-in-Err-clause-refused : goal.returns-in-Err-clause-refused
 returns-in-Err-clause-refused c =
     let is : app_of c.in_ok-command.command ≡ debctl_app = c.in_ok-command.ensures.is in
     let has : HasKind (fault_of debctl_app (map string_bytes c.args.words.now)) c.in-Err.error = subst (λ a. HasKind (fault_of a (map string_bytes c.args.words.now)) c.in-Err.error) is (c.in-Err.ensures.kinds (ap is_simple_and_free is ∙ is_free_app)) in
-    kind_means _ _ c.in-Err.error c.refusal_of.result has c.refusal_of.ensures
+    kind_means _ _ c.in-Err.error c.refusal_of.result (app_unmixed (map string_bytes c.args.words.now)) has c.refusal_of.ensures
 
 pub returns-in-Err-clause-accepted : goal.returns-in-Err-clause-accepted
 returns-in-Err-clause-accepted c taken request asked =
