@@ -2,11 +2,10 @@
 use Rattle.std.specs.Prelude.{◌≡◌, List, [], ◌∷◌, Some, None, true, codes, refl}
 use Rattle.clap.proofs.OnLiterals.{clap_on_literals}
 use Rattle.clap.specs.Faults.{fault_of}
-use Rattle.clap.specs.Kinds.{Kinds}
 use Rattle.clap.specs.Takes.{takes}
 use Rattle.clap.specs.Walk.{Text}
 use Rattle.clap.specs.declared.error.kind.ErrorKind.TheVariants as kind
-use Rattle.debctl.specs.Asked.{asked_of, asks, asks_help, canonicalises, checks, compares, normalises, unknown_command, unknown_kind, unknown_operator, Asked}
+use Rattle.debctl.specs.Asked.{asked_of, asks, asks_help, canonicalises, checks, compares, normalises, unknown_command, unknown_kind, unknown_operator}
 use Rattle.debctl.specs.Commands.{debctl_app}
 use Rattle.debctl.specs.Documents.{Packages, Source}
 use Rattle.debctl.specs.declared.jobs.Cmp.TheVariants as cmp
