@@ -8,3 +8,8 @@ pub mod ParagraphText
 pub mod ReadSoFar
 pub mod SameText
 pub mod Telling
+pub mod Shapes
+pub mod Answering
+pub mod VersionTelling
+pub mod TakenWords
+pub mod UnmixedKinds

@@ -1,5 +1,10 @@
+pub mod Asked
+pub mod AskedCases
 pub mod Canonical
 pub mod CanonicalLaws
+pub mod Commands
+pub mod Documents
 pub mod EntryMap
 pub mod Normalising
 pub mod Running
+pub mod VersionJobs

@@ -22,11 +22,18 @@
 #![tactic(auto)]
 
 mod canonical;
+mod commands;
+mod document;
+pub mod jobs;
+mod kind_word;
 pub mod laws;
 mod normalise;
 mod run;
+mod tell;
 #[cfg(test)]
 mod tests;
+pub mod version_jobs;
+pub mod words;
 
 use deb_base::{Input, Output};
 pub use normalise::normalise;

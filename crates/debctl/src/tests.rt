@@ -38,22 +38,22 @@ impl Read for Pieces<'_> {
 
 /// What a writer answers once its good calls are used up.
 #[derive(Clone, Copy)]
-enum Then {
+pub(crate) enum Then {
     Fails,
     TakesNone,
 }
 
 /// A writer that takes at most so many bytes a call, for so many calls.
 #[derive(Drop)]
-struct Slow {
-    held: Vec<u8>,
+pub(crate) struct Slow {
+    pub(crate) held: Vec<u8>,
     most: usize,
     calls: u64,
     then: Then,
 }
 
 impl Slow {
-    fn new(alloc: Global, most: usize, calls: u64, then: Then) -> Slow {
+    pub(crate) fn new(alloc: Global, most: usize, calls: u64, then: Then) -> Slow {
         Slow {
             held: Vec::new(alloc),
             most,
@@ -84,7 +84,7 @@ impl Write for Slow {
 
 const ALL: usize = 65_536;
 
-const EVER: u64 = u64::MAX;
+pub(crate) const EVER: u64 = u64::MAX;
 
 const HELLO: &[u8] = b"vERSION: 01.0-0\npackage:hello\nArchitecture: amd64\n";
 

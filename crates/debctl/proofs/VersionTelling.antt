@@ -1,0 +1,27 @@
+-- What status 2 says of a job on versions.
+use Rattle.std.proofs.Common.{◌≡◌, ℕ, inl, inr, List, Option, Err, arith, refl, subst}
+use Rattle.std.specs.Prelude.{⊤}
+use Rattle.std.specs.Io.KnownBytes.{Appends}
+use Rattle.deb_base.specs.Lines.{refusal_line}
+use Rattle.deb_base.specs.declared.fault.Fault.{Fault}
+use Rattle.deb_base.specs.declared.fault.Fault.TheVariants.{Refused, Memory, Read, Write}
+use Rattle.deb_base.specs.declared.refusal.Refusal.{Refusal}
+use Rattle.debctl.specs.Running.{TellsFault}
+use Rattle.debctl.specs.VersionJobs.{bad_version, Canonicalises, IsNoVersion}
+
+-- a fault whose status is 2 is a refusal, and its line was written
+told_as_two : {E : Type 0} (held : E → Option (List ℕ)) (failures : E → ℕ) (err err_after : E) (status : ℕ) (fault : Fault)
+    → TellsFault held failures err err_after fault status → status ≡ 2 → (refusal : Refusal) × (fault ≡ Refused refusal) × Appends (held err) (held err_after) (refusal_line refusal)
+told_as_two held failures err err_after status fault (inr front) is = absurd (omega (arith, front.status, is))
+told_as_two held failures err err_after status (Refused refusal) (inl whole) is = (refusal, refl, whole.written)
+told_as_two held failures err err_after status Memory (inl whole) is = absurd (omega (arith, whole.status, is))
+told_as_two held failures err err_after status Read (inl whole) is = absurd (omega (arith, whole.status, is))
+told_as_two held failures err err_after status Write (inl whole) is = absurd (omega (arith, whole.status, is))
+
+pub line_refused : {W E : Type 0} (text : List ℕ) (held_out : W → Option (List ℕ)) (failures_out : W → ℕ) (out out_after : W) (held : E → Option (List ℕ)) (failures : E → ℕ) (err err_after : E) (status : ℕ) (fault : Fault)
+    → Canonicalises {T = ⊤} text held_out failures_out out out_after (Err fault) → TellsFault held failures err err_after fault status → status ≡ 2
+    → (out_after ≡ out) × IsNoVersion text × Appends (held err) (held err_after) (refusal_line bad_version)
+line_refused text held_out failures_out out out_after held failures err err_after status fault canonicalises tells is =
+    let two = told_as_two held failures err err_after status fault tells is in
+    let refused : Canonicalises {T = ⊤} text held_out failures_out out out_after (Err (Refused two.0)) = subst (λ f. Canonicalises {T = ⊤} text held_out failures_out out out_after (Err f)) two.1 canonicalises in
+    (refused.2, refused.1, subst (λ r. Appends (held err) (held err_after) (refusal_line r)) refused.0 two.2)

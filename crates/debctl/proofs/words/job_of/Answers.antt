@@ -1,0 +1,38 @@
+use Rattle.std.proofs.Common.{◌≡◌, ◌∙◌, ap, map, [], string_bytes, sym, subst}
+use Rattle.clap.specs.Simple.{app_of, is_simple, subcommand_of}
+use Rattle.clap.specs.Faults.{fault_of, is_simple_and_free}
+use Rattle.clap.specs.Kinds.{HasKind}
+use Rattle.clap.specs.Takes.{takes}
+use Rattle.clap.specs.Words.{kind_of, subcommand_rows_of}
+use Rattle.debctl.specs.Asked.{asked_in, asked_of, AnswersMet}
+use Rattle.debctl.specs.Commands.{debctl_app}
+use Rattle.debctl.proofs.Answering.{is_simple_app, is_free_app, is_taken, taken_means, on_any_call, app_unmixed, kind_means, memory_is_told}
+use Rattle.debctl.proofs.words.job_of.Goals as goal
+
+pub returns-in-Ok-clause-faultless : goal.returns-in-Ok-clause-faultless
+returns-in-Ok-clause-faultless c =
+    let is : app_of c.in_ok-command.command ≡ debctl_app = c.in_ok-command.ensures.is in
+    on_any_call c.call_of.result _ (ap (λ a. fault_of a (map string_bytes c.args.words.now)) (sym is) ∙ c.in-Ok.ensures.kinds (ap is_simple_and_free is ∙ is_free_app))
+
+pub returns-in-Ok-clause-taken : goal.returns-in-Ok-clause-taken
+returns-in-Ok-clause-taken c =
+    let is : app_of c.in_ok-command.command ≡ debctl_app = c.in_ok-command.ensures.is in
+    on_any_call c.call_of.result _ (is_taken (map string_bytes c.args.words.now) (ap (λ a. fault_of a (map string_bytes c.args.words.now)) (sym is) ∙ c.in-Ok.ensures.kinds (ap is_simple_and_free is ∙ is_free_app)))
+
+pub returns-in-Ok-clause-refused : goal.returns-in-Ok-clause-refused
+returns-in-Ok-clause-refused c =
+    let is : app_of c.in_ok-command.command ≡ debctl_app = c.in_ok-command.ensures.is in
+    let none : fault_of debctl_app (map string_bytes c.args.words.now) ≡ [] = ap (λ a. fault_of a (map string_bytes c.args.words.now)) (sym is) ∙ c.in-Ok.ensures.kinds (ap is_simple_and_free is ∙ is_free_app) in
+    let met : asked_in (subcommand_rows_of c.in-Ok.matches) ≡ asked_of (map string_bytes c.args.words.now) = ap asked_in ((c.in-Ok.ensures.matches (ap is_simple is ∙ is_simple_app)).1 ∙ ap (λ a. subcommand_of a (map string_bytes c.args.words.now)) is) in
+    taken_means _ _ c.call_of.result none (subst (λ asked. AnswersMet asked c.call_of.result) met c.call_of.ensures)
+
+pub returns-in-Err-clause-refused : goal.returns-in-Err-clause-refused
+returns-in-Err-clause-refused c =
+    let is : app_of c.in_ok-command.command ≡ debctl_app = c.in_ok-command.ensures.is in
+    let has : HasKind (fault_of debctl_app (map string_bytes c.args.words.now)) c.in-Err.error = subst (λ a. HasKind (fault_of a (map string_bytes c.args.words.now)) c.in-Err.error) is (c.in-Err.ensures.kinds (ap is_simple_and_free is ∙ is_free_app)) in
+    kind_means _ _ c.in-Err.error c.refusal_of.result (app_unmixed (map string_bytes c.args.words.now)) has c.refusal_of.ensures
+
+pub returns-in-Err-clause-accepted : goal.returns-in-Err-clause-accepted
+returns-in-Err-clause-accepted c taken request asked =
+    let is : app_of c.in_ok-command.command ≡ debctl_app = c.in_ok-command.ensures.is in
+    memory_is_told (kind_of c.in-Err.error) c.refusal_of.result c.refusal_of.ensures (c.in-Err.ensures.passes (ap (λ a. takes a (map string_bytes c.args.words.now)) is ∙ taken))

@@ -1,0 +1,203 @@
+-- What the program's words ask, as a function of what `clap` makes of them. (The words are this project's own.)
+use Rattle.std.specs.Prelude.{◌≡◌, ◌⊎◌, Bool, true, false, not, List, [], Option, Some, None, unwrap_or, option_map, if◌then◌else◌, codes, string_bytes, bytes_eq, Result, Ok, Err}
+use Rattle.std.specs.List.{list_any}
+use Rattle.std.specs.Option.{option_map_or}
+use Rattle.clap.specs.Kinds.{Kinds}
+use Rattle.clap.specs.Simple.{subcommand_of}
+use Rattle.clap.specs.Walk.{Row, Text, first_of}
+use Rattle.clap.specs.declared.error.kind.ErrorKind.{ErrorKind}
+use Rattle.clap.specs.declared.error.kind.ErrorKind.TheVariants.{DisplayHelp, DisplayVersion, OutOfMemory}
+use Rattle.debctl.specs.Commands.{debctl_app, check_word, normalise_word, compare_word, canon_version_word, help_word}
+use Rattle.debctl.specs.Documents.{Doc, Binary, Packages, Source}
+use Rattle.debctl.specs.declared.jobs.Call.{Call}
+use Rattle.debctl.specs.declared.jobs.Cmp.{Cmp}
+use Rattle.debctl.specs.declared.jobs.Cmp.TheVariants as cmp
+use Rattle.debctl.specs.declared.jobs.Job.{Job}
+use Rattle.debctl.specs.declared.jobs.Job.TheVariants as job
+use Rattle.debctl.specs.declared.words.UsageFault.{UsageFault}
+use Rattle.debctl.specs.declared.words.UsageFault.TheVariants.{Usage, Help, Memory}
+
+-- ---- words
+
+-- the kind of document that a word names
+abbrev pub kind_named : Text → Option Doc
+kind_named word =
+    if bytes_eq word (codes "binary") then Some Binary
+    else if bytes_eq word (codes "packages") then Some Packages
+    else if bytes_eq word (codes "source") then Some Source
+    else None
+
+-- the kind that is asked for: a list of packages where no word names one
+abbrev pub kind_asked : Option Text → Option Doc
+kind_asked None = Some Packages
+kind_asked (Some word) = kind_named word
+
+-- the operator that a word names
+abbrev pub operator_named : Text → Option Cmp
+operator_named word =
+    if bytes_eq word (codes "lt") then Some cmp.Less
+    else if bytes_eq word (codes "le") then Some cmp.LessOrEqual
+    else if bytes_eq word (codes "eq") then Some cmp.Equal
+    else if bytes_eq word (codes "ne") then Some cmp.NotEqual
+    else if bytes_eq word (codes "ge") then Some cmp.GreaterOrEqual
+    else if bytes_eq word (codes "gt") then Some cmp.Greater
+    else None
+
+-- the word names a command
+abbrev pub is_command : Text → Bool
+is_command word =
+    if bytes_eq word check_word then true
+    else if bytes_eq word normalise_word then true
+    else if bytes_eq word compare_word then true
+    else if bytes_eq word canon_version_word then true
+    else bytes_eq word help_word
+
+-- ---- calls
+
+-- a job, with the bytes of its words
+pub data Wanted : Type 0 where
+  checks : Doc → Wanted
+  normalises : Doc → Wanted
+  compares : Text → Cmp → Text → Wanted
+  canonicalises : Text → Wanted
+
+-- a call, with the bytes of its words and paths
+pub record Request : Type 0 where
+  pub wanted : Wanted
+  pub first : Option Text
+  pub second : Option Text
+
+abbrev pub wanted_of : Job → Wanted
+wanted_of (job.Check kind) = checks kind
+wanted_of (job.Normalise kind) = normalises kind
+wanted_of (job.Compare left operator right) = compares (string_bytes left) operator (string_bytes right)
+wanted_of (job.CanonVersion version) = canonicalises (string_bytes version)
+
+abbrev pub request_of : Call → Request
+request_of call = record { wanted = wanted_of call.job; first = option_map string_bytes call.first; second = option_map string_bytes call.second }
+
+-- ---- what is asked
+
+-- a call, help, or something that isn't known
+pub data Asked : Type 0 where
+  asks : Request → Asked
+  asks_help : Asked
+  unknown_kind : Asked
+  unknown_operator : Asked
+  unknown_command : Asked
+
+-- a word that a command has to have; `clap` refuses words without it
+abbrev pub word_in : Text → List Row → Text
+word_in id rows = unwrap_or (first_of id rows) []
+
+-- `check` and `normalise`
+abbrev pub document_asked : (Doc → Wanted) → List Row → Asked
+document_asked wanted rows = option_map_or
+    (λ kind. asks (record { wanted = wanted kind; first = first_of (codes "path") rows; second = None }))
+    (kind_asked (first_of (codes "kind") rows)) unknown_kind
+
+abbrev pub compare_asked : List Row → Asked
+compare_asked rows = option_map_or
+    (λ operator. asks (record { wanted = compares (word_in (codes "left") rows) operator (word_in (codes "right") rows); first = None; second = None }))
+    (operator_named (word_in (codes "operator") rows)) unknown_operator
+
+abbrev pub canon_version_asked : List Row → Asked
+canon_version_asked rows = asks (record { wanted = canonicalises (word_in (codes "version") rows); first = None; second = None })
+
+abbrev pub help_asked : Option Text → Asked
+help_asked None = asks_help
+help_asked (Some word) = if is_command word then asks_help else unknown_command
+
+-- what a command asks with its words
+abbrev pub asked_by : Text → List Row → Asked
+asked_by name rows =
+    if bytes_eq name check_word then document_asked checks rows
+    else if bytes_eq name normalise_word then document_asked normalises rows
+    else if bytes_eq name compare_word then compare_asked rows
+    else if bytes_eq name canon_version_word then canon_version_asked rows
+    else help_asked (first_of (codes "command") rows)
+
+-- what the command that `clap` met asks
+abbrev pub asked_in : Option (Text × List Row) → Option Asked
+asked_in = option_map (λ met. asked_by met.0 met.1)
+
+-- what the program's words ask, the program's name first
+abbrev pub asked_of : List Text → Option Asked
+asked_of words = asked_in (subcommand_of debctl_app words)
+
+-- ---- answers
+
+-- the text names what isn't known
+abbrev pub IsUsage : Asked → Text → Type 0
+IsUsage unknown_kind text = text ≡ codes "usage: unknown kind"
+IsUsage unknown_operator text = text ≡ codes "usage: unknown operator"
+IsUsage unknown_command text = text ≡ codes "usage: unknown command"
+IsUsage (asks _) text = ⊥
+IsUsage asks_help text = ⊥
+
+-- an error that answers what is asked
+abbrev pub AnswersError : Asked → UsageFault → Type 0
+AnswersError asked (Usage text) = IsUsage asked (string_bytes text)
+AnswersError asked (Help text) = asked ≡ asks_help
+AnswersError asked Memory = Unit {0}
+
+-- an answer to what is asked: the call itself, and an error only where there is none, or for want of memory
+abbrev pub Answers : Asked → Result Call UsageFault → Type 0
+Answers asked (Ok call) = asked ≡ asks (request_of call)
+Answers asked (Err error) = AnswersError asked error
+
+-- `clap`'s kinds of error: a call for help or for the version, and a mistake
+abbrev pub is_request_kind : ErrorKind → Bool
+is_request_kind DisplayHelp = true
+is_request_kind DisplayVersion = true
+is_request_kind _ = false
+
+abbrev pub has_request : Kinds → Bool
+has_request = list_any is_request_kind
+
+abbrev pub has_mistake : Kinds → Bool
+has_mistake = list_any (λ kind. not (is_request_kind kind))
+
+-- an answer to words that `clap` takes
+abbrev pub AnswersMet : Option Asked → Result Call UsageFault → Type 0
+AnswersMet None result = ⊥
+AnswersMet (Some asked) result = Answers asked result
+
+-- all of the kinds are mistakes, and all are calls for help or for the version; there is one at least
+abbrev pub AreMistakes : Kinds → Type 0
+AreMistakes kinds = (has_mistake kinds ≡ true) × (has_request kinds ≡ false)
+
+abbrev pub AreRequests : Kinds → Type 0
+AreRequests kinds = (has_request kinds ≡ true) × (has_mistake kinds ≡ false)
+
+-- why words give no call: by the kinds of `clap`'s error, or where that has none, by what is asked
+abbrev pub MeansError : Kinds → Option Asked → UsageFault → Type 0
+MeansError kinds asked (Usage text) = AreMistakes kinds ⊎ ((kinds ≡ []) × AnswersMet asked (Err (Usage text)))
+MeansError kinds asked (Help text) = AreRequests kinds ⊎ ((kinds ≡ []) × AnswersMet asked (Err (Help text)))
+MeansError kinds asked Memory = Unit {0}
+
+-- ---- what the parts of `job_of` answer
+
+-- the kind that is asked for, or a fault that says that it isn't known
+abbrev pub MeansKind : Option Doc → Result Doc UsageFault → Type 0
+MeansKind asked (Ok kind) = asked ≡ Some kind
+MeansKind (Some kind) (Err error) = error ≡ Memory
+MeansKind None (Err error) = AnswersError unknown_kind error
+
+-- help, or want of memory
+abbrev pub IsHelp : UsageFault → Type 0
+IsHelp (Usage text) = ⊥
+IsHelp (Help text) = Unit {0}
+IsHelp Memory = Unit {0}
+
+-- a usage fault with this text, or want of memory
+abbrev pub UsesText : Text → UsageFault → Type 0
+UsesText text (Usage told) = string_bytes told ≡ text
+UsesText text (Help told) = ⊥
+UsesText text Memory = Unit {0}
+
+-- what an error of `clap` of this kind comes to
+abbrev pub TellsKind : ErrorKind → UsageFault → Type 0
+TellsKind kind (Usage text) = (is_request_kind kind ≡ false) × ((kind ≡ OutOfMemory) → ⊥)
+TellsKind kind (Help text) = is_request_kind kind ≡ true
+TellsKind kind Memory = Unit {0}

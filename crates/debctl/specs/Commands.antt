@@ -1,0 +1,64 @@
+-- The commands, as what `clap` reads of them: their names, their options and the words that they take.
+-- (This project's own.)
+use Rattle.std.specs.Prelude.{◌≡◌, true, false, Some, codes}
+use Rattle.clap.specs.Simple.{App, app_of, new_app, new_rule, on_top, with_rule, with_subcommand}
+use Rattle.clap.specs.Walk.{Rule, Text}
+use Rattle.clap.specs.declared.builder.command.Command.{Command}
+use Rattle.clap.specs.declared.builder.command.Command.TheViews.{out-Command}
+
+-- `--kind K`
+abbrev pub kind_rule : Rule
+kind_rule = record (new_rule (codes "kind")) { long = Some (codes "kind"); value_names = 1 }
+
+-- a word that may stand there, and one that has to
+abbrev pub optional_rule : Text → Rule
+optional_rule id = record (new_rule id) { value_names = 1 }
+
+abbrev pub required_rule : Text → Rule
+required_rule id = record (new_rule id) { value_names = 1; required = true }
+
+abbrev pub check_word : Text
+check_word = codes "check"
+
+abbrev pub normalise_word : Text
+normalise_word = codes "normalise"
+
+abbrev pub compare_word : Text
+compare_word = codes "compare"
+
+abbrev pub canon_version_word : Text
+canon_version_word = codes "canon-version"
+
+abbrev pub help_word : Text
+help_word = codes "help"
+
+-- `check` and `normalise`: `[--kind K] [PATH]`
+abbrev pub document_app : Text → App
+document_app name = with_rule (with_rule (new_app name) kind_rule) (optional_rule (codes "path"))
+
+-- `compare V OP V`
+abbrev pub compare_app : App
+compare_app = with_rule (with_rule (with_rule (new_app compare_word) (required_rule (codes "left"))) (required_rule (codes "operator"))) (required_rule (codes "right"))
+
+-- `canon-version V`
+abbrev pub canon_version_app : App
+canon_version_app = with_rule (new_app canon_version_word) (required_rule (codes "version"))
+
+-- `help [COMMAND]`
+abbrev pub help_app : App
+help_app = with_rule (new_app help_word) (optional_rule (codes "command"))
+
+-- the program alone: it has a version, asks for a command, and has a command `help` of its own
+abbrev pub bare_app : App
+bare_app = on_top (λ s. record s { has_version = true; subcommand_required = true; disable_help_subcommand = true }) (new_app (codes "debctl"))
+
+-- the program with its commands
+abbrev pub debctl_app : App
+debctl_app =
+    with_subcommand (with_subcommand (with_subcommand (with_subcommand (with_subcommand bare_app
+    (document_app check_word).top) (document_app normalise_word).top) compare_app.top) canon_version_app.top) help_app.top
+
+-- the command is what `clap` reads so, and none of its arguments is global
+pub record IsShaped (app : App) (command : Command) : Type 0 where
+  pub is : app_of command ≡ app
+  pub local : (out-Command command).has_globals ≡ false

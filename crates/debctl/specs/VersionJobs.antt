@@ -1,0 +1,136 @@
+-- What the jobs on versions answer: Debian Policy 5.6.12 and deb-version(7). The statuses, the line of a refusal and
+-- the newline behind a canonical version are this project's own.
+use Rattle.std.specs.Prelude.{◌≡◌, ◌⊎◌, ℕ, Bool, true, false, not, List, [], ◌∷◌, ◌++◌, Option, Result, Ok, Err, if◌then◌else◌, codes, refl}
+use Rattle.std.specs.Fmt.{digits}
+use Rattle.std.specs.Io.KnownBytes.{Appends}
+use Rattle.std.specs.declared.cmp.Ordering.{Ordering}
+use Rattle.std.specs.declared.cmp.Ordering.TheVariants as order
+use Rattle.deb_base.specs.Bodies.{newline}
+use Rattle.deb_base.specs.Devices.{AppendsFront, one_more}
+use Rattle.deb_base.specs.Lines.{refusal_line}
+use Rattle.deb_base.specs.declared.code.Code.TheVariants.{BadVersion}
+use Rattle.deb_base.specs.declared.fault.Fault.{Fault}
+use Rattle.deb_base.specs.declared.fault.Fault.TheVariants.{Refused, Memory, Read, Write}
+use Rattle.deb_base.specs.declared.refusal.Refusal.{Refusal}
+use Rattle.deb_version.specs.Canonical.{version_text}
+use Rattle.deb_version.specs.Grammar.{SpellsVersion}
+use Rattle.deb_version.specs.Order.{version_cmp}
+use Rattle.deb_version.specs.Parts.{Meaning}
+use Rattle.deb_version.specs.Version.{meaning_of}
+use Rattle.deb_version.specs.declared.version.Version.{Version}
+use Rattle.debctl.specs.Running.{TellsFault}
+use Rattle.debctl.specs.declared.jobs.Cmp.{Cmp}
+use Rattle.debctl.specs.declared.jobs.Cmp.TheVariants as cmp
+
+-- versions in this order compare as the operator asks
+abbrev pub is_less : Ordering → Bool
+is_less order.Less = true
+is_less order.Equal = false
+is_less order.Greater = false
+
+abbrev pub is_equal : Ordering → Bool
+is_equal order.Less = false
+is_equal order.Equal = true
+is_equal order.Greater = false
+
+abbrev pub is_greater : Ordering → Bool
+is_greater order.Less = false
+is_greater order.Equal = false
+is_greater order.Greater = true
+
+abbrev pub holds : Cmp → Ordering → Bool
+holds cmp.Less order = is_less order
+holds cmp.LessOrEqual order = not (is_greater order)
+holds cmp.Equal order = is_equal order
+holds cmp.NotEqual order = not (is_equal order)
+holds cmp.GreaterOrEqual order = not (is_less order)
+holds cmp.Greater order = is_greater order
+
+-- the text is a version, and it is none
+abbrev pub IsVersion : List ℕ → Type 0
+IsVersion text = (version : Meaning) × SpellsVersion text version
+
+abbrev pub IsNoVersion : List ℕ → Type 0
+IsNoVersion text = (version : Meaning) → SpellsVersion text version → ⊥
+
+-- the refusal of a word that is no version
+abbrev pub bad_version : Refusal
+bad_version = record { code = BadVersion; line = 0 }
+
+-- a word's version, or a refusal where it is none
+abbrev pub ParsesWord : List ℕ → Result Version Fault → Type 0
+ParsesWord text (Ok version) = SpellsVersion text (meaning_of version)
+ParsesWord text (Err (Refused refusal)) = (refusal ≡ bad_version) × IsNoVersion text
+ParsesWord text (Err Memory) = ⊥
+ParsesWord text (Err Read) = ⊥
+ParsesWord text (Err Write) = ⊥
+
+-- ---- compare
+
+-- Both texts are versions, and the answer is whether they compare as the operator asks.
+pub record Compared (left : List ℕ) (operator : Cmp) (right : List ℕ) (answer : Bool) : Type 0 where
+  pub first : Meaning
+  pub second : Meaning
+  pub first_spelled : SpellsVersion left first
+  pub second_spelled : SpellsVersion right second
+  pub is : answer ≡ holds operator (version_cmp first second)
+
+-- the answer to `compare`: a refusal where a text is no version
+abbrev pub Compares : List ℕ → Cmp → List ℕ → Result Bool Fault → Type 0
+Compares left operator right (Ok answer) = Compared left operator right answer
+Compares left operator right (Err (Refused refusal)) = (refusal ≡ bad_version) × (IsNoVersion left ⊎ IsNoVersion right)
+Compares left operator right (Err Memory) = IsVersion left × IsVersion right
+Compares left operator right (Err Read) = ⊥
+Compares left operator right (Err Write) = ⊥
+
+-- An answer is told: yes by status 0 and no by status 1, and by nothing else.
+abbrev pub TellsVerdict : {E : Type 0} → (E → Option (List ℕ)) → (E → ℕ) → E → E → Result Bool Fault → ℕ → Type 0
+TellsVerdict held failures old new (Ok answer) status = (status ≡ (if answer then 0 else 1)) × (new ≡ old)
+TellsVerdict held failures old new (Err fault) status = TellsFault held failures old new fault status
+
+-- ---- canon-version
+
+-- the line of a canonical version
+abbrev pub version_line : Meaning → List ℕ
+version_line version = version_text version ++ newline ∷ []
+
+-- the line, or a refusal of a text that is no version
+abbrev pub GivesLine : {T : Type 0} → (T → List ℕ) → List ℕ → Result T Fault → Type 0
+GivesLine bytes text (Ok line) = (version : Meaning) × SpellsVersion text version × (bytes line ≡ version_line version)
+GivesLine bytes text (Err (Refused refusal)) = (refusal ≡ bad_version) × IsNoVersion text
+GivesLine bytes text (Err Memory) = IsVersion text
+GivesLine bytes text (Err Read) = ⊥
+GivesLine bytes text (Err Write) = ⊥
+
+-- The text is a version, and exactly its line was written; or a front of it was, before a write failed.
+pub record WritesLine {W : Type 0} (text : List ℕ) (held : W → Option (List ℕ)) (failures : W → ℕ) (old new : W) : Type 0 where
+  pub version : Meaning
+  pub spelled : SpellsVersion text version
+  pub written : Appends (held old) (held new) (version_line version)
+  pub counted : failures new ≡ failures old
+
+pub record WritesFrontOfLine {W : Type 0} (text : List ℕ) (held : W → Option (List ℕ)) (failures : W → ℕ) (old new : W) : Type 0 where
+  pub version : Meaning
+  pub spelled : SpellsVersion text version
+  pub written : AppendsFront (held old) (held new) (version_line version)
+  pub counted : failures new ≡ one_more (failures old)
+
+-- the answer to `canon-version`, and what it wrote
+abbrev pub Canonicalises : {T W : Type 0} → List ℕ → (W → Option (List ℕ)) → (W → ℕ) → W → W → Result T Fault → Type 0
+Canonicalises text held failures old new (Ok _) = WritesLine text held failures old new
+Canonicalises text held failures old new (Err (Refused refusal)) = (refusal ≡ bad_version) × IsNoVersion text × (new ≡ old)
+Canonicalises text held failures old new (Err Memory) = IsVersion text × (new ≡ old)
+Canonicalises text held failures old new (Err Read) = ⊥
+Canonicalises text held failures old new (Err Write) = WritesFrontOfLine text held failures old new
+
+-- An answer is told: a line that was written by status 0 and nothing else.
+abbrev pub TellsDone : {E T : Type 0} → (E → Option (List ℕ)) → (E → ℕ) → E → E → Result T Fault → ℕ → Type 0
+TellsDone held failures old new (Ok _) status = (status ≡ 0) × (new ≡ old)
+TellsDone held failures old new (Err fault) status = TellsFault held failures old new fault status
+
+line_of_bad_version : refusal_line bad_version ≡ codes "line 0: 18 BadVersion\n"
+unfolding digits
+line_of_bad_version = refl
+
+less_or_equal_holds_of_equal : (holds cmp.LessOrEqual order.Equal ≡ true) × (holds cmp.Less order.Equal ≡ false) × (holds cmp.NotEqual order.Equal ≡ false)
+less_or_equal_holds_of_equal = (refl, refl, refl)

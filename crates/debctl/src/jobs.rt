@@ -1,0 +1,44 @@
+//! What the program can be asked to do.
+
+pub use crate::document::Doc;
+
+/// How two versions are asked to compare, in Debian's order (deb-version(7)).
+#[derive(Clone, Copy, Debug, PartialEq, Eq)]
+pub enum Cmp {
+    /// `lt`: earlier.
+    Less,
+    /// `le`: earlier or equal.
+    LessOrEqual,
+    /// `eq`: equal.
+    Equal,
+    /// `ne`: earlier or later.
+    NotEqual,
+    /// `ge`: later or equal.
+    GreaterOrEqual,
+    /// `gt`: later.
+    Greater,
+}
+
+/// A command, with all of its words but the paths.
+#[derive(Debug, PartialEq, Eq, Drop)]
+pub enum Job {
+    /// `check`: say whether a file of this kind is accepted.
+    Check(Doc),
+    /// `normalise`: write the canonical text of a file of this kind.
+    Normalise(Doc),
+    /// `compare`: say whether two versions compare so.
+    Compare(String, Cmp, String),
+    /// `canon-version`: write the canonical text of a version.
+    CanonVersion(String),
+}
+
+/// A command and the paths of the files that it reads.
+///
+/// Where a job that reads a file has no path, the file is standard input. No job reads a second
+/// file yet.
+#[derive(Debug, PartialEq, Eq, Drop)]
+pub struct Call {
+    pub job: Job,
+    pub first: Option<String>,
+    pub second: Option<String>,
+}

@@ -1,0 +1,255 @@
+//! What the program's words ask it to do.
+
+ghost use Rattle.std.specs.Prelude.{◌≡◌, [], Some, None, map, true, codes, string_bytes, option_map, IfOk, IfErr, option_copied};
+ghost use Rattle.clap.specs.Words.{fault_of, first_of, found_of, has_subcommand, kind_of, rows_of, subcommand_rows_of, takes};
+ghost use Rattle.debctl.specs.Asked.{asked_by, asked_in, asked_of, asks, canon_version_asked, checks, compare_asked, document_asked, help_asked, kind_asked, normalises, request_of, word_in, Answers, AnswersError, AnswersMet, IsHelp, MeansError, MeansKind, Request, TellsKind, UsesText};
+ghost use Rattle.debctl.specs.Commands.{debctl_app};
+
+use crate::commands::{
+    canon_version_command, check_command, compare_command, debctl_command, help_command,
+    normalise_command,
+};
+use crate::jobs::{Call, Doc, Job};
+use crate::kind_word::{kind_named, operator_named};
+use clap::error::{Error, ErrorKind};
+use clap::{ArgMatches, Command};
+use std::alloc::{AllocError, Global};
+
+/// Why words give no call. A text has no newline at its end.
+#[derive(Debug, PartialEq, Eq, Drop, thiserror::Error)]
+pub enum UsageFault {
+    /// The words are wrong, as the text says.
+    #[error("{0}")]
+    Usage(String),
+    /// The words ask for help or for the version: the text is it.
+    #[error("{0}")]
+    Help(String),
+    /// A growth of memory was refused.
+    #[error("fault: memory")]
+    Memory,
+}
+
+impl From<AllocError> for UsageFault {
+    ghost use Rattle.debctl.specs.declared.words.UsageFault.TheVariants.{Memory};
+
+    ghost from_gives = { λ _ fault. fault ≡ Memory };
+
+    fn from(_: AllocError) -> UsageFault {
+        UsageFault::Memory
+    }
+}
+
+/// The call that the program's words ask for; the first word is the program's name.
+///
+/// `check [--kind K] [PATH]`, `normalise [--kind K] [PATH]`, `compare V OP V` and `canon-version V`
+/// ask for a call. `help [COMMAND]` asks for help, and so do `--help` and `--version`.
+///
+/// - `UsageFault::Usage`: a word is wrong, or one is missing. Of a K, an OP or a COMMAND that isn't
+///   known the text is `usage: unknown kind`, `usage: unknown operator` or `usage: unknown command`,
+///   of all else `clap`'s.
+/// - `UsageFault::Help`: the words ask for help or for the version.
+/// - `UsageFault::Memory`: a growth of memory was refused.
+pub fn job_of(alloc: Global, words: &[String]) -> Result<Call, UsageFault>
+    // A call is what `clap` takes the words for.
+    ensures taken { IfOk result (λ _. takes debctl_app (map string_bytes words.now) ≡ true) }
+    ensures faultless { IfOk result (λ _. fault_of debctl_app (map string_bytes words.now) ≡ []) }
+    ensures ok { IfOk result (λ call. asked_of (map string_bytes words.now) ≡ Some (asks (request_of call))) }
+
+    // An error comes by what `clap` refuses, or by what isn't known.
+    ensures refused { IfErr result (MeansError (fault_of debctl_app (map string_bytes words.now)) (asked_of (map string_bytes words.now))) }
+
+    // Words that `clap` takes, and that ask for a call, aren't refused.
+    ensures accepted { takes debctl_app (map string_bytes words.now) ≡ true → (request : Request) → asked_of (map string_bytes words.now) ≡ Some (asks request) → IfErr result (λ error. error ≡ UsageFault.Memory) }
+{
+    let command = debctl_command(alloc)?;
+    match command.try_get_matches_from(words) {
+        Ok(matches) => call_of(alloc, &matches),
+        Err(error) => Err(refusal_of(alloc, &error)),
+    }
+}
+
+/// What `clap`'s error comes to.
+fn refusal_of(alloc: Global, error: &Error) -> UsageFault
+    ensures { TellsKind (kind_of error.now) result }
+{
+    match error.kind() {
+        ErrorKind::OutOfMemory => UsageFault::Memory,
+        ErrorKind::DisplayHelp | ErrorKind::DisplayVersion => match text_of(alloc, error) {
+            Ok(text) => UsageFault::Help(text),
+            Err(_) => UsageFault::Memory,
+        },
+        _ => match text_of(alloc, error) {
+            Ok(text) => UsageFault::Usage(text),
+            Err(_) => UsageFault::Memory,
+        },
+    }
+}
+
+/// The text of `clap`'s error, without its last newline.
+fn text_of(alloc: Global, error: &Error) -> Result<String, AllocError> {
+    let text = format!(in alloc; "{error}")?;
+    String::from_str(alloc, text.trim_end())
+}
+
+/// The call that the parsed words ask for.
+fn call_of(alloc: Global, matches: &ArgMatches<'_>) -> Result<Call, UsageFault>
+    requires { has_subcommand matches.now ≡ true }
+    ensures { AnswersMet (asked_in (subcommand_rows_of matches.now)) result }
+{
+    let Some((name, found)) = matches.subcommand() else {
+        unreachable!()
+    };
+    call_by(alloc, name, found)
+}
+
+/// The call that a command asks for with its words.
+fn call_by(alloc: Global, name: &str, found: &ArgMatches<'_>) -> Result<Call, UsageFault>
+    ensures { Answers (asked_by name.now (rows_of (found_of found.now))) result }
+{
+    match name {
+        "check" => check_call(alloc, found),
+        "normalise" => normalise_call(alloc, found),
+        "compare" => compare_call(alloc, found),
+        "canon-version" => canon_version_call(alloc, found),
+        _ => Err(help_on(alloc, given(found, "command"))),
+    }
+}
+
+fn check_call(alloc: Global, found: &ArgMatches<'_>) -> Result<Call, UsageFault>
+    ensures { Answers (document_asked checks (rows_of (found_of found.now))) result }
+{
+    let kind = kind_in(alloc, found)?;
+    Ok(Call {
+        job: Job::Check(kind),
+        first: path_in(alloc, found)?,
+        second: None,
+    })
+}
+
+fn normalise_call(alloc: Global, found: &ArgMatches<'_>) -> Result<Call, UsageFault>
+    ensures { Answers (document_asked normalises (rows_of (found_of found.now))) result }
+{
+    let kind = kind_in(alloc, found)?;
+    Ok(Call {
+        job: Job::Normalise(kind),
+        first: path_in(alloc, found)?,
+        second: None,
+    })
+}
+
+fn compare_call(alloc: Global, found: &ArgMatches<'_>) -> Result<Call, UsageFault>
+    ensures { Answers (compare_asked (rows_of (found_of found.now))) result }
+{
+    let Some(operator) = operator_named(word_in(found, "operator")) else {
+        return Err(usage(alloc, "usage: unknown operator"));
+    };
+    let left = String::from_str(alloc, word_in(found, "left"))?;
+    let right = String::from_str(alloc, word_in(found, "right"))?;
+    Ok(Call {
+        job: Job::Compare(left, operator, right),
+        first: None,
+        second: None,
+    })
+}
+
+fn canon_version_call(alloc: Global, found: &ArgMatches<'_>) -> Result<Call, UsageFault>
+    ensures { Answers (canon_version_asked (rows_of (found_of found.now))) result }
+{
+    let version = String::from_str(alloc, word_in(found, "version"))?;
+    Ok(Call {
+        job: Job::CanonVersion(version),
+        first: None,
+        second: None,
+    })
+}
+
+/// The kind of document that `--kind` names, or a list of packages without it.
+fn kind_in(alloc: Global, found: &ArgMatches<'_>) -> Result<Doc, UsageFault>
+    ensures { MeansKind (kind_asked (first_of (codes "kind") (rows_of (found_of found.now)))) result }
+{
+    let Some(word) = given(found, "kind") else {
+        return Ok(Doc::Packages);
+    };
+    match kind_named(word) {
+        Some(kind) => Ok(kind),
+        None => Err(usage(alloc, "usage: unknown kind")),
+    }
+}
+
+/// The path among the words, if there is one.
+fn path_in(alloc: Global, found: &ArgMatches<'_>) -> Result<Option<String>, AllocError>
+    ensures { IfOk result (λ path. option_map string_bytes path ≡ first_of (codes "path") (rows_of (found_of found.now))) }
+{
+    match given(found, "path") {
+        Some(path) => Ok(Some(String::from_str(alloc, path)?)),
+        None => Ok(None),
+    }
+}
+
+/// The first word that was given for an argument, if there is one.
+fn given<'a>(found: &ArgMatches<'a>, id: &str) -> Option<&'a str>
+    ensures { option_copied result ≡ first_of id.now (rows_of (found_of found.now)) }
+{
+    found.get_str(id)
+}
+
+/// A word that its command has to have: `clap` refuses words without it.
+fn word_in<'a>(found: &ArgMatches<'a>, id: &str) -> &'a str
+    ensures { result.now ≡ word_in id.now (rows_of (found_of found.now)) }
+{
+    match given(found, id) {
+        Some(word) => word,
+        None => "",
+    }
+}
+
+/// The help of the program, or of the command that a word names.
+fn help_on(alloc: Global, word: Option<&str>) -> UsageFault
+    ensures { AnswersError (help_asked (option_copied word.entry)) result }
+{
+    match word {
+        None => help_of(alloc, debctl_command(alloc), "debctl"),
+        Some("check") => help_of(alloc, check_command(alloc), "debctl check"),
+        Some("normalise") => help_of(alloc, normalise_command(alloc), "debctl normalise"),
+        Some("compare") => help_of(alloc, compare_command(alloc), "debctl compare"),
+        Some("canon-version") => help_of(
+            alloc,
+            canon_version_command(alloc),
+            "debctl canon-version",
+        ),
+        Some("help") => help_of(alloc, help_command(alloc), "debctl help"),
+        Some(_) => usage(alloc, "usage: unknown command"),
+    }
+}
+
+fn help_of(alloc: Global, command: Result<Command<'_>, AllocError>, name: &str) -> UsageFault
+    ensures { IsHelp result }
+{
+    match help_text(alloc, command, name) {
+        Ok(text) => UsageFault::Help(text),
+        Err(_) => UsageFault::Memory,
+    }
+}
+
+fn help_text(
+    alloc: Global,
+    command: Result<Command<'_>, AllocError>,
+    name: &str,
+) -> Result<String, AllocError> {
+    let mut command = command?.bin_name(name)?;
+    let text = command.render_help()?;
+    String::from_str(alloc, text.trim_end())
+}
+
+/// A fault with one of the program's own texts.
+fn usage(alloc: Global, text: &str) -> UsageFault
+    ensures { UsesText text.now result }
+{
+    match String::from_str(alloc, text) {
+        Ok(text) => UsageFault::Usage(text),
+        Err(_) => UsageFault::Memory,
+    }
+}
+
+#[cfg(test)]
+mod tests;
