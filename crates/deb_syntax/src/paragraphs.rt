@@ -77,10 +77,12 @@ impl Paragraphs {
         self.feed.held()
     }
 
-    /// How many lines the file has, once it was answered that no paragraph follows, and else 0.
+    /// How many lines the file has, once it was answered that no paragraph follows, and else 0. At
+    /// most 4,294,967,295: a line has a byte, and a file at most that many.
     pub fn lines(&self) -> u64
         ensures finished { (state_of self.now).finished ≡ true → result ≡ (state_of self.now).lines }
         ensures unfinished { (state_of self.now).finished ≡ false → result ≡ 0 }
+        ensures bounded { result ≤ 4294967295 }
     {
         if self.finished { self.feed.lines() } else { 0 }
     }
