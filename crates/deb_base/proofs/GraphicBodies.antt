@@ -13,7 +13,7 @@ use Rattle.deb_base.specs.Bodies.{IsBody}
 abbrev pub IsGraphic : ℕ → Type 0
 IsGraphic b = (33 ≤ b) × (b < 127)
 
-not_blank : (b : ℕ) → IsGraphic b → is_blank_byte b ≡ false
+pub not_blank : (b : ℕ) → IsGraphic b → is_blank_byte b ≡ false
 not_blank b h = grind (arith, nat_tests)
 
 not_newline : (b : ℕ) → IsGraphic b → (b == newline) ≡ false
@@ -27,7 +27,7 @@ begins : (text : List ℕ) → AllByRecursion IsGraphic text → begins_with_bla
 begins [] h = refl
 begins (b ∷ bs) h = not_blank b h.0
 
-ends : (text : List ℕ) → AllByRecursion IsGraphic text → ends_with_blank text ≡ false
+pub ends : (text : List ℕ) → AllByRecursion IsGraphic text → ends_with_blank text ≡ false
 ends [] h = refl
 ends (b ∷ []) h = not_blank b h.0
 ends (b ∷ c ∷ bs) h = ends (c ∷ bs) h.1

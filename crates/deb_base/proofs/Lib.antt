@@ -6,4 +6,5 @@ pub mod FieldBytes
 pub mod GraphicBodies
 pub mod LaterPieces
 pub mod TextLines
+pub mod Trims
 pub mod Writes

@@ -6,3 +6,4 @@ pub mod FieldNames
 pub mod Lines
 pub mod Names
 pub mod PackageNames
+pub mod Trimming

@@ -2,10 +2,13 @@
 
 ghost use Rattle.std.specs.Prelude.{◌≡◌, ◌↔◌, IsTrue, drop};
 ghost use Rattle.std.specs.List.{list_all};
-ghost use Rattle.deb_base.specs.Bodies.{begins_with_blank, ends_with_blank, is_all_blank, is_blank, is_blank_byte, is_body_shape, is_continuation, pieces_of, IsBody};
+ghost use Rattle.deb_base.specs.Bodies.{ends_with_blank, is_blank, is_body_shape, is_continuation, pieces_of, IsBody};
 
-/// The most bytes that the lengths of a paragraph's lines may add up to.
-const PARAGRAPH_LIMIT: usize = 16_777_216;
+use crate::blank::{begins_with_blank, is_blank_byte, is_only_blanks};
+
+/// The most bytes that the lengths of a paragraph's lines may add up to, with their newlines (this
+/// project's own).
+pub const PARAGRAPH_LIMIT: usize = 16_777_216;
 
 /// Whether this can be the body of a field (Debian Policy 5.1): UTF-8 that neither begins nor ends with a space or a
 /// tab, each of whose lines after the first begins with one and isn't blank. The empty text is one.
@@ -42,19 +45,7 @@ fn is_continuation(line: &[u8]) -> bool
 fn is_blank_line(line: &[u8]) -> bool
     ensures { result ≡ is_blank line.now }
 {
-    line.len() < PARAGRAPH_LIMIT && has_only_blanks(line)
-}
-
-fn has_only_blanks(text: &[u8]) -> bool
-    ensures { result ≡ is_all_blank text.now }
-{
-    text.iter().all(|byte| is_blank_byte(*byte))
-}
-
-fn begins_with_blank(text: &[u8]) -> bool
-    ensures { result ≡ begins_with_blank text.now }
-{
-    matches!(text, [b' ' | b'\t', ..])
+    line.len() < PARAGRAPH_LIMIT && is_only_blanks(line)
 }
 
 fn ends_with_blank(text: &[u8]) -> bool
@@ -62,10 +53,4 @@ fn ends_with_blank(text: &[u8]) -> bool
 {
     let count = text.len();
     count > 0 && is_blank_byte(text[count - 1])
-}
-
-fn is_blank_byte(byte: u8) -> bool
-    ensures { result ≡ is_blank_byte byte }
-{
-    byte == b' ' || byte == b'\t'
 }

@@ -16,6 +16,7 @@
 //! ```
 #![tactic(auto)]
 
+mod blank;
 mod body;
 mod code;
 mod decimal;
@@ -29,7 +30,10 @@ mod package_names;
 mod put;
 mod refusal;
 
-pub use body::is_body;
+pub use blank::{
+    begins_with_blank, is_blank_byte, is_only_blanks, trimmed, without_trailing_blanks,
+};
+pub use body::{PARAGRAPH_LIMIT, is_body};
 pub use code::Code;
 pub use device::{Failed, Sink, Source};
 pub use fault::Fault;

@@ -7,11 +7,11 @@ use Rattle.deb_version.specs.Parts.{Meaning as VersionMeaning}
 use Rattle.deb_version.specs.Grammar.{SpellsVersion}
 use Rattle.deb_version.specs.Canonical.{version_text}
 use Rattle.deb_version.proofs.CanonicalVersion.{canonical_text_is_short}
-use Rattle.deb_field.specs.TrimLaws.{back_part, trimmed_parts}
+use Rattle.deb_base.proofs.Trims.{trailing_cut, trimmed_cut}
 use Rattle.deb_field.specs.Sources.{SourceMeaning, source_of, SpellsSource, source_text, is_open, has_version, is_closed, without_last}
 use Rattle.deb_field.specs.SourceNames.{source_meaning, ReadsAround}
 use Rattle.deb_field.specs.SourceLaws.{spells_versioned}
-use Rattle.deb_field.specs.Trimming.{without_trailing_blanks, trimmed}
+use Rattle.deb_base.specs.Trimming.{without_trailing_blanks, trimmed}
 use Rattle.deb_field.specs.declared.source.SourceName.{SourceName}
 use Rattle.deb_base.specs.PackageNames.{is_package_name}
 
@@ -57,12 +57,12 @@ module _ (body before behind : List ℕ) (has : has_version body ≡ true) (befo
   spells-around (Err e) a = tt
 
 trailing-short : (text : List ℕ) → length (without_trailing_blanks text) ≤ length text
-trailing-short text = let p = back_part text in omega (arith, ap length p.whole, length-append (without_trailing_blanks text) p.blanks)
+trailing-short text = let p = trailing_cut text in omega (arith, ap length p.is, length-append (without_trailing_blanks text) p.cut)
 
 trimmed-short : (text : List ℕ) → length (trimmed text) ≤ length text
 trimmed-short text =
-    let p = trimmed_parts text in
-    omega (arith, ap length p.whole, length-append p.left (trimmed text ++ p.right), length-append (trimmed text) p.right)
+    let p = trimmed_cut text in
+    omega (arith, ap length p.is, length-append p.before (trimmed text ++ p.after), length-append (trimmed text) p.after)
 
 closed-some : (text : List ℕ) → is_closed text ≡ true → 1 ≤ length text
 closed-some [] h = cc

@@ -15,8 +15,6 @@ pub mod Words
 pub mod WordCuts
 pub mod WordTexts
 pub mod WordLaws
-pub mod Trimming
-pub mod TrimLaws
 pub mod Sources
 pub mod SourceLaws
 pub mod SourceNames

@@ -11,7 +11,7 @@ use Rattle.deb_base.specs.Bodies.{IsBody, newline, is_blank_byte, is_all_blank, 
 use Rattle.deb_base.specs.PackageNames.{is_package_name, is_package_byte}
 use Rattle.deb_base.specs.declared.code.Code.TheVariants.{BadName, BadVersion}
 use Rattle.deb_base.proofs.FieldBytes.{each_from_list_all, IsUtf8-with_all_ascii}
-use Rattle.deb_base.proofs.GraphicBodies.{IsGraphic, each, IsBody-line, IsBody-graphic}
+use Rattle.deb_base.proofs.GraphicBodies.{not_blank, IsGraphic, each, IsBody-line, IsBody-graphic}
 use Rattle.deb_version.specs.Parts.{Meaning as VersionMeaning}
 use Rattle.deb_version.specs.Grammar.{SpellsVersion}
 use Rattle.deb_version.specs.Canonical.{version_text}
@@ -26,8 +26,8 @@ use Rattle.deb_field.specs.TextLaws.{package_name_graphic}
 use Rattle.deb_field.specs.VersionLaw.{version_graphic, version_from_test, test_from_version, join}
 use Rattle.deb_field.specs.Versions.{is_version}
 use Rattle.deb_field.specs.WordLaws.{ends-behind}
-use Rattle.deb_field.specs.Trimming.{without_trailing_blanks, trimmed}
-use Rattle.deb_field.specs.TrimLaws.{graphic_not_blank, trailing-blanks, trim-back, trimmed_parts, back_part}
+use Rattle.deb_base.specs.Trimming.{without_trailing_blanks, trimmed}
+use Rattle.deb_base.proofs.Trims.{trailing-graphic, trimmed-graphic, trimmed_cut, trailing_cut}
 use Rattle.deb_field.specs.Sources.{SourceMeaning, source_of, SpellsVersioned, SpellsSource, source_text, is_open, has_version, name_before, is_closed, without_last, version_within, versioned_refusal, source_refusal}
 
 not_open_package : (b : ℕ) → is_package_byte b ≡ true → is_open b ≡ false
@@ -75,7 +75,7 @@ no_empty_version = refl
 
 some_version : (text left right : List ℕ) (m : VersionMeaning) → SpellsVersion text m → IsTrue (is_all_blank left) → IsTrue (is_all_blank right) → trimmed (left ++ (text ++ right)) ≡ text
 some_version [] left right m s l r = absurd (false≢true (sym no_empty_version ∙ test_from_version [] m s))
-some_version (b ∷ text) left right m s l r = trim-back left b text right l r (version_graphic (b ∷ text) m s)
+some_version (b ∷ text) left right m s l r = trimmed-graphic left b text right l r (version_graphic (b ∷ text) m s)
 
 -- what a body with a version in parentheses holds
 module _ (body name : List ℕ) (version : VersionMeaning) (s : SpellsVersioned body name version) where
@@ -102,7 +102,7 @@ module _ (body name : List ℕ) (version : VersionMeaning) (s : SpellsVersioned 
   pub versioned-name : name_before body ≡ name
   versioned-name =
       ap (λ t. without_trailing_blanks (before_first is_open t)) cut ∙ ap without_trailing_blanks (before_first-at is_open (name ++ s.gap) 40 tail no_open_front refl)
-      ∙ trailing-blanks name s.gap (package_name_graphic name s.named) s.gap_blank
+      ∙ trailing-graphic name s.gap (package_name_graphic name s.named) s.gap_blank
 
   pub versioned-closed : is_closed (after_first is_open body) ≡ true
   versioned-closed = ap is_closed (behind ∙ tail_is) ∙ closed-push (s.left ++ (s.text ++ s.right))
@@ -150,7 +150,7 @@ plain_newline b h = grind (arith, nat_tests)
 
 begins-name : (name text : List ℕ) → is_package_name name ≡ true → AllByRecursion IsGraphic name → begins_with_blank (name ++ text) ≡ false
 begins-name [] text h g = cc
-begins-name (b ∷ name) text h g = graphic_not_blank b g.0
+begins-name (b ∷ name) text h g = not_blank b g.0
 
 plain_source : (name text : List ℕ) → AllByRecursion IsGraphic name → AllByRecursion IsGraphic text → AllByRecursion IsPlain (name ++ (32 ∷ 40 ∷ (text ++ 41 ∷ [])))
 plain_source name text g h =
@@ -198,26 +198,26 @@ source_law = record {
 pub spells_versioned : (body : List ℕ) → has_version body ≡ true → is_package_name (name_before body) ≡ true → is_closed (after_first is_open body) ≡ true → (v : VersionMeaning) → SpellsVersion (version_within body) v → SpellsVersioned body (name_before body) v
 spells_versioned body has named closed v versioned =
     let p = join_first is_open body has in
-    let front = back_part (before_first is_open body) in
+    let front = trailing_cut (before_first is_open body) in
     let inner = closed-split (after_first is_open body) closed in
     let last : without_last (after_first is_open body) ≡ inner.0 = ap without_last inner.1 ∙ without_last-push inner.0 41 in
-    let trim = trimmed_parts (without_last (after_first is_open body)) in
-    let tail : after_first is_open body ≡ trim.left ++ (version_within body ++ (trim.right ++ (41 ∷ []))) =
-    inner.1 ∙ ap (λ t. t ++ 41 ∷ []) (sym last ∙ trim.whole) ∙ append_assoc trim.left (version_within body ++ trim.right) (41 ∷ []) ∙ ap (λ t. trim.left ++ t) (append_assoc (version_within body) trim.right (41 ∷ [])) in
-    let spelt : body ≡ name_before body ++ (front.blanks ++ (40 ∷ (trim.left ++ (version_within body ++ (trim.right ++ (41 ∷ [])))))) =
+    let trim = trimmed_cut (without_last (after_first is_open body)) in
+    let tail : after_first is_open body ≡ trim.before ++ (version_within body ++ (trim.after ++ (41 ∷ []))) =
+    inner.1 ∙ ap (λ t. t ++ 41 ∷ []) (sym last ∙ trim.is) ∙ append_assoc trim.before (version_within body ++ trim.after) (41 ∷ []) ∙ ap (λ t. trim.before ++ t) (append_assoc (version_within body) trim.after (41 ∷ [])) in
+    let spelt : body ≡ name_before body ++ (front.cut ++ (40 ∷ (trim.before ++ (version_within body ++ (trim.after ++ (41 ∷ [])))))) =
     p.2 ∙ ap (λ b. before_first is_open body ++ b ∷ after_first is_open body) (eqb-true p.0 40 p.1) ∙ ap (λ t. before_first is_open body ++ 40 ∷ t) tail
-    ∙ ap (λ t. t ++ 40 ∷ (trim.left ++ (version_within body ++ (trim.right ++ (41 ∷ []))))) front.whole
-    ∙ append_assoc (name_before body) front.blanks (40 ∷ (trim.left ++ (version_within body ++ (trim.right ++ (41 ∷ []))))) in
+    ∙ ap (λ t. t ++ 40 ∷ (trim.before ++ (version_within body ++ (trim.after ++ (41 ∷ []))))) front.is
+    ∙ append_assoc (name_before body) front.cut (40 ∷ (trim.before ++ (version_within body ++ (trim.after ++ (41 ∷ []))))) in
     record {
-      gap = front.blanks;
-      left = trim.left;
+      gap = front.cut;
+      left = trim.before;
       text = version_within body;
-      right = trim.right;
+      right = trim.after;
       spelt = spelt;
       named = named;
-      gap_blank = front.all_blank;
-      left_blank = trim.left_blank;
-      right_blank = trim.right_blank;
+      gap_blank = front.blank;
+      left_blank = trim.before_blank;
+      right_blank = trim.after_blank;
       versioned = versioned;
     }
 

@@ -6,7 +6,7 @@ use Rattle.deb_version.specs.Parts.{Meaning as VersionMeaning}
 use Rattle.deb_version.specs.Grammar.{SpellsVersion}
 use Rattle.deb_version.specs.Version.{meaning_of}
 use Rattle.deb_field.specs.Sources.{SourceMeaning, source_of, is_closed, without_last}
-use Rattle.deb_field.specs.Trimming.{without_trailing_blanks, trimmed}
+use Rattle.deb_base.specs.Trimming.{without_trailing_blanks, trimmed}
 use Rattle.deb_field.specs.declared.source.SourceName.{SourceName}
 
 abbrev pub source_meaning : SourceName → SourceMeaning

@@ -10,7 +10,7 @@ use Rattle.deb_version.specs.Grammar.{SpellsVersion}
 use Rattle.deb_version.specs.Canonical.{version_text}
 use Rattle.deb_version.specs.Faults.{first_fault}
 use Rattle.deb_field.specs.OneLine.{line_refusal, refusal_unless}
-use Rattle.deb_field.specs.Trimming.{without_trailing_blanks, trimmed}
+use Rattle.deb_base.specs.Trimming.{without_trailing_blanks, trimmed}
 use Rattle.deb_field.specs.Versions.{is_version}
 
 -- what the field means: a name, and a version or none

@@ -26,7 +26,6 @@ mod one_line;
 mod source;
 mod source_canon;
 mod text;
-mod trim;
 mod value;
 mod value_canon;
 mod version;

@@ -10,8 +10,7 @@ ghost use Rattle.deb_field.specs.Sources.{source_of, SpellsSource, source_text, 
 
 use crate::canon::Canon;
 use crate::one_line::holds_newline;
-use crate::trim::{trimmed, without_trailing_blanks};
-use deb_base::{Code, is_package_name};
+use deb_base::{Code, is_package_name, trimmed, without_trailing_blanks};
 use deb_version::Version;
 use std::alloc::AllocError;
 

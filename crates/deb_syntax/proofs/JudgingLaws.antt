@@ -9,9 +9,11 @@ use Rattle.deb_base.specs.Names.{folded}
 use Rattle.deb_base.specs.Bodies.{Line, newline, is_all_blank, pieces_of, joined, HasNoNewline, begins_with_blank, is_continuation}
 use Rattle.deb_syntax.specs.Fields.{Field, SpellsField, SpellsFields, has_name, AreDistinct, SpellsParagraph}
 use Rattle.deb_base.specs.FieldNames.{colon, is_name}
-use Rattle.deb_syntax.specs.Judging.{trimmed, with_text, ended, continued, begins_armour, begins_comment, has_colon, begun, continuation_line, line_judged, lines_judged, judged}
+use Rattle.deb_syntax.specs.Judging.{with_text, ended, continued, begins_armour, begins_comment, has_colon, begun, continuation_line, line_judged, lines_judged, judged}
 use Rattle.deb_syntax.proofs.LinesLaws.{with_front, with_end, pieces_of-some, pieces_of-front, pieces_of-joined, joined-pieces_of}
-use Rattle.deb_syntax.proofs.JudgingLawsTexts.{HasBodyShape, body_shape-parts, trimmed-between, pieces_of-between, BeginsWithBlank, continuations-end, IsFieldLines, before-first, after-first, begins_with_blank-field, begins_armour-field, begins_comment-field, has_colon-field, name-no_colon, name-no_newline, cons_tail}
+use Rattle.deb_base.specs.Trimming.{trimmed}
+use Rattle.deb_base.proofs.Trims.{trimmed-between}
+use Rattle.deb_syntax.proofs.JudgingLawsTexts.{HasBodyShape, body_shape-parts, pieces_of-between, BeginsWithBlank, continuations-end, IsFieldLines, before-first, after-first, begins_with_blank-field, begins_armour-field, begins_comment-field, has_colon-field, name-no_colon, name-no_newline, cons_tail}
 
 pub all_left : {X : Type 0} (P : X → Type 0) (xs ys : List X) → AllByRecursion P (xs ++ ys) → AllByRecursion P xs
 all_left P [] ys h = tt

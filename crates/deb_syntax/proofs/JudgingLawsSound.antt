@@ -10,9 +10,11 @@ use Rattle.deb_base.specs.declared.refusal.Refusal.{Refusal}
 use Rattle.deb_base.specs.Bodies.{Line, newline, is_all_blank, joined, HasNoNewline, begins_with_blank}
 use Rattle.deb_syntax.specs.Fields.{Field, SpellsField, SpellsFields, has_name, AreDistinct, SpellsParagraph}
 use Rattle.deb_base.specs.FieldNames.{colon, is_name}
-use Rattle.deb_syntax.specs.Judging.{trimmed, ended, begins_armour, begins_comment, has_colon, begun, field_line, continuation_line, line_judged, lines_judged, judged}
+use Rattle.deb_syntax.specs.Judging.{ended, begins_armour, begins_comment, has_colon, begun, field_line, continuation_line, line_judged, lines_judged, judged}
 use Rattle.deb_syntax.proofs.LinesLaws.{pieces_of-joined}
-use Rattle.deb_syntax.proofs.JudgingLawsTexts.{IsTrimmed, trimmed_cut, split_at_colon, IsMore, body_shape-cut}
+use Rattle.deb_base.specs.Trimming.{trimmed}
+use Rattle.deb_base.proofs.Trims.{IsTrimmed, trimmed_cut}
+use Rattle.deb_syntax.proofs.JudgingLawsTexts.{split_at_colon, IsMore, body_shape-cut}
 use Rattle.deb_syntax.proofs.JudgingLaws.{all_right, all_append, continuation_line-push, bytes_eq-swap, has_name-ended, map-push, push-append}
 
 -- a line that isn't spaces and tabs alone

@@ -1,11 +1,13 @@
--- What is cut off a text's ends, and the parts of a field's first line and of its body.
-use Rattle.std.proofs.Common.{◌≡◌, ℕ, ◌+◌, suc, Bool, true, false, cond, not, ◌&&◌, ◌||◌, eqb, leb, List, [], ◌∷◌, ◌++◌, drop, refl, sym, ap, ◌∙◌, subst, arith, eqb-true, append-nil, one-add}
+-- The parts of a field's first line and of its body.
+use Rattle.std.proofs.Common.{◌≡◌, ℕ, ◌+◌, suc, Bool, true, false, not, ◌&&◌, ◌||◌, eqb, leb, List, [], ◌∷◌, ◌++◌, drop, refl, sym, ap, ◌∙◌, subst, arith, eqb-true, append-nil, one-add}
 use Rattle.std.proofs.lemmas.Bool.{or_right, and_right, and_parts, and_from, not-true, not_from_false, true≢false}
 use Rattle.std.proofs.lemmas.Bool.Decides.{nat_tests}
 use Rattle.std.specs.List.{AllByRecursion, list_all, list_any, before_first, after_first, position_or_len}
 use Rattle.deb_base.specs.Bodies.{Line, is_blank_byte, is_all_blank, is_blank, line_length, paragraph_limit, pieces_of, joined, HasNoNewline, begins_with_blank, ends_with_blank, is_continuation, is_body_shape}
 use Rattle.deb_base.specs.FieldNames.{colon, is_name_byte, may_begin_name, is_name}
-use Rattle.deb_syntax.specs.Judging.{without_leading_blanks, with_kept, without_trailing_blanks, trimmed, begins_armour, begins_comment, has_colon}
+use Rattle.deb_syntax.specs.Judging.{begins_armour, begins_comment, has_colon}
+use Rattle.deb_base.specs.Trimming.{trimmed}
+use Rattle.deb_base.proofs.Trims.{IsTrimmed, trimmed_cut}
 use Rattle.deb_syntax.proofs.LinesLaws.{with_front, with_end, pieces_of-some, pieces_of-front, pieces_of-end}
 
 -- a blank byte ends no line
@@ -37,105 +39,6 @@ name_bytes-no_colon (b ∷ bs) h = let p = and_parts (is_name_byte b) (list_all 
 pub all_blank-append : (a b : List ℕ) → is_all_blank b ≡ true → is_all_blank (a ++ b) ≡ is_all_blank a
 all_blank-append [] b h = h
 all_blank-append (c ∷ a) b h = ap (λ t. is_blank_byte c && t) (all_blank-append a b h)
-
--- what is cut off at the front
-pub record IsLeadingCut (text rest : List ℕ) : Type 0 where
-  pub cut : List ℕ
-  pub is : text ≡ cut ++ rest
-  pub blank : is_all_blank cut ≡ true
-  pub begins : begins_with_blank rest ≡ false
-
-pub leading_cut : (text : List ℕ) → IsLeadingCut text (without_leading_blanks text)
-leading_cut [] = record { cut = []; is = refl; blank = refl; begins = refl }
-leading_cut (b ∷ bs) = go (is_blank_byte b) refl (leading_cut bs)
-  where
-    go : (t : Bool) → is_blank_byte b ≡ t → IsLeadingCut bs (without_leading_blanks bs) → IsLeadingCut (b ∷ bs) (cond t (without_leading_blanks bs) (b ∷ bs))
-    go true e r = record { cut = b ∷ r.cut; is = ap (λ l. b ∷ l) r.is; blank = rw e r.blank; begins = r.begins }
-    go false e r = record { cut = []; is = refl; blank = refl; begins = e }
-
--- what is cut off at the end
-pub record IsTrailingCut (text rest : List ℕ) : Type 0 where
-  pub cut : List ℕ
-  pub is : text ≡ rest ++ cut
-  pub blank : is_all_blank cut ≡ true
-  pub ends : ends_with_blank rest ≡ false
-
-pub trailing_cut : (text : List ℕ) → IsTrailingCut text (without_trailing_blanks text)
-trailing_cut [] = record { cut = []; is = refl; blank = refl; ends = refl }
-trailing_cut (b ∷ bs) = go (without_trailing_blanks bs) (trailing_cut bs)
-  where
-    none : (t : Bool) → is_blank_byte b ≡ t → (cut : List ℕ) → bs ≡ cut → is_all_blank cut ≡ true → IsTrailingCut (b ∷ bs) (cond t [] (b ∷ []))
-    none true e cut is blank = record { cut = b ∷ cut; is = ap (λ l. b ∷ l) is; blank = rw e blank; ends = refl }
-    none false e cut is blank = record { cut = cut; is = ap (λ l. b ∷ l) is; blank = blank; ends = e }
-
-    go : (kept : List ℕ) → IsTrailingCut bs kept → IsTrailingCut (b ∷ bs) (with_kept b kept)
-    go [] r = none (is_blank_byte b) refl r.cut r.is r.blank
-    go (c ∷ cs) r = record { cut = r.cut; is = ap (λ l. b ∷ l) r.is; blank = r.blank; ends = r.ends }
-
--- to cut at the end leaves the front
-pub begins-without_trailing : (text : List ℕ) → begins_with_blank text ≡ false → begins_with_blank (without_trailing_blanks text) ≡ false
-begins-without_trailing [] h = refl
-begins-without_trailing (b ∷ bs) h = go (without_trailing_blanks bs)
-  where
-    go : (kept : List ℕ) → begins_with_blank (with_kept b kept) ≡ false
-    go [] = rw h h
-    go (c ∷ cs) = h
-
--- A text with all that is cut off at its ends.
-pub record IsTrimmed (text body : List ℕ) : Type 0 where
-  pub before : List ℕ
-  pub after : List ℕ
-  pub is : text ≡ before ++ (body ++ after)
-  pub before_blank : is_all_blank before ≡ true
-  pub after_blank : is_all_blank after ≡ true
-  pub begins : begins_with_blank body ≡ false
-  pub ends : ends_with_blank body ≡ false
-
-pub trimmed_cut : (text : List ℕ) → IsTrimmed text (trimmed text)
-trimmed_cut text =
-    let front = leading_cut text in
-    let end = trailing_cut (without_leading_blanks text) in
-    record {
-      before = front.cut;
-      after = end.cut;
-      is = front.is ∙ ap (λ l. front.cut ++ l) end.is;
-      before_blank = front.blank;
-      after_blank = end.blank;
-      begins = begins-without_trailing (without_leading_blanks text) front.begins;
-      ends = end.ends;
-    }
-
-leading-append : (before text : List ℕ) → is_all_blank before ≡ true → without_leading_blanks (before ++ text) ≡ without_leading_blanks text
-leading-append [] text h = refl
-leading-append (b ∷ before) text h = let p = and_parts (is_blank_byte b) (is_all_blank before) h in rw p.0 (leading-append before text p.1)
-
-leading-all : (text : List ℕ) → is_all_blank text ≡ true → without_leading_blanks text ≡ []
-leading-all [] h = refl
-leading-all (b ∷ text) h = let p = and_parts (is_blank_byte b) (is_all_blank text) h in rw p.0 (leading-all text p.1)
-
-trailing-all : (text : List ℕ) → is_all_blank text ≡ true → without_trailing_blanks text ≡ []
-trailing-all [] h = refl
-trailing-all (b ∷ text) h = let p = and_parts (is_blank_byte b) (is_all_blank text) h in rw (trailing-all text p.1, p.0)
-
-trailing-append : (text after : List ℕ) → is_all_blank after ≡ true → without_trailing_blanks (text ++ after) ≡ without_trailing_blanks text
-trailing-append [] after h = trailing-all after h
-trailing-append (b ∷ text) after h = ap (with_kept b) (trailing-append text after h)
-
-trailing-none : (text : List ℕ) → ends_with_blank text ≡ false → without_trailing_blanks text ≡ text
-trailing-none [] h = refl
-trailing-none (b ∷ []) h = rw h
-trailing-none (b ∷ c ∷ text) h = ap (with_kept b) (trailing-none (c ∷ text) h)
-
--- the body between runs of blanks is what the cut gives
-pub trimmed-between : (before body after : List ℕ) → is_all_blank before ≡ true → is_all_blank after ≡ true → begins_with_blank body ≡ false → ends_with_blank body ≡ false → trimmed (before ++ (body ++ after)) ≡ body
-trimmed-between before [] after hb ha begins ends = ap without_trailing_blanks (leading-append before after hb ∙ leading-all after ha)
-trimmed-between before (b ∷ body) after hb ha begins ends =
-    ap without_trailing_blanks (leading-append before ((b ∷ body) ++ after) hb ∙ stays)
-    ∙ trailing-append (b ∷ body) after ha
-    ∙ trailing-none (b ∷ body) ends
-  where
-    stays : without_leading_blanks ((b ∷ body) ++ after) ≡ (b ∷ body) ++ after
-    stays = rw begins
 
 -- the parts of a body's shape
 pub record HasBodyShape (body : List ℕ) : Type 0 where

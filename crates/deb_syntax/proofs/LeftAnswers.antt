@@ -4,9 +4,9 @@ use Rattle.std.proofs.lemmas.Bool.{le-leb, lt-leb}
 use Rattle.std.proofs.lemmas.List.{append-nil, append_assoc}
 use Rattle.std.proofs.Math.Seq.{drop-append_seam, drop-length}
 use Rattle.deb_base.specs.declared.code.Code.TheVariants.{ParagraphTooLong, FileTooLong}
-use Rattle.deb_base.specs.declared.refusal.Refusal.{Refusal}
 use Rattle.deb_base.specs.Bodies.{Line, line_length, paragraph_limit, is_blank}
-use Rattle.deb_syntax.specs.Answers.{Seen, part_within, line_beyond, line_too_long, is_line, seen_from, paragraph_answer, answer_of_first, begin_of_first, paragraphs_within, next_answer, next_begin}
+use Rattle.deb_syntax.specs.Answers.{part_within, line_beyond, line_too_long, is_line, seen_from, paragraph_answer, answer_of_first, begin_of_first, paragraphs_within, next_answer, next_begin}
+use Rattle.deb_syntax.specs.Ahead.{left_answer, left_begin}
 use Rattle.deb_syntax.specs.Extents.{AreBlank, AreNotBlank}
 use Rattle.deb_syntax.specs.Judging.{judged}
 use Rattle.deb_syntax.specs.Lines.{Paragraph, lines_of, begins_blank, paragraphs_from, paragraphs_of, total_length, file_limit, with_line}
@@ -16,13 +16,6 @@ use Rattle.deb_syntax.proofs.NextParagraph.{paragraphs_from-append, no_paragraph
 use Rattle.deb_syntax.proofs.Parts.{part_within-all, part_within-append, line_beyond-none, line_beyond-some, line_beyond-append}
 use Rattle.deb_syntax.proofs.Passing.{IsBehind}
 use Rattle.deb_syntax.proofs.Runs.{joins, paragraphs_from-run}
-
--- the answer on a text of which so many bytes may be looked at, and whose first line has number n
-abbrev pub left_answer : ℕ → ℕ → List ℕ → Result (Option Seen) Refusal
-left_answer n room text = answer_of_first (line_beyond n room text) (paragraphs_from n (lines_of (part_within room text)))
-
-abbrev pub left_begin : ℕ → ℕ → List ℕ → Result (Option ℕ) Refusal
-left_begin n room text = begin_of_first (line_beyond n room text) (paragraphs_from n (lines_of (part_within room text)))
 
 -- behind closed lines
 pub left-paragraphs : (n room : ℕ) (passed text : List ℕ) → IsClosed passed → length passed ≤ room → paragraphs_from n (lines_of (part_within room (passed ++ text))) ≡ paragraphs_from n (lines_of passed) ++ paragraphs_from (n + length (lines_of passed)) (lines_of (part_within (room - length passed) text))

@@ -37,7 +37,6 @@ pub mod PlacesWithin
 pub mod Runs
 pub mod Slices
 pub mod Takings
-pub mod Trims
 pub mod WalkingBlanks
 pub mod WalkingLines
 pub mod WalkingRuns

@@ -6,28 +6,11 @@ use Rattle.std.specs.Str.{is_utf8, chars}
 use lib.Utf8.{encode}
 use Rattle.deb_base.specs.declared.code.Code.TheVariants.{NotUtf8, Armour, Comment, StrayContinuation, BadFieldName, NoColon, DuplicateField}
 use Rattle.deb_base.specs.declared.refusal.Refusal.{Refusal}
-use Rattle.deb_base.specs.Bodies.{Line, newline, is_blank_byte, begins_with_blank}
+use Rattle.deb_base.specs.Bodies.{Line, newline, begins_with_blank}
 use Rattle.deb_syntax.specs.Lines.{lines_of}
 use Rattle.deb_syntax.specs.Fields.{Field, has_name}
 use Rattle.deb_base.specs.FieldNames.{colon, is_name}
-
--- a text without the spaces and tabs at its front
-abbrev pub without_leading_blanks : List ℕ → List ℕ
-without_leading_blanks [] = []
-without_leading_blanks (b ∷ bs) = cond (is_blank_byte b) (without_leading_blanks bs) (b ∷ bs)
-
--- a byte in front of a text whose trailing spaces and tabs are cut
-abbrev pub with_kept : ℕ → List ℕ → List ℕ
-with_kept b [] = cond (is_blank_byte b) [] (b ∷ [])
-with_kept b (c ∷ cs) = b ∷ c ∷ cs
-
-abbrev pub without_trailing_blanks : List ℕ → List ℕ
-without_trailing_blanks [] = []
-without_trailing_blanks (b ∷ bs) = with_kept b (without_trailing_blanks bs)
-
--- a text without the spaces and tabs at its ends
-abbrev pub trimmed : List ℕ → List ℕ
-trimmed text = without_trailing_blanks (without_leading_blanks text)
+use Rattle.deb_base.specs.Trimming.{trimmed}
 
 -- a field of which more lines may come: in place of its body, all that stands behind its colon so far
 abbrev pub with_text : Field → List ℕ → Field

@@ -9,7 +9,7 @@ use Rattle.deb_base.specs.declared.fault.Fault.TheVariants.{Refused, Memory, Rea
 use Rattle.deb_base.specs.declared.refusal.Refusal.{Refusal}
 use Rattle.deb_base.specs.Bodies.{Line, pieces_of}
 use Rattle.deb_syntax.specs.Fields.{Field}
-use Rattle.deb_syntax.specs.Judging.{trimmed}
+use Rattle.deb_base.specs.Trimming.{trimmed}
 use Rattle.deb_syntax.specs.declared.folded_name.FoldedName.{FoldedName}
 use Rattle.deb_syntax.specs.declared.names.Names.{Names}
 use Rattle.deb_syntax.specs.declared.place.Place.{Place}

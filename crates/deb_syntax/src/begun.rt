@@ -4,7 +4,7 @@ ghost use Rattle.std.specs.Prelude.{◌≡◌, ◌+◌, ◌<◌, ◌^◌, ◌++�
 ghost use Rattle.deb_base.specs.Bodies.{HasNoNewline, is_blank};
 ghost use Rattle.deb_syntax.specs.Walking.{Describes, GoesAlong};
 
-use crate::line::{PARAGRAPH_LIMIT, is_only_blanks};
+use deb_base::{PARAGRAPH_LIMIT, is_only_blanks};
 use memchr::memchr;
 
 /// What was seen of a line whose newline hasn't come yet.

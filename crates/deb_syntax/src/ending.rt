@@ -15,9 +15,8 @@ ghost use Rattle.deb_syntax.specs.declared.take.Stop.TheVariants.{Open};
 use crate::begun::Begun;
 use crate::dropped::drop_line;
 use crate::feed::{Feed, Tail};
-use crate::line::PARAGRAPH_LIMIT;
 use crate::take::{Run, Stop, take_lines};
-use deb_base::{Code, Fault, Refusal, Source};
+use deb_base::{Code, Fault, PARAGRAPH_LIMIT, Refusal, Source};
 
 /// Where the paragraph ends that begins the unread bytes.
 #[derive(Clone, Copy, Debug)]

@@ -12,10 +12,9 @@ ghost use Rattle.deb_syntax.specs.Walking.{Describes};
 use crate::begun::Begun;
 use crate::dropped::drop_line;
 use crate::feed::{Feed, Tail};
-use crate::line::PARAGRAPH_LIMIT;
 use crate::skip::skip_blanks;
 use crate::take::Run;
-use deb_base::{Code, Fault, Refusal, Source};
+use deb_base::{Code, Fault, PARAGRAPH_LIMIT, Refusal, Source};
 
 /// The first line ahead that isn't blank.
 #[derive(Clone, Copy, Debug)]

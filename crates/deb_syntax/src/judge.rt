@@ -4,7 +4,7 @@ ghost use Rattle.std.specs.Prelude.{◌≡◌, ℕ, ◌+◌, ◌-◌, ◌^◌, �
 ghost use Rattle.std.specs.List.{list_all};
 ghost use Rattle.memchr.specs.Find.{IsFirstByte, is_byte};
 ghost use Rattle.deb_base.specs.FieldNames.{colon, is_name, is_name_byte};
-ghost use Rattle.deb_base.specs.Bodies.{newline, pieces_of, begins_with_blank};
+ghost use Rattle.deb_base.specs.Bodies.{newline, pieces_of};
 ghost use Rattle.deb_syntax.specs.Fields.{Field, has_name};
 ghost use Rattle.deb_syntax.specs.Judging.{begins_comment, is_named, field_line, judged, line_judged};
 ghost use Rattle.deb_syntax.specs.Places.{begun_fields, fields_at, lies_within, pieces_behind, with_last_end, StandsAt, IsFaultOf};
@@ -12,7 +12,7 @@ ghost use Rattle.deb_syntax.specs.Places.{begun_fields, fields_at, lies_within, 
 use crate::name::{is_name, name_bytes};
 use crate::names::{Names, add};
 use crate::place::Place;
-use deb_base::{Code, Fault, Refusal};
+use deb_base::{Code, Fault, Refusal, begins_with_blank};
 use memchr::memchr;
 use simdutf8::is_utf8;
 use std::alloc::Global;
@@ -133,13 +133,6 @@ fn refused(code: Code, line: Line) -> Fault
         code,
         line: line.number,
     })
-}
-
-/// Whether a space or a tab comes first.
-fn begins_with_blank(text: &[u8]) -> bool
-    ensures { result ≡ begins_with_blank text.now }
-{
-    matches!(text, [b' ' | b'\t', ..])
 }
 
 /// Gives a continuation line to the last field.

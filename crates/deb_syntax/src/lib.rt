@@ -21,7 +21,6 @@ mod first;
 mod folded_name;
 mod judge;
 pub mod laws;
-mod line;
 mod name;
 mod names;
 mod paragraphs;
@@ -30,7 +29,6 @@ mod raw;
 mod skip;
 mod standing;
 mod take;
-mod trim;
 mod window;
 
 pub use paragraphs::Paragraphs;

@@ -8,8 +8,7 @@ ghost use Rattle.deb_syntax.specs.Fields.{is_field, are_fields};
 ghost use Rattle.deb_syntax.specs.Places.{field_at, fields_at, lies_within};
 
 use crate::place::Place;
-use crate::trim::trimmed;
-use deb_base::same_name;
+use deb_base::{same_name, trimmed};
 
 /// A field of a paragraph, as slices of the paragraph's bytes (Debian Policy 5.1).
 #[derive(Clone, Copy, Debug)]

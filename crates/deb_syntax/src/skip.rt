@@ -4,7 +4,7 @@ ghost use Rattle.std.specs.Prelude.{◌≤◌, length, take};
 ghost use Rattle.deb_syntax.specs.Walking.{Describes, GoesThroughBlanks, SkipsBlanks};
 
 use crate::begun::{Begun, along};
-use crate::trim::is_blank_byte;
+use deb_base::is_blank_byte;
 
 /// Blank lines at the front of a text, and the line behind them.
 #[derive(Clone, Copy, Debug)]

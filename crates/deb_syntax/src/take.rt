@@ -3,7 +3,7 @@
 ghost use Rattle.deb_syntax.specs.Walking.{CanGoOn, Stops};
 
 use crate::begun::{Begun, along};
-use crate::line::PARAGRAPH_LIMIT;
+use deb_base::PARAGRAPH_LIMIT;
 
 /// Lines at the front of a text, of which none is blank, and the line behind them.
 #[derive(Clone, Copy, Debug)]

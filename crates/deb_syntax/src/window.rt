@@ -4,8 +4,7 @@ ghost use Rattle.std.specs.Prelude.{◌≡◌, ◌+◌, ◌<◌, ◌≤◌, cond
 ghost use Rattle.std.specs.Io.KnownBytes.{Keeps, ReadConsumes};
 ghost use Rattle.deb_base.specs.Devices.{read_failures_after, failures_after};
 
-use crate::line::PARAGRAPH_LIMIT;
-use deb_base::{Failed, Fault, Source};
+use deb_base::{Failed, Fault, PARAGRAPH_LIMIT, Source};
 use std::alloc::Global;
 
 /// The most bytes that one read is lent.

@@ -1,6 +1,6 @@
 use Rattle.std.proofs.Common.{◌≡◌, ◌≤◌, length, take}
-use Rattle.deb_field.specs.Trimming.{without_trailing_blanks}
-use Rattle.deb_field.proofs.trim.without_trailing_blanks.Given as goal
+use Rattle.deb_base.specs.Trimming.{without_trailing_blanks}
+use Rattle.deb_base.proofs.blank.without_trailing_blanks.Given as goal
 
 abbrev pub invariant-loop-end : goal.invariant-loop-end
 invariant-loop-end l = (l.end ≤ length l.text) × (without_trailing_blanks (take l.end l.text) ≡ without_trailing_blanks l.text)

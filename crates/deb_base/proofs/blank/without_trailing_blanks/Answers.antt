@@ -1,8 +1,8 @@
 use Rattle.std.proofs.Common.{◌≡◌, take, sym, ap, ◌∙◌, arith}
-use Rattle.deb_field.specs.Trimming.{without_trailing_blanks}
-use Rattle.deb_field.proofs.Trims.{without_trailing_blanks-blank, without_trailing_blanks-other}
-use Rattle.deb_field.proofs.trim.without_trailing_blanks.Goals as goal
-use Rattle.deb_field.proofs.trim.without_trailing_blanks.Goals.{then-loop-end-test+else-is_blank_byte, else-loop-end-test}
+use Rattle.deb_base.specs.Trimming.{without_trailing_blanks}
+use Rattle.deb_base.proofs.Trims.{without_trailing_blanks-blank, without_trailing_blanks-other}
+use Rattle.deb_base.proofs.blank.without_trailing_blanks.Goals as goal
+use Rattle.deb_base.proofs.blank.without_trailing_blanks.Goals.{then-loop-end-test+else-is_blank_byte, else-loop-end-test}
 
 pub loop-end-preserved : goal.loop-end-preserved
 loop-end-preserved c =

@@ -1,6 +1,6 @@
 use Rattle.std.proofs.Common.{◌≡◌, length}
-use Rattle.deb_field.specs.Trimming.{without_leading_blanks}
-use Rattle.deb_field.proofs.trim.without_leading_blanks.Given as goal
+use Rattle.deb_base.specs.Trimming.{without_leading_blanks}
+use Rattle.deb_base.proofs.blank.without_leading_blanks.Given as goal
 
 abbrev pub invariant-loop-rest : goal.invariant-loop-rest
 invariant-loop-rest l = without_leading_blanks l.rest ≡ without_leading_blanks l.text

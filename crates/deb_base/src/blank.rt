@@ -1,0 +1,54 @@
+//! Spaces and tabs, and bytes without those at their ends (Debian Policy 5.1).
+
+ghost use Rattle.std.specs.Prelude.{◌≡◌};
+ghost use Rattle.deb_base.specs.Bodies.{begins_with_blank, is_all_blank, is_blank_byte};
+ghost use Rattle.deb_base.specs.Trimming.{trimmed, without_leading_blanks, without_trailing_blanks};
+
+/// Whether a byte is a space or a tab.
+pub fn is_blank_byte(byte: u8) -> bool
+    ensures { result ≡ is_blank_byte byte }
+{
+    byte == b' ' || byte == b'\t'
+}
+
+/// Whether the text holds only spaces and tabs, or nothing.
+pub fn is_only_blanks(text: &[u8]) -> bool
+    ensures { result ≡ is_all_blank text.now }
+{
+    text.iter().all(|byte| is_blank_byte(*byte))
+}
+
+/// Whether a space or a tab comes first.
+pub fn begins_with_blank(text: &[u8]) -> bool
+    ensures { result ≡ begins_with_blank text.now }
+{
+    matches!(text, [b' ' | b'\t', ..])
+}
+
+/// The text without the spaces and tabs at its ends.
+pub fn trimmed(text: &[u8]) -> &[u8]
+    ensures { result.now ≡ trimmed text.now }
+{
+    without_trailing_blanks(without_leading_blanks(text))
+}
+
+/// The text without the spaces and tabs at its end.
+pub fn without_trailing_blanks(text: &[u8]) -> &[u8]
+    ensures { result.now ≡ without_trailing_blanks text.now }
+{
+    let mut end = text.len();
+    while end > 0 && is_blank_byte(text[end - 1]) {
+        end -= 1;
+    }
+    &text[..end]
+}
+
+fn without_leading_blanks(text: &[u8]) -> &[u8]
+    ensures { result.now ≡ without_leading_blanks text.now }
+{
+    let mut rest = text;
+    while let [b' ' | b'\t', behind @ ..] = rest {
+        rest = behind;
+    }
+    rest
+}

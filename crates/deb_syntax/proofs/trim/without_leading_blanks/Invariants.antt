@@ -1,9 +1,0 @@
-use Rattle.std.proofs.Common.{◌≡◌, length}
-use Rattle.deb_syntax.specs.Judging.{without_leading_blanks}
-use Rattle.deb_syntax.proofs.trim.without_leading_blanks.Given as goal
-
-abbrev pub invariant-loop-rest : goal.invariant-loop-rest
-invariant-loop-rest l = without_leading_blanks l.rest ≡ without_leading_blanks l.text
-
-abbrev pub decreases-loop-rest : goal.decreases-loop-rest
-decreases-loop-rest l = length l.rest

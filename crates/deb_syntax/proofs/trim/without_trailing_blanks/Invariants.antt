@@ -1,9 +1,0 @@
-use Rattle.std.proofs.Common.{◌≡◌, ◌≤◌, length, take}
-use Rattle.deb_syntax.specs.Judging.{without_trailing_blanks}
-use Rattle.deb_syntax.proofs.trim.without_trailing_blanks.Given as goal
-
-abbrev pub invariant-loop-end : goal.invariant-loop-end
-invariant-loop-end l = (l.end ≤ length l.text) × (without_trailing_blanks (take l.end l.text) ≡ without_trailing_blanks l.text)
-
-abbrev pub decreases-loop-end : goal.decreases-loop-end
-decreases-loop-end l = l.end
