@@ -1,5 +1,5 @@
 -- What follows from the law of a kind, and the law of a kind of values among several.
-use Rattle.std.proofs.Common.{◌≡◌, ℕ, ◌*◌, ◌≤◌, List, length, Option, Some, Result, Ok, Err, IfOk, IfErr, IsOkAnd, refl, sym, ap, ◌∙◌, subst}
+use Rattle.std.proofs.Common.{◌≡◌, ℕ, ◌*◌, ◌≤◌, List, length, Option, refl, sym, ap, ◌∙◌, subst}
 use Rattle.deb_base.specs.Bodies.{IsBody}
 use Rattle.deb_base.specs.declared.code.Code.{Code}
 use Rattle.deb_field.specs.CanonLaw.{CanonLaw, OneText, RefusalLaw}
@@ -27,9 +27,3 @@ refusals-through M V inject spells refusal law = record {
   spelled = λ body none. let s = law.spelled body none in (inject s.0, (s.0, refl, s.1));
   unrefused = λ body v s. law.unrefused body s.0 s.2;
 }
-
--- what reads a value that the body spells, or gives the body's refusal, reads each value that the body spells
-pub accepted-from : (M V : Type 0) (spells : List ℕ → M → Type 0) (text_of : M → List ℕ) (refusal : List ℕ → Option Code) (meaning : V → M) → CanonLaw M spells text_of → RefusalLaw M spells refusal → (body : List ℕ) (r : Result V Code)
-    → IfOk r (λ v. spells body (meaning v)) → IfErr r (λ code. refusal body ≡ Some code) → (m : M) → spells body m → IsOkAnd r (λ v. meaning v ≡ m)
-accepted-from M V spells text_of refusal meaning law refusals body (Ok v) ok err m s = law.one_meaning body (meaning v) m ok s
-accepted-from M V spells text_of refusal meaning law refusals body (Err code) ok err m s = let none = refusals.unrefused body m s in cc

@@ -1,24 +1,17 @@
 -- Facts about bodies of one line and about refusals by a test.
 use Rattle.std.proofs.Common.{◌≡◌, ℕ, ◌==◌, Bool, true, false, cond, List, [], ◌∷◌, Option, Some, None, refl, arith}
 use Rattle.std.proofs.lemmas.Bool.Decides.{nat_tests}
-use Rattle.std.specs.List.{AllByRecursion, list_any}
+use Rattle.std.specs.List.{AllByRecursion}
 use Rattle.deb_base.specs.Bodies.{newline, HasNoNewline}
 use Rattle.deb_base.specs.declared.code.Code.{Code}
 use Rattle.deb_base.specs.declared.code.Code.TheVariants.{NotOneLine}
 use Rattle.deb_base.proofs.GraphicBodies.{IsGraphic}
-use Rattle.deb_version.proofs.CutLemmas.{or_sides}
 use Rattle.deb_field.specs.OneLine.{holds_newline, line_refusal, refusal_unless}
 
 -- that no byte is a newline, as a fact and as a test
 pub HasNoNewline-test : (text : List ℕ) → HasNoNewline text → holds_newline text ≡ false
 HasNoNewline-test [] h = refl
 HasNoNewline-test (b ∷ text) h = rw h.0 (HasNoNewline-test text h.1)
-
-pub HasNoNewline-fact : (text : List ℕ) → holds_newline text ≡ false → HasNoNewline text
-HasNoNewline-fact [] h = tt
-HasNoNewline-fact (b ∷ text) h =
-    let sides = or_sides (b == newline) (list_any (λ x. x == newline) text) h in
-    (sides.0, HasNoNewline-fact text sides.1)
 
 pub graphic_no_newline : (b : ℕ) → IsGraphic b → (b == newline) ≡ false
 graphic_no_newline b h = grind (arith, nat_tests)

@@ -22,10 +22,6 @@ pub length-more_text : (words : List (List ℕ)) → length (more_text words) �
 length-more_text [] = refl
 length-more_text (word ∷ words) = omega (arith, length-append word (more_text words), length-more_text words)
 
-length-words_text : (words : List (List ℕ)) → length (words_text words) ≤ total words
-length-words_text [] = omega arith
-length-words_text (word ∷ words) = omega (arith, ap length (words_text-cons word words), length-append word (more_text words), length-more_text words)
-
 -- with a byte to spare, where there is a word
 words_text-spare : (word : List ℕ) (words : List (List ℕ)) → length (words_text (word ∷ words)) + 1 ≡ total (word ∷ words)
 words_text-spare word words = omega (arith, ap length (words_text-cons word words), length-append word (more_text words), length-more_text words)

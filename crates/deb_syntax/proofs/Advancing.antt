@@ -464,10 +464,6 @@ near_nothing bytes none front more is = absurd (go front (sym none ∙ is))
     go [] e = cc
     go (b ∷ bs) e = cc
 
--- no more than one piece is near
-pub near_short : (bytes : List ℕ) → length bytes ≤ piece_limit → IsNear bytes
-near_short bytes short front more is = omega (arith, short, ap length is, length-append front (newline ∷ more))
-
 -- no hidden line passes the test
 pub hides_nothing : (hidden : ℕ) (feed : FeedState) → hidden ≡ 0 → IsTrue (hides_line hidden feed)
 hides_nothing hidden feed none = left_true (hidden == 0) _ (ap (λ n. n == 0) none)

@@ -1,6 +1,6 @@
 -- Cutting a text behind whole lines.
 use Rattle.std.proofs.Common.{◌≡◌, ℕ, ◌==◌, true, false, cond, List, [], ◌∷◌, ◌++◌, refl, ap, ◌∙◌, subst, append_assoc}
-use Rattle.deb_base.specs.Bodies.{Line, newline, with_byte, pieces_of}
+use Rattle.deb_base.specs.Bodies.{Line, newline, with_byte}
 use Rattle.deb_syntax.specs.Lines.{lines_of, ends_line}
 
 -- a text that isn't empty has a line
@@ -27,18 +27,6 @@ lines_of-append (x ∷ y ∷ a) b h =
     elim (x == newline) as (λ t. cond t ([] ∷ lines_of ((y ∷ a) ++ b)) (with_byte x (lines_of ((y ∷ a) ++ b))) ≡ cond t ([] ∷ lines_of (y ∷ a)) (with_byte x (lines_of (y ∷ a))) ++ lines_of b) [
       | true ↦ ap (λ ls. [] ∷ ls) ih
       | false ↦ ap (with_byte x) ih ∙ with_byte-append x (lines_of (y ∷ a)) (lines_of b) f.0 f.1 f.2
-    ]
-
--- pieces behind whole lines
-pub pieces_of-append : (a b : List ℕ) → ends_line a ≡ true → pieces_of (a ++ b) ≡ lines_of a ++ pieces_of b
-pieces_of-append [] b h = refl
-pieces_of-append (x ∷ []) b h = rw h refl
-pieces_of-append (x ∷ y ∷ a) b h =
-    let ih = pieces_of-append (y ∷ a) b h in
-    let f = first_line y a in
-    elim (x == newline) as (λ t. cond t ([] ∷ pieces_of ((y ∷ a) ++ b)) (with_byte x (pieces_of ((y ∷ a) ++ b))) ≡ cond t ([] ∷ lines_of (y ∷ a)) (with_byte x (lines_of (y ∷ a))) ++ pieces_of b) [
-      | true ↦ ap (λ ls. [] ∷ ls) ih
-      | false ↦ ap (with_byte x) ih ∙ with_byte-append x (lines_of (y ∷ a)) (pieces_of b) f.0 f.1 f.2
     ]
 
 ends_line-newline : (line : List ℕ) → ends_line (line ++ newline ∷ []) ≡ true

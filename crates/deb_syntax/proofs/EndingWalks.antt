@@ -10,7 +10,7 @@ use Rattle.deb_base.specs.declared.fault.Fault.{Fault}
 use Rattle.deb_base.specs.declared.fault.Fault.TheVariants.{Refused, Memory, Read, Write}
 use Rattle.deb_syntax.specs.Ahead.{left_answer, room_ahead, IsAhead, IsNear, KeepsLine, EndsInSight, IsExtentOf, IsNextRun, IsExtentAhead, SameCounts}
 use Rattle.deb_syntax.specs.Extents.{AreNotBlank}
-use Rattle.deb_syntax.specs.Feeding.{FeedState, piece_limit, Comes, Stays, Sees, room_of}
+use Rattle.deb_syntax.specs.Feeding.{FeedState, piece_limit, Comes, Sees, room_of}
 use Rattle.deb_syntax.specs.Lines.{with_newlines}
 use Rattle.deb_syntax.specs.Walking.{StandInFront, RunStands, CanGoOn, CannotBeBlank, Stops}
 use Rattle.deb_syntax.specs.declared.begun.Begun.{Begun}
@@ -245,9 +245,6 @@ module _ (state : FeedState) (run : Run) where
     blank-sight : InSight s.lines s.seen
     blank-sight = in-sight s.lines s.seen s.fresh s.stopped.0.0 s.stands s.stopped.0.1
 
-    pub blank-within : run.bytes + run.begun.len + 1 ≤ room_ahead state
-    blank-within = omega (arith, blank-sight.within, s.stands.bytes, s.stands.describes.len)
-
     blank-end : NearBlank state.unread → EndsBlank (record { end = run.bytes - 1; skip = run.bytes + run.begun.len + 1; bytes = run.bytes + run.begun.len + 1; lines = run.lines + 1 }) state
     blank-end near =
         let i = blank-sight in
@@ -316,9 +313,6 @@ sees-ahead state sight sees = let same : room_of state 0 ≡ room_ahead state = 
 
 pub sees-unread : (state : FeedState) (sight : Sight) → Sees state 0 sight → length state.unread ≤ room_of state 0 → sight.seen.now ≡ state.unread
 sees-unread state sight sees le = sees.seen ∙ take_all (room_of state 0) state.unread le
-
-pub stays-same : (before state after : FeedState) (left left_after : Option (List ℕ)) → SameCounts before state → Stays state left after left_after → SameCounts before after
-stays-same before state after left left_after same stay = record { bytes = stay.bytes ∙ same.bytes; lines = stay.lines ∙ same.lines }
 
 -- where the taking of lines stopped among the bytes that may be looked at
 pub seen-stops : (state : FeedState) (sight : Sight) (stop at : Stop) (run : Run) → Sees state 0 sight → stop ≡ at → Stops sight.seen.now stop run → Stops (take (room_ahead state) state.unread) at run

@@ -1,14 +1,12 @@
 -- A file that is read by pieces: slices of its buffer, what a piece leaves of the text, and what is seen of it.
-use Rattle.std.proofs.Common.{◌≡◌, ℕ, ◌+◌, ◌-◌, ◌<◌, ◌≤◌, List, [], ◌++◌, Option, Some, None, length, take, drop, slice_range, IsTrue, inl, inr, refl, sym, ap, ◌∙◌, append_assoc, arith, length-drop}
+use Rattle.std.proofs.Common.{◌≡◌, ℕ, ◌+◌, ◌-◌, ◌≤◌, List, [], ◌++◌, Option, Some, None, length, take, drop, slice_range, IsTrue, refl, sym, ap, ◌∙◌, append_assoc, arith, length-drop}
 use Rattle.std.proofs.Math.Seq.{take-add}
-use Rattle.std.proofs.lemmas.List.{drop-take, drop-drop, take-take, take_all, length-take-le}
+use Rattle.std.proofs.lemmas.List.{drop-take, drop-drop, length-take-le}
 use Rattle.std.specs.Io.KnownBytes.{Consumes, IsAtEnd}
-use Rattle.std.proofs.lemmas.Bool.{cases_lt}
 use Rattle.deb_syntax.specs.Lines.{file_limit}
-use Rattle.deb_syntax.specs.Feeding.{FeedState, feed_state, buffer_of, start_of, Comes, Stays, Sees, room_of}
+use Rattle.deb_syntax.specs.Feeding.{FeedState, feed_state, buffer_of, start_of, Comes, Stays}
 use Rattle.deb_syntax.specs.declared.feed.Feed.{Feed}
-use Rattle.deb_syntax.specs.declared.feed.Sight.{Sight}
-use Rattle.deb_syntax.proofs.Slices.{take-slice_range, drop-slice_range}
+use Rattle.deb_syntax.proofs.Slices.{take-slice_range}
 
 -- a slice of the first f bytes, which are the same
 pub slice_range-same_front : (old new : List ℕ) (s f : ℕ) → s ≤ f → take f new ≡ take f old → slice_range new s f ≡ slice_range old s f
@@ -25,23 +23,6 @@ slice_range-grown old new s f n le h =
     ∙ ap (λ zs. take (f - s) (drop s new) ++ take n zs) (drop-drop (f - s) s new ∙ ap (λ k. drop k new) whole)
     ∙ ap (λ zs. zs ++ take n (drop f new)) (slice_range-same_front old new s f le h)
 
-drop_front : (xs : List ℕ) (s f a b : ℕ) → b ≤ f - s → slice_range (slice_range xs s f) a b ≡ take (b - a) (drop (s + a) xs)
-drop_front xs s f a b le =
-    elim (cases_lt a b) [
-      | inl l ↦
-          let size : (f - s) - a ≡ (f - (s + a)) = omega arith in
-          ap (take (b - a)) (drop-slice_range xs s f a) ∙ take-take (b - a) (f - (s + a)) (drop (s + a) xs) (omega arith)
-      | inr l ↦
-          let none : b - a ≡ 0 = omega arith in
-          ap (λ k. take k (drop a (slice_range xs s f))) none ∙ ap (λ k. take k (drop (s + a) xs)) (sym none)
-    ]
-
--- a slice of a slice
-pub slice_range-inside : (xs : List ℕ) (s f a b : ℕ) → b ≤ f - s → slice_range xs (s + a) (s + b) ≡ slice_range (slice_range xs s f) a b
-slice_range-inside xs s f a b le =
-    let sizes : (s + b) - (s + a) ≡ b - a = omega arith in
-    sym (drop_front xs s f a b le ∙ ap (λ k. take k (drop (s + a) xs)) (sym sizes))
-
 pub unread_length : (feed : Feed) → start_of feed + length (feed_state feed).unread ≡ feed.window.filled
 unread_length feed =
     let w = feed.window in
@@ -50,10 +31,6 @@ unread_length feed =
 
 pub unread_within : (feed : Feed) → start_of feed + length (feed_state feed).unread ≤ (feed_state feed).held
 unread_within feed = omega (arith, unread_length feed, feed.window.within)
-
--- a slice of the unread bytes, in the buffer
-pub slice_of_unread : (feed : Feed) (a b : ℕ) → b ≤ length (feed_state feed).unread → slice_range (buffer_of feed) (start_of feed + a) (start_of feed + b) ≡ slice_range (feed_state feed).unread a b
-slice_of_unread feed a b le = slice_range-inside (buffer_of feed) (start_of feed) feed.window.filled a b (omega (arith, unread_length feed, le))
 
 -- the first unread bytes, in the buffer
 pub front_of_unread : (feed : Feed) (n : ℕ) → n ≤ length (feed_state feed).unread → slice_range (buffer_of feed) (start_of feed) (start_of feed + n) ≡ take n (feed_state feed).unread
@@ -66,9 +43,6 @@ feed_small feed = omega (arith, feed.small)
 
 pub feed_few : (feed : Feed) → (feed_state feed).lines ≤ (feed_state feed).bytes
 feed_few feed = feed.few
-
-pub feed_held : (feed : Feed) → (feed_state feed).held ≤ 16842752
-feed_held feed = feed.window.small
 
 -- what a reader has left behind the bytes that were taken
 consumed_rest : (rest bytes : List ℕ) (left left_after : Option (List ℕ)) → left ≡ Some rest → Consumes left left_after bytes → (rest_after : List ℕ) × (left_after ≡ Some rest_after) × (rest ≡ bytes ++ rest_after)
@@ -99,11 +73,3 @@ pub stays_rest : (before after : FeedState) (rest : List ℕ) (left left_after :
 stays_rest before after rest left left_after e stay =
     let next = consumed_rest rest [] left left_after e stay.kept in
     next.1 ∙ ap (λ zs. Some zs) (sym next.2)
-
--- all unread bytes are seen
-pub sees_all : (state : FeedState) (hidden : ℕ) (sight : Sight) → Sees state hidden sight → length state.unread ≤ room_of state hidden → sight.seen.now ≡ state.unread
-sees_all state hidden sight sees le = sees.seen ∙ take_all (room_of state hidden) state.unread le
-
--- only so many of them as the file may have
-pub sees_room : (state : FeedState) (hidden : ℕ) (sight : Sight) → Sees state hidden sight → room_of state hidden < length state.unread → length sight.seen.now ≡ room_of state hidden
-sees_room state hidden sight sees lt = ap length sees.seen ∙ length-take-le (room_of state hidden) state.unread (omega arith)

@@ -26,16 +26,6 @@ at_true b x y is = ap (λ t. cond t x y) is
 at_false : {A : Type 0} (b : Bool) (x y : A) → b ≡ false → cond b x y ≡ y
 at_false b x y is = ap (λ t. cond t x y) is
 
-and_true : (t : Bool) → (t && true) ≡ t
-and_true true = refl
-and_true false = refl
-
--- a name whose bytes are those of a name
-pub is_name-some : (text : List ℕ) (n : ℕ) → 0 < n → n ≤ length text → list_all is_name_byte (take n text) ≡ true → is_name (take n text) ≡ may_begin_name (slice_index text 0)
-is_name-some [] n some within all = absurd (omega arith)
-is_name-some (b ∷ bs) zero some within all = absurd (omega arith)
-is_name-some (b ∷ bs) (suc n) some within all = rw all (and_true (may_begin_name b))
-
 -- the bytes of a name end at the first that is none
 prefix_len-at : (p : ℕ → Bool) (line : Line) (k : ℕ) → k < length line → list_all p (take k line) ≡ true → p (slice_index line k) ≡ false → prefix_len p line ≡ k
 prefix_len-at p [] k h all other = absurd (omega arith)

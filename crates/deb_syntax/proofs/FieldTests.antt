@@ -1,5 +1,5 @@
 -- Fields that pass the test of a paragraph's fields: those that lines spell.
-use Rattle.std.proofs.Common.{◌&&◌, ◌≡◌, ℕ, zero, suc, ◌+◌, ◌<◌, ◌≤◌, true, not, List, [], ◌∷◌, ◌++◌, length, get_or, subst, refl, ap, arith, Ok, IsTrue, IsUtf8}
+use Rattle.std.proofs.Common.{◌&&◌, ◌≡◌, ℕ, zero, suc, ◌+◌, ◌<◌, ◌≤◌, true, not, List, [], ◌∷◌, ◌++◌, length, get_or, subst, refl, ap, arith, Ok, IsUtf8}
 use Rattle.std.specs.List.{AllByRecursion}
 use Rattle.std.proofs.lemmas.Bool.{and_parts, and_from}
 use Rattle.deb_base.specs.Bodies.{Line, IsBody, is_body, paragraph_limit, pieces_of}
@@ -47,9 +47,6 @@ is_field-at text (p ∷ ps) (suc i) d h are = is_field-at text ps i d (omega ari
 -- the parts of the test of one field
 pub is_field-body : (field : Field) → is_field field ≡ true → IsBody field.body
 is_field-body field h = IsBody-from_test field.body (and_parts (is_name field.name) (is_body field.body) h).1
-
-pub is_field-name : (field : Field) → is_field field ≡ true → IsTrue (is_name field.name)
-is_field-name field h = (and_parts (is_name field.name) (is_body field.body) h).0
 
 -- the first of fields that are a paragraph's
 pub IsBody-first : (fields more : List Field) (field : Field) → fields ≡ field ∷ more → are_fields fields ≡ true → IsBody field.body

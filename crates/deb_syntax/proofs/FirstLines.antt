@@ -307,18 +307,6 @@ pub record Walked (before : FeedState) (left_before : Option (List ℕ)) (feed :
   pub ended : IsTrue before.ended → IsTrue feed.ended
   pub ahead : (text : List ℕ) → IsAhead text [] before left_before → (ahead : List ℕ) × PassesBlanks text before feed ahead × IsAhead ahead [] feed left
 
-pub walked-start : (before : FeedState) (left : Option (List ℕ)) (begun : Begun) → IsNear before.unread → Describes begun [] → Walked before left before left begun
-walked-start before left begun near nothing =
-    let none : begun.len ≡ 0 = nothing.len in
-    record {
-      within = omega (arith, none);
-      room = omega (arith, none);
-      describes = subst (Describes begun) (ap (λ k. take k before.unread) (sym none)) nothing;
-      near = near;
-      ended = λ e. e;
-      ahead = λ text a. (text, passes-none text before, a);
-    }
-
 -- what is seen there
 module _ (feed : FeedState) (begun : Begun) (sight : Sight) (sees : Sees feed 0 sight) where
   room-is : room_of feed 0 ≡ room_ahead feed

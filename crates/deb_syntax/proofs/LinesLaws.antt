@@ -1,7 +1,7 @@
 -- Pieces and lines of a text, and what joins them back.
 use Rattle.std.proofs.Common.{◌≡◌, ℕ, Bool, true, false, cond, eqb, List, [], ◌∷◌, ◌++◌, refl, sym, ap, ◌∙◌, eqb-true}
 use Rattle.std.specs.List.{AllByRecursion}
-use Rattle.deb_base.specs.Bodies.{Line, newline, with_byte, pieces_of, joined, HasNoNewline}
+use Rattle.deb_base.specs.Bodies.{Line, with_byte, pieces_of, joined, HasNoNewline}
 use Rattle.deb_syntax.proofs.Runs.{pieces_of-line, pieces_of-last}
 
 -- a text before the first of the lines, and one behind the last
@@ -22,9 +22,6 @@ pieces_of-some (b ∷ bs) = go (eqb b 10) (pieces_of-some bs)
     go : (t : Bool) → (line : Line) × (lines : List Line) × (pieces_of bs ≡ line ∷ lines) → (line : Line) × (lines : List Line) × (cond t ([] ∷ pieces_of bs) (with_byte b (pieces_of bs)) ≡ line ∷ lines)
     go true r = ([], pieces_of bs, refl)
     go false r = (b ∷ r.0, r.1, ap (with_byte b) r.2)
-
-pub joined-cons : (line next : Line) (lines : List Line) → joined (line ∷ next ∷ lines) ≡ line ++ newline ∷ joined (next ∷ lines)
-joined-cons line next lines = refl
 
 pub joined-with_byte : (b : ℕ) (lines : List Line) → joined (with_byte b lines) ≡ b ∷ joined lines
 joined-with_byte b [] = refl

@@ -1,15 +1,11 @@
 -- The paragraphs of lines that follow others, and what a refusal of one paragraph says of the whole text.
-use Rattle.std.proofs.Common.{◌≡◌, ◌≢◌, ℕ, ◌+◌, ◌<◌, ◌≤◌, Bool, true, false, cond, List, [], ◌∷◌, ◌++◌, length, refl, sym, ap, ◌∙◌, arith}
-use Rattle.std.specs.List.{AllByRecursion}
+use Rattle.std.proofs.Common.{◌≡◌, ◌≢◌, ℕ, ◌+◌, ◌≤◌, Bool, true, false, cond, List, [], ◌∷◌, ◌++◌, length, refl, sym, ap, ◌∙◌, arith}
 use Rattle.std.proofs.lemmas.List.{append-nil}
 use Rattle.std.proofs.lemmas.List.Sums.{sum_by-append}
-use Rattle.deb_base.specs.Bodies.{Line, is_blank, line_length, paragraph_limit}
+use Rattle.deb_base.specs.Bodies.{Line, is_blank, line_length}
 use Rattle.deb_syntax.specs.Lines.{Paragraph, begins_blank, ends_blank, with_line, paragraphs_from, total_length}
-use Rattle.deb_syntax.specs.Fields.{Field, IsShort, SpellsParagraph}
-use Rattle.deb_syntax.specs.Meaning.{Entries, HaveMeanings}
 use Rattle.deb_syntax.specs.Extents.{AreBlank, AreNotBlank}
-use Rattle.deb_syntax.proofs.Runs.{joins, paragraphs_from-blanks, paragraphs_from-run}
-use Rattle.deb_syntax.proofs.JudgingLaws.{all_right}
+use Rattle.deb_syntax.proofs.Runs.{paragraphs_from-blanks, paragraphs_from-run}
 
 -- the length of lines, of which the first is taken apart
 pub total-cons : (line : Line) (lines : List Line) → total_length (line ∷ lines) ≡ total_length (line ∷ []) + total_length lines
@@ -55,10 +51,6 @@ blank-ends [] h = refl
 blank-ends (line ∷ []) h = h.0
 blank-ends (line ∷ next ∷ lines) h = blank-ends (next ∷ lines) h.1
 
-pub blank-begins : (lines : List Line) → AreBlank lines → begins_blank lines ≡ true
-blank-begins [] h = refl
-blank-begins (line ∷ lines) h = h.0
-
 pub ends_blank-append : (a b : List Line) → b ≢ [] → ends_blank b ≡ true → ends_blank (a ++ b) ≡ true
 ends_blank-append a [] some h = absurd (some refl)
 ends_blank-append [] (line ∷ b) some h = h
@@ -74,23 +66,3 @@ pub next_paragraph : (n : ℕ) (blanks run rest : List Line) → AreBlank blanks
 next_paragraph n blanks [] rest before not_blank some begins = absurd (some refl)
 next_paragraph n blanks (line ∷ run) rest before not_blank some begins =
     paragraphs_from-blanks n blanks ((line ∷ run) ++ rest) before ∙ paragraphs_from-run (n + length blanks) line run rest not_blank begins
-
--- the first paragraph of lines that begin with a run is at least as long as the run
-pub long_paragraph : (n : ℕ) (line : Line) (run rest : List Line) → AreNotBlank (line ∷ run) → (p : Paragraph) × (ps : List Paragraph) × (paragraphs_from n ((line ∷ run) ++ rest) ≡ p ∷ ps) × (total_length (line ∷ run) ≤ total_length p.lines)
-long_paragraph n line [] rest h =
-    let s = some_paragraph n line (begins_blank rest) (paragraphs_from (n + 1) rest) in
-    (s.0, s.1, rw h.0 s.2, s.3)
-long_paragraph n line (next ∷ run) rest h =
-    let ih = long_paragraph (n + 1) next run rest h.1 in
-    (record { first = n; lines = line ∷ ih.0.lines }, ih.1, joins n line (is_blank line) (is_blank next) _ _ _ _ h.0 h.1.0 ih.2, omega (arith, total-cons line (next ∷ run), total-cons line ih.0.lines, ih.3))
-
--- a paragraph that no fields spell is none of a text that means something
-pub not_meant : (ps qs : List Paragraph) (p : Paragraph) (meaning : List Entries) → ((fields : List Field) → ¬ (SpellsParagraph p fields)) → HaveMeanings (ps ++ p ∷ qs) meaning → ⊥
-not_meant [] qs p [] unspelled h = h
-not_meant [] qs p (entries ∷ meaning) unspelled h = unspelled h.0.0 h.0.1
-not_meant (x ∷ ps) qs p [] unspelled h = h
-not_meant (x ∷ ps) qs p (entries ∷ meaning) unspelled h = not_meant ps qs p meaning unspelled h.1
-
--- a paragraph that is too long is none of a text whose paragraphs aren't
-pub not_short : (ps qs : List Paragraph) (p : Paragraph) → paragraph_limit < total_length p.lines → AllByRecursion IsShort (ps ++ p ∷ qs) → ⊥
-not_short ps qs p long h = let short : total_length p.lines ≤ paragraph_limit = (all_right IsShort ps (p ∷ qs) h).0 in omega arith

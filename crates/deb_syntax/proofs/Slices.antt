@@ -18,7 +18,3 @@ drop-slice_range xs a b n = same_lists _ _ (search (rules, places)) (λ k d h. g
 pub list_any-map : {X Y : Type 0} (p : X → Bool) (h : Y → X) (ys : List Y) → list_any p (map h ys) ≡ list_any (λ y. p (h y)) ys
 list_any-map p h [] = refl
 list_any-map p h (y ∷ ys) = ap (λ t. p (h y) || t) (list_any-map p h ys)
-
-pub list_any-same : {X : Type 0} (p q : X → Bool) (xs : List X) → ((x : X) → p x ≡ q x) → list_any p xs ≡ list_any q xs
-list_any-same p q [] h = refl
-list_any-same p q (x ∷ xs) h = rw (h x, list_any-same p q xs h)

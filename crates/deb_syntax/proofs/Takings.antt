@@ -1,10 +1,8 @@
 -- How much is taken of a reader: no more than what may be looked at, and one piece.
-use Rattle.std.proofs.Common.{◌≡◌, ℕ, ◌+◌, ◌≤◌, inl, inr, List, [], ◌∷◌, ◌++◌, Option, length, take, drop, sym, ap, ◌∙◌, arith, length-append, length-drop, length-take}
-use Rattle.std.proofs.Math.Seq.{drop-append_seam}
-use Rattle.deb_base.specs.Bodies.{newline}
+use Rattle.std.proofs.Common.{ℕ, ◌+◌, ◌≤◌, List, [], ◌++◌, Option, length, take, ap, arith, length-append, length-drop, length-take}
 use Rattle.deb_syntax.specs.Lines.{file_limit, with_newlines}
 use Rattle.deb_syntax.specs.Feeding.{FeedState, piece_limit, Comes, Stays, PassesOn, room_of}
-use Rattle.deb_syntax.specs.Ahead.{room_ahead, IsAhead, TakesNoMore, PassesBlanks, EndsInSight, KeepsLine, HidesLine, SameCounts}
+use Rattle.deb_syntax.specs.Ahead.{room_ahead, IsAhead, TakesNoMore, PassesBlanks, SameCounts}
 use Rattle.deb_syntax.specs.declared.begun.Begun.{Begun}
 use Rattle.deb_syntax.specs.declared.feed.Tail.{Tail}
 use Rattle.deb_syntax.specs.declared.skip.Skipped.{Skipped}
@@ -97,21 +95,3 @@ same-takes before state left text same t = record {
   told = t.told;
   few = omega (arith, t.few, same.bytes);
 }
-
--- behind a line that begins the unread bytes stands no more than one piece
-pub keeps-reach : (begun : Begun) (feed : FeedState) → KeepsLine begun feed → feed.bytes ≤ file_limit → feed.bytes + length feed.unread ≤ file_limit + piece_limit
-keeps-reach begun feed k small = go k.ends
-  where
-    go : EndsInSight feed.unread k.line feed → feed.bytes + length feed.unread ≤ file_limit + piece_limit
-    go (inl (more, e, le)) = omega (arith, small, le, ap length e, length-append k.line (newline ∷ more), k.near k.line more e)
-    go (inr (e, ended, le)) = omega (arith, small, le, ap length e)
-
--- the same where the line is hidden
-pub hides-reach : (begun : Begun) (feed : FeedState) (hidden : List ℕ) → HidesLine begun feed hidden → feed.bytes ≤ file_limit → feed.bytes + length hidden + length feed.unread ≤ file_limit + piece_limit
-hides-reach begun feed hidden h small = go h.ends
-  where
-    go : EndsInSight (hidden ++ feed.unread) hidden feed → feed.bytes + length hidden + length feed.unread ≤ file_limit + piece_limit
-    go (inl (more, e, le)) =
-        let behind : feed.unread ≡ newline ∷ more = sym (drop-append_seam hidden feed.unread) ∙ ap (drop (length hidden)) e ∙ drop-append_seam hidden (newline ∷ more) in
-        omega (arith, small, le, ap length behind, h.near [] more behind)
-    go (inr (e, ended, le)) = omega (arith, small, le, ap length e, length-append hidden feed.unread)

@@ -34,19 +34,6 @@ skipped-within text n count begun s = let whole = length-front text s.lines s.re
 pub skipped-few : (text : List ℕ) (n count : ℕ) (begun : Begun) (s : SkippedSoFar text n count begun) → count ≤ n
 skipped-few text n count begun s = let few = few_lines-with_newlines s.lines in omega (arith, s.bytes, s.counted)
 
--- nothing is passed at the start
-pub skipped-none : (text : List ℕ) (begun : Begun) → begun.len ≤ length text → Describes begun (take begun.len text) → SkippedSoFar text 0 0 begun
-skipped-none text begun within described = record {
-  lines = [];
-  rest = text;
-  front = record { text = refl; lines = tt };
-  blank = tt;
-  bytes = refl;
-  counted = refl;
-  within = within;
-  describes = described;
-}
-
 -- a blank line is passed
 pub skip-step : (text : List ℕ) (n count : ℕ) (begun seen new : Begun) → SkippedSoFar text n count begun → GoesThroughBlanks (drop n text) seen → seen.len < length (drop n text) → slice_index (drop n text) seen.len ≡ newline → is_blank (take seen.len (drop n text)) ≡ true → Describes new [] → SkippedSoFar text (n + (seen.len + 1)) (count + 1) new
 skip-step text n count begun seen new s through lt here blank nothing =

@@ -143,6 +143,10 @@ pub record Moment : Type 0 where
   pub state : State
   pub source : Shown
 
+-- the same by what the source has left, and how often it failed
+abbrev pub moment_of : State → Option (List ℕ) → ℕ → Moment
+moment_of state left failures = record { state = state; source = record { bytes = left; failures = failures } }
+
 -- A call of a reader without error: what it answers of each text that fits, and how much of it was taken by then, how
 -- often its source failed, and which errors there are.
 pub record Advances (before : Moment) (answer : Result (Option Seen) Fault) (after : Moment) : Type 0 where

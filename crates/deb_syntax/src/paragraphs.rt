@@ -49,7 +49,7 @@ impl Paragraphs {
     ghost use Rattle.std.specs.Borrow.{sem};
     ghost use Rattle.std.specs.Io.BufRead.{Rests};
     ghost use Rattle.deb_syntax.specs.contracts.paragraphs.Paragraphs.{the_row};
-    ghost use Rattle.deb_syntax.specs.Reading.{Fits, Answers, FindsFirst, Passes, Advances, Begins};
+    ghost use Rattle.deb_syntax.specs.Reading.{moment_of, Fits, Answers, FindsFirst, Passes, Advances, Begins};
     ghost use Rattle.deb_syntax.specs.Paragraphs.{state_of, seen_of, answer_of, advance_answer, end_answer, ShowsFirst, IsQuiet};
 
     /// A reader of paragraphs that has read nothing: whatever its source has left is the file. Takes no memory.
@@ -111,7 +111,7 @@ impl Paragraphs {
     /// - `Fault::Memory`: a growth of memory was refused.
     /// - `Fault::Read`: a read of `reader` failed in this call.
     pub fn begins<R: Source>(&mut self, reader: &mut R) -> Result<Option<u64>, Fault>
-        ensures passes { Passes Begins (record { state = state_of self.old; source = record { bytes = R.left reader.old; failures = R.failures reader.old } }) result (record { state = state_of self.new; source = record { bytes = R.left reader.new; failures = R.failures reader.new } }) }
+        ensures passes { Passes Begins (moment_of (state_of self.old) (R.left reader.old) (R.failures reader.old)) result (moment_of (state_of self.new) (R.left reader.new) (R.failures reader.new)) }
         ensures quiet { IsQuiet (state_of self.old) → reader.new ≡ reader.old }
     {
         if let Some(fault) = self.fault {
@@ -138,7 +138,7 @@ impl Paragraphs {
     /// - `Fault::Memory`: a growth of memory was refused.
     /// - `Fault::Read`: a read of `reader` failed in this call.
     pub fn next<'a, R: Source>(&'a mut self, reader: &mut R) -> Result<Option<Raw<'a>>, Fault>
-        ensures* after { sem 𝓛 (Rests the_row self.entry (λ new. Passes Advances (record { state = state_of self.old; source = record { bytes = R.left reader.old; failures = R.failures reader.old } }) (answer_of result) (record { state = state_of new; source = record { bytes = R.left reader.new; failures = R.failures reader.new } }))) }
+        ensures* after { sem 𝓛 (Rests the_row self.entry (λ new. Passes Advances (moment_of (state_of self.old) (R.left reader.old) (R.failures reader.old)) (answer_of result) (moment_of (state_of new) (R.left reader.new) (R.failures reader.new)))) }
         ensures quiet { IsQuiet (state_of self.old) → reader.new ≡ reader.old }
     {
         if self.advance(reader)? {
@@ -151,7 +151,7 @@ impl Paragraphs {
     /// Goes on to the next paragraph, which `current` then gives, and says whether there is one. The answers, errors
     /// among them, are those of `next`.
     pub fn advance<R: Source>(&mut self, reader: &mut R) -> Result<bool, Fault>
-        ensures passes { Passes Advances (record { state = state_of self.old; source = record { bytes = R.left reader.old; failures = R.failures reader.old } }) (advance_answer (state_of self.new) result) (record { state = state_of self.new; source = record { bytes = R.left reader.new; failures = R.failures reader.new } }) }
+        ensures passes { Passes Advances (moment_of (state_of self.old) (R.left reader.old) (R.failures reader.old)) (advance_answer (state_of self.new) result) (moment_of (state_of self.new) (R.left reader.new) (R.failures reader.new)) }
         ensures found { IfOk result (λ found. IsTrue found ↔ IsSome (state_of self.new).current) }
         ensures quiet { IsQuiet (state_of self.old) → reader.new ≡ reader.old }
     {
@@ -167,7 +167,7 @@ impl Paragraphs {
 
     /// The line at which the next paragraph begins.
     fn find_line<R: Source>(&mut self, reader: &mut R) -> Result<Option<u64>, Fault>
-        ensures begins { Begins (record { state = state_of self.old; source = record { bytes = R.left reader.old; failures = R.failures reader.old } }) result (record { state = state_of self.new; source = record { bytes = R.left reader.new; failures = R.failures reader.new } }) }
+        ensures begins { Begins (moment_of (state_of self.old) (R.left reader.old) (R.failures reader.old)) result (moment_of (state_of self.new) (R.left reader.new) (R.failures reader.new)) }
         ensures quiet { IsTrue (state_of self.old).ended ⊎ IsTrue (state_of self.old).finished → reader.new ≡ reader.old }
         ensures kept { self.new.fault ≡ self.old.fault }
     {
@@ -181,7 +181,7 @@ impl Paragraphs {
 
     /// Finds the next paragraph and passes it.
     fn find<R: Source>(&mut self, reader: &mut R) -> Result<bool, Fault>
-        ensures advances { Advances (record { state = state_of self.old; source = record { bytes = R.left reader.old; failures = R.failures reader.old } }) (advance_answer (state_of self.new) result) (record { state = state_of self.new; source = record { bytes = R.left reader.new; failures = R.failures reader.new } }) }
+        ensures advances { Advances (moment_of (state_of self.old) (R.left reader.old) (R.failures reader.old)) (advance_answer (state_of self.new) result) (moment_of (state_of self.new) (R.left reader.new) (R.failures reader.new)) }
         ensures found { IfOk result (λ found. IsTrue found ↔ IsSome (state_of self.new).current) }
         ensures quiet { IsTrue (state_of self.old).ended ⊎ IsTrue (state_of self.old).finished → reader.new ≡ reader.old }
         ensures kept { self.new.fault ≡ self.old.fault }

@@ -3,6 +3,7 @@
 mod accepted;
 mod callers;
 mod devices;
+mod memory;
 mod readers;
 mod refused;
 mod sizes;

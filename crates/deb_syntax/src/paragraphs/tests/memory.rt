@@ -1,0 +1,117 @@
+//! Want of memory. `rt try --test --fail-alloc N -- want_of_memory` refuses the Nth growth of a run and
+//! no other: a call answers `Memory` where it is one of its own, and then for good.
+
+use super::*;
+
+/// Names and bodies of 8 fields.
+const FIELDS: [&[u8]; 5] = [
+    b"a:1\nb:1\nc:1\nd:1\ne:1\nf:1\ng:1\nh:1\n",
+    b"i:1\nj:1\nk:1\nl:1\nm:1\nn:1\no:1\np:1\n",
+    b"q:1\nr:1\ns:1\nt:1\nu:1\nv:1\nw:1\nx:1\n",
+    b"y:1\nz:1\n0:1\n1:1\n2:1\n3:1\n4:1\n5:1\n",
+    b"6:1\n7:1\n8:1\n9:1\naa:1\nbb:1\ncc:1\ndd:1\n",
+];
+
+/// The paragraphs of the file: the number of the first line, how many fields there are, and whether a
+/// growth is needed to find the first line, and behind that to read and judge the rest. More than 32
+/// fields need a set of names, each time; a long line needs a longer buffer.
+const ROWS: [(u64, usize, bool, bool); 7] = [
+    (1, 1, true, true),
+    (3, 1, false, false),
+    (5, 40, false, true),
+    (46, 40, false, true),
+    (87, 32, false, false),
+    (120, 1, true, false),
+    (122, 1, false, false),
+];
+
+/// The file of the rows, where its own growths are granted.
+fn file(alloc: Global) -> Option<Vec<u8>> {
+    let mut file = Vec::with_capacity(alloc, 210_000).ok()?;
+    file.extend_from_slice(b"a:1\n\na:1\n\n").ok()?;
+    for count in [5, 5, 4] {
+        for fields in FIELDS.iter().take(count) {
+            file.extend_from_slice(fields).ok()?;
+        }
+        file.push(b'\n').ok()?;
+    }
+    file.extend_from_slice(b"a:").ok()?;
+    let len = file.len().saturating_add(200_000);
+    file.resize(len, b'x').ok()?;
+    file.extend_from_slice(b"\n\na:1\n").ok()?;
+    Some(file)
+}
+
+/// The first line of the next paragraph, and how many fields it has.
+fn next_shape(
+    paragraphs: &mut Paragraphs,
+    reader: &mut Pieces<'_>,
+) -> Result<Option<(u64, usize)>, Fault> {
+    let raw = paragraphs.next(&mut Input::new(&mut *reader))?;
+    Ok(raw.map(|raw| (raw.first_line(), raw.len())))
+}
+
+/// Reads the file, and says whether memory was wanted. `begins` is called before each `next`, or not.
+fn read_rows(rt: &impl Abort, alloc: Global, file: &[u8], begins: bool) -> bool {
+    let mut reader = Pieces::new(file, 65_536, 0);
+    let mut paragraphs = Paragraphs::new(alloc);
+    for (line, fields, at_first, behind) in ROWS {
+        if begins {
+            let first = paragraphs.begins(&mut Input::new(&mut reader));
+            if first == Err(Fault::Memory) {
+                assert!(rt; at_first, "`begins` at line {line}");
+                assert_wanted(rt, &mut paragraphs, &mut reader);
+                return true;
+            }
+            assert_eq!(rt; first, Ok(Some(line)), "where a paragraph begins");
+        }
+        let found = next_shape(&mut paragraphs, &mut reader);
+        if found == Err(Fault::Memory) {
+            assert!(rt; behind || (at_first && !begins), "`next` at line {line}");
+            assert_wanted(rt, &mut paragraphs, &mut reader);
+            return true;
+        }
+        assert_eq!(rt; found, Ok(Some((line, fields))), "a paragraph");
+    }
+    assert_eq!(rt;
+        next_shape(&mut paragraphs, &mut reader),
+        Ok(None),
+        "the end"
+    );
+    assert_eq!(rt; paragraphs.lines(), 122, "the lines of the file");
+    false
+}
+
+/// Memory was wanted: each further call says so, and reads nothing.
+fn assert_wanted(rt: &impl Abort, paragraphs: &mut Paragraphs, reader: &mut Pieces<'_>) {
+    let calls = reader.calls;
+    for _ in 0..2 {
+        assert_eq!(rt;
+            next_shape(paragraphs, reader),
+            Err(Fault::Memory),
+            "`next` again"
+        );
+        let first = paragraphs.begins(&mut Input::new(&mut *reader));
+        assert_eq!(rt; first, Err(Fault::Memory), "`begins` again");
+        let found = paragraphs.advance(&mut Input::new(&mut *reader));
+        assert_eq!(rt; found, Err(Fault::Memory), "`advance` again");
+    }
+    assert_eq!(rt; reader.calls, calls, "reads after want of memory");
+    assert_eq!(rt; paragraphs.lines(), 0, "lines after want of memory");
+}
+
+/// The file is read twice without `begins` and twice with it. One growth at most is refused in a run,
+/// so at most one reading wants memory, and the others answer all.
+#[test]
+fn want_of_memory(rt: HostRuntime) {
+    let Some(file) = file(rt.alloc()) else {
+        return;
+    };
+    let mut wanted: u32 = 0;
+    for begins in [false, true, false, true] {
+        if read_rows(&rt, rt.alloc(), file.as_slice(), begins) {
+            wanted = wanted.saturating_add(1);
+        }
+    }
+    assert!(rt; wanted <= 1, "one growth at most is refused in a run");
+}
