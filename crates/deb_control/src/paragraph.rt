@@ -51,22 +51,8 @@ impl<'a> Paragraph<'a> {
         ensures ok { IfOk result (λ typed. AreValuesOf doc (seen_of paragraph.now) (values_of typed)) }
         ensures fault { IfErr result (λ fault. RefusedOrMemory fault (λ refusal. built (rules_of doc) (seen_of paragraph.now) ≡ Err refusal)) }
     {
-        let mut fields = fields_with_values(alloc, doc, paragraph)?;
-        if !has_required(doc, paragraph) {
-            return Err(Fault::Refused(Refusal {
-                code: Code::MissingField,
-                line: paragraph.first_line(),
-            }));
-        }
-        sort(&mut fields);
         let mut text = Vec::new(alloc);
-        append_fields(fields.as_slice(), &mut text)?;
-        if text.len() > PARAGRAPH_LIMIT {
-            return Err(Fault::Refused(Refusal {
-                code: Code::ParagraphTooLong,
-                line: paragraph.first_line(),
-            }));
-        }
+        let fields = read_fields(alloc, doc, paragraph, &mut text)?;
         Ok(Paragraph { fields, text })
     }
 
@@ -108,6 +94,37 @@ impl<'a> Paragraph<'a> {
     {
         out.extend_from_slice(self.text.as_slice())
     }
+}
+
+/// The fields of a paragraph with their values, in ascending order of the canonical spellings of
+/// their names. Their canonical text then is all of `text`. The errors are those of `Paragraph::build`.
+pub(crate) fn read_fields<'a>(
+    alloc: Global,
+    doc: Doc,
+    paragraph: &Raw<'a>,
+    text: &mut Vec<u8>,
+) -> Result<Vec<TypedField<'a>>, Fault>
+    ensures ok { IfOk result (λ fields. AreValuesOf doc (seen_of paragraph.now) (values_in fields.items)) }
+    ensures text { IfOk result (λ fields. text.new.items ≡ text_of_values (values_in fields.items)) }
+    ensures fault { IfErr result (λ fault. RefusedOrMemory fault (λ refusal. built (rules_of doc) (seen_of paragraph.now) ≡ Err refusal)) }
+{
+    let mut fields = fields_with_values(alloc, doc, paragraph)?;
+    if !has_required(doc, paragraph) {
+        return Err(Fault::Refused(Refusal {
+            code: Code::MissingField,
+            line: paragraph.first_line(),
+        }));
+    }
+    sort(&mut fields);
+    text.clear();
+    append_fields(fields.as_slice(), text)?;
+    if text.len() > PARAGRAPH_LIMIT {
+        return Err(Fault::Refused(Refusal {
+            code: Code::ParagraphTooLong,
+            line: paragraph.first_line(),
+        }));
+    }
+    Ok(fields)
 }
 
 /// The fields of a paragraph with their values, in the order of the file.
