@@ -4,9 +4,9 @@ ghost use Rattle.std.specs.Prelude.{◌≡◌, List, IsTrue};
 ghost use Rattle.deb_syntax.specs.Paragraphs.{seen_of};
 ghost use Rattle.deb_control.specs.Checking.{is_passing};
 
-use crate::paragraph::Paragraph;
+use crate::paragraph::{Paragraph, value_of};
 use deb_base::Fault;
-use deb_field::{Doc, Value, ValueFault};
+use deb_field::{Doc, Value};
 use deb_syntax::{Fields, Raw, RawField};
 use std::alloc::{AllocError, Global};
 
@@ -85,10 +85,10 @@ impl<'a> Accepted<'a> {
         let Some(field) = self.raw.get(name) else {
             return Ok(None);
         };
-        match Value::parse(alloc, self.doc, field.name, field.body) {
+        match value_of(alloc, self.doc, &field) {
             Ok(value) => Ok(Some(value)),
-            Err(ValueFault::Memory) => Err(AllocError),
-            Err(ValueFault::Refused(_)) => unreachable!(),
+            Err(Fault::Memory) => Err(AllocError),
+            Err(_) => unreachable!(),
         }
     }
 
