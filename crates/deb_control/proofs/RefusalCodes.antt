@@ -23,7 +23,7 @@ use Rattle.deb_base.specs.PackageNames.{is_package_name, is_arch_name}
 use Rattle.deb_field.specs.Flags.{is_flag, is_multi_arch}
 use Rattle.deb_field.specs.Sources.{is_open, is_closed, without_last, has_version, refusal_around, versioned_refusal, source_refusal}
 use Rattle.deb_field.specs.Numbers.{are_digits}
-use Rattle.deb_field.specs.Trimming.{without_trailing_blanks, trimmed}
+use Rattle.deb_base.specs.Trimming.{without_trailing_blanks, trimmed}
 use Rattle.deb_field.specs.Versions.{is_version}
 use Rattle.deb_field.specs.Words.{words_of}
 use Rattle.deb_field.specs.Values.{kind_refusal, value_refusal}
