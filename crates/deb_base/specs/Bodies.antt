@@ -1,5 +1,6 @@
--- The bodies of fields: what stands behind a field's colon, through its continuation lines, without the spaces and
--- tabs at its ends; and the blank lines that can't stand within one. Debian Policy 5.1; deb822(5), "Syntax".
+-- The bodies of fields: what stands behind a field's colon, through its continuation lines, without
+-- the spaces and tabs at its ends; and the blank lines that can't stand within one. Debian Policy
+-- 5.1; deb822(5), "Syntax".
 use Rattle.std.specs.Prelude.{◌≡◌, ℕ, ◌+◌, ◌==◌, ◌&&◌, ◌||◌, Bool, true, false, cond, not, IsTrue, List, [], ◌∷◌, length, drop, nat_le, codes, refl}
 use Rattle.std.specs.List.{list_all, join_with_byte, AllByRecursion}
 use Rattle.std.specs.Str.{IsUtf8, is_utf8, chars}
@@ -67,7 +68,9 @@ is_continuation line = begins_with_blank line && not (is_blank line)
 
 -- no space or tab at either end, and each line after the first is a continuation line
 abbrev pub is_body_shape : List ℕ → Bool
-is_body_shape body = not (begins_with_blank body) && not (ends_with_blank body) && list_all is_continuation (drop 1 (pieces_of body))
+is_body_shape body =
+    not (begins_with_blank body) && not (ends_with_blank body)
+    && list_all is_continuation (drop 1 (pieces_of body))
 
 -- The text can be a field's body.
 pub record IsBody (body : List ℕ) : Type 0 where
@@ -90,15 +93,20 @@ joined_pieces = refl
 blank_bytes : list_all is_blank_byte (32 ∷ 9 ∷ []) ≡ true
 blank_bytes = refl
 
--- neither a newline, nor a carriage return, nor a vertical tab, nor the byte of no-break spaces is blank
-other_bytes : list_all (λ b. not (is_blank_byte b)) (10 ∷ 13 ∷ 11 ∷ 12 ∷ 0 ∷ 160 ∷ 8 ∷ 33 ∷ []) ≡ true
+-- neither a newline, nor a carriage return, nor a vertical tab, nor the byte of no-break spaces is
+-- blank
+other_bytes : list_all (λ b. not (is_blank_byte b)) (10 ∷ 13 ∷ 11 ∷ 12 ∷ 0 ∷ 160 ∷ 8 ∷ 33 ∷ [])
+    ≡ true
 other_bytes = refl
 
-blank_lines : (is_blank [] ≡ true) × (is_blank (codes " \t ") ≡ true) × (is_blank (codes " .") ≡ false)
+blank_lines : (is_blank [] ≡ true) × (is_blank (codes " \t ") ≡ true)
+    × (is_blank (codes " .") ≡ false)
 unfolding paragraph_limit
 blank_lines = (refl, refl, refl)
 
-continuation_lines : (is_continuation (codes " x") ≡ true) × (is_continuation (codes "\tx") ≡ true) × (is_continuation (codes "x") ≡ false) × (is_continuation [] ≡ false) × (is_continuation (codes " \t") ≡ false)
+continuation_lines : (is_continuation (codes " x") ≡ true) × (is_continuation (codes "\tx") ≡ true)
+    × (is_continuation (codes "x") ≡ false) × (is_continuation [] ≡ false)
+    × (is_continuation (codes " \t") ≡ false)
 unfolding paragraph_limit
 continuation_lines = (refl, refl, refl, refl, refl)
 
@@ -115,7 +123,9 @@ body_behind_line_end : is_body (codes "\n aa") ≡ true
 unfolding is_utf8 chars encode paragraph_limit
 body_behind_line_end = refl
 
-blank_ends : (is_body_shape (codes " a") ≡ false) × (is_body_shape (codes "\ta") ≡ false) × (is_body_shape (codes "a ") ≡ false) × (is_body_shape (codes "a\t") ≡ false) × (is_body_shape (codes " ") ≡ false)
+blank_ends : (is_body_shape (codes " a") ≡ false) × (is_body_shape (codes "\ta") ≡ false)
+    × (is_body_shape (codes "a ") ≡ false) × (is_body_shape (codes "a\t") ≡ false)
+    × (is_body_shape (codes " ") ≡ false)
 blank_ends = (refl, refl, refl, refl, refl)
 
 -- a last newline ends no line of a body
@@ -124,7 +134,8 @@ unfolding paragraph_limit
 newline_at_end = refl
 
 -- a line of one space is blank, so it can't stand within a body
-blank_within : (is_body_shape (codes "a\n \n b") ≡ false) × (is_body_shape (codes "a\n\n b") ≡ false)
+blank_within : (is_body_shape (codes "a\n \n b") ≡ false)
+    × (is_body_shape (codes "a\n\n b") ≡ false)
 unfolding paragraph_limit
 blank_within = (refl, refl)
 
@@ -134,6 +145,7 @@ unfolding paragraph_limit
 field_within = refl
 
 -- `caf` and half of a character, and with its other half
-half_character : (is_body (99 ∷ 97 ∷ 102 ∷ 195 ∷ []) ≡ false) × (is_body (99 ∷ 97 ∷ 102 ∷ 195 ∷ 169 ∷ []) ≡ true)
+half_character : (is_body (99 ∷ 97 ∷ 102 ∷ 195 ∷ []) ≡ false)
+    × (is_body (99 ∷ 97 ∷ 102 ∷ 195 ∷ 169 ∷ []) ≡ true)
 unfolding is_utf8 chars encode
 half_character = (refl, refl)

@@ -1,5 +1,6 @@
--- The numbers and names of the codes of refusals: the first nine are about the text of a file (Debian Policy 5.1),
--- 10 to 12 about its paragraphs (5.2 to 5.4), 13 to 21 about a value (5.6 and 7), 22 and 23 about a query.
+-- The numbers and names of the codes of refusals: the first nine are about the text of a file
+-- (Debian Policy 5.1), 10 to 12 about its paragraphs (5.2 to 5.4), 13 to 21 about a value (5.6 and
+-- 7), 22 and 23 about a query.
 use Rattle.std.specs.Prelude.{ℕ, List, codes}
 use Rattle.deb_base.specs.declared.code.Code.{Code}
 use Rattle.deb_base.specs.declared.code.Code.TheVariants.{NotUtf8, Armour, Comment, StrayContinuation, BadFieldName, NoColon, DuplicateField, ParagraphTooLong, FileTooLong, NoParagraph, TooManyParagraphs, MissingField, NotOneLine, BadName, BadNumber, BadWord, BadArchitecture, BadVersion, BadRelation, AlternativesNotAllowed, ProvidesBound, Wildcard, BadEnvironment}

@@ -1,11 +1,13 @@
--- What a call of a device does to its bytes and to the count of its failed calls, and what a call that
--- writes several times leaves. The rules are this project's own; the words on bytes are those of std.
+-- What a call of a device does to its bytes and to the count of its failed calls, and what a call
+-- that writes several times leaves. The rules are this project's own; the words on bytes are those
+-- of std.
 use Rattle.std.specs.Prelude.{◌≡◌, ℕ, ◌+◌, ◌-◌, ◌^◌, ◌<◌, ◌≤◌, ◌↔◌, min, List, ◌++◌, length, IfOk, IsErrOf, Result, Ok, Err, Option, MatchResult, refl}
 use Rattle.std.specs.Io.KnownBytes.{Appends}
 use Rattle.deb_base.specs.declared.fault.Fault.{Fault}
 use Rattle.deb_base.specs.declared.fault.Fault.TheVariants.{Refused, Memory, Read, Write}
 
--- what a device shows: the bytes that it has left, or holds, where it tells them, and the count of its failed calls
+-- what a device shows: the bytes that it has left, or holds, where it tells them, and the count of
+-- its failed calls
 pub record Shown : Type 0 where
   pub bytes : Option (List ℕ)
   pub failures : ℕ
@@ -31,7 +33,8 @@ ReadsWithin r buffer = IfOk r (λ n. n ≤ length buffer)
 abbrev pub TakesSome : {E : Type 0} → Result ℕ E → List ℕ → Type 0
 TakesSome r bytes = IfOk r (λ n. (n ≤ length bytes) × (0 < length bytes → 0 < n))
 
--- a source's count after a call that reads it and has this answer: one more exactly where that is Read
+-- a source's count after a call that reads it and has this answer: one more exactly where that is
+-- Read
 abbrev pub read_failures_after : {T : Type 0} → ℕ → Result T Fault → ℕ
 read_failures_after n (Ok _) = n
 read_failures_after n (Err (Refused _)) = n
@@ -39,7 +42,8 @@ read_failures_after n (Err Memory) = n
 read_failures_after n (Err Read) = one_more n
 read_failures_after n (Err Write) = n
 
--- a sink's count after a call that writes to it and has this answer: one more exactly where that is Write
+-- a sink's count after a call that writes to it and has this answer: one more exactly where that is
+-- Write
 abbrev pub write_failures_after : {T : Type 0} → ℕ → Result T Fault → ℕ
 write_failures_after n (Ok _) = n
 write_failures_after n (Err (Refused _)) = n
@@ -75,5 +79,6 @@ count_stays_at_its_last_value = refl
 count_of_read_fault : read_failures_after {T = ℕ} 3 (Err Read) ≡ 4
 count_of_read_fault = refl
 
-count_of_other_faults : (read_failures_after {T = ℕ} 3 (Err Memory) ≡ 3) × (write_failures_after {T = ℕ} 3 (Err Memory) ≡ 3)
+count_of_other_faults : (read_failures_after {T = ℕ} 3 (Err Memory) ≡ 3)
+    × (write_failures_after {T = ℕ} 3 (Err Memory) ≡ 3)
 count_of_other_faults = (refl, refl)

@@ -3,7 +3,8 @@ use Rattle.deb_base.specs.declared.fault.Fault.{Fault}
 use Rattle.deb_base.specs.declared.fault.Fault.TheVariants.{Refused, Memory, Read, Write}
 use Rattle.deb_base.specs.declared.refusal.Refusal.{Refusal}
 
--- what holds of a refusal, and what where memory was wanted, where a read failed and where a write did
+-- what holds of a refusal, and what where memory was wanted, where a read failed and where a write
+-- did
 abbrev pub MatchFault : Fault → (Refusal → Type 0) → Type 0 → Type 0 → Type 0 → Type 0
 MatchFault (Refused refusal) refused memory read write = refused refusal
 MatchFault Memory refused memory read write = memory

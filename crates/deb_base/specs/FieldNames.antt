@@ -30,5 +30,6 @@ no_name : (is_name [] ≡ false) × (is_name (codes "#x") ≡ false) × (is_name
 no_name = (refl, refl, refl)
 
 -- a space, a colon, the byte behind `~`, and a byte that isn't ASCII
-other_byte_in_name : (is_name (codes "Package ") ≡ false) × (is_name (codes "a:b") ≡ false) × (is_name (97 ∷ 127 ∷ []) ≡ false) × (is_name (97 ∷ 195 ∷ 169 ∷ []) ≡ false)
+other_byte_in_name : (is_name (codes "Package ") ≡ false) × (is_name (codes "a:b") ≡ false)
+    × (is_name (97 ∷ 127 ∷ []) ≡ false) × (is_name (97 ∷ 195 ∷ 169 ∷ []) ≡ false)
 other_byte_in_name = (refl, refl, refl, refl)

@@ -7,11 +7,12 @@ use Rattle.std.specs.Char.{to_ascii_lowercase, to_ascii_uppercase}
 abbrev pub folded : List ℕ → List ℕ
 folded name = map to_ascii_lowercase name
 
--- a name whose first letter is in upper case if it begins a word, with each letter after a hyphen in
--- upper case, and all other letters in lower case; a hyphen is byte 45
+-- a name whose first letter is in upper case if it begins a word, with each letter after a hyphen
+-- in upper case, and all other letters in lower case; a hyphen is byte 45
 abbrev pub capitalised : Bool → List ℕ → List ℕ
 capitalised begins [] = []
-capitalised begins (c ∷ cs) = (if begins then to_ascii_uppercase c else to_ascii_lowercase c) ∷ capitalised (c == 45) cs
+capitalised begins (c ∷ cs) =
+    (if begins then to_ascii_uppercase c else to_ascii_lowercase c) ∷ capitalised (c == 45) cs
 
 -- the canonical spelling: the letter at the start and after each hyphen in upper case, all other
 -- letters in lower case; other bytes stay
@@ -20,7 +21,8 @@ canonical_name name = capitalised true name
 
 -- two names have one canonical spelling exactly where they are equal without ASCII case
 abbrev pub CanonicalNameTellsSameNames : Type 0
-CanonicalNameTellsSameNames = (a b : List ℕ) → (folded a ≡ folded b) ↔ (canonical_name a ≡ canonical_name b)
+CanonicalNameTellsSameNames =
+    (a b : List ℕ) → (folded a ≡ folded b) ↔ (canonical_name a ≡ canonical_name b)
 
 -- the canonical spelling is its own
 abbrev pub CanonicalNameIsStable : Type 0

@@ -10,8 +10,9 @@ use crate::blank::{begins_with_blank, is_blank_byte, is_only_blanks};
 /// project's own).
 pub const PARAGRAPH_LIMIT: usize = 16_777_216;
 
-/// Whether this can be the body of a field (Debian Policy 5.1): UTF-8 that neither begins nor ends with a space or a
-/// tab, each of whose lines after the first begins with one and isn't blank. The empty text is one.
+/// Whether this can be the body of a field (Debian Policy 5.1): UTF-8 that neither begins nor ends
+/// with a space or a tab, each of whose lines after the first begins with one and isn't blank. The
+/// empty text is one.
 ///
 /// A line is blank if it has only spaces and tabs, and less than 16,777,216 of them.
 pub fn is_body(body: &[u8]) -> bool

@@ -3,11 +3,12 @@
 ghost use Rattle.std.specs.Prelude.{◌≡◌};
 ghost use Rattle.deb_base.specs.Codes.{name_of};
 
-/// Why a file, or a word that the program was given, is refused. Each code has a number from 1 to 23.
+/// Why a file, or a word that the program was given, is refused. Each code has a number from 1 to
+/// 23.
 ///
 /// The first nine are about the text of a file (Debian Policy 5.1), 10 to 12 about its paragraphs
-/// (5.2 to 5.4), 13 to 21 about the value of a field (5.6 and chapter 7), and the last two about the
-/// words of a query.
+/// (5.2 to 5.4), 13 to 21 about the value of a field (5.6 and chapter 7), and the last two about
+/// the words of a query.
 #[derive(Clone, Copy, Debug, PartialEq, Eq)]
 pub enum Code {
     /// The line isn't UTF-8.
@@ -24,7 +25,8 @@ pub enum Code {
     NoColon = 6,
     /// The field's name stood before in this paragraph.
     DuplicateField = 7,
-    /// The lengths of the paragraph's lines, or of those of its canonical text, pass 16,777,216 bytes.
+    /// The lengths of the paragraph's lines, or of those of its canonical text, pass 16,777,216
+    /// bytes.
     ParagraphTooLong = 8,
     /// The file, or its canonical text, passes 4,294,967,295 bytes.
     FileTooLong = 9,

@@ -6,8 +6,8 @@ ghost use Rattle.deb_base.specs.Devices.{last_count};
 use crate::{Failed, Source};
 use std::io::Read;
 
-/// A reader of std as a source: its bytes are exactly the reader's, and each error of the reader is a
-/// failure, one of kind `Interrupted` too.
+/// A reader of std as a source: its bytes are exactly the reader's, and each error of the reader is
+/// a failure, one of kind `Interrupted` too.
 ///
 /// Once 2^64 - 1 reads have failed, the reader isn't asked any more.
 #[derive(Drop)]

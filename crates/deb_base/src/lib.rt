@@ -1,10 +1,13 @@
 //! The ground that every crate of this repository stands on: the codes of refusals, the faults of a
-//! call, the devices that bytes are read from and written to, and names without ASCII case.
+//! call, the devices that bytes are read from and written to, names without ASCII case, the bodies of
+//! fields, and the spaces and tabs at their ends.
 //!
-//! - A refusal has one of 23 codes and the number of a line, and is printed as `line 3: 7 DuplicateField`.
-//! - A [`Source`] and a [`Sink`] count their failed calls, so that a caller can tell whether a read or
-//!   a write failed; [`Input`] and [`Output`] make them of std's readers and writers.
-//! - [`put_all`] writes all of its bytes, or says that a write failed and has then written a front of them.
+//! - A refusal has one of 23 codes and the number of a line, and is printed as
+//!   `line 3: 7 DuplicateField`.
+//! - A [`Source`] and a [`Sink`] count their failed calls, so that a caller can tell whether a read
+//!   or a write failed; [`Input`] and [`Output`] make them of std's readers and writers.
+//! - [`put_all`] writes all of its bytes, or says that a write failed and has then written a front
+//!   of them.
 //!
 //! Nothing in this crate takes memory.
 //!

@@ -26,7 +26,8 @@ impl Refusal {
         self.code as u8
     }
 
-    /// Writes the line of the refusal, with its LF: `line N: CODE NAME`, as `line 3: 7 DuplicateField`.
+    /// Writes the line of the refusal, with its LF: `line N: CODE NAME`, as
+    /// `line 3: 7 DuplicateField`.
     ///
     /// The only error is `Fault::Write`. It is answered exactly where a write to `out` failed in
     /// this call, and a front of the line, perhaps empty, was written before it.

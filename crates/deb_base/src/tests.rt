@@ -252,7 +252,8 @@ fn names_are_compared_without_case(rt: HostRuntime) {
     }
 }
 
-/// A writer that fails, or takes none, exactly once, at its call `bad`, and takes a byte at each other call.
+/// A writer that fails, or takes none, exactly once, at its call `bad`, and takes a byte at each
+/// other call.
 #[derive(Drop)]
 struct Hiccup {
     held: Vec<u8>,

@@ -1,27 +1,33 @@
--- What the canonical text of a kind of values promises, and what its refusals do (this project's own form of values;
--- Debian Policy 5.1).
+-- What the canonical text of a kind of values promises, and what its refusals do (this project's
+-- own form of values; Debian Policy 5.1).
 use Rattle.std.specs.Prelude.{◌≡◌, ℕ, ◌*◌, ◌≤◌, ◌↔◌, List, length, Option, None, Result, IsOkAnd}
 use Rattle.deb_base.specs.Bodies.{IsBody}
 use Rattle.deb_base.specs.declared.code.Code.{Code}
 
--- Bodies of a kind spell meanings. A body spells at most one; the canonical text of a meaning that is spelled is a
--- body that spells it, at most twice as long as each other one.
-pub record CanonLaw (Meaning : Type 0) (spells : List ℕ → Meaning → Type 0) (text_of : Meaning → List ℕ) : Type 0 where
+-- Bodies of a kind spell meanings. A body spells at most one; the canonical text of a meaning that
+-- is spelled is a body that spells it, at most twice as long as each other one.
+pub record CanonLaw (Meaning : Type 0) (spells : List ℕ → Meaning → Type 0)
+    (text_of : Meaning → List ℕ) : Type 0 where
   pub one_meaning : (body : List ℕ) (m n : Meaning) → spells body m → spells body n → m ≡ n
   pub reads_back : (body : List ℕ) (m : Meaning) → spells body m → spells (text_of m) m
   pub is_body : (body : List ℕ) (m : Meaning) → IsBody body → spells body m → IsBody (text_of m)
-  pub is_short : (body : List ℕ) (m : Meaning) → spells body m → length (text_of m) ≤ 2 * length body
+  pub is_short : (body : List ℕ) (m : Meaning) → spells body m
+      → length (text_of m) ≤ 2 * length body
 
 -- Meanings that are spelled have equal canonical text exactly where they are equal.
 abbrev pub OneText : (Meaning : Type 0) → (List ℕ → Meaning → Type 0) → (Meaning → List ℕ) → Type 0
 OneText Meaning spells text_of =
-    (body other : List ℕ) (m n : Meaning) → spells body m → spells other n → (text_of m ≡ text_of n) ↔ (m ≡ n)
+    (body other : List ℕ) (m n : Meaning) → spells body m → spells other n
+    → (text_of m ≡ text_of n) ↔ (m ≡ n)
 
 -- A body of a kind has a refusal exactly where it spells no meaning.
-pub record RefusalLaw (Meaning : Type 0) (spells : List ℕ → Meaning → Type 0) (refusal : List ℕ → Option Code) : Type 0 where
+pub record RefusalLaw (Meaning : Type 0) (spells : List ℕ → Meaning → Type 0)
+    (refusal : List ℕ → Option Code) : Type 0 where
   pub spelled : (body : List ℕ) → refusal body ≡ None → (m : Meaning) × spells body m
   pub unrefused : (body : List ℕ) (m : Meaning) → spells body m → refusal body ≡ None
 
 -- What a body spells is read: whatever meaning it spells, the answer is a value of that meaning.
-abbrev pub Accepts : {V Meaning E : Type 0} → (Meaning → Type 0) → (V → Meaning) → Result V E → Type 0
-Accepts {Meaning = Meaning} spells meaning result = (m : Meaning) → spells m → IsOkAnd result (λ v. meaning v ≡ m)
+abbrev pub Accepts : {V Meaning E : Type 0} → (Meaning → Type 0) → (V → Meaning) → Result V E
+    → Type 0
+Accepts {Meaning = Meaning} spells meaning result =
+    (m : Meaning) → spells m → IsOkAnd result (λ v. meaning v ≡ m)

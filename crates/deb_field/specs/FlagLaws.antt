@@ -33,10 +33,12 @@ one_multi_arch multi_archs.Same multi_archs.Allowed e = cc
 one_multi_arch multi_archs.Foreign multi_archs.No e = cc
 one_multi_arch multi_archs.Foreign multi_archs.Same e = cc
 one_multi_arch multi_archs.Foreign multi_archs.Foreign e = refl
-one_multi_arch multi_archs.Foreign multi_archs.Allowed e = absurd (false≢true (ap (λ text. bytes_eq text (codes "allowed")) e))
+one_multi_arch multi_archs.Foreign multi_archs.Allowed e =
+    absurd (false≢true (ap (λ text. bytes_eq text (codes "allowed")) e))
 one_multi_arch multi_archs.Allowed multi_archs.No e = cc
 one_multi_arch multi_archs.Allowed multi_archs.Same e = cc
-one_multi_arch multi_archs.Allowed multi_archs.Foreign e = absurd (true≢false (ap (λ text. bytes_eq text (codes "allowed")) e))
+one_multi_arch multi_archs.Allowed multi_archs.Foreign e =
+    absurd (true≢false (ap (λ text. bytes_eq text (codes "allowed")) e))
 one_multi_arch multi_archs.Allowed multi_archs.Allowed e = refl
 
 -- whatever the words
@@ -45,7 +47,13 @@ module _ (M : Type 0) (word : M → List ℕ) (one : (m n : M) → word m ≡ wo
   word_short body m s = omega (arith, ap length s)
 
   pub word_law : CanonLaw M (λ body m. body ≡ word m) word
-  word_law = record { one_meaning = λ body m n s t. one m n (sym s ∙ t); reads_back = λ body m s. refl; is_body = λ body m is s. subst IsBody s is; is_short = word_short }
+  word_law =
+      record {
+        one_meaning = λ body m n s t. one m n (sym s ∙ t);
+        reads_back = λ body m s. refl;
+        is_body = λ body m is s. subst IsBody s is;
+        is_short = word_short;
+      }
 
 pub flag_law : CanonLaw Flag SpellsFlag flag_text
 flag_law = word_law Flag flag_text one_flag
@@ -65,7 +73,8 @@ spells_flag body h =
       | inr e ↦ (flags.No, (bytes_eq-Decides body (codes "no")).0 e)
     ]
 
-spells_multi_arch : (body : List ℕ) → is_multi_arch body ≡ true → (m : MultiArch) × SpellsMultiArch body m
+spells_multi_arch : (body : List ℕ) → is_multi_arch body ≡ true
+    → (m : MultiArch) × SpellsMultiArch body m
 spells_multi_arch body h =
     elim (either _ (bytes_eq body (codes "allowed")) h) [
       | inr e ↦ (multi_archs.Allowed, (bytes_eq-Decides body (codes "allowed")).0 e)
@@ -90,12 +99,16 @@ multi_arch_unrefused multi_archs.Allowed = refl
 
 pub flag_refusals : RefusalLaw Flag SpellsFlag flag_refusal
 flag_refusals = record {
-  spelled = λ body none. spells_flag body (passes-from_none (is_flag body) BadWord (line_refusal-parts body (refusal_unless (is_flag body) BadWord) none).1);
+  spelled =
+      λ body none. spells_flag body (passes-from_none (is_flag body) BadWord
+      (line_refusal-parts body (refusal_unless (is_flag body) BadWord) none).1);
   unrefused = λ body m s. ap flag_refusal s ∙ flag_unrefused m;
 }
 
 pub multi_arch_refusals : RefusalLaw MultiArch SpellsMultiArch multi_arch_refusal
 multi_arch_refusals = record {
-  spelled = λ body none. spells_multi_arch body (passes-from_none (is_multi_arch body) BadWord (line_refusal-parts body (refusal_unless (is_multi_arch body) BadWord) none).1);
+  spelled =
+      λ body none. spells_multi_arch body (passes-from_none (is_multi_arch body) BadWord
+      (line_refusal-parts body (refusal_unless (is_multi_arch body) BadWord) none).1);
   unrefused = λ body m s. ap multi_arch_refusal s ∙ multi_arch_unrefused m;
 }

@@ -1,5 +1,5 @@
--- The words of Essential and of Multi-Arch. Debian Policy 5.6.9 (Essential); the words of Multi-Arch are those of
--- deb-control(5).
+-- The words of Essential and of Multi-Arch. Debian Policy 5.6.9 (Essential); the words of
+-- Multi-Arch are those of deb-control(5).
 use Rattle.std.specs.Prelude.{◌≡◌, ℕ, ◌||◌, Bool, List, [], Option, Some, None, codes, refl}
 use Rattle.std.specs.Str.{bytes_eq}
 use Rattle.deb_base.specs.declared.code.Code.{Code}
@@ -37,16 +37,23 @@ abbrev pub SpellsMultiArch : List ℕ → MultiArch → Type 0
 SpellsMultiArch body word = body ≡ multi_arch_text word
 
 abbrev pub is_multi_arch : List ℕ → Bool
-is_multi_arch body = bytes_eq body (codes "no") || bytes_eq body (codes "same") || bytes_eq body (codes "foreign") || bytes_eq body (codes "allowed")
+is_multi_arch body =
+    bytes_eq body (codes "no") || bytes_eq body (codes "same") || bytes_eq body (codes "foreign")
+    || bytes_eq body (codes "allowed")
 
 abbrev pub multi_arch_refusal : List ℕ → Option Code
 multi_arch_refusal body = line_refusal body (refusal_unless (is_multi_arch body) BadWord)
 
-flag_words : (flag_refusal (codes "yes") ≡ None) × (flag_refusal (codes "no") ≡ None) × (flag_refusal (codes "Yes") ≡ Some BadWord) × (flag_refusal [] ≡ Some BadWord) × (flag_refusal (codes "yes\n no") ≡ Some NotOneLine)
+flag_words : (flag_refusal (codes "yes") ≡ None) × (flag_refusal (codes "no") ≡ None)
+    × (flag_refusal (codes "Yes") ≡ Some BadWord) × (flag_refusal [] ≡ Some BadWord)
+    × (flag_refusal (codes "yes\n no") ≡ Some NotOneLine)
 flag_words = (refl, refl, refl, refl, refl)
 
-multi_arch_words : (multi_arch_refusal (codes "no") ≡ None) × (multi_arch_refusal (codes "same") ≡ None) × (multi_arch_refusal (codes "foreign") ≡ None) × (multi_arch_refusal (codes "allowed") ≡ None)
+multi_arch_words : (multi_arch_refusal (codes "no") ≡ None)
+    × (multi_arch_refusal (codes "same") ≡ None) × (multi_arch_refusal (codes "foreign") ≡ None)
+    × (multi_arch_refusal (codes "allowed") ≡ None)
 multi_arch_words = (refl, refl, refl, refl)
 
-no_multi_arch_words : (multi_arch_refusal (codes "Same") ≡ Some BadWord) × (multi_arch_refusal (codes "yes") ≡ Some BadWord) × (multi_arch_refusal [] ≡ Some BadWord)
+no_multi_arch_words : (multi_arch_refusal (codes "Same") ≡ Some BadWord)
+    × (multi_arch_refusal (codes "yes") ≡ Some BadWord) × (multi_arch_refusal [] ≡ Some BadWord)
 no_multi_arch_words = (refl, refl, refl)

@@ -1,5 +1,6 @@
--- The kinds of documents, and which field has which kind of value. Debian Policy 5.1 (names are found without case),
--- 5.3 (binary packages), 5.4 (source packages), 5.6 (the fields); that unknown fields are text is this project's own.
+-- The kinds of documents, and which field has which kind of value. Debian Policy 5.1 (names are
+-- found without case), 5.3 (binary packages), 5.4 (source packages), 5.6 (the fields); that unknown
+-- fields are text is this project's own.
 use Rattle.std.specs.Prelude.{◌≡◌, ℕ, Bool, true, false, cond, List, [], ◌∷◌, codes, refl}
 use Rattle.std.specs.List.{list_any}
 use Rattle.std.specs.Str.{bytes_eq}
@@ -34,7 +35,8 @@ architecture_kind docs.Source = ArchitectureWords
 -- the fields of one line
 abbrev pub line_names : List (List ℕ)
 line_names =
-    codes "Maintainer" ∷ codes "Homepage" ∷ codes "Section" ∷ codes "Priority" ∷ codes "Filename" ∷ codes "Format"
+    codes "Maintainer" ∷ codes "Homepage" ∷ codes "Section" ∷ codes "Priority" ∷ codes "Filename"
+    ∷ codes "Format"
     ∷ codes "Standards-Version" ∷ []
 
 -- a row of the table: a kind, and the names of its fields
@@ -59,7 +61,8 @@ abbrev pub kind_among : List Row → List ℕ → Kind
 kind_among [] name = Text
 kind_among (row ∷ rows) name = cond (is_one_of name row.1) row.0 (kind_among rows name)
 
--- the kind of a field, by its name without case. Relationship fields are text until their kind is brought
+-- the kind of a field, by its name without case. Relationship fields are text until their kind is
+-- brought
 abbrev pub kind_of : Doc → List ℕ → Kind
 kind_of doc name = kind_among (table doc) (folded name)
 
@@ -69,20 +72,35 @@ KindGoesByName = (doc : Doc) (a b : List ℕ) → folded a ≡ folded b → kind
 
 -- A field has the kind of the canonical spelling of its name.
 abbrev pub KindOfCanonicalName : Type 0
-KindOfCanonicalName = (doc : Doc) (name : List ℕ) → kind_of doc (canonical_name name) ≡ kind_of doc name
+KindOfCanonicalName =
+    (doc : Doc) (name : List ℕ) → kind_of doc (canonical_name name) ≡ kind_of doc name
 
-names_without_case : (kind_of docs.Packages (codes "pAcKAGE") ≡ Name) × (kind_of docs.Packages (codes "MULTI-ARCH") ≡ MultiArch) × (kind_of docs.Binary (codes "standards-version") ≡ Line)
+names_without_case : (kind_of docs.Packages (codes "pAcKAGE") ≡ Name)
+    × (kind_of docs.Packages (codes "MULTI-ARCH") ≡ MultiArch)
+    × (kind_of docs.Binary (codes "standards-version") ≡ Line)
 unfolding is_one_of
 names_without_case = (refl, refl, refl)
 
-architectures : (kind_of docs.Binary (codes "Architecture") ≡ Architecture) × (kind_of docs.Packages (codes "Architecture") ≡ Architecture) × (kind_of docs.Source (codes "architecture") ≡ ArchitectureWords)
+architectures : (kind_of docs.Binary (codes "Architecture") ≡ Architecture)
+    × (kind_of docs.Packages (codes "Architecture") ≡ Architecture)
+    × (kind_of docs.Source (codes "architecture") ≡ ArchitectureWords)
 unfolding is_one_of
 architectures = (refl, refl, refl)
 
-other_kinds : (kind_of docs.Source (codes "Source") ≡ Source) × (kind_of docs.Source (codes "Version") ≡ Version) × (kind_of docs.Binary (codes "Essential") ≡ Flag) × (kind_of docs.Binary (codes "Installed-Size") ≡ Number) × (kind_of docs.Packages (codes "Size") ≡ Number) × (kind_of docs.Source (codes "Uploaders") ≡ Folded) × (kind_of docs.Source (codes "Binary") ≡ Folded)
+other_kinds : (kind_of docs.Source (codes "Source") ≡ Source)
+    × (kind_of docs.Source (codes "Version") ≡ Version)
+    × (kind_of docs.Binary (codes "Essential") ≡ Flag)
+    × (kind_of docs.Binary (codes "Installed-Size") ≡ Number)
+    × (kind_of docs.Packages (codes "Size") ≡ Number)
+    × (kind_of docs.Source (codes "Uploaders") ≡ Folded)
+    × (kind_of docs.Source (codes "Binary") ≡ Folded)
 unfolding is_one_of
 other_kinds = (refl, refl, refl, refl, refl, refl, refl)
 
-texts : (kind_of docs.Packages (codes "MD5sum") ≡ Text) × (kind_of docs.Packages (codes "Description") ≡ Text) × (kind_of docs.Source (codes "Files") ≡ Text) × (kind_of docs.Packages (codes "Depends") ≡ Text) × (kind_of docs.Packages (codes "Packages") ≡ Text) × (kind_of docs.Packages [] ≡ Text)
+texts : (kind_of docs.Packages (codes "MD5sum") ≡ Text)
+    × (kind_of docs.Packages (codes "Description") ≡ Text)
+    × (kind_of docs.Source (codes "Files") ≡ Text)
+    × (kind_of docs.Packages (codes "Depends") ≡ Text)
+    × (kind_of docs.Packages (codes "Packages") ≡ Text) × (kind_of docs.Packages [] ≡ Text)
 unfolding is_one_of
 texts = (refl, refl, refl, refl, refl, refl)

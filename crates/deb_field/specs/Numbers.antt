@@ -21,11 +21,17 @@ are_digits body = not (length body == 0) && list_all is_ascii_digit body
 abbrev pub number_refusal : List ℕ → Option Code
 number_refusal body = line_refusal body (refusal_unless (are_digits body) BadNumber)
 
-numbers : (number_refusal (codes "0") ≡ None) × (number_refusal (codes "007") ≡ None) × (number_refusal (codes "9999999999999999999999999999999999999999") ≡ None)
+numbers : (number_refusal (codes "0") ≡ None) × (number_refusal (codes "007") ≡ None)
+    × (number_refusal (codes "9999999999999999999999999999999999999999") ≡ None)
 numbers = (refl, refl, refl)
 
-no_numbers : (number_refusal [] ≡ Some BadNumber) × (number_refusal (codes "1k") ≡ Some BadNumber) × (number_refusal (codes "+1") ≡ Some BadNumber) × (number_refusal (codes " 1") ≡ Some BadNumber) × (number_refusal (codes "1\n 2") ≡ Some NotOneLine)
+no_numbers : (number_refusal [] ≡ Some BadNumber) × (number_refusal (codes "1k") ≡ Some BadNumber)
+    × (number_refusal (codes "+1") ≡ Some BadNumber)
+    × (number_refusal (codes " 1") ≡ Some BadNumber)
+    × (number_refusal (codes "1\n 2") ≡ Some NotOneLine)
 no_numbers = (refl, refl, refl, refl, refl)
 
-canonical_numbers : (digits_of (value_of (codes "000")) ≡ codes "0") × (digits_of (value_of (codes "007")) ≡ codes "7") × (digits_of (value_of (codes "010")) ≡ codes "10")
+canonical_numbers : (digits_of (value_of (codes "000")) ≡ codes "0")
+    × (digits_of (value_of (codes "007")) ≡ codes "7")
+    × (digits_of (value_of (codes "010")) ≡ codes "10")
 canonical_numbers = (refl, refl, refl)

@@ -22,20 +22,25 @@ one_line-graphic [] h = refl
 one_line-graphic (b ∷ text) h = rw (graphic_no_newline b h.0) (one_line-graphic text h.1)
 
 -- no refusal by a test: it passes; it passes: no refusal
-pub passes-from_none : (passes : Bool) (code : Code) → refusal_unless passes code ≡ None → passes ≡ true
+pub passes-from_none : (passes : Bool) (code : Code) → refusal_unless passes code ≡ None
+    → passes ≡ true
 passes-from_none true code none = refl
 passes-from_none false code none = cc
 
-pub none-from_passes : (passes : Bool) (code : Code) → passes ≡ true → refusal_unless passes code ≡ None
+pub none-from_passes : (passes : Bool) (code : Code) → passes ≡ true
+    → refusal_unless passes code ≡ None
 none-from_passes true code h = refl
 none-from_passes false code h = cc
 
-cond_none : (many : Bool) (other : Option Code) → cond many (Some NotOneLine) other ≡ None → (many ≡ false) × (other ≡ None)
+cond_none : (many : Bool) (other : Option Code) → cond many (Some NotOneLine) other ≡ None
+    → (many ≡ false) × (other ≡ None)
 cond_none true other none = cc
 cond_none false other none = (refl, none)
 
-pub line_refusal-parts : (body : List ℕ) (other : Option Code) → line_refusal body other ≡ None → (holds_newline body ≡ false) × (other ≡ None)
+pub line_refusal-parts : (body : List ℕ) (other : Option Code) → line_refusal body other ≡ None
+    → (holds_newline body ≡ false) × (other ≡ None)
 line_refusal-parts body other none = cond_none (holds_newline body) other none
 
-pub line_refusal-from : (body : List ℕ) (other : Option Code) → holds_newline body ≡ false → other ≡ None → line_refusal body other ≡ None
+pub line_refusal-from : (body : List ℕ) (other : Option Code) → holds_newline body ≡ false
+    → other ≡ None → line_refusal body other ≡ None
 line_refusal-from body other h none = rw h none

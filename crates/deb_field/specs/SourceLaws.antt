@@ -36,7 +36,8 @@ not_open_package b h = grind (arith, nat_tests)
 not_open_blank : (b : ℕ) → is_blank_byte b ≡ true → is_open b ≡ false
 not_open_blank b h = grind (arith, nat_tests)
 
-no_open : (text : List ℕ) → AllByRecursion (λ b. is_open b ≡ false) text → list_any is_open text ≡ false
+no_open : (text : List ℕ) → AllByRecursion (λ b. is_open b ≡ false) text
+    → list_any is_open text ≡ false
 no_open [] h = refl
 no_open (b ∷ bs) h = ap (λ t. t || list_any is_open bs) h.0 ∙ no_open bs h.1
 
@@ -45,9 +46,12 @@ name_bytes name h = (and_parts _ (list_all is_package_byte name) h).1
 
 -- no parenthesis in a name
 pub no_open_name : (name : List ℕ) → is_package_name name ≡ true → list_any is_open name ≡ false
-no_open_name name h = no_open name (each_from_list_all is_package_byte (λ b. is_open b ≡ false) not_open_package name (name_bytes name h))
+no_open_name name h =
+    no_open name (each_from_list_all is_package_byte (λ b. is_open b ≡ false) not_open_package name
+    (name_bytes name h))
 
-pub ends-closed : (text : List ℕ) (n : ℕ) → length text ≡ suc n → is_closed text ≡ (get_or text n 0 == 41)
+pub ends-closed : (text : List ℕ) (n : ℕ) → length text ≡ suc n
+    → is_closed text ≡ (get_or text n 0 == 41)
 ends-closed [] n long = absurd (omega arith)
 ends-closed (b ∷ []) zero long = refl
 ends-closed (b ∷ []) (suc n) long = absurd (omega arith)
@@ -59,71 +63,103 @@ closed-push [] = refl
 closed-push (b ∷ []) = refl
 closed-push (b ∷ c ∷ text) = closed-push (c ∷ text)
 
-closed-split : (text : List ℕ) → is_closed text ≡ true → (front : List ℕ) × (text ≡ front ++ 41 ∷ [])
+closed-split : (text : List ℕ) → is_closed text ≡ true
+    → (front : List ℕ) × (text ≡ front ++ 41 ∷ [])
 closed-split [] h = absurd (false≢true h)
 closed-split (b ∷ []) h = ([], ap (λ t. t ∷ []) (eqb-true b 41 h))
 closed-split (b ∷ c ∷ text) h = let p = closed-split (c ∷ text) h in (b ∷ p.0, ap (λ t. b ∷ t) p.1)
 
 without_last-push : (text : List ℕ) (b : ℕ) → without_last (text ++ b ∷ []) ≡ text
 without_last-push text b =
-    let n : length (text ++ b ∷ []) - 1 ≡ length text = omega (arith, length-append text (b ∷ [])) in
+    let n : length (text ++ b ∷ []) - 1 ≡ length text =
+    omega (arith, length-append text (b ∷ [])) in
     ap (λ k. take k (text ++ b ∷ [])) n ∙ take_at text (b ∷ []) (length text) refl
 
 no_empty_version : is_version [] ≡ false
 unfolding first_fault
 no_empty_version = refl
 
-some_version : (text left right : List ℕ) (m : VersionMeaning) → SpellsVersion text m → IsTrue (is_all_blank left) → IsTrue (is_all_blank right) → trimmed (left ++ (text ++ right)) ≡ text
-some_version [] left right m s l r = absurd (false≢true (sym no_empty_version ∙ test_from_version [] m s))
-some_version (b ∷ text) left right m s l r = trimmed-graphic left b text right l r (version_graphic (b ∷ text) m s)
+some_version : (text left right : List ℕ) (m : VersionMeaning) → SpellsVersion text m
+    → IsTrue (is_all_blank left) → IsTrue (is_all_blank right)
+    → trimmed (left ++ (text ++ right)) ≡ text
+some_version [] left right m s l r =
+    absurd (false≢true (sym no_empty_version ∙ test_from_version [] m s))
+some_version (b ∷ text) left right m s l r =
+    trimmed-graphic left b text right l r (version_graphic (b ∷ text) m s)
 
 -- what a body with a version in parentheses holds
-module _ (body name : List ℕ) (version : VersionMeaning) (s : SpellsVersioned body name version) where
-  tail : List ℕ
-  tail = s.left ++ (s.text ++ (s.right ++ (41 ∷ [])))
+module _ (body name : List ℕ) (version : VersionMeaning) (s : SpellsVersioned body name version)
+  where
+    tail : List ℕ
+    tail = s.left ++ (s.text ++ (s.right ++ (41 ∷ [])))
 
-  cut : body ≡ (name ++ s.gap) ++ 40 ∷ tail
-  unfolding tail
-  cut = s.spelt ∙ sym (append_assoc name s.gap (40 ∷ (s.left ++ (s.text ++ (s.right ++ (41 ∷ []))))))
+    cut : body ≡ (name ++ s.gap) ++ 40 ∷ tail
+    unfolding tail
+    cut =
+        s.spelt ∙ sym (append_assoc name s.gap (40
+        ∷ (s.left ++ (s.text ++ (s.right ++ (41 ∷ []))))))
 
-  tail_is : tail ≡ (s.left ++ (s.text ++ s.right)) ++ 41 ∷ []
-  unfolding tail
-  tail_is = ap (λ t. s.left ++ t) (sym (append_assoc s.text s.right (41 ∷ []))) ∙ sym (append_assoc s.left (s.text ++ s.right) (41 ∷ []))
+    tail_is : tail ≡ (s.left ++ (s.text ++ s.right)) ++ 41 ∷ []
+    unfolding tail
+    tail_is =
+        ap (λ t. s.left ++ t) (sym (append_assoc s.text s.right (41 ∷ [])))
+        ∙ sym (append_assoc s.left (s.text ++ s.right) (41 ∷ []))
 
-  no_open_front : list_any is_open (name ++ s.gap) ≡ false
-  no_open_front = list_any-append is_open name s.gap ∙ ap (λ t. t || list_any is_open s.gap) (no_open_name name s.named) ∙ no_open s.gap (each_from_list_all is_blank_byte (λ b. is_open b ≡ false) not_open_blank s.gap s.gap_blank)
+    no_open_front : list_any is_open (name ++ s.gap) ≡ false
+    no_open_front =
+        list_any-append is_open name s.gap
+        ∙ ap (λ t. t || list_any is_open s.gap) (no_open_name name s.named)
+        ∙ no_open s.gap (each_from_list_all is_blank_byte (λ b. is_open b ≡ false) not_open_blank
+        s.gap s.gap_blank)
 
-  pub versioned-has : has_version body ≡ true
-  versioned-has = ap has_version cut ∙ list_any-append is_open (name ++ s.gap) (40 ∷ tail) ∙ ap (λ t. t || true) no_open_front
+    pub versioned-has : has_version body ≡ true
+    versioned-has =
+        ap has_version cut ∙ list_any-append is_open (name ++ s.gap) (40 ∷ tail)
+        ∙ ap (λ t. t || true) no_open_front
 
-  behind : after_first is_open body ≡ tail
-  behind = ap (after_first is_open) cut ∙ after_first-at is_open (name ++ s.gap) 40 tail no_open_front refl
+    behind : after_first is_open body ≡ tail
+    behind =
+        ap (after_first is_open) cut ∙ after_first-at is_open (name ++ s.gap) 40 tail no_open_front
+        refl
 
-  pub versioned-name : name_before body ≡ name
-  versioned-name =
-      ap (λ t. without_trailing_blanks (before_first is_open t)) cut ∙ ap without_trailing_blanks (before_first-at is_open (name ++ s.gap) 40 tail no_open_front refl)
-      ∙ trailing-graphic name s.gap (package_name_graphic name s.named) s.gap_blank
+    pub versioned-name : name_before body ≡ name
+    versioned-name =
+        ap (λ t. without_trailing_blanks (before_first is_open t)) cut
+        ∙ ap without_trailing_blanks (before_first-at is_open (name ++ s.gap) 40 tail no_open_front
+        refl)
+        ∙ trailing-graphic name s.gap (package_name_graphic name s.named) s.gap_blank
 
-  pub versioned-closed : is_closed (after_first is_open body) ≡ true
-  versioned-closed = ap is_closed (behind ∙ tail_is) ∙ closed-push (s.left ++ (s.text ++ s.right))
+    pub versioned-closed : is_closed (after_first is_open body) ≡ true
+    versioned-closed = ap is_closed (behind ∙ tail_is) ∙ closed-push (s.left ++ (s.text ++ s.right))
 
-  pub versioned-within : version_within body ≡ s.text
-  versioned-within =
-      ap (λ t. trimmed (without_last t)) (behind ∙ tail_is) ∙ ap trimmed (without_last-push (s.left ++ (s.text ++ s.right)) 41)
-      ∙ some_version s.text s.left s.right version s.versioned s.left_blank s.right_blank
+    pub versioned-within : version_within body ≡ s.text
+    versioned-within =
+        ap (λ t. trimmed (without_last t)) (behind ∙ tail_is)
+        ∙ ap trimmed (without_last-push (s.left ++ (s.text ++ s.right)) 41)
+        ∙ some_version s.text s.left s.right version s.versioned s.left_blank s.right_blank
 
 -- one reading
-one_source : (body name other : List ℕ) (v w : Option VersionMeaning) → SpellsSource body (source_of name v) → SpellsSource body (source_of other w) → source_of name v ≡ source_of other w
+one_source : (body name other : List ℕ) (v w : Option VersionMeaning)
+    → SpellsSource body (source_of name v) → SpellsSource body (source_of other w)
+    → source_of name v ≡ source_of other w
 one_source body name other None None s t = ap (λ n. source_of n None) (sym s.spelt ∙ t.spelt)
-one_source body name other None (Some w) s t = absurd (true≢false (sym (versioned-has body other w t) ∙ ap has_version s.spelt ∙ no_open_name name s.named))
-one_source body name other (Some v) None s t = absurd (true≢false (sym (versioned-has body name v s) ∙ ap has_version t.spelt ∙ no_open_name other t.named))
+one_source body name other None (Some w) s t =
+    absurd (true≢false (sym (versioned-has body other w t) ∙ ap has_version s.spelt
+    ∙ no_open_name name s.named))
+one_source body name other (Some v) None s t =
+    absurd (true≢false (sym (versioned-has body name v s) ∙ ap has_version t.spelt
+    ∙ no_open_name other t.named))
 one_source body name other (Some v) (Some w) s t =
-    let texts : t.text ≡ s.text = sym (versioned-within body other w t) ∙ versioned-within body name v s in
-    let same : v ≡ w = one_version s.text v w s.versioned (subst (λ x. SpellsVersion x w) texts t.versioned) in
-    ap (λ n. source_of n (Some v)) (sym (versioned-name body name v s) ∙ versioned-name body other w t) ∙ ap (λ x. source_of other (Some x)) same
+    let texts : t.text ≡ s.text =
+    sym (versioned-within body other w t) ∙ versioned-within body name v s in
+    let same : v ≡ w =
+    one_version s.text v w s.versioned (subst (λ x. SpellsVersion x w) texts t.versioned) in
+    ap (λ n. source_of n (Some v)) (sym (versioned-name body name v s)
+    ∙ versioned-name body other w t) ∙ ap (λ x. source_of other (Some x)) same
 
 -- canonical text is read back
-back : (body name : List ℕ) (v : Option VersionMeaning) → SpellsSource body (source_of name v) → SpellsSource (source_text (source_of name v)) (source_of name v)
+back : (body name : List ℕ) (v : Option VersionMeaning) → SpellsSource body (source_of name v)
+    → SpellsSource (source_text (source_of name v)) (source_of name v)
 back body name None s = record { spelt = append-nil name; named = s.named }
 back body name (Some v) s = record {
   gap = 32 ∷ [];
@@ -148,28 +184,44 @@ plain_graphic b h = (omega (arith, h.0), h.1)
 plain_newline : (b : ℕ) → IsPlain b → (b == newline) ≡ false
 plain_newline b h = grind (arith, nat_tests)
 
-begins-name : (name text : List ℕ) → is_package_name name ≡ true → AllByRecursion IsGraphic name → begins_with_blank (name ++ text) ≡ false
+begins-name : (name text : List ℕ) → is_package_name name ≡ true → AllByRecursion IsGraphic name
+    → begins_with_blank (name ++ text) ≡ false
 begins-name [] text h g = cc
 begins-name (b ∷ name) text h g = not_blank b g.0
 
-plain_source : (name text : List ℕ) → AllByRecursion IsGraphic name → AllByRecursion IsGraphic text → AllByRecursion IsPlain (name ++ (32 ∷ 40 ∷ (text ++ 41 ∷ [])))
+plain_source : (name text : List ℕ) → AllByRecursion IsGraphic name → AllByRecursion IsGraphic text
+    → AllByRecursion IsPlain (name ++ (32 ∷ 40 ∷ (text ++ 41 ∷ [])))
 plain_source name text g h =
-    join IsPlain name (32 ∷ 40 ∷ (text ++ 41 ∷ [])) (each IsGraphic IsPlain plain_graphic name g)
-    ((omega arith, omega arith), ((omega arith, omega arith), join IsPlain text (41 ∷ []) (each IsGraphic IsPlain plain_graphic text h) ((omega arith, omega arith), tt)))
+    join IsPlain name (32 ∷ 40 ∷ (text ++ 41 ∷ [])) (each IsGraphic IsPlain plain_graphic name g) (
+      (omega arith, omega arith),
+      (
+        (omega arith, omega arith),
+        join IsPlain text (41 ∷ []) (each IsGraphic IsPlain plain_graphic text h)
+            ((omega arith, omega arith), tt),
+      ),
+    )
 
 ends-source : (name text : List ℕ) → ends_with_blank (name ++ (32 ∷ 40 ∷ (text ++ 41 ∷ []))) ≡ false
-ends-source name text = ends-behind name 32 (40 ∷ (text ++ 41 ∷ [])) ∙ ends-behind (32 ∷ 40 ∷ text) 41 []
+ends-source name text =
+    ends-behind name 32 (40 ∷ (text ++ 41 ∷ [])) ∙ ends-behind (32 ∷ 40 ∷ text) 41 []
 
-body_of : (body name : List ℕ) (v : Option VersionMeaning) → SpellsSource body (source_of name v) → IsBody (source_text (source_of name v))
-body_of body name None s = subst IsBody (sym (append-nil name)) (IsBody-graphic name (package_name_graphic name s.named))
+body_of : (body name : List ℕ) (v : Option VersionMeaning) → SpellsSource body (source_of name v)
+    → IsBody (source_text (source_of name v))
+body_of body name None s =
+    subst IsBody (sym (append-nil name)) (IsBody-graphic name (package_name_graphic name s.named))
 body_of body name (Some v) s =
     let graphic = package_name_graphic name s.named in
-    let plain = plain_source name (version_text v) graphic (version_graphic (version_text v) v (canonical_text_spells s.text v s.versioned)) in
+    let plain =
+    plain_source name (version_text v) graphic (version_graphic (version_text v) v
+    (canonical_text_spells s.text v s.versioned)) in
     let text : List ℕ = name ++ (32 ∷ 40 ∷ (version_text v ++ 41 ∷ [])) in
-    IsBody-line text (each IsPlain (λ b. (b == newline) ≡ false) plain_newline text plain) (begins-name name _ s.named graphic) (ends-source name (version_text v))
-    (subst IsUtf8 (append-nil text) (IsUtf8-with_all_ascii text [] (each IsPlain (λ b. b < 128) (λ b h. omega (arith, h.1)) text plain) IsUtf8-nil))
+    IsBody-line text (each IsPlain (λ b. (b == newline) ≡ false) plain_newline text plain)
+    (begins-name name _ s.named graphic) (ends-source name (version_text v))
+    (subst IsUtf8 (append-nil text) (IsUtf8-with_all_ascii text []
+    (each IsPlain (λ b. b < 128) (λ b h. omega (arith, h.1)) text plain) IsUtf8-nil))
 
-short : (body name : List ℕ) (v : Option VersionMeaning) → SpellsSource body (source_of name v) → length (source_text (source_of name v)) ≤ 2 * length body
+short : (body name : List ℕ) (v : Option VersionMeaning) → SpellsSource body (source_of name v)
+    → length (source_text (source_of name v)) ≤ 2 * length body
 short body name None s = omega (arith, ap length s.spelt, ap length (append-nil name))
 short body name (Some v) s =
     let version = canonical_text_is_short s.text v s.versioned in
@@ -195,19 +247,30 @@ source_law = record {
 }
 
 -- a body without refusal spells a source
-pub spells_versioned : (body : List ℕ) → has_version body ≡ true → is_package_name (name_before body) ≡ true → is_closed (after_first is_open body) ≡ true → (v : VersionMeaning) → SpellsVersion (version_within body) v → SpellsVersioned body (name_before body) v
+pub spells_versioned : (body : List ℕ) → has_version body ≡ true
+    → is_package_name (name_before body) ≡ true → is_closed (after_first is_open body) ≡ true
+    → (v : VersionMeaning) → SpellsVersion (version_within body) v
+    → SpellsVersioned body (name_before body) v
 spells_versioned body has named closed v versioned =
     let p = join_first is_open body has in
     let front = trailing_cut (before_first is_open body) in
     let inner = closed-split (after_first is_open body) closed in
-    let last : without_last (after_first is_open body) ≡ inner.0 = ap without_last inner.1 ∙ without_last-push inner.0 41 in
+    let last : without_last (after_first is_open body) ≡ inner.0 =
+    ap without_last inner.1 ∙ without_last-push inner.0 41 in
     let trim = trimmed_cut (without_last (after_first is_open body)) in
-    let tail : after_first is_open body ≡ trim.before ++ (version_within body ++ (trim.after ++ (41 ∷ []))) =
-    inner.1 ∙ ap (λ t. t ++ 41 ∷ []) (sym last ∙ trim.is) ∙ append_assoc trim.before (version_within body ++ trim.after) (41 ∷ []) ∙ ap (λ t. trim.before ++ t) (append_assoc (version_within body) trim.after (41 ∷ [])) in
-    let spelt : body ≡ name_before body ++ (front.cut ++ (40 ∷ (trim.before ++ (version_within body ++ (trim.after ++ (41 ∷ [])))))) =
-    p.2 ∙ ap (λ b. before_first is_open body ++ b ∷ after_first is_open body) (eqb-true p.0 40 p.1) ∙ ap (λ t. before_first is_open body ++ 40 ∷ t) tail
-    ∙ ap (λ t. t ++ 40 ∷ (trim.before ++ (version_within body ++ (trim.after ++ (41 ∷ []))))) front.is
-    ∙ append_assoc (name_before body) front.cut (40 ∷ (trim.before ++ (version_within body ++ (trim.after ++ (41 ∷ []))))) in
+    let tail : after_first is_open body
+    ≡ trim.before ++ (version_within body ++ (trim.after ++ (41 ∷ []))) =
+    inner.1 ∙ ap (λ t. t ++ 41 ∷ []) (sym last ∙ trim.is)
+    ∙ append_assoc trim.before (version_within body ++ trim.after) (41 ∷ [])
+    ∙ ap (λ t. trim.before ++ t) (append_assoc (version_within body) trim.after (41 ∷ [])) in
+    let spelt : body ≡ name_before body ++ (front.cut
+    ++ (40 ∷ (trim.before ++ (version_within body ++ (trim.after ++ (41 ∷ [])))))) =
+    p.2 ∙ ap (λ b. before_first is_open body ++ b ∷ after_first is_open body) (eqb-true p.0 40 p.1)
+    ∙ ap (λ t. before_first is_open body ++ 40 ∷ t) tail
+    ∙ ap (λ t. t ++ 40 ∷ (trim.before ++ (version_within body ++ (trim.after ++ (41 ∷ [])))))
+    front.is
+    ∙ append_assoc (name_before body) front.cut (40
+    ∷ (trim.before ++ (version_within body ++ (trim.after ++ (41 ∷ []))))) in
     record {
       gap = front.cut;
       left = trim.before;
@@ -221,51 +284,83 @@ spells_versioned body has named closed v versioned =
       versioned = versioned;
     }
 
-versioned-parts : (named versioned : Bool) → cond named (refusal_unless versioned BadVersion) (Some BadName) ≡ None → (named ≡ true) × (versioned ≡ true)
+versioned-parts : (named versioned : Bool)
+    → cond named (refusal_unless versioned BadVersion) (Some BadName) ≡ None
+    → (named ≡ true) × (versioned ≡ true)
 versioned-parts true versioned none = (refl, passes-from_none versioned BadVersion none)
 versioned-parts false versioned none = absurd cc
 
-spelled_source : (body : List ℕ) (has : Bool) → has_version body ≡ has → cond has (versioned_refusal body) (refusal_unless (is_package_name body) BadName) ≡ None → (m : SourceMeaning) × SpellsSource body m
+spelled_source : (body : List ℕ) (has : Bool) → has_version body ≡ has
+    → cond has (versioned_refusal body) (refusal_unless (is_package_name body) BadName) ≡ None
+    → (m : SourceMeaning) × SpellsSource body m
 spelled_source body true h none =
-    let p = versioned-parts (is_package_name (name_before body) && is_closed (after_first is_open body)) (is_version (version_within body)) none in
-    let q = and_parts (is_package_name (name_before body)) (is_closed (after_first is_open body)) p.0 in
-    let version = version_from_test (version_within body) p.1 in
-    (source_of (name_before body) (Some version.0), spells_versioned body h q.0 q.1 version.0 version.1)
-spelled_source body false h none = (source_of body None, record { spelt = refl; named = passes-from_none (is_package_name body) BadName none })
+    let p =
+    versioned-parts (is_package_name (name_before body) && is_closed (after_first is_open body))
+    (is_version (version_within body)) none in
+    let q =
+    and_parts (is_package_name (name_before body)) (is_closed (after_first is_open body)) p.0 in
+    let version = version_from_test (version_within body) p.1 in (
+      source_of (name_before body) (Some version.0),
+      spells_versioned body h q.0 q.1 version.0 version.1,
+    )
+spelled_source body false h none = (
+  source_of body None,
+  record {
+    spelt = refl;
+    named = passes-from_none (is_package_name body) BadName none;
+  },
+)
 
 -- a body that spells a source has no refusal
 blank_newline : (b : ℕ) → is_blank_byte b ≡ true → (b == newline) ≡ false
 blank_newline b h = grind (arith, nat_tests)
 
 blanks_newline : (blanks : List ℕ) → IsTrue (is_all_blank blanks) → HasNoNewline blanks
-blanks_newline blanks h = each_from_list_all is_blank_byte (λ b. (b == newline) ≡ false) blank_newline blanks h
+blanks_newline blanks h =
+    each_from_list_all is_blank_byte (λ b. (b == newline) ≡ false) blank_newline blanks h
 
 graphic_newlines : (text : List ℕ) → AllByRecursion IsGraphic text → HasNoNewline text
 graphic_newlines text h = each IsGraphic (λ b. (b == newline) ≡ false) graphic_no_newline text h
 
-versioned_newline : (body name : List ℕ) (v : VersionMeaning) → SpellsVersioned body name v → HasNoNewline body
+versioned_newline : (body name : List ℕ) (v : VersionMeaning) → SpellsVersioned body name v
+    → HasNoNewline body
 versioned_newline body name v s =
     let P : ℕ → Type 0 = λ b. (b == newline) ≡ false in
     let closing : AllByRecursion P (41 ∷ []) = (refl, tt) in
-    let inner = join P s.left _ (blanks_newline s.left s.left_blank) (join P s.text _ (graphic_newlines s.text (version_graphic s.text v s.versioned)) (join P s.right (41 ∷ []) (blanks_newline s.right s.right_blank) closing)) in
-    let opening : AllByRecursion P (40 ∷ (s.left ++ (s.text ++ (s.right ++ (41 ∷ []))))) = (refl, inner) in
-    subst (AllByRecursion P) (sym s.spelt) (join P name _ (graphic_newlines name (package_name_graphic name s.named)) (join P s.gap _ (blanks_newline s.gap s.gap_blank) opening))
+    let inner =
+    join P s.left _ (blanks_newline s.left s.left_blank)
+    (join P s.text _ (graphic_newlines s.text (version_graphic s.text v s.versioned))
+    (join P s.right (41 ∷ []) (blanks_newline s.right s.right_blank) closing)) in
+    let opening : AllByRecursion P (40 ∷ (s.left ++ (s.text ++ (s.right ++ (41 ∷ []))))) =
+    (refl, inner) in
+    subst (AllByRecursion P) (sym s.spelt) (join P name _
+    (graphic_newlines name (package_name_graphic name s.named))
+    (join P s.gap _ (blanks_newline s.gap s.gap_blank) opening))
 
-unrefused_source : (body name : List ℕ) (v : Option VersionMeaning) → SpellsSource body (source_of name v) → source_refusal body ≡ None
+unrefused_source : (body name : List ℕ) (v : Option VersionMeaning)
+    → SpellsSource body (source_of name v) → source_refusal body ≡ None
 unrefused_source body name None s =
-    line_refusal-from body _ (ap holds_newline s.spelt ∙ one_line-graphic name (package_name_graphic name s.named))
-    (ap (λ t. cond t (versioned_refusal body) (refusal_unless (is_package_name body) BadName)) (ap has_version s.spelt ∙ no_open_name name s.named)
+    line_refusal-from body _ (ap holds_newline s.spelt
+    ∙ one_line-graphic name (package_name_graphic name s.named))
+    (ap (λ t. cond t (versioned_refusal body) (refusal_unless (is_package_name body) BadName))
+    (ap has_version s.spelt ∙ no_open_name name s.named)
     ∙ none-from_passes (is_package_name body) BadName (ap is_package_name s.spelt ∙ s.named))
 unrefused_source body name (Some v) s =
-    let named : (is_package_name (name_before body) && is_closed (after_first is_open body)) ≡ true =
-    and_from _ _ (ap is_package_name (versioned-name body name v s) ∙ s.named) (versioned-closed body name v s) in
+    let named : (is_package_name (name_before body) && is_closed (after_first is_open body))
+    ≡ true =
+    and_from _ _ (ap is_package_name (versioned-name body name v s) ∙ s.named)
+    (versioned-closed body name v s) in
     line_refusal-from body _ (HasNoNewline-test body (versioned_newline body name v s))
-    (ap (λ t. cond t (versioned_refusal body) (refusal_unless (is_package_name body) BadName)) (versioned-has body name v s)
-    ∙ ap (λ t. cond t (refusal_unless (is_version (version_within body)) BadVersion) (Some BadName)) named
-    ∙ none-from_passes (is_version (version_within body)) BadVersion (ap is_version (versioned-within body name v s) ∙ test_from_version s.text v s.versioned))
+    (ap (λ t. cond t (versioned_refusal body) (refusal_unless (is_package_name body) BadName))
+    (versioned-has body name v s)
+    ∙ ap (λ t. cond t (refusal_unless (is_version (version_within body)) BadVersion) (Some BadName))
+    named
+    ∙ none-from_passes (is_version (version_within body)) BadVersion
+    (ap is_version (versioned-within body name v s) ∙ test_from_version s.text v s.versioned))
 
 pub source_refusals : RefusalLaw SourceMeaning SpellsSource source_refusal
 source_refusals = record {
-  spelled = λ body none. spelled_source body (has_version body) refl (line_refusal-parts body _ none).1;
+  spelled =
+      λ body none. spelled_source body (has_version body) refl (line_refusal-parts body _ none).1;
   unrefused = λ body m s. unrefused_source body m.name m.version s;
 }

@@ -10,7 +10,8 @@ use Rattle.deb_field.specs.SourceNames.{source_meaning}
 use Rattle.deb_field.specs.VersionLaw.{version_spelled}
 use Rattle.deb_field.specs.declared.source.SourceName.{SourceName}
 
-spelled : (name : List ℕ) (version : Option Version) → IsTrue (is_package_name name) → (body : List ℕ) × SpellsSource body (source_of name (option_map meaning_of version))
+spelled : (name : List ℕ) (version : Option Version) → IsTrue (is_package_name name)
+    → (body : List ℕ) × SpellsSource body (source_of name (option_map meaning_of version))
 spelled name None named = (name, record { spelt = refl; named = named })
 spelled name (Some version) named = (
   name ++ (40 ∷ (spelling (components_of version) ++ 41 ∷ [])),
@@ -28,5 +29,6 @@ spelled name (Some version) named = (
   },
 )
 
-pub source_spelled : (source : SourceName) → (body : List ℕ) × SpellsSource body (source_meaning source)
+pub source_spelled : (source : SourceName)
+    → (body : List ℕ) × SpellsSource body (source_meaning source)
 source_spelled source = spelled source.name.now source.version source.well_formed

@@ -1,4 +1,5 @@
--- The field Source: the name of a source package, perhaps with a version in parentheses. Debian Policy 5.6.1.
+-- The field Source: the name of a source package, perhaps with a version in parentheses. Debian
+-- Policy 5.6.1.
 use Rattle.std.specs.Prelude.{◌≡◌, ℕ, ◌==◌, ◌&&◌, ◌-◌, Bool, false, cond, List, [], ◌∷◌, ◌++◌, length, take, Option, Some, None, MatchOption, IsTrue, codes, refl}
 use Rattle.std.specs.List.{list_any, before_first, after_first}
 use Rattle.deb_base.specs.Bodies.{is_all_blank}
@@ -42,7 +43,8 @@ pub record SpellsVersioned (body name : List ℕ) (version : VersionMeaning) : T
 -- The body spells the source.
 abbrev pub SpellsSource : List ℕ → SourceMeaning → Type 0
 SpellsSource body source =
-    MatchOption source.version (SpellsPlain body source.name) (λ version. SpellsVersioned body source.name version)
+    MatchOption source.version (SpellsPlain body source.name)
+    (λ version. SpellsVersioned body source.name version)
 
 -- a version in parentheses behind a name
 abbrev pub version_suffix : Option VersionMeaning → List ℕ
@@ -78,8 +80,8 @@ without_last text = take (length text - 1) text
 abbrev pub version_within : List ℕ → List ℕ
 version_within body = trimmed (without_last (after_first is_open body))
 
--- of what stands before the first opening parenthesis and behind it: the name and the closing parenthesis are judged
--- before the version
+-- of what stands before the first opening parenthesis and behind it: the name and the closing
+-- parenthesis are judged before the version
 abbrev pub refusal_around : List ℕ → List ℕ → Option Code
 refusal_around before behind =
     cond (is_package_name (without_trailing_blanks before) && is_closed behind)
@@ -91,17 +93,25 @@ versioned_refusal body = refusal_around (before_first is_open body) (after_first
 
 abbrev pub source_refusal : List ℕ → Option Code
 source_refusal body =
-    line_refusal body (cond (has_version body) (versioned_refusal body) (refusal_unless (is_package_name body) BadName))
+    line_refusal body (cond (has_version body) (versioned_refusal body)
+    (refusal_unless (is_package_name body) BadName))
 
-sources : (source_refusal (codes "aa") ≡ None) × (source_refusal (codes "aa(1.)") ≡ None) × (source_refusal (codes "aa ( 1 )") ≡ None) × (source_refusal (codes "aa\t(\t1-2 )") ≡ None)
+sources : (source_refusal (codes "aa") ≡ None) × (source_refusal (codes "aa(1.)") ≡ None)
+    × (source_refusal (codes "aa ( 1 )") ≡ None) × (source_refusal (codes "aa\t(\t1-2 )") ≡ None)
 unfolding first_fault
 sources = (refl, refl, refl, refl)
 
-bad_names : (source_refusal [] ≡ Some BadName) × (source_refusal (codes "A (1_)") ≡ Some BadName) × (source_refusal (codes "aa (") ≡ Some BadName) × (source_refusal (codes "aa(") ≡ Some BadName) × (source_refusal (codes "(1)") ≡ Some BadName) × (source_refusal (codes "aa (1) x") ≡ Some BadName) × (source_refusal (codes "aa bb") ≡ Some BadName)
+bad_names : (source_refusal [] ≡ Some BadName) × (source_refusal (codes "A (1_)") ≡ Some BadName)
+    × (source_refusal (codes "aa (") ≡ Some BadName)
+    × (source_refusal (codes "aa(") ≡ Some BadName) × (source_refusal (codes "(1)") ≡ Some BadName)
+    × (source_refusal (codes "aa (1) x") ≡ Some BadName)
+    × (source_refusal (codes "aa bb") ≡ Some BadName)
 unfolding first_fault
 bad_names = (refl, refl, refl, refl, refl, refl, refl)
 
-bad_versions : (source_refusal (codes "aa ()") ≡ Some BadVersion) × (source_refusal (codes "aa (1) (2)") ≡ Some BadVersion) × (source_refusal (codes "aa (1_)") ≡ Some BadVersion)
+bad_versions : (source_refusal (codes "aa ()") ≡ Some BadVersion)
+    × (source_refusal (codes "aa (1) (2)") ≡ Some BadVersion)
+    × (source_refusal (codes "aa (1_)") ≡ Some BadVersion)
 unfolding first_fault
 bad_versions = (refl, refl, refl)
 
@@ -111,5 +121,12 @@ two_lines = refl
 plain_text : source_text (record { name = codes "aa"; version = None }) ≡ codes "aa"
 plain_text = refl
 
-versioned_text : source_text (record { name = codes "aa"; version = Some (record { epoch = 0; upstream = ([], 1) ∷ (codes ".", 0) ∷ []; revision = ([], 0) ∷ [] }) }) ≡ codes "aa (1.0)"
+versioned_text : source_text (record {
+  name = codes "aa";
+  version = Some (record {
+    epoch = 0;
+    upstream = ([], 1) ∷ (codes ".", 0) ∷ [];
+    revision = ([], 0) ∷ [];
+  });
+}) ≡ codes "aa (1.0)"
 versioned_text = refl

@@ -26,23 +26,49 @@ module _ (test : List ℕ → Bool) where
   short body m s = omega (arith, ap length s.0)
 
   pub itself_law : CanonLaw (List ℕ) (SpellsItself test) text_itself
-  itself_law = record { one_meaning = one; reads_back = back; is_body = λ body m is s. subst IsBody s.0 is; is_short = short }
+  itself_law =
+      record {
+        one_meaning = one;
+        reads_back = back;
+        is_body = λ body m is s. subst IsBody s.0 is;
+        is_short = short;
+      }
 
 pub text_refusals : RefusalLaw (List ℕ) SpellsText text_refusal
 text_refusals = record { spelled = λ body none. (body, (refl, refl)); unrefused = λ body m s. refl }
 
 pub line_refusals : RefusalLaw (List ℕ) SpellsLine one_line_refusal
 line_refusals = record {
-  spelled = λ body none. (body, (refl, not_from_false (holds_newline body) (line_refusal-parts body None none).0));
+  spelled =
+      λ body none. (
+        body,
+        (
+          refl,
+          not_from_false (holds_newline body)
+              (line_refusal-parts body None none).0,
+        ),
+      );
   unrefused = λ body m s. line_refusal-from body None (not-true (holds_newline body) s.1) refl;
 }
 
 -- a test that only graphic bytes pass, and its code
-module _ (test : List ℕ → Bool) (code : Code) (graphic : (body : List ℕ) → test body ≡ true → AllByRecursion IsGraphic body) where
-  pub tested_refusals : RefusalLaw (List ℕ) (SpellsItself test) (λ body. line_refusal body (refusal_unless (test body) code))
+module _ (test : List ℕ → Bool) (code : Code)
+    (graphic : (body : List ℕ) → test body ≡ true → AllByRecursion IsGraphic body) where
+  pub tested_refusals : RefusalLaw (List ℕ) (SpellsItself test)
+      (λ body. line_refusal body (refusal_unless (test body) code))
   tested_refusals = record {
-    spelled = λ body none. (body, (refl, passes-from_none (test body) code (line_refusal-parts body (refusal_unless (test body) code) none).1));
-    unrefused = λ body m s. line_refusal-from body (refusal_unless (test body) code) (one_line-graphic body (graphic body s.1)) (none-from_passes (test body) code s.1);
+    spelled =
+        λ body none. (
+          body,
+          (
+            refl,
+            passes-from_none (test body) code
+                (line_refusal-parts body (refusal_unless (test body) code) none).1,
+          ),
+        );
+    unrefused =
+        λ body m s. line_refusal-from body (refusal_unless (test body) code)
+        (one_line-graphic body (graphic body s.1)) (none-from_passes (test body) code s.1);
   }
 
 package_byte_graphic : (b : ℕ) → is_package_byte b ≡ true → IsGraphic b
@@ -52,11 +78,16 @@ arch_byte_graphic : (b : ℕ) → is_arch_byte b ≡ true → IsGraphic b
 arch_byte_graphic b h = grind (arith, nat_tests)
 
 -- the bytes of names are graphic
-pub package_name_graphic : (name : List ℕ) → is_package_name name ≡ true → AllByRecursion IsGraphic name
-package_name_graphic name h = each_from_list_all is_package_byte IsGraphic package_byte_graphic name (and_parts _ (list_all is_package_byte name) h).1
+pub package_name_graphic : (name : List ℕ) → is_package_name name ≡ true
+    → AllByRecursion IsGraphic name
+package_name_graphic name h =
+    each_from_list_all is_package_byte IsGraphic package_byte_graphic name
+    (and_parts _ (list_all is_package_byte name) h).1
 
 pub arch_name_graphic : (name : List ℕ) → is_arch_name name ≡ true → AllByRecursion IsGraphic name
-arch_name_graphic name h = each_from_list_all is_arch_byte IsGraphic arch_byte_graphic name (and_parts (begins_small_or_digit name) (list_all is_arch_byte name) h).1
+arch_name_graphic name h =
+    each_from_list_all is_arch_byte IsGraphic arch_byte_graphic name
+    (and_parts (begins_small_or_digit name) (list_all is_arch_byte name) h).1
 
 pub name_refusals : RefusalLaw (List ℕ) SpellsName name_refusal
 name_refusals = tested_refusals is_package_name BadName package_name_graphic

@@ -48,11 +48,17 @@ SpellsArchitecture = SpellsItself is_arch_name
 abbrev pub architecture_refusal : List ℕ → Option Code
 architecture_refusal body = line_refusal body (refusal_unless (is_arch_name body) BadArchitecture)
 
-lines : (one_line_refusal [] ≡ None) × (one_line_refusal (codes "Aa <a@b>") ≡ None) × (one_line_refusal (codes "a\n b") ≡ Some NotOneLine)
+lines : (one_line_refusal [] ≡ None) × (one_line_refusal (codes "Aa <a@b>") ≡ None)
+    × (one_line_refusal (codes "a\n b") ≡ Some NotOneLine)
 lines = (refl, refl, refl)
 
-names : (name_refusal (codes "g++") ≡ None) × (name_refusal [] ≡ Some BadName) × (name_refusal (codes "a") ≡ Some BadName) × (name_refusal (codes "Aa") ≡ Some BadName) × (name_refusal (codes "aa\n b") ≡ Some NotOneLine)
+names : (name_refusal (codes "g++") ≡ None) × (name_refusal [] ≡ Some BadName)
+    × (name_refusal (codes "a") ≡ Some BadName) × (name_refusal (codes "Aa") ≡ Some BadName)
+    × (name_refusal (codes "aa\n b") ≡ Some NotOneLine)
 names = (refl, refl, refl, refl, refl)
 
-architectures : (architecture_refusal (codes "all") ≡ None) × (architecture_refusal (codes "linux-any") ≡ None) × (architecture_refusal [] ≡ Some BadArchitecture) × (architecture_refusal (codes "any all") ≡ Some BadArchitecture)
+architectures : (architecture_refusal (codes "all") ≡ None)
+    × (architecture_refusal (codes "linux-any") ≡ None)
+    × (architecture_refusal [] ≡ Some BadArchitecture)
+    × (architecture_refusal (codes "any all") ≡ Some BadArchitecture)
 architectures = (refl, refl, refl, refl)

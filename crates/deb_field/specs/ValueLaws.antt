@@ -29,38 +29,81 @@ use Rattle.deb_field.specs.declared.kind.Kind.{Kind as FieldKind}
 use Rattle.deb_field.specs.declared.kind.Kind.TheVariants.{Name, Source, Version, Architecture, ArchitectureWords, Flag, MultiArch, Number, Line, Folded, Relation, Text}
 
 pub kind_law : (kind : FieldKind) → CanonLaw ValueMeaning (SpellsKind kind) value_text
-kind_law Name = law-through (List ℕ) ValueMeaning NameMeans SpellsName text_itself value_text (λ m. refl) (itself_law is_package_name)
-kind_law Source = law-through SourceMeaning ValueMeaning SourceMeans SpellsSource source_text value_text (λ m. refl) source_law
-kind_law Version = law-through VersionMeaning ValueMeaning VersionMeans SpellsVersion version_text value_text (λ m. refl) version_law
-kind_law Architecture = law-through (List ℕ) ValueMeaning ArchitectureMeans SpellsArchitecture text_itself value_text (λ m. refl) (itself_law is_arch_name)
-kind_law ArchitectureWords = law-through (List (List ℕ)) ValueMeaning ArchitecturesMean SpellsArchitectures words_text value_text (λ m. refl) architectures_law
-kind_law Flag = law-through FlagWord ValueMeaning FlagMeans SpellsFlag flag_text value_text (λ m. refl) flag_law
-kind_law MultiArch = law-through MultiArchWord ValueMeaning MultiArchMeans SpellsMultiArch multi_arch_text value_text (λ m. refl) multi_arch_law
-kind_law Number = law-through ℕ ValueMeaning NumberMeans SpellsNumber digits_of value_text (λ m. refl) number_law
-kind_law Line = law-through (List ℕ) ValueMeaning LineMeans SpellsLine text_itself value_text (λ m. refl) (itself_law is_one_line)
-kind_law Folded = law-through (List (List ℕ)) ValueMeaning FoldedMeans SpellsFolded words_text value_text (λ m. refl) folded_law
-kind_law Relation = law-through (List ℕ) ValueMeaning TextMeans SpellsText text_itself value_text (λ m. refl) (itself_law is_any_text)
-kind_law Text = law-through (List ℕ) ValueMeaning TextMeans SpellsText text_itself value_text (λ m. refl) (itself_law is_any_text)
+kind_law Name =
+    law-through (List ℕ) ValueMeaning NameMeans SpellsName text_itself value_text (λ m. refl)
+    (itself_law is_package_name)
+kind_law Source =
+    law-through SourceMeaning ValueMeaning SourceMeans SpellsSource source_text value_text
+    (λ m. refl) source_law
+kind_law Version =
+    law-through VersionMeaning ValueMeaning VersionMeans SpellsVersion version_text value_text
+    (λ m. refl) version_law
+kind_law Architecture =
+    law-through (List ℕ) ValueMeaning ArchitectureMeans SpellsArchitecture text_itself value_text
+    (λ m. refl) (itself_law is_arch_name)
+kind_law ArchitectureWords =
+    law-through (List (List ℕ)) ValueMeaning ArchitecturesMean SpellsArchitectures words_text
+    value_text (λ m. refl) architectures_law
+kind_law Flag =
+    law-through FlagWord ValueMeaning FlagMeans SpellsFlag flag_text value_text (λ m. refl) flag_law
+kind_law MultiArch =
+    law-through MultiArchWord ValueMeaning MultiArchMeans SpellsMultiArch multi_arch_text value_text
+    (λ m. refl) multi_arch_law
+kind_law Number =
+    law-through ℕ ValueMeaning NumberMeans SpellsNumber digits_of value_text (λ m. refl) number_law
+kind_law Line =
+    law-through (List ℕ) ValueMeaning LineMeans SpellsLine text_itself value_text (λ m. refl)
+    (itself_law is_one_line)
+kind_law Folded =
+    law-through (List (List ℕ)) ValueMeaning FoldedMeans SpellsFolded words_text value_text
+    (λ m. refl) folded_law
+kind_law Relation =
+    law-through (List ℕ) ValueMeaning TextMeans SpellsText text_itself value_text (λ m. refl)
+    (itself_law is_any_text)
+kind_law Text =
+    law-through (List ℕ) ValueMeaning TextMeans SpellsText text_itself value_text (λ m. refl)
+    (itself_law is_any_text)
 
-pub kind_refusals : (kind : FieldKind) → RefusalLaw ValueMeaning (SpellsKind kind) (kind_refusal kind)
-kind_refusals Name = refusals-through (List ℕ) ValueMeaning NameMeans SpellsName name_refusal name_refusals
-kind_refusals Source = refusals-through SourceMeaning ValueMeaning SourceMeans SpellsSource source_refusal source_refusals
-kind_refusals Version = refusals-through VersionMeaning ValueMeaning VersionMeans SpellsVersion version_refusal version_refusals
-kind_refusals Architecture = refusals-through (List ℕ) ValueMeaning ArchitectureMeans SpellsArchitecture architecture_refusal architecture_refusals
-kind_refusals ArchitectureWords = refusals-through (List (List ℕ)) ValueMeaning ArchitecturesMean SpellsArchitectures architectures_refusal architectures_refusals
-kind_refusals Flag = refusals-through FlagWord ValueMeaning FlagMeans SpellsFlag flag_refusal flag_refusals
-kind_refusals MultiArch = refusals-through MultiArchWord ValueMeaning MultiArchMeans SpellsMultiArch multi_arch_refusal multi_arch_refusals
-kind_refusals Number = refusals-through ℕ ValueMeaning NumberMeans SpellsNumber number_refusal number_refusals
-kind_refusals Line = refusals-through (List ℕ) ValueMeaning LineMeans SpellsLine one_line_refusal line_refusals
-kind_refusals Folded = refusals-through (List (List ℕ)) ValueMeaning FoldedMeans SpellsFolded folded_refusal folded_refusals
-kind_refusals Relation = refusals-through (List ℕ) ValueMeaning TextMeans SpellsText text_refusal text_refusals
-kind_refusals Text = refusals-through (List ℕ) ValueMeaning TextMeans SpellsText text_refusal text_refusals
+pub kind_refusals : (kind : FieldKind)
+    → RefusalLaw ValueMeaning (SpellsKind kind) (kind_refusal kind)
+kind_refusals Name =
+    refusals-through (List ℕ) ValueMeaning NameMeans SpellsName name_refusal name_refusals
+kind_refusals Source =
+    refusals-through SourceMeaning ValueMeaning SourceMeans SpellsSource source_refusal
+    source_refusals
+kind_refusals Version =
+    refusals-through VersionMeaning ValueMeaning VersionMeans SpellsVersion version_refusal
+    version_refusals
+kind_refusals Architecture =
+    refusals-through (List ℕ) ValueMeaning ArchitectureMeans SpellsArchitecture architecture_refusal
+    architecture_refusals
+kind_refusals ArchitectureWords =
+    refusals-through (List (List ℕ)) ValueMeaning ArchitecturesMean SpellsArchitectures
+    architectures_refusal architectures_refusals
+kind_refusals Flag =
+    refusals-through FlagWord ValueMeaning FlagMeans SpellsFlag flag_refusal flag_refusals
+kind_refusals MultiArch =
+    refusals-through MultiArchWord ValueMeaning MultiArchMeans SpellsMultiArch multi_arch_refusal
+    multi_arch_refusals
+kind_refusals Number =
+    refusals-through ℕ ValueMeaning NumberMeans SpellsNumber number_refusal number_refusals
+kind_refusals Line =
+    refusals-through (List ℕ) ValueMeaning LineMeans SpellsLine one_line_refusal line_refusals
+kind_refusals Folded =
+    refusals-through (List (List ℕ)) ValueMeaning FoldedMeans SpellsFolded folded_refusal
+    folded_refusals
+kind_refusals Relation =
+    refusals-through (List ℕ) ValueMeaning TextMeans SpellsText text_refusal text_refusals
+kind_refusals Text =
+    refusals-through (List ℕ) ValueMeaning TextMeans SpellsText text_refusal text_refusals
 
 -- the same of the field of a name
-pub value_law : (doc : Doc) (name : List ℕ) → CanonLaw ValueMeaning (SpellsValue doc name) value_text
+pub value_law : (doc : Doc) (name : List ℕ)
+    → CanonLaw ValueMeaning (SpellsValue doc name) value_text
 value_law doc name = kind_law (kind_of doc name)
 
-pub value_refusals : (doc : Doc) (name : List ℕ) → RefusalLaw ValueMeaning (SpellsValue doc name) (value_refusal doc name)
+pub value_refusals : (doc : Doc) (name : List ℕ)
+    → RefusalLaw ValueMeaning (SpellsValue doc name) (value_refusal doc name)
 value_refusals doc name = kind_refusals (kind_of doc name)
 
 -- the kind goes by the name without case, and so do what spells a value and what is refused
@@ -68,10 +111,13 @@ pub kind_goes_by_name : KindGoesByName
 kind_goes_by_name doc a b same = ap (kind_among (table doc)) same
 
 pub kind_of_canonical_name : KindOfCanonicalName
-kind_of_canonical_name doc name = kind_goes_by_name doc (canonical_name name) name (folded-canonical_name name)
+kind_of_canonical_name doc name =
+    kind_goes_by_name doc (canonical_name name) name (folded-canonical_name name)
 
-pub spells_canonical_name : (doc : Doc) (name : List ℕ) → SpellsValue doc (canonical_name name) ≡ SpellsValue doc name
+pub spells_canonical_name : (doc : Doc) (name : List ℕ)
+    → SpellsValue doc (canonical_name name) ≡ SpellsValue doc name
 spells_canonical_name doc name = ap SpellsKind (kind_of_canonical_name doc name)
 
-pub refusal_of_canonical_name : (doc : Doc) (name : List ℕ) → value_refusal doc (canonical_name name) ≡ value_refusal doc name
+pub refusal_of_canonical_name : (doc : Doc) (name : List ℕ)
+    → value_refusal doc (canonical_name name) ≡ value_refusal doc name
 refusal_of_canonical_name doc name = ap kind_refusal (kind_of_canonical_name doc name)

@@ -44,15 +44,27 @@ value_meaning (Folded folded) = FoldedMeans (words_of folded.body.now)
 value_meaning (Text text) = TextMeans text.bytes.now
 
 -- each value is spelled by a body
-pub value_spelled : (v : Value) → (body : List ℕ) × SpellsKind (kind_of_value v) body (value_meaning v)
+pub value_spelled : (v : Value)
+    → (body : List ℕ) × SpellsKind (kind_of_value v) body (value_meaning v)
 value_spelled (Name name) = (name.bytes.now, (name.bytes.now, refl, (refl, name.well_formed)))
-value_spelled (Source source) = let s = source_spelled source in (s.0, (source_meaning source, refl, s.1))
-value_spelled (Version version) = (spelling (components_of version), (meaning_of version, refl, version_spelled version))
-value_spelled (Architecture name) = (name.bytes.now, (name.bytes.now, refl, (refl, name.well_formed)))
-value_spelled (ArchitectureWords names) = (names.body.now, (words_of names.body.now, refl, (refl, names.well_formed)))
+value_spelled (Source source) =
+    let s = source_spelled source in (s.0, (source_meaning source, refl, s.1))
+value_spelled (Version version) =
+    (spelling (components_of version), (meaning_of version, refl, version_spelled version))
+value_spelled (Architecture name) =
+    (name.bytes.now, (name.bytes.now, refl, (refl, name.well_formed)))
+value_spelled (ArchitectureWords names) =
+    (names.body.now, (words_of names.body.now, refl, (refl, names.well_formed)))
 value_spelled (Flag flag) = (flag_text flag, (flag, refl, refl))
 value_spelled (MultiArch word) = (multi_arch_text word, (word, refl, refl))
-value_spelled (Number number) = (number.digits.now, (value_of number.digits.now, refl, number_spelled number.digits.now number.well_formed))
+value_spelled (Number number) = (
+  number.digits.now,
+  (
+    value_of number.digits.now,
+    refl,
+    number_spelled number.digits.now number.well_formed,
+  ),
+)
 value_spelled (Line line) = (line.bytes.now, (line.bytes.now, refl, (refl, line.one_line)))
 value_spelled (Folded folded) = (folded.body.now, (words_of folded.body.now, refl, refl))
 value_spelled (Text text) = (text.bytes.now, (text.bytes.now, refl, (refl, refl)))

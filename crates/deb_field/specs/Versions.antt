@@ -16,6 +16,8 @@ is_version text = is_none (first_fault text)
 abbrev pub version_refusal : List ℕ → Option Code
 version_refusal body = line_refusal body (refusal_unless (is_version body) BadVersion)
 
-versions : (version_refusal (codes "1:2.0-1") ≡ None) × (version_refusal [] ≡ Some BadVersion) × (version_refusal (codes "1-") ≡ Some BadVersion) × (version_refusal (codes "1\n 2") ≡ Some NotOneLine)
+versions : (version_refusal (codes "1:2.0-1") ≡ None) × (version_refusal [] ≡ Some BadVersion)
+    × (version_refusal (codes "1-") ≡ Some BadVersion)
+    × (version_refusal (codes "1\n 2") ≡ Some NotOneLine)
 unfolding first_fault
 versions = (refl, refl, refl, refl)

@@ -40,7 +40,8 @@ architectures_refusal body = refusal_unless (list_all is_arch_name (words_of bod
 no_words : (words_of [] ≡ []) × (words_of (codes " \t\n ") ≡ [])
 no_words = (refl, refl)
 
-all_white_space : words_of (codes "aa \t bb\n cc\n\tdd") ≡ codes "aa" ∷ codes "bb" ∷ codes "cc" ∷ codes "dd" ∷ []
+all_white_space : words_of (codes "aa \t bb\n cc\n\tdd")
+    ≡ codes "aa" ∷ codes "bb" ∷ codes "cc" ∷ codes "dd" ∷ []
 all_white_space = refl
 
 -- a carriage return is no white space
@@ -50,5 +51,8 @@ other_bytes = refl
 text_of_words : words_text (words_of (codes "Aa <a@b>,\n  Bb  <b@b>")) ≡ codes "Aa <a@b>, Bb <b@b>"
 text_of_words = refl
 
-architecture_words : (architectures_refusal [] ≡ None) × (architectures_refusal (codes "any  all") ≡ None) × (architectures_refusal (codes "linux-any\n arm64") ≡ None) × (architectures_refusal (codes "any All") ≡ Some BadArchitecture)
+architecture_words : (architectures_refusal [] ≡ None)
+    × (architectures_refusal (codes "any  all") ≡ None)
+    × (architectures_refusal (codes "linux-any\n arm64") ≡ None)
+    × (architectures_refusal (codes "any All") ≡ Some BadArchitecture)
 architecture_words = (refl, refl, refl, refl)

@@ -20,7 +20,8 @@ ghost use Rattle.deb_field.specs.declared.kind.Kind.{Kind as FieldKind};
 /// In a field, and as one of a kind, a body spells at most one value; and the canonical text of a
 /// value that is spelled is a body that spells it, at most twice as long as each other one.
 pub fn values_have_canonical_text()
-    ensures of_fields { (doc : Doc) (name : List ℕ) → CanonLaw ValueMeaning (SpellsValue doc name) value_text }
+    ensures of_fields { (doc : Doc) (name : List ℕ)
+        → CanonLaw ValueMeaning (SpellsValue doc name) value_text }
     ensures of_kinds { (kind : FieldKind) → CanonLaw ValueMeaning (SpellsKind kind) value_text }
 {}
 
@@ -41,14 +42,17 @@ pub fn kinds_have_canonical_text()
 
 /// Values of a kind that are spelled have equal canonical text exactly where they are equal.
 pub fn canonical_text_tells_values()
-    ensures of_fields { (doc : Doc) (name : List ℕ) → OneText ValueMeaning (SpellsValue doc name) value_text }
+    ensures of_fields { (doc : Doc) (name : List ℕ)
+        → OneText ValueMeaning (SpellsValue doc name) value_text }
     ensures of_kinds { (kind : FieldKind) → OneText ValueMeaning (SpellsKind kind) value_text }
 {}
 
 /// In a field, and as one of a kind, a body has a refusal exactly where it spells no value.
 pub fn bodies_are_spelled_or_refused()
-    ensures of_fields { (doc : Doc) (name : List ℕ) → RefusalLaw ValueMeaning (SpellsValue doc name) (value_refusal doc name) }
-    ensures of_kinds { (kind : FieldKind) → RefusalLaw ValueMeaning (SpellsKind kind) (kind_refusal kind) }
+    ensures of_fields { (doc : Doc) (name : List ℕ)
+        → RefusalLaw ValueMeaning (SpellsValue doc name) (value_refusal doc name) }
+    ensures of_kinds { (kind : FieldKind)
+        → RefusalLaw ValueMeaning (SpellsKind kind) (kind_refusal kind) }
 {}
 
 /// The kind of a field goes by its name without case alone, so that it is the kind of the name's

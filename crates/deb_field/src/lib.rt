@@ -1,11 +1,12 @@
 //! What the bodies of Debian control fields mean: the kind of each field's value, its meaning, its
 //! canonical text, and why a body is refused.
 //!
-//! - [`kind_of`] finds the kind of a field by its name, without ASCII case (Debian Policy 5.1, 5.6).
-//! - [`Value::parse`] reads a body as a value of that kind; [`Value`] has one variant for each kind,
-//!   with a type of its own. Values borrow the body and take no memory.
-//! - [`Canon`] gives canonical text: two bodies of a field have equal canonical text exactly if they
-//!   mean the same, and canonical text is a body that spells the same value.
+//! - [`kind_of`] finds the kind of a field by its name, without ASCII case (Debian Policy 5.1,
+//!   5.6).
+//! - [`Value::parse`] reads a body as a value of that kind; [`Value`] has one variant for each
+//!   kind, with a type of its own. Values borrow the body and take no memory.
+//! - [`Canon`] gives canonical text: two bodies of a field have equal canonical text exactly if
+//!   they mean the same, and canonical text is a body that spells the same value.
 //!
 //! ```text
 //! let value = Value::parse(alloc, Doc::Packages, b"Source", b"aa(1.)")?;

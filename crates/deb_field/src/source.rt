@@ -20,7 +20,8 @@ pub struct SourceName<'a> {
     name: &'a [u8],
     version: Option<Version<'a>>,
     ghost well_formed: { IsTrue (is_package_name name.now) },
-    ghost short: { length (source_text (source_of name.now (option_map meaning_of version))) < 2 ^ 64 },
+    ghost short: { length (source_text (source_of name.now (option_map meaning_of version)))
+        < 2 ^ 64 },
 }
 
 impl<'a> SourceName<'a> {
@@ -70,7 +71,8 @@ impl<'a> SourceName<'a> {
     /// The source of what stands before the first opening parenthesis and behind it.
     fn with_version(before: &'a [u8], behind: &'a [u8]) -> Result<SourceName<'a>, Code>
         requires { length before.now + length behind.now < 2 ^ 63 }
-        ensures ok { IfOk result (λ source. ReadsAround before.now behind.now (source_meaning source)) }
+        ensures ok { IfOk result (λ source. ReadsAround before.now behind.now
+            (source_meaning source)) }
         ensures refused { IfErr result (λ code. refusal_around before.now behind.now ≡ Some code) }
     {
         let name = without_trailing_blanks(before);
@@ -89,7 +91,9 @@ impl<'a> SourceName<'a> {
 
 /// What stands before the first opening parenthesis, and what stands behind it.
 fn cut_at_open(body: &[u8]) -> Option<(&[u8], &[u8])>
-    ensures { MatchOption result (has_version body.now ≡ false) (λ cut. (has_version body.now ≡ true) × (cut.0.now ≡ before_first is_open body.now) × (cut.1.now ≡ after_first is_open body.now)) }
+    ensures { MatchOption result (has_version body.now ≡ false)
+        (λ cut. (has_version body.now ≡ true) × (cut.0.now ≡ before_first is_open body.now)
+        × (cut.1.now ≡ after_first is_open body.now)) }
 {
     let at = open_at(body);
     if at == body.len() {

@@ -49,7 +49,8 @@ impl Canon for SourceName<'_> {
 
 /// Appends the canonical text, or a part of it where memory is wanting.
 fn append(source: &SourceName<'_>, out: &mut Vec<u8>) -> Result<(), AllocError>
-    ensures ok { OnOk result (out.new.items ≡ out.old.items ++ source_text (source_meaning source.now)) }
+    ensures ok { OnOk result (out.new.items
+        ≡ out.old.items ++ source_text (source_meaning source.now)) }
     ensures begun { OnErr result (Extends out.old.items out.new.items) }
 {
     out.extend_from_slice(source.name())?;

@@ -40,7 +40,8 @@ impl<'a> Iterator for Words<'a> {
 
 /// The first word of a text, and what follows it.
 fn cut_word(text: &[u8]) -> Option<(&[u8], &[u8])>
-    ensures { MatchOption result (words_of text.now ≡ []) (λ cut. words_of text.now ≡ cut.0.now ∷ words_of cut.1.now) }
+    ensures { MatchOption result (words_of text.now ≡ [])
+        (λ cut. words_of text.now ≡ cut.0.now ∷ words_of cut.1.now) }
 {
     let text = &text[leading_white(text)..];
     let len = word_len(text);

@@ -1,5 +1,6 @@
--- The walk of a reader through the text ahead of it: blank lines that are passed, a line of which nothing is kept, and
--- where the next paragraph ends. Debian Policy 5.1; the limits are this project's own.
+-- The walk of a reader through the text ahead of it: blank lines that are passed, a line of which
+-- nothing is kept, and where the next paragraph ends. Debian Policy 5.1; the limits are this
+-- project's own.
 use Rattle.std.specs.Prelude.{◌≡◌, ℕ, ◌+◌, ◌-◌, ◌<◌, ◌≤◌, ◌⊎◌, false, List, [], ◌∷◌, ◌++◌, length, take, drop, Option, Some, None, Result, Ok, Err, IsTrue}
 use Rattle.deb_base.specs.Bodies.{Line, newline, HasNoNewline, is_blank, pieces_of, paragraph_limit}
 use Rattle.deb_base.specs.declared.code.Code.TheVariants.{FileTooLong}
@@ -22,10 +23,12 @@ use Rattle.deb_syntax.specs.declared.first.First.TheVariants.{End, Kept, Dropped
 
 -- the answer on a text of which so many bytes may be looked at, and whose first line has number n
 abbrev pub left_answer : ℕ → ℕ → List ℕ → Result (Option Seen) Refusal
-left_answer n room text = answer_of_first (line_beyond n room text) (paragraphs_from n (lines_of (part_within room text)))
+left_answer n room text =
+    answer_of_first (line_beyond n room text) (paragraphs_from n (lines_of (part_within room text)))
 
 abbrev pub left_begin : ℕ → ℕ → List ℕ → Result (Option ℕ) Refusal
-left_begin n room text = begin_of_first (line_beyond n room text) (paragraphs_from n (lines_of (part_within room text)))
+left_begin n room text =
+    begin_of_first (line_beyond n room text) (paragraphs_from n (lines_of (part_within room text)))
 
 -- how many bytes of the text ahead may be looked at
 abbrev pub room_ahead : FeedState → ℕ
@@ -70,7 +73,8 @@ pub record KeepsLine (begun : Begun) (feed : FeedState) : Type 0 where
   pub ends : EndsInSight feed.unread line feed
   pub near : IsNear feed.unread
 
--- A line that is longer than a paragraph may be stands before the unread bytes, which begin with its newline or are none.
+-- A line that is longer than a paragraph may be stands before the unread bytes, which begin with
+-- its newline or are none.
 pub record HidesLine (begun : Begun) (feed : FeedState) (hidden : List ℕ) : Type 0 where
   pub describes : Describes begun hidden
   pub long : paragraph_limit ≤ length hidden
@@ -88,9 +92,14 @@ pub record PassesAll (text : List ℕ) (before after : FeedState) : Type 0 where
 -- What the first line that isn't blank of a text is, blank lines before it having passed.
 abbrev pub IsFirst : List ℕ → FeedState → Result First Fault → FeedState → Option (List ℕ) → Type 0
 IsFirst text before (Ok End) after left = PassesAll text before after × IsAhead [] [] after left
-IsFirst text before (Ok (Kept begun)) after left = (ahead : List ℕ) × PassesBlanks text before after ahead × IsAhead ahead [] after left
-IsFirst text before (Ok (Dropped begun)) after left = (ahead : List ℕ) × (hidden : List ℕ) × PassesBlanks text before after ahead × IsAhead ahead hidden after left × HidesLine begun after hidden
-IsFirst text before (Err (Refused refusal)) after left = (left_answer (before.lines + 1) (room_ahead before) text ≡ Err refusal) × (left_begin (before.lines + 1) (room_ahead before) text ≡ Err refusal)
+IsFirst text before (Ok (Kept begun)) after left =
+    (ahead : List ℕ) × PassesBlanks text before after ahead × IsAhead ahead [] after left
+IsFirst text before (Ok (Dropped begun)) after left =
+    (ahead : List ℕ) × (hidden : List ℕ) × PassesBlanks text before after ahead
+    × IsAhead ahead hidden after left × HidesLine begun after hidden
+IsFirst text before (Err (Refused refusal)) after left =
+    (left_answer (before.lines + 1) (room_ahead before) text ≡ Err refusal)
+    × (left_begin (before.lines + 1) (room_ahead before) text ≡ Err refusal)
 IsFirst text before (Err Memory) after left = Unit {0}
 IsFirst text before (Err Read) after left = Unit {0}
 IsFirst text before (Err Write) after left = ⊥
@@ -102,8 +111,10 @@ HasFirst (Ok (Kept begun)) after = KeepsLine begun after
 HasFirst (Ok (Dropped begun)) after = (hidden : List ℕ) × HidesLine begun after hidden
 HasFirst (Err fault) after = Unit {0}
 
--- The line behind the first `run.bytes` unread bytes came to its end, and none of its bytes but those at its end were kept.
-pub record DropsLine (before : FeedState) (run : Run) (dropped : DroppedLine) (after : FeedState) : Type 0 where
+-- The line behind the first `run.bytes` unread bytes came to its end, and none of its bytes but
+-- those at its end were kept.
+pub record DropsLine (before : FeedState) (run : Run) (dropped : DroppedLine)
+    (after : FeedState) : Type 0 where
   pub line : List ℕ
   pub describes : Describes dropped.line line
   pub more : List ℕ
@@ -115,33 +126,47 @@ pub record DropsLine (before : FeedState) (run : Run) (dropped : DroppedLine) (a
 
 -- where its newline stands among the unread bytes
 abbrev pub HasNewline : FeedState → Run → List ℕ → Option ℕ → FeedState → Type 0
-HasNewline before run line None after = (after.unread ≡ take run.bytes before.unread) × IsTrue after.ended × (run.bytes + length line ≤ room_ahead before)
+HasNewline before run line None after =
+    (after.unread ≡ take run.bytes before.unread) × IsTrue after.ended
+    × (run.bytes + length line ≤ room_ahead before)
 HasNewline before run line (Some at) after =
-    (more : List ℕ) × (run.bytes ≤ at) × (drop at after.unread ≡ newline ∷ more) × (length more ≤ piece_limit) × (run.bytes + length line + 1 ≤ room_ahead before)
+    (more : List ℕ) × (run.bytes ≤ at) × (drop at after.unread ≡ newline ∷ more)
+    × (length more ≤ piece_limit) × (run.bytes + length line + 1 ≤ room_ahead before)
 
 -- what of the text ahead is the line, by where its newline stands
-abbrev pub TextAfterLine : List ℕ → FeedState → Run → List ℕ → Option ℕ → FeedState → Option (List ℕ) → Type 0
-TextAfterLine text before run line None after left = (text ≡ take run.bytes before.unread ++ line) × (left ≡ Some [])
+abbrev pub TextAfterLine : List ℕ → FeedState → Run → List ℕ → Option ℕ → FeedState
+    → Option (List ℕ) → Type 0
+TextAfterLine text before run line None after left =
+    (text ≡ take run.bytes before.unread ++ line) × (left ≡ Some [])
 TextAfterLine text before run line (Some at) after left =
-    (rest : List ℕ) × (left ≡ Some rest) × (text ≡ take run.bytes before.unread ++ (line ++ (drop at after.unread ++ rest))) × (IsTrue after.ended → rest ≡ [])
+    (rest : List ℕ) × (left ≡ Some rest)
+    × (text ≡ take run.bytes before.unread ++ (line ++ (drop at after.unread ++ rest)))
+    × (IsTrue after.ended → rest ≡ [])
 
 -- What is found behind a run where a line is dropped.
 abbrev pub FindsDropped : FeedState → Run → Result DroppedLine Fault → FeedState → Type 0
-FindsDropped before run (Ok dropped) after = (d : DropsLine before run dropped after) × HasNewline before run d.line dropped.newline after
+FindsDropped before run (Ok dropped) after =
+    (d : DropsLine before run dropped after) × HasNewline before run d.line dropped.newline after
 FindsDropped before run (Err fault) after = Unit {0}
 
--- The same of the text ahead. Refused: the file is too long, and the line goes on beyond what may be looked at.
-abbrev pub IsDropped : List ℕ → FeedState → Run → Result DroppedLine Fault → FeedState → Option (List ℕ) → Type 0
-IsDropped text before run (Ok dropped) after left = (d : DropsLine before run dropped after) × HasNewline before run d.line dropped.newline after × TextAfterLine text before run d.line dropped.newline after left
+-- The same of the text ahead. Refused: the file is too long, and the line goes on beyond what may
+-- be looked at.
+abbrev pub IsDropped : List ℕ → FeedState → Run → Result DroppedLine Fault → FeedState
+    → Option (List ℕ) → Type 0
+IsDropped text before run (Ok dropped) after left =
+    (d : DropsLine before run dropped after) × HasNewline before run d.line dropped.newline after
+    × TextAfterLine text before run d.line dropped.newline after left
 IsDropped text before run (Err (Refused refusal)) after left =
-    (refusal ≡ record { code = FileTooLong; line = before.lines + run.lines + 1 }) × (room_ahead before < length text)
-    × ((line : List ℕ) × (take (room_ahead before) text ≡ take run.bytes before.unread ++ line) × HasNoNewline line)
+    (refusal ≡ record { code = FileTooLong; line = before.lines + run.lines + 1 })
+    × (room_ahead before < length text)
+    × ((line : List ℕ) × (take (room_ahead before) text ≡ take run.bytes before.unread ++ line)
+    × HasNoNewline line)
 IsDropped text before run (Err Memory) after left = Unit {0}
 IsDropped text before run (Err Read) after left = Unit {0}
 IsDropped text before run (Err Write) after left = ⊥
 
--- The next paragraph ends at `end` of the unread bytes; with the blank line behind it, or the file's end, it is `bytes`
--- bytes and `lines` lines of the file, and `skip` unread ones.
+-- The next paragraph ends at `end` of the unread bytes; with the blank line behind it, or the
+-- file's end, it is `bytes` bytes and `lines` lines of the file, and `skip` unread ones.
 pub record IsExtentOf (e : Extent) (feed : FeedState) : Type 0 where
   pub first : Line
   pub run : List Line
@@ -154,8 +179,10 @@ pub record IsExtentOf (e : Extent) (feed : FeedState) : Type 0 where
   pub few : e.lines ≤ e.bytes
   pub near : length (drop e.skip feed.unread) ≤ piece_limit
 
--- what has passed with the paragraph: its lines and a blank one with its newline, or all of the text
-pub record PassesParagraph (text : List ℕ) (e : Extent) (feed : FeedState) (left : Option (List ℕ)) (run : List Line) : Type 0 where
+-- what has passed with the paragraph: its lines and a blank one with its newline, or all of the
+-- text
+pub record PassesParagraph (text : List ℕ) (e : Extent) (feed : FeedState) (left : Option (List ℕ))
+    (run : List Line) : Type 0 where
   pub passed : List ℕ
   pub ahead : List ℕ
   pub ending : List Line
@@ -176,18 +203,22 @@ abbrev pub HasExtent : Result Extent Fault → FeedState → Type 0
 HasExtent (Ok e) after = IsExtentOf e after
 HasExtent (Err fault) after = Unit {0}
 
--- These lines are the next paragraph of a text of which so many bytes may be looked at, and whose first line has number n,
--- and what is judged of them is the answer.
+-- These lines are the next paragraph of a text of which so many bytes may be looked at, and whose
+-- first line has number n, and what is judged of them is the answer.
 pub record IsNextRun (n room : ℕ) (text : List ℕ) (run : List Line) : Type 0 where
   pub more : List Paragraph
-  pub next : paragraphs_from n (lines_of (part_within room text)) ≡ record { first = n; lines = run } ∷ more
+  pub next : paragraphs_from n (lines_of (part_within room text))
+      ≡ record { first = n; lines = run } ∷ more
   pub answer : left_answer n room text ≡ seen_from n (judged n run)
 
 -- What is answered of the text ahead, and what passes: a paragraph, or why there is none.
-abbrev pub IsExtentAhead : List ℕ → FeedState → Result Extent Fault → FeedState → Option (List ℕ) → Type 0
+abbrev pub IsExtentAhead : List ℕ → FeedState → Result Extent Fault → FeedState → Option (List ℕ)
+    → Type 0
 IsExtentAhead text before (Ok e) after left =
-    (x : IsExtentOf e after) × PassesParagraph text e after left (x.first ∷ x.run) × IsNextRun (before.lines + 1) (room_ahead before) text (x.first ∷ x.run)
-IsExtentAhead text before (Err (Refused refusal)) after left = left_answer (before.lines + 1) (room_ahead before) text ≡ Err refusal
+    (x : IsExtentOf e after) × PassesParagraph text e after left (x.first ∷ x.run)
+    × IsNextRun (before.lines + 1) (room_ahead before) text (x.first ∷ x.run)
+IsExtentAhead text before (Err (Refused refusal)) after left =
+    left_answer (before.lines + 1) (room_ahead before) text ≡ Err refusal
 IsExtentAhead text before (Err Memory) after left = Unit {0}
 IsExtentAhead text before (Err Read) after left = Unit {0}
 IsExtentAhead text before (Err Write) after left = ⊥

@@ -1,4 +1,5 @@
--- A file that is read by pieces: the bytes of it that are unread, and how far it may be looked at (this project's own).
+-- A file that is read by pieces: the bytes of it that are unread, and how far it may be looked at
+-- (this project's own).
 use Rattle.std.specs.Prelude.{◌≡◌, ℕ, ◌+◌, ◌-◌, ◌<◌, ◌≤◌, Bool, List, [], ◌++◌, length, take, drop, slice_range, vec_len, Option, Result, OnOk, OnErr, IfErr, IsErrOf, IsTrue, IsFalse}
 use Rattle.std.specs.Io.KnownBytes.{Consumes, IsAtEnd}
 use Rattle.deb_base.specs.Devices.{Shown, read_failures_after}
@@ -26,8 +27,10 @@ IsMemoryOrRead Write = ⊥
 abbrev pub unread_of : Window → List ℕ
 unread_of window = slice_range window.buffer.items window.start window.filled
 
--- one piece of `count` bytes, which the reader had left and has no longer, came behind the unread bytes
-pub record Fills (before : Window) (left : Option (List ℕ)) (count : ℕ) (after : Window) (left_after : Option (List ℕ)) : Type 0 where
+-- one piece of `count` bytes, which the reader had left and has no longer, came behind the unread
+-- bytes
+pub record Fills (before : Window) (left : Option (List ℕ)) (count : ℕ) (after : Window)
+    (left_after : Option (List ℕ)) : Type 0 where
   pub piece : List ℕ
   pub counted : length piece ≡ count
   pub short : count ≤ piece_limit
@@ -35,8 +38,8 @@ pub record Fills (before : Window) (left : Option (List ℕ)) (count : ℕ) (aft
   pub consumed : Consumes left left_after piece
   pub at_end : count ≡ 0 → IsAtEnd left_after
 
--- what has come of a file and hasn't passed; the length of the buffer, room included; how many bytes and lines of the
--- file have passed; whether a read has told its end
+-- what has come of a file and hasn't passed; the length of the buffer, room included; how many
+-- bytes and lines of the file have passed; whether a read has told its end
 pub record FeedState : Type 0 where
   pub unread : List ℕ
   pub held : ℕ
@@ -45,7 +48,14 @@ pub record FeedState : Type 0 where
   pub ended : Bool
 
 abbrev pub feed_state : Feed → FeedState
-feed_state feed = record { unread = unread_of feed.window; held = vec_len feed.window.buffer; bytes = feed.bytes; lines = feed.lines; ended = feed.ended }
+feed_state feed =
+    record {
+      unread = unread_of feed.window;
+      held = vec_len feed.window.buffer;
+      bytes = feed.bytes;
+      lines = feed.lines;
+      ended = feed.ended;
+    }
 
 -- all bytes of the buffer: such as have passed, the unread ones, and room
 abbrev pub buffer_of : Feed → List ℕ
@@ -55,8 +65,10 @@ buffer_of feed = feed.window.buffer.items
 abbrev pub start_of : Feed → ℕ
 start_of feed = feed.window.start
 
--- One piece, which the reader had left and has no longer, came behind the unread bytes. It is empty exactly at the end.
-pub record Comes (before : FeedState) (left : Option (List ℕ)) (after : FeedState) (left_after : Option (List ℕ)) : Type 0 where
+-- One piece, which the reader had left and has no longer, came behind the unread bytes. It is empty
+-- exactly at the end.
+pub record Comes (before : FeedState) (left : Option (List ℕ)) (after : FeedState)
+    (left_after : Option (List ℕ)) : Type 0 where
   pub piece : List ℕ
   pub short : length piece ≤ piece_limit
   pub unread : after.unread ≡ before.unread ++ piece
@@ -68,7 +80,8 @@ pub record Comes (before : FeedState) (left : Option (List ℕ)) (after : FeedSt
   pub at_end : IsTrue after.ended → IsAtEnd left_after
 
 -- Nothing came, and nothing of the file has changed but the room behind it.
-pub record Stays (before : FeedState) (left : Option (List ℕ)) (after : FeedState) (left_after : Option (List ℕ)) : Type 0 where
+pub record Stays (before : FeedState) (left : Option (List ℕ)) (after : FeedState)
+    (left_after : Option (List ℕ)) : Type 0 where
   pub unread : after.unread ≡ before.unread
   pub bytes : after.bytes ≡ before.bytes
   pub lines : after.lines ≡ before.lines
@@ -76,19 +89,21 @@ pub record Stays (before : FeedState) (left : Option (List ℕ)) (after : FeedSt
   pub kept : Consumes left left_after []
 
 -- A call that takes one piece of a reader.
-pub record TakesPiece (before : FeedState) (shown : Shown) {T : Type 0} (result : Result T Fault) (after : FeedState) (shown_after : Shown) : Type 0 where
+pub record TakesPiece (before : FeedState) (shown : Shown) {T : Type 0} (result : Result T Fault)
+    (after : FeedState) (shown_after : Shown) : Type 0 where
   pub taken : OnOk result (Comes before shown.bytes after shown_after.bytes)
   pub failed : OnErr result (Stays before shown.bytes after shown_after.bytes)
   pub fault : IfErr result IsMemoryOrRead
   pub untouched : IsErrOf result Memory → shown_after ≡ shown
   pub counted : shown_after.failures ≡ read_failures_after shown.failures result
 
--- how many bytes of the unread ones and behind them may be looked at, where so many bytes of the file are hidden
+-- how many bytes of the unread ones and behind them may be looked at, where so many bytes of the
+-- file are hidden
 abbrev pub room_of : FeedState → ℕ → ℕ
 room_of state hidden = file_limit - state.bytes - hidden
 
--- what stands behind the unread bytes that may be looked at: the byte that the file has too many; nothing; or what the
--- reader has left
+-- what stands behind the unread bytes that may be looked at: the byte that the file has too many;
+-- nothing; or what the reader has left
 abbrev pub IsTail : FeedState → ℕ → Tail → Type 0
 IsTail state hidden Beyond = room_of state hidden < length state.unread
 IsTail state hidden Nothing = (length state.unread ≤ room_of state hidden) × IsTrue state.ended
@@ -100,7 +115,8 @@ pub record Sees (state : FeedState) (hidden : ℕ) (sight : Sight) : Type 0 wher
   pub tail : IsTail state hidden sight.tail
 
 -- so many unread bytes, which are bytes and lines of the file, have passed
-pub record PassesOn (before : FeedState) (skip more_bytes more_lines : ℕ) (after : FeedState) : Type 0 where
+pub record PassesOn (before : FeedState) (skip more_bytes more_lines : ℕ)
+    (after : FeedState) : Type 0 where
   pub unread : after.unread ≡ drop skip before.unread
   pub held : after.held ≡ before.held
   pub bytes : after.bytes ≡ before.bytes + more_bytes

@@ -27,7 +27,9 @@ pub record SpellsField (lines : List Line) (field : Field) : Type 0 where
 -- The lines, of which the first has number n, spell the fields one after another.
 abbrev pub SpellsFields : ℕ → List Line → List Field → Type 0
 SpellsFields n lines [] = lines ≡ []
-SpellsFields n lines (field ∷ fields) = (own : List Line) × (rest : List Line) × (lines ≡ own ++ rest) × (field.line ≡ n) × SpellsField own field × SpellsFields (n + length own) rest fields
+SpellsFields n lines (field ∷ fields) =
+    (own : List Line) × (rest : List Line) × (lines ≡ own ++ rest) × (field.line ≡ n)
+    × SpellsField own field × SpellsFields (n + length own) rest fields
 
 -- whether a field of the name stands among the fields, without ASCII case
 abbrev pub has_name : List ℕ → List Field → Bool
@@ -45,7 +47,8 @@ is_field field = is_name field.name && is_body field.body
 -- whether fields can be a paragraph's: each is one, and no two have one name
 abbrev pub are_fields : List Field → Bool
 are_fields [] = true
-are_fields (field ∷ fields) = is_field field && not (has_name field.name fields) && are_fields fields
+are_fields (field ∷ fields) =
+    is_field field && not (has_name field.name fields) && are_fields fields
 
 -- whether the first line of a paragraph, and those of its fields, are counted from 1
 abbrev pub are_numbered : ℕ → List Field → Bool
@@ -61,30 +64,60 @@ pub record SpellsParagraph (paragraph : Paragraph) (fields : List Field) : Type 
   pub spelt : SpellsFields paragraph.first paragraph.lines fields
   pub distinct : AreDistinct fields
 
--- spaces and tabs are cut at the ends of a body alone; its continuation markers and inner line ends stay
-description : SpellsField (codes "Description:  short  " ∷ codes " one\t" ∷ codes " ." ∷ codes "\ttwo  " ∷ []) (record { name = codes "Description"; line = 2; body = codes "short  \n one\t\n .\n\ttwo" })
+-- spaces and tabs are cut at the ends of a body alone; its continuation markers and inner line ends
+-- stay
+description : SpellsField (codes "Description:  short  " ∷ codes " one\t" ∷ codes " ."
+    ∷ codes "\ttwo  " ∷ []) (record {
+      name = codes "Description";
+      line = 2;
+      body = codes "short  \n one\t\n .\n\ttwo";
+    })
 unfolding paragraph_limit
-description = record { before = codes "  "; after = codes "  "; spelt = refl; before_blank = refl; after_blank = refl; name = refl; body = refl }
+description =
+    record {
+      before = codes "  ";
+      after = codes "  ";
+      spelt = refl;
+      before_blank = refl;
+      after_blank = refl;
+      name = refl;
+      body = refl;
+    }
 
 -- a body that begins behind a line's end
-files : SpellsField (codes "Files:" ∷ codes " aa" ∷ []) (record { name = codes "Files"; line = 1; body = codes "\n aa" })
+files : SpellsField (codes "Files:" ∷ codes " aa" ∷ [])
+    (record { name = codes "Files"; line = 1; body = codes "\n aa" })
 unfolding paragraph_limit
-files = record { before = []; after = []; spelt = refl; before_blank = refl; after_blank = refl; name = refl; body = refl }
+files =
+    record {
+      before = [];
+      after = [];
+      spelt = refl;
+      before_blank = refl;
+      after_blank = refl;
+      name = refl;
+      body = refl;
+    }
 
-name_twice : has_name (codes "pACKAGE") (record { name = codes "Package"; line = 1; body = codes "aa" } ∷ []) ≡ true
+name_twice : has_name (codes "pACKAGE") (record
+    { name = codes "Package"; line = 1; body = codes "aa" } ∷ []) ≡ true
 name_twice = refl
 
-other_name : has_name (codes "Package-") (record { name = codes "Package"; line = 1; body = codes "aa" } ∷ []) ≡ false
+other_name : has_name (codes "Package-") (record
+    { name = codes "Package"; line = 1; body = codes "aa" } ∷ []) ≡ false
 other_name = refl
 
-two_fields : are_fields (record { name = codes "A"; line = 1; body = codes "1" } ∷ record { name = codes "B"; line = 2; body = [] } ∷ []) ≡ true
+two_fields : are_fields (record { name = codes "A"; line = 1; body = codes "1" }
+    ∷ record { name = codes "B"; line = 2; body = [] } ∷ []) ≡ true
 unfolding is_utf8 chars encode
 two_fields = refl
 
-one_name_for_two : are_fields (record { name = codes "A"; line = 1; body = codes "1" } ∷ record { name = codes "a"; line = 2; body = [] } ∷ []) ≡ false
+one_name_for_two : are_fields (record { name = codes "A"; line = 1; body = codes "1" }
+    ∷ record { name = codes "a"; line = 2; body = [] } ∷ []) ≡ false
 unfolding is_utf8 chars encode
 one_name_for_two = refl
 
-no_name_and_no_body : (is_field (record { name = codes "-A"; line = 1; body = [] }) ≡ false) × (is_field (record { name = codes "A"; line = 1; body = codes "1 " }) ≡ false)
+no_name_and_no_body : (is_field (record { name = codes "-A"; line = 1; body = [] }) ≡ false)
+    × (is_field (record { name = codes "A"; line = 1; body = codes "1 " }) ≡ false)
 unfolding is_utf8 chars encode
 no_name_and_no_body = (refl, refl)

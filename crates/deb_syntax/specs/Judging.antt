@@ -1,5 +1,5 @@
--- What is judged of a paragraph's lines, one after another: its fields, or the first refusal of a line.
--- Debian Policy 5.1; deb822(5), "Syntax". The order of the refusals is this project's own.
+-- What is judged of a paragraph's lines, one after another: its fields, or the first refusal of a
+-- line. Debian Policy 5.1; deb822(5), "Syntax". The order of the refusals is this project's own.
 use Rattle.std.specs.Prelude.{◌≡◌, ℕ, ◌+◌, ◌==◌, ◌&&◌, Bool, true, false, cond, not, nat_lt, List, [], ◌∷◌, ◌++◌, length, take, slice_index, map, Result, Ok, Err, codes, refl}
 use Rattle.std.specs.List.{list_any, starts_with, before_first, after_first}
 use Rattle.std.specs.Str.{is_utf8, chars}
@@ -12,7 +12,8 @@ use Rattle.deb_syntax.specs.Fields.{Field, has_name}
 use Rattle.deb_base.specs.FieldNames.{colon, is_name}
 use Rattle.deb_base.specs.Trimming.{trimmed}
 
--- a field of which more lines may come: in place of its body, all that stands behind its colon so far
+-- a field of which more lines may come: in place of its body, all that stands behind its colon so
+-- far
 abbrev pub with_text : Field → List ℕ → Field
 with_text field text = record field { body = text }
 
@@ -44,7 +45,12 @@ is_named line n = nat_lt n (length line) && (slice_index line n == colon) && is_
 
 -- the field that a line begins
 abbrev pub begun : ℕ → Line → Field
-begun n line = record { name = before_first (λ b. b == colon) line; line = n; body = after_first (λ b. b == colon) line }
+begun n line =
+    record {
+      name = before_first (λ b. b == colon) line;
+      line = n;
+      body = after_first (λ b. b == colon) line;
+    }
 
 -- what line n, which is no continuation line, makes of the fields before it
 abbrev pub field_line : ℕ → List Field → Line → Result (List Field) Refusal
@@ -77,21 +83,30 @@ lines_judged n (Ok fields) (line ∷ lines) = lines_judged (n + 1) (line_judged 
 abbrev pub judged : ℕ → List Line → Result (List Field) Refusal
 judged n lines = lines_judged n (Ok []) lines
 
-three_fields : judged 1 (lines_of (codes "vERSION: 01.0-0\npackage:hello\nArchitecture: amd64\n")) ≡ Ok (record { name = codes "vERSION"; line = 1; body = codes "01.0-0" } ∷ record { name = codes "package"; line = 2; body = codes "hello" } ∷ record { name = codes "Architecture"; line = 3; body = codes "amd64" } ∷ [])
+three_fields : judged 1 (lines_of (codes "vERSION: 01.0-0\npackage:hello\nArchitecture: amd64\n"))
+    ≡ Ok (record { name = codes "vERSION"; line = 1; body = codes "01.0-0" }
+    ∷ record { name = codes "package"; line = 2; body = codes "hello" }
+    ∷ record { name = codes "Architecture"; line = 3; body = codes "amd64" } ∷ [])
 unfolding is_utf8 chars encode
 three_fields = refl
 
-two_bodies : judged 1 (lines_of (codes "Package: aa\nDescription:  short  \n one\t\n .\n\ttwo  \n")) ≡ Ok (record { name = codes "Package"; line = 1; body = codes "aa" } ∷ record { name = codes "Description"; line = 2; body = codes "short  \n one\t\n .\n\ttwo" } ∷ [])
+two_bodies : judged 1 (lines_of (codes "Package: aa\nDescription:  short  \n one\t\n .\n\ttwo  \n"))
+    ≡ Ok (record { name = codes "Package"; line = 1; body = codes "aa" }
+    ∷ record { name = codes "Description"; line = 2; body = codes "short  \n one\t\n .\n\ttwo" }
+    ∷ [])
 unfolding is_utf8 chars encode
 two_bodies = refl
 
 -- spaces and tabs go at the ends of a body alone, so a first line without bytes leaves its newline
-empty_first_line : judged 1 (lines_of (codes "A: \t\n  b\nX:")) ≡ Ok (record { name = codes "A"; line = 1; body = codes "\n  b" } ∷ record { name = codes "X"; line = 3; body = [] } ∷ [])
+empty_first_line : judged 1 (lines_of (codes "A: \t\n  b\nX:"))
+    ≡ Ok (record { name = codes "A"; line = 1; body = codes "\n  b" }
+    ∷ record { name = codes "X"; line = 3; body = [] } ∷ [])
 unfolding is_utf8 chars encode
 empty_first_line = refl
 
 -- a mark of a comment or an armour behind a space is a body's
-marks_within : judged 1 (lines_of (codes "A: #\n # x\n -----BEGIN PGP")) ≡ Ok (record { name = codes "A"; line = 1; body = codes "#\n # x\n -----BEGIN PGP" } ∷ [])
+marks_within : judged 1 (lines_of (codes "A: #\n # x\n -----BEGIN PGP"))
+    ≡ Ok (record { name = codes "A"; line = 1; body = codes "#\n # x\n -----BEGIN PGP" } ∷ [])
 unfolding is_utf8 chars encode
 marks_within = refl
 
@@ -112,11 +127,13 @@ hyphen_first : judged 1 (codes "-a: 1" ∷ []) ≡ Err (record { code = BadField
 unfolding is_utf8 chars encode
 hyphen_first = refl
 
-name_beyond_ascii : judged 1 ((99 ∷ 97 ∷ 102 ∷ 195 ∷ 169 ∷ 58 ∷ []) ∷ []) ≡ Err (record { code = BadFieldName; line = 1 })
+name_beyond_ascii : judged 1 ((99 ∷ 97 ∷ 102 ∷ 195 ∷ 169 ∷ 58 ∷ []) ∷ [])
+    ≡ Err (record { code = BadFieldName; line = 1 })
 unfolding is_utf8 chars encode
 name_beyond_ascii = refl
 
-duplicate : judged 1 (codes "Package: aa" ∷ codes " b" ∷ codes "package: bb" ∷ []) ≡ Err (record { code = DuplicateField; line = 3 })
+duplicate : judged 1 (codes "Package: aa" ∷ codes " b" ∷ codes "package: bb" ∷ [])
+    ≡ Err (record { code = DuplicateField; line = 3 })
 unfolding is_utf8 chars encode
 duplicate = refl
 
@@ -130,15 +147,18 @@ unfolding is_utf8 chars encode
 comment_with_colon = refl
 
 -- an armour has no colon, or no name before it; less than its mark is none
-armour : judged 1 (codes "-----BEGIN PGP SIGNED MESSAGE-----" ∷ []) ≡ Err (record { code = Armour; line = 1 })
+armour : judged 1 (codes "-----BEGIN PGP SIGNED MESSAGE-----" ∷ [])
+    ≡ Err (record { code = Armour; line = 1 })
 unfolding is_utf8 chars encode
 armour = refl
 
-armour_with_colon : judged 1 (codes "-----BEGIN PGP: x" ∷ []) ≡ Err (record { code = Armour; line = 1 })
+armour_with_colon : judged 1 (codes "-----BEGIN PGP: x" ∷ [])
+    ≡ Err (record { code = Armour; line = 1 })
 unfolding is_utf8 chars encode
 armour_with_colon = refl
 
-no_armour : judged 1 (codes "-----BEGIN PGO: x" ∷ []) ≡ Err (record { code = BadFieldName; line = 1 })
+no_armour : judged 1 (codes "-----BEGIN PGO: x" ∷ [])
+    ≡ Err (record { code = BadFieldName; line = 1 })
 unfolding is_utf8 chars encode
 no_armour = refl
 
@@ -147,7 +167,8 @@ stray : judged 1 (codes " x" ∷ []) ≡ Err (record { code = StrayContinuation;
 unfolding is_utf8 chars encode
 stray = refl
 
-stray_with_colon : judged 1 (codes "\tx: y" ∷ []) ≡ Err (record { code = StrayContinuation; line = 1 })
+stray_with_colon : judged 1 (codes "\tx: y" ∷ [])
+    ≡ Err (record { code = StrayContinuation; line = 1 })
 unfolding is_utf8 chars encode
 stray_with_colon = refl
 
@@ -161,7 +182,8 @@ not_utf8 : judged 1 ((35 ∷ 255 ∷ []) ∷ []) ≡ Err (record { code = NotUtf
 unfolding is_utf8 chars encode
 not_utf8 = refl
 
-armour_not_utf8 : judged 1 ((45 ∷ 45 ∷ 45 ∷ 45 ∷ 45 ∷ 66 ∷ 69 ∷ 71 ∷ 73 ∷ 78 ∷ 32 ∷ 80 ∷ 71 ∷ 80 ∷ 255 ∷ []) ∷ []) ≡ Err (record { code = NotUtf8; line = 1 })
+armour_not_utf8 : judged 1 ((45 ∷ 45 ∷ 45 ∷ 45 ∷ 45 ∷ 66 ∷ 69 ∷ 71 ∷ 73 ∷ 78 ∷ 32 ∷ 80 ∷ 71 ∷ 80
+    ∷ 255 ∷ []) ∷ []) ≡ Err (record { code = NotUtf8; line = 1 })
 unfolding is_utf8 chars encode
 armour_not_utf8 = refl
 
@@ -177,19 +199,24 @@ bad_name_not_utf8 : judged 1 ((255 ∷ 58 ∷ []) ∷ []) ≡ Err (record { code
 unfolding is_utf8 chars encode
 bad_name_not_utf8 = refl
 
-duplicate_not_utf8 : judged 1 (codes "A: 1" ∷ (97 ∷ 58 ∷ 255 ∷ []) ∷ []) ≡ Err (record { code = NotUtf8; line = 2 })
+duplicate_not_utf8 : judged 1 (codes "A: 1" ∷ (97 ∷ 58 ∷ 255 ∷ []) ∷ [])
+    ≡ Err (record { code = NotUtf8; line = 2 })
 unfolding is_utf8 chars encode
 duplicate_not_utf8 = refl
 
 -- `X: caf` and half of a character, in the second line
-half_character : judged 1 (codes "A: 1" ∷ (88 ∷ 58 ∷ 32 ∷ 99 ∷ 97 ∷ 102 ∷ 195 ∷ []) ∷ []) ≡ Err (record { code = NotUtf8; line = 2 })
+half_character : judged 1 (codes "A: 1" ∷ (88 ∷ 58 ∷ 32 ∷ 99 ∷ 97 ∷ 102 ∷ 195 ∷ []) ∷ [])
+    ≡ Err (record { code = NotUtf8; line = 2 })
 unfolding is_utf8 chars encode
 half_character = refl
 
 -- the first line that is refused is told
-first_line_wins : judged 1 (codes "A: 1" ∷ codes "B" ∷ codes "A: 2" ∷ (255 ∷ []) ∷ []) ≡ Err (record { code = NoColon; line = 2 })
+first_line_wins : judged 1 (codes "A: 1" ∷ codes "B" ∷ codes "A: 2" ∷ (255 ∷ []) ∷ [])
+    ≡ Err (record { code = NoColon; line = 2 })
 unfolding is_utf8 chars encode
 first_line_wins = refl
 
-named_front : (is_named (codes "A: x") 1 ≡ true) × (is_named (codes "A: x") 0 ≡ false) × (is_named (codes "A") 1 ≡ false) × (is_named (codes ":x") 0 ≡ false) × (is_named (codes "-A:") 2 ≡ false)
+named_front : (is_named (codes "A: x") 1 ≡ true) × (is_named (codes "A: x") 0 ≡ false)
+    × (is_named (codes "A") 1 ≡ false) × (is_named (codes ":x") 0 ≡ false)
+    × (is_named (codes "-A:") 2 ≡ false)
 named_front = (refl, refl, refl, refl, refl)

@@ -1,5 +1,5 @@
--- Laws of the definitions: what a paragraph's lines are, and that the judging of lines is the grammar of fields.
--- Debian Policy 5.1; deb822(5).
+-- Laws of the definitions: what a paragraph's lines are, and that the judging of lines is the
+-- grammar of fields. Debian Policy 5.1; deb822(5).
 use Rattle.std.specs.Prelude.{◌≡◌, ◌≢◌, ◌⊎◌, ◌↔◌, ℕ, ◌+◌, ◌≤◌, ◌<◌, ◌==◌, true, false, cond, List, [], ◌∷◌, ◌++◌, length, Ok, Err, Option, Some, None, codes, refl}
 use Rattle.std.specs.List.{AllByRecursion}
 use Rattle.std.specs.List.Sorted.{IsPermutation}
@@ -34,7 +34,8 @@ pub record IsRefusalWithin (n : ℕ) (lines : List Line) (refusal : Refusal) : T
   pub least : 1 ≤ number_of refusal.code
   pub most : number_of refusal.code ≤ 7
 
--- A refusal of a text: its line is one of the text's, and its code one of those of a file, from 1 to 9.
+-- A refusal of a text: its line is one of the text's, and its code one of those of a file, from 1
+-- to 9.
 pub record IsTextRefusal (text : List ℕ) (refusal : Refusal) : Type 0 where
   pub first : 1 ≤ refusal.line
   pub last : refusal.line ≤ length (lines_of text)
@@ -47,13 +48,20 @@ with_last_newline [] = []
 with_last_newline (b ∷ []) = cond (b == newline) (b ∷ []) (b ∷ newline ∷ [])
 with_last_newline (b ∷ c ∷ bs) = b ∷ with_last_newline (c ∷ bs)
 
--- Lines, of which the first has number n, are these paragraphs among blank lines: blank lines in any number, then the
--- lines of a paragraph, at least one and none of them blank, then the end or a blank line, and so on.
+-- Lines, of which the first has number n, are these paragraphs among blank lines: blank lines in
+-- any number, then the lines of a paragraph, at least one and none of them blank, then the end or a
+-- blank line, and so on.
 abbrev pub AreRuns : ℕ → List Line → List Paragraph → Type 0
 AreRuns n lines [] = AllByRecursion (λ line. is_blank line ≡ true) lines
-AreRuns n lines (paragraph ∷ paragraphs) = (blanks : List Line) × (rest : List Line) × (lines ≡ blanks ++ (paragraph.lines ++ rest)) × AllByRecursion (λ line. is_blank line ≡ true) blanks × (paragraph.first ≡ n + length blanks) × (paragraph.lines ≢ []) × AllByRecursion (λ line. is_blank line ≡ false) paragraph.lines × (begins_blank rest ≡ true) × AreRuns (n + length blanks + length paragraph.lines) rest paragraphs
+AreRuns n lines (paragraph ∷ paragraphs) =
+    (blanks : List Line) × (rest : List Line) × (lines ≡ blanks ++ (paragraph.lines ++ rest))
+    × AllByRecursion (λ line. is_blank line ≡ true) blanks × (paragraph.first ≡ n + length blanks)
+    × (paragraph.lines ≢ []) × AllByRecursion (λ line. is_blank line ≡ false) paragraph.lines
+    × (begins_blank rest ≡ true) × AreRuns (n + length blanks + length paragraph.lines) rest
+    paragraphs
 
--- The paragraph's lines stand among the lines, of which the first has number n, at the paragraph's own number.
+-- The paragraph's lines stand among the lines, of which the first has number n, at the paragraph's
+-- own number.
 pub record StandsAmong (n : ℕ) (lines : List Line) (paragraph : Paragraph) : Type 0 where
   pub before : List Line
   pub behind : List Line
@@ -67,54 +75,86 @@ body_at name entries = find byte_order name entries
 -- the body of the first field that has the name, without ASCII case
 abbrev pub body_of : List ℕ → List Field → Option (List ℕ)
 body_of name [] = None
-body_of name (field ∷ fields) = cond (bytes_eq (folded field.name) (folded name)) (Some field.body) (body_of name fields)
+body_of name (field ∷ fields) =
+    cond (bytes_eq (folded field.name) (folded name)) (Some field.body) (body_of name fields)
 
 -- The first refusal of the paragraphs: those before it have fields.
 abbrev pub IsFirstRefusal : List Paragraph → Refusal → Type 0
 IsFirstRefusal [] refusal = ⊥
-IsFirstRefusal (paragraph ∷ paragraphs) refusal = (judged paragraph.first paragraph.lines ≡ Err refusal) ⊎ ((fields : List Field) × (judged paragraph.first paragraph.lines ≡ Ok fields) × IsFirstRefusal paragraphs refusal)
+IsFirstRefusal (paragraph ∷ paragraphs) refusal =
+    (judged paragraph.first paragraph.lines ≡ Err refusal)
+    ⊎ ((fields : List Field) × (judged paragraph.first paragraph.lines ≡ Ok fields)
+    × IsFirstRefusal paragraphs refusal)
 
--- What is judged of a paragraph that isn't too long is spelled by its lines. (A longer one is refused before its lines are
--- judged: its last line might hold more spaces than a blank line may, and be cut off whole.)
+-- What is judged of a paragraph that isn't too long is spelled by its lines. (A longer one is
+-- refused before its lines are judged: its last line might hold more spaces than a blank line may,
+-- and be cut off whole.)
 abbrev pub JudgedIsSpelled : Type 0
-JudgedIsSpelled = (n : ℕ) (lines : List Line) (fields : List Field) → IsRun lines → IsShort (record { first = n; lines = lines }) → judged n lines ≡ Ok fields → SpellsParagraph (record { first = n; lines = lines }) fields
+JudgedIsSpelled =
+    (n : ℕ) (lines : List Line) (fields : List Field) → IsRun lines
+    → IsShort (record { first = n; lines = lines }) → judged n lines ≡ Ok fields
+    → SpellsParagraph (record { first = n; lines = lines }) fields
 
 -- The fields that a paragraph's lines spell are those that are judged.
 abbrev pub SpelledIsJudged : Type 0
-SpelledIsJudged = (n : ℕ) (lines : List Line) (fields : List Field) → IsRun lines → SpellsParagraph (record { first = n; lines = lines }) fields → judged n lines ≡ Ok fields
+SpelledIsJudged =
+    (n : ℕ) (lines : List Line) (fields : List Field) → IsRun lines
+    → SpellsParagraph (record { first = n; lines = lines }) fields → judged n lines ≡ Ok fields
 
 -- A refusal is of one of the lines, and no fields are spelled by lines of which one is refused.
 abbrev pub RefusedIsNotSpelled : Type 0
-RefusedIsNotSpelled = (n : ℕ) (lines : List Line) (refusal : Refusal) → judged n lines ≡ Err refusal → IsRefusalWithin n lines refusal × (IsRun lines → (fields : List Field) → ¬ (SpellsParagraph (record { first = n; lines = lines }) fields))
+RefusedIsNotSpelled =
+    (n : ℕ) (lines : List Line) (refusal : Refusal) → judged n lines ≡ Err refusal
+    → IsRefusalWithin n lines refusal
+    × (IsRun lines → (fields : List Field)
+    → ¬ (SpellsParagraph (record { first = n; lines = lines }) fields))
 
 -- A paragraph is spelled by at most one list of fields.
 abbrev pub ParagraphHasOneReading : Type 0
-ParagraphHasOneReading = (paragraph : Paragraph) (fields others : List Field) → IsRun paragraph.lines → SpellsParagraph paragraph fields → SpellsParagraph paragraph others → fields ≡ others
+ParagraphHasOneReading =
+    (paragraph : Paragraph) (fields others : List Field) → IsRun paragraph.lines
+    → SpellsParagraph paragraph fields → SpellsParagraph paragraph others → fields ≡ others
 
 -- A text means at most one thing.
 abbrev pub TextHasOneMeaning : Type 0
-TextHasOneMeaning = (text : List ℕ) (meaning other : List Entries) → Means text meaning → Means text other → meaning ≡ other
+TextHasOneMeaning =
+    (text : List ℕ) (meaning other : List Entries) → Means text meaning → Means text other
+    → meaning ≡ other
 
--- A text whose paragraphs aren't too long means something, or one of its paragraphs is the first that is refused, and
--- then it means nothing.
+-- A text whose paragraphs aren't too long means something, or one of its paragraphs is the first
+-- that is refused, and then it means nothing.
 abbrev pub TextIsMeantOrRefused : Type 0
-TextIsMeantOrRefused = (text : List ℕ) → AllByRecursion IsShort (paragraphs_of text) → ((meaning : List Entries) × Means text meaning) ⊎ ((refusal : Refusal) × IsFirstRefusal (paragraphs_of text) refusal × ((meaning : List Entries) → ¬ (Means text meaning)))
+TextIsMeantOrRefused =
+    (text : List ℕ) → AllByRecursion IsShort (paragraphs_of text)
+    → ((meaning : List Entries) × Means text meaning)
+    ⊎ ((refusal : Refusal) × IsFirstRefusal (paragraphs_of text) refusal
+    × ((meaning : List Entries) → ¬ (Means text meaning)))
 
--- The paragraphs of lines are the maximal runs of lines that aren't blank, and no other list of paragraphs is.
+-- The paragraphs of lines are the maximal runs of lines that aren't blank, and no other list of
+-- paragraphs is.
 abbrev pub ParagraphsAreRuns : Type 0
-ParagraphsAreRuns = (n : ℕ) (lines : List Line) (paragraphs : List Paragraph) → AreRuns n lines paragraphs ↔ (paragraphs ≡ paragraphs_from n lines)
+ParagraphsAreRuns =
+    (n : ℕ) (lines : List Line) (paragraphs : List Paragraph)
+    → AreRuns n lines paragraphs ↔ (paragraphs ≡ paragraphs_from n lines)
 
--- Each paragraph of a text is a run of lines that stands among the lines of the text, at its own number.
+-- Each paragraph of a text is a run of lines that stands among the lines of the text, at its own
+-- number.
 abbrev pub ParagraphsStandInText : Type 0
-ParagraphsStandInText = (text : List ℕ) → AllByRecursion (λ paragraph. IsRun paragraph.lines) (paragraphs_of text) × AllByRecursion (StandsAmong 1 (lines_of text)) (paragraphs_of text)
+ParagraphsStandInText =
+    (text : List ℕ) → AllByRecursion (λ paragraph. IsRun paragraph.lines) (paragraphs_of text)
+    × AllByRecursion (StandsAmong 1 (lines_of text)) (paragraphs_of text)
 
--- No line of a text holds a newline, and the lines, each with its newline, are the text with a newline at its end.
+-- No line of a text holds a newline, and the lines, each with its newline, are the text with a
+-- newline at its end.
 abbrev pub LinesGiveTextBack : Type 0
-LinesGiveTextBack = (text : List ℕ) → AllByRecursion HasNoNewline (lines_of text) × (with_newlines (lines_of text) ≡ with_last_newline text)
+LinesGiveTextBack =
+    (text : List ℕ) → AllByRecursion HasNoNewline (lines_of text)
+    × (with_newlines (lines_of text) ≡ with_last_newline text)
 
 -- Lines without newlines are the lines of the text that they make.
 abbrev pub TextGivesLinesBack : Type 0
-TextGivesLinesBack = (lines : List Line) → AllByRecursion HasNoNewline lines → lines_of (with_newlines lines) ≡ lines
+TextGivesLinesBack =
+    (lines : List Line) → AllByRecursion HasNoNewline lines → lines_of (with_newlines lines) ≡ lines
 
 -- The pieces of a text, joined by newlines, are the text.
 abbrev pub PiecesGiveTextBack : Type 0
@@ -122,31 +162,46 @@ PiecesGiveTextBack = (text : List ℕ) → joined (pieces_of text) ≡ text
 
 -- Two paragraphs mean the same where the same stands under each name.
 abbrev pub MeaningIsItsBodies : Type 0
-MeaningIsItsBodies = (fields others : List Field) → ((name : List ℕ) → body_at name (entries_of fields) ≡ body_at name (entries_of others)) → entries_of fields ≡ entries_of others
+MeaningIsItsBodies =
+    (fields others : List Field) → ((name : List ℕ)
+    → body_at name (entries_of fields) ≡ body_at name (entries_of others))
+    → entries_of fields ≡ entries_of others
 
 -- Under the canonical spelling of a name stands the body of the field that has the name.
 abbrev pub MeaningHasBodies : Type 0
-MeaningHasBodies = (fields : List Field) → AreDistinct fields → (name : List ℕ) → body_at (canonical_name name) (entries_of fields) ≡ body_of name fields
+MeaningHasBodies =
+    (fields : List Field) → AreDistinct fields → (name : List ℕ)
+    → body_at (canonical_name name) (entries_of fields) ≡ body_of name fields
 
 -- The order of the fields is no part of what a paragraph means.
 abbrev pub OrderIsNoMeaning : Type 0
-OrderIsNoMeaning = (fields others : List Field) → IsPermutation fields others → AreDistinct fields → entries_of fields ≡ entries_of others
+OrderIsNoMeaning =
+    (fields others : List Field) → IsPermutation fields others → AreDistinct fields
+    → entries_of fields ≡ entries_of others
 
 -- No answer on an accepted file is a refusal.
 abbrev pub AcceptedIsNeverRefused : Type 0
-AcceptedIsNeverRefused = (text : List ℕ) (meaning : List Entries) → Accepted text meaning → (count : ℕ) (refusal : Refusal) → ¬ (next_answer text count ≡ Err refusal)
+AcceptedIsNeverRefused =
+    (text : List ℕ) (meaning : List Entries) → Accepted text meaning
+    → (count : ℕ) (refusal : Refusal) → ¬ (next_answer text count ≡ Err refusal)
 
 -- A file on which no answer is a refusal is accepted, with some meaning.
 abbrev pub NeverRefusedIsAccepted : Type 0
-NeverRefusedIsAccepted = (text : List ℕ) → ((count : ℕ) (refusal : Refusal) → ¬ (next_answer text count ≡ Err refusal)) → (meaning : List Entries) × Accepted text meaning
+NeverRefusedIsAccepted =
+    (text : List ℕ) → ((count : ℕ) (refusal : Refusal) → ¬ (next_answer text count ≡ Err refusal))
+    → (meaning : List Entries) × Accepted text meaning
 
 -- An answer that is a refusal is one of the text.
 abbrev pub RefusalIsOfText : Type 0
-RefusalIsOfText = (text : List ℕ) (count : ℕ) (refusal : Refusal) → next_answer text count ≡ Err refusal → IsTextRefusal text refusal
+RefusalIsOfText =
+    (text : List ℕ) (count : ℕ) (refusal : Refusal) → next_answer text count ≡ Err refusal
+    → IsTextRefusal text refusal
 
 -- The answers end exactly behind the last paragraph of a text that isn't longer than a file may be.
 abbrev pub AnswersEnd : Type 0
-AnswersEnd = (text : List ℕ) (count : ℕ) → (next_answer text count ≡ Ok None) ↔ ((length text ≤ file_limit) × (length (paragraphs_of text) ≤ count))
+AnswersEnd =
+    (text : List ℕ) (count : ℕ) → (next_answer text count ≡ Ok None)
+    ↔ ((length text ≤ file_limit) × (length (paragraphs_of text) ≤ count))
 
 newlines_back : with_newlines (lines_of (codes "a\n\nb")) ≡ codes "a\n\nb\n"
 newlines_back = refl
@@ -154,8 +209,11 @@ newlines_back = refl
 last_newline_stays : with_last_newline (codes "a\n") ≡ codes "a\n"
 last_newline_stays = refl
 
-body_under_name : body_at (codes "Ab") (entries_of (record { name = codes "c"; line = 1; body = codes "1" } ∷ record { name = codes "aB"; line = 2; body = codes "2" } ∷ [])) ≡ Some (codes "2")
+body_under_name : body_at (codes "Ab") (entries_of
+    (record { name = codes "c"; line = 1; body = codes "1" }
+    ∷ record { name = codes "aB"; line = 2; body = codes "2" } ∷ [])) ≡ Some (codes "2")
 body_under_name = refl
 
-body_of_name : body_of (codes "AB") (record { name = codes "c"; line = 1; body = codes "1" } ∷ record { name = codes "aB"; line = 2; body = codes "2" } ∷ []) ≡ Some (codes "2")
+body_of_name : body_of (codes "AB") (record { name = codes "c"; line = 1; body = codes "1" }
+    ∷ record { name = codes "aB"; line = 2; body = codes "2" } ∷ []) ≡ Some (codes "2")
 body_of_name = refl

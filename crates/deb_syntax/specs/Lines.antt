@@ -48,10 +48,13 @@ with_line n line false (p ∷ ps) = record { first = n; lines = line ∷ p.lines
 with_line n line false [] = record { first = n; lines = line ∷ [] } ∷ []
 with_line n line true ps = record { first = n; lines = line ∷ [] } ∷ ps
 
--- the paragraphs of lines of which the first has number n: the maximal runs of lines that aren't blank
+-- the paragraphs of lines of which the first has number n: the maximal runs of lines that aren't
+-- blank
 abbrev pub paragraphs_from : ℕ → List Line → List Paragraph
 paragraphs_from n [] = []
-paragraphs_from n (line ∷ lines) = cond (is_blank line) (paragraphs_from (n + 1) lines) (with_line n line (begins_blank lines) (paragraphs_from (n + 1) lines))
+paragraphs_from n (line ∷ lines) =
+    cond (is_blank line) (paragraphs_from (n + 1) lines)
+    (with_line n line (begins_blank lines) (paragraphs_from (n + 1) lines))
 
 -- the paragraphs of a text; its lines are numbered from 1, blank ones included
 abbrev pub paragraphs_of : List ℕ → List Paragraph
@@ -68,6 +71,8 @@ last_newline : lines_of (codes "a\n") ≡ codes "a" ∷ []
 last_newline = refl
 
 -- a line of one space ends the first paragraph
-apart : paragraphs_of (codes "b:1\n \n\nA: 2") ≡ record { first = 1; lines = codes "b:1" ∷ [] } ∷ record { first = 4; lines = codes "A: 2" ∷ [] } ∷ []
+apart : paragraphs_of (codes "b:1\n \n\nA: 2")
+    ≡ record { first = 1; lines = codes "b:1" ∷ [] }
+    ∷ record { first = 4; lines = codes "A: 2" ∷ [] } ∷ []
 unfolding paragraph_limit
 apart = refl

@@ -21,7 +21,8 @@ Entries = List (List ℕ × List ℕ)
 -- with the entries of more fields
 abbrev pub entries_after : Entries → List Field → Entries
 entries_after entries [] = entries
-entries_after entries (field ∷ fields) = entries_after (insert_entry byte_order entries (canonical_name field.name) field.body) fields
+entries_after entries (field ∷ fields) =
+    entries_after (insert_entry byte_order entries (canonical_name field.name) field.body) fields
 
 abbrev pub entries_of : List Field → Entries
 entries_of fields = entries_after [] fields
@@ -31,14 +32,16 @@ abbrev pub HaveMeanings : List Paragraph → List Entries → Type 0
 HaveMeanings [] [] = Unit {0}
 HaveMeanings [] (entries ∷ meaning) = ⊥
 HaveMeanings (paragraph ∷ paragraphs) [] = ⊥
-HaveMeanings (paragraph ∷ paragraphs) (entries ∷ meaning) = ((fields : List Field) × SpellsParagraph paragraph fields × (entries ≡ entries_of fields)) × HaveMeanings paragraphs meaning
+HaveMeanings (paragraph ∷ paragraphs) (entries ∷ meaning) =
+    ((fields : List Field) × SpellsParagraph paragraph fields × (entries ≡ entries_of fields))
+    × HaveMeanings paragraphs meaning
 
 -- The text means this, where all values are text.
 abbrev pub Means : List ℕ → List Entries → Type 0
 Means text meaning = HaveMeanings (paragraphs_of text) meaning
 
--- The file is accepted, where all values are text and any number of paragraphs may stand: it and its paragraphs are
--- no longer than they may be, and it has this meaning.
+-- The file is accepted, where all values are text and any number of paragraphs may stand: it and
+-- its paragraphs are no longer than they may be, and it has this meaning.
 pub record Accepted (text : List ℕ) (meaning : List Entries) : Type 0 where
   pub short : length text ≤ file_limit
   pub paragraphs_short : AllByRecursion IsShort (paragraphs_of text)

@@ -21,7 +21,9 @@ answer_of (Ok raw) = Ok (option_map seen_of raw)
 answer_of (Err fault) = Err fault
 
 abbrev pub state_of : Paragraphs → State
-state_of p = state_from (feed_state p.feed) p.hidden p.finished (option_map (standing_of (buffer_of p.feed) p.places.items) p.current) p.fault
+state_of p =
+    state_from (feed_state p.feed) p.hidden p.finished
+    (option_map (standing_of (buffer_of p.feed) p.places.items) p.current) p.fault
 
 -- what an answer shows that says whether there is a paragraph, by the paragraph that was found last
 abbrev pub advance_answer : State → Result Bool Fault → Result (Option Seen) Fault
@@ -34,13 +36,16 @@ abbrev pub end_answer : State → Result (Unit {0}) Fault → Result (Option See
 end_answer new (Ok done) = Ok new.current
 end_answer new (Err fault) = Err fault
 
--- what a feed and the hidden bytes show of the first line ahead that isn't blank, whatever the source tells
+-- what a feed and the hidden bytes show of the first line ahead that isn't blank, whatever the
+-- source tells
 abbrev pub ShowsFirst : Result First Fault → ℕ → Bool → FeedState → Type 0
 ShowsFirst (Ok End) hidden finished feed = finished ≡ true
-ShowsFirst (Ok (Kept begun)) hidden finished feed = (hidden ≡ 0) × (finished ≡ false) × KeepsLine begun feed
+ShowsFirst (Ok (Kept begun)) hidden finished feed =
+    (hidden ≡ 0) × (finished ≡ false) × KeepsLine begun feed
 ShowsFirst (Ok (Dropped begun)) hidden finished feed = (0 < hidden) × (finished ≡ false)
 ShowsFirst (Err fault) hidden finished feed = Unit {0}
 
--- a read has told the file's end, or it was answered that no paragraph follows, or there is an error: nothing is read
+-- a read has told the file's end, or it was answered that no paragraph follows, or there is an
+-- error: nothing is read
 abbrev pub IsQuiet : State → Type 0
 IsQuiet state = IsTrue state.ended ⊎ (IsTrue state.finished ⊎ IsSome state.fault)

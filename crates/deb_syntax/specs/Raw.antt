@@ -1,4 +1,5 @@
--- What a view of a paragraph shows of it: its fields and the number of its first line. Debian Policy 5.1.
+-- What a view of a paragraph shows of it: its fields and the number of its first line. Debian
+-- Policy 5.1.
 use Rattle.std.specs.Prelude.{◌≡◌, ℕ, List, [], ◌∷◌, Option, Some, None, find, codes, refl}
 use Rattle.std.specs.Str.{bytes_eq}
 use Rattle.deb_base.specs.Names.{folded}
@@ -26,8 +27,12 @@ fields_left fields = fields_at fields.text.now fields.places.now
 abbrev pub field_named : List ℕ → List Field → Option Field
 field_named name fields = find (λ field. bytes_eq (folded field.name) (folded name)) fields
 
-named_without_case : field_named (codes "vERSION") (record { name = codes "Package"; line = 1; body = codes "aa" } ∷ record { name = codes "Version"; line = 2; body = codes "1" } ∷ []) ≡ Some (record { name = codes "Version"; line = 2; body = codes "1" })
+named_without_case : field_named (codes "vERSION")
+    (record { name = codes "Package"; line = 1; body = codes "aa" }
+    ∷ record { name = codes "Version"; line = 2; body = codes "1" } ∷ [])
+    ≡ Some (record { name = codes "Version"; line = 2; body = codes "1" })
 named_without_case = refl
 
-named_otherwise : field_named (codes "Versio") (record { name = codes "Version"; line = 1; body = codes "1" } ∷ []) ≡ None
+named_otherwise : field_named (codes "Versio")
+    (record { name = codes "Version"; line = 1; body = codes "1" } ∷ []) ≡ None
 named_otherwise = refl

@@ -1,5 +1,5 @@
--- What a reader of paragraphs is to its callers, which texts fit it, and what its calls say of them. Debian Policy 5.1;
--- what is kept and how far is read is this project's own.
+-- What a reader of paragraphs is to its callers, which texts fit it, and what its calls say of
+-- them. Debian Policy 5.1; what is kept and how far is read is this project's own.
 use Rattle.std.specs.Prelude.{◌≡◌, ℕ, ◌+◌, ◌≤◌, ◌⊎◌, Bool, List, [], ◌∷◌, ◌++◌, length, Option, Some, None, IfSome, IfNone, Result, Ok, Err, IfErr, MatchResult, IsTrue}
 use Rattle.deb_base.specs.Bodies.{HasNoNewline}
 use Rattle.deb_base.specs.Codes.{number_of}
@@ -17,9 +17,10 @@ use Rattle.deb_syntax.specs.Fields.{IsShort}
 use Rattle.deb_syntax.specs.Judging.{judged}
 use Rattle.deb_syntax.specs.Lines.{lines_of, IsClosed, Paragraph, paragraphs_of, file_limit}
 
--- A reader of paragraphs: the bytes of its buffer that haven't passed, the buffer's length, how many bytes and lines
--- have passed, how many bytes of the first line that hasn't passed aren't kept, whether a read has told the file's end,
--- whether it was answered that no paragraph follows, the paragraph that was found last, and the error.
+-- A reader of paragraphs: the bytes of its buffer that haven't passed, the buffer's length, how
+-- many bytes and lines have passed, how many bytes of the first line that hasn't passed aren't
+-- kept, whether a read has told the file's end, whether it was answered that no paragraph follows,
+-- the paragraph that was found last, and the error.
 pub record State : Type 0 where
   pub unread : List ℕ
   pub held : ℕ
@@ -45,8 +46,9 @@ state_from feed hidden finished current fault = record {
   fault = fault;
 }
 
--- The text fits: it is what has passed, then the bytes that aren't kept, whichever they are, then the unread ones, then
--- what the source has left. What has passed has the bytes and lines that are counted; it is closed, or nothing follows it.
+-- The text fits: it is what has passed, then the bytes that aren't kept, whichever they are, then
+-- the unread ones, then what the source has left. What has passed has the bytes and lines that are
+-- counted; it is closed, or nothing follows it.
 pub record Fits (text passed : List ℕ) (state : State) (left : Option (List ℕ)) : Type 0 where
   pub hidden : List ℕ
   pub rest : List ℕ
@@ -64,9 +66,10 @@ pub record Fits (text passed : List ℕ) (state : State) (left : Option (List �
 abbrev pub passed_count : List ℕ → ℕ
 passed_count passed = length (paragraphs_of passed)
 
--- The answer is the next paragraph of the text behind those that have passed, which then has passed too: it, and no
--- more than one blank line behind it. At most one piece was taken beyond that.
-pub record GivesNext (text passed : List ℕ) (seen : Seen) (new : State) (left : Option (List ℕ)) : Type 0 where
+-- The answer is the next paragraph of the text behind those that have passed, which then has passed
+-- too: it, and no more than one blank line behind it. At most one piece was taken beyond that.
+pub record GivesNext (text passed : List ℕ) (seen : Seen) (new : State)
+    (left : Option (List ℕ)) : Type 0 where
   pub answer : next_answer text (passed_count passed) ≡ Ok (Some seen)
   pub paragraph : Paragraph
   pub more : List Paragraph
@@ -88,8 +91,10 @@ pub record GivesNone (text passed : List ℕ) (new : State) (left : Option (List
   pub passes : paragraphs_of text ≡ paragraphs_of passed
   pub finished : IsTrue new.finished
 
--- The next paragraph begins at this line. Only blank lines have passed, and at most one piece was taken beyond that line.
-pub record GivesLine (text passed : List ℕ) (line : ℕ) (new : State) (left : Option (List ℕ)) : Type 0 where
+-- The next paragraph begins at this line. Only blank lines have passed, and at most one piece was
+-- taken beyond that line.
+pub record GivesLine (text passed : List ℕ) (line : ℕ) (new : State)
+    (left : Option (List ℕ)) : Type 0 where
   pub begin : next_begin text (passed_count passed) ≡ Ok (Some line)
   pub passed_now : List ℕ
   pub again : Fits text passed_now new left
@@ -104,30 +109,39 @@ pub record BeginsHere (text passed : List ℕ) (new : State) (left : Option (Lis
   pub passes : paragraphs_of passed_now ≡ paragraphs_of passed
   pub begin : next_begin text (passed_count passed) ≡ Ok (Some (new.lines + 1))
 
--- What an answer that there is a paragraph, or none, says of a text that fits, where `passed` has passed.
-abbrev pub Answers : (text passed : List ℕ) → Result (Option Seen) Fault → State → Option (List ℕ) → Type 0
+-- What an answer that there is a paragraph, or none, says of a text that fits, where `passed` has
+-- passed.
+abbrev pub Answers : (text passed : List ℕ) → Result (Option Seen) Fault → State → Option (List ℕ)
+    → Type 0
 Answers text passed (Ok None) new left = GivesNone text passed new left
 Answers text passed (Ok (Some seen)) new left = GivesNext text passed seen new left
-Answers text passed (Err (Refused refusal)) new left = next_answer text (passed_count passed) ≡ Err refusal
+Answers text passed (Err (Refused refusal)) new left =
+    next_answer text (passed_count passed) ≡ Err refusal
 Answers text passed (Err Memory) new left = Unit {0}
 Answers text passed (Err Read) new left = Unit {0}
 Answers text passed (Err Write) new left = ⊥
 
--- What is told of the first line ahead that isn't blank: it is there, or none is, or why the file is refused.
-abbrev pub FindsFirst : (text passed : List ℕ) → Result First Fault → State → Option (List ℕ) → Type 0
+-- What is told of the first line ahead that isn't blank: it is there, or none is, or why the file
+-- is refused.
+abbrev pub FindsFirst : (text passed : List ℕ) → Result First Fault → State → Option (List ℕ)
+    → Type 0
 FindsFirst text passed (Ok End) new left = GivesNone text passed new left
 FindsFirst text passed (Ok (Kept begun)) new left = BeginsHere text passed new left
 FindsFirst text passed (Ok (Dropped begun)) new left = BeginsHere text passed new left
-FindsFirst text passed (Err (Refused refusal)) new left = (next_answer text (passed_count passed) ≡ Err refusal) × (next_begin text (passed_count passed) ≡ Err refusal)
+FindsFirst text passed (Err (Refused refusal)) new left =
+    (next_answer text (passed_count passed) ≡ Err refusal)
+    × (next_begin text (passed_count passed) ≡ Err refusal)
 FindsFirst text passed (Err Memory) new left = Unit {0}
 FindsFirst text passed (Err Read) new left = Unit {0}
 FindsFirst text passed (Err Write) new left = ⊥
 
 -- What an answer that a paragraph begins, or none, says of one.
-abbrev pub AnswersBegin : (text passed : List ℕ) → Result (Option ℕ) Fault → State → Option (List ℕ) → Type 0
+abbrev pub AnswersBegin : (text passed : List ℕ) → Result (Option ℕ) Fault → State → Option (List ℕ)
+    → Type 0
 AnswersBegin text passed (Ok None) new left = GivesNone text passed new left
 AnswersBegin text passed (Ok (Some line)) new left = GivesLine text passed line new left
-AnswersBegin text passed (Err (Refused refusal)) new left = next_begin text (passed_count passed) ≡ Err refusal
+AnswersBegin text passed (Err (Refused refusal)) new left =
+    next_begin text (passed_count passed) ≡ Err refusal
 AnswersBegin text passed (Err Memory) new left = Unit {0}
 AnswersBegin text passed (Err Read) new left = Unit {0}
 AnswersBegin text passed (Err Write) new left = ⊥
@@ -145,27 +159,36 @@ pub record Moment : Type 0 where
 
 -- the same by what the source has left, and how often it failed
 abbrev pub moment_of : State → Option (List ℕ) → ℕ → Moment
-moment_of state left failures = record { state = state; source = record { bytes = left; failures = failures } }
+moment_of state left failures =
+    record { state = state; source = record { bytes = left; failures = failures } }
 
--- A call of a reader without error: what it answers of each text that fits, and how much of it was taken by then, how
--- often its source failed, and which errors there are.
-pub record Advances (before : Moment) (answer : Result (Option Seen) Fault) (after : Moment) : Type 0 where
-  pub answers : (text passed : List ℕ) → Fits text passed before.state before.source.bytes → Answers text passed answer after.state after.source.bytes
-  pub taken : (text passed : List ℕ) → Fits text passed before.state before.source.bytes → TakesNoMore text file_limit after.source.bytes
+-- A call of a reader without error: what it answers of each text that fits, and how much of it was
+-- taken by then, how often its source failed, and which errors there are.
+pub record Advances (before : Moment) (answer : Result (Option Seen) Fault)
+    (after : Moment) : Type 0 where
+  pub answers : (text passed : List ℕ) → Fits text passed before.state before.source.bytes
+      → Answers text passed answer after.state after.source.bytes
+  pub taken : (text passed : List ℕ) → Fits text passed before.state before.source.bytes
+      → TakesNoMore text file_limit after.source.bytes
   pub counted : after.source.failures ≡ read_failures_after before.source.failures answer
   pub fault : IfErr answer (λ fault. IsReadersFault fault IsRefusalOfText)
   pub current : MatchResult answer (λ seen. after.state.current ≡ seen) (λ fault. Unit {0})
 
-pub record Begins (before : Moment) (answer : Result (Option ℕ) Fault) (after : Moment) : Type 0 where
-  pub answers : (text passed : List ℕ) → Fits text passed before.state before.source.bytes → AnswersBegin text passed answer after.state after.source.bytes
-  pub taken : (text passed : List ℕ) → Fits text passed before.state before.source.bytes → TakesNoMore text file_limit after.source.bytes
+pub record Begins (before : Moment) (answer : Result (Option ℕ) Fault)
+    (after : Moment) : Type 0 where
+  pub answers : (text passed : List ℕ) → Fits text passed before.state before.source.bytes
+      → AnswersBegin text passed answer after.state after.source.bytes
+  pub taken : (text passed : List ℕ) → Fits text passed before.state before.source.bytes
+      → TakesNoMore text file_limit after.source.bytes
   pub counted : after.source.failures ≡ read_failures_after before.source.failures answer
   pub fault : IfErr answer (λ fault. IsReadersFault fault IsRefusalOfText)
   pub current : after.state.current ≡ None
 
--- A call of a reader: without an error it goes on, and keeps the error that it then answers; with one it answers that
--- error, and neither reads nor changes.
-pub record Passes {A : Type 0} (Goes : Moment → Result A Fault → Moment → Type 0) (before : Moment) (answer : Result A Fault) (after : Moment) : Type 0 where
+-- A call of a reader: without an error it goes on, and keeps the error that it then answers; with
+-- one it answers that error, and neither reads nor changes.
+pub record Passes {A : Type 0} (Goes : Moment → Result A Fault → Moment → Type 0) (before : Moment)
+    (answer : Result A Fault) (after : Moment) : Type 0 where
   pub goes : IfNone before.state.fault (Goes before answer after)
-  pub keeps : IfNone before.state.fault (MatchResult answer (λ _. after.state.fault ≡ None) (λ fault. after.state.fault ≡ Some fault))
+  pub keeps : IfNone before.state.fault (MatchResult answer (λ _. after.state.fault ≡ None)
+      (λ fault. after.state.fault ≡ Some fault))
   pub repeats : IfSome before.state.fault (λ fault. (answer ≡ Err fault) × (after ≡ before))

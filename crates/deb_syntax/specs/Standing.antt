@@ -1,4 +1,5 @@
--- What stands in the buffer of a reader of paragraphs: the paragraph that was found last, and the line that is hidden.
+-- What stands in the buffer of a reader of paragraphs: the paragraph that was found last, and the
+-- line that is hidden.
 use Rattle.std.specs.Prelude.{◌≡◌, ◌≢◌, ◌⊎◌, ◌≤◌, ◌++◌, Result, Ok, Err, ◌+◌, ◌-◌, [], ◌∷◌, length, ℕ, ◌==◌, ◌&&◌, ◌||◌, Bool, true, false, nat_le, List, Option, Some, None, slice_range}
 use Rattle.std.specs.List.{list_all}
 use Rattle.deb_base.specs.Bodies.{Line, newline, paragraph_limit}
@@ -17,9 +18,11 @@ use Rattle.deb_syntax.specs.Places.{fields_at, lies_within}
 
 -- what stands in a buffer, with its fields at the places
 abbrev pub standing_of : List ℕ → List Place → Standing → Seen
-standing_of buffer places at = record { first = at.first_line; fields = fields_at (slice_range buffer at.from at.to) places }
+standing_of buffer places at =
+    record { first = at.first_line; fields = fields_at (slice_range buffer at.from at.to) places }
 
--- whether it lies within the buffer, its fields within it, and they can be a paragraph's, with lines counted from 1
+-- whether it lies within the buffer, its fields within it, and they can be a paragraph's, with
+-- lines counted from 1
 abbrev pub stands_within : List ℕ → List Place → Option Standing → Bool
 stands_within buffer places None = true
 stands_within buffer places (Some at) =
@@ -37,12 +40,13 @@ abbrev pub is_nothing : List ℕ → Bool
 is_nothing [] = true
 is_nothing (b ∷ bs) = false
 
--- whether a hidden line of so many bytes, if there is one, is longer than a paragraph may be and ends in front of the
--- unread bytes: with its newline, or with the file
+-- whether a hidden line of so many bytes, if there is one, is longer than a paragraph may be and
+-- ends in front of the unread bytes: with its newline, or with the file
 abbrev pub hides_line : ℕ → FeedState → Bool
 hides_line hidden feed =
     (hidden == 0) || (nat_le paragraph_limit hidden && nat_le (feed.bytes + hidden) file_limit
-    && ((begins_with_newline feed.unread && nat_le (feed.bytes + hidden + 1) file_limit) || (is_nothing feed.unread && feed.ended)))
+    && ((begins_with_newline feed.unread && nat_le (feed.bytes + hidden + 1) file_limit)
+    || (is_nothing feed.unread && feed.ended)))
 
 -- what an answer shows that says where a paragraph stands
 abbrev pub standing_answer : List ℕ → List Place → Result Standing Fault → Result Seen Fault
@@ -50,7 +54,8 @@ standing_answer buffer places (Ok at) = Ok (standing_of buffer places at)
 standing_answer buffer places (Err fault) = Err fault
 
 -- The next paragraph of the text ahead, which has passed.
-pub record PassesNext (text : List ℕ) (before : FeedState) (seen : Seen) (after : FeedState) (left : Option (List ℕ)) : Type 0 where
+pub record PassesNext (text : List ℕ) (before : FeedState) (seen : Seen) (after : FeedState)
+    (left : Option (List ℕ)) : Type 0 where
   pub run : List Line
   pub passed : List ℕ
   pub ahead : List ℕ
@@ -73,7 +78,8 @@ pub record PassesNext (text : List ℕ) (before : FeedState) (seen : Seen) (afte
 -- What is told of the paragraph that begins the text ahead.
 abbrev pub IsPassed : List ℕ → FeedState → Result Seen Fault → FeedState → Option (List ℕ) → Type 0
 IsPassed text before (Ok seen) after left = PassesNext text before seen after left
-IsPassed text before (Err (Refused refusal)) after left = left_answer (before.lines + 1) (room_ahead before) text ≡ Err refusal
+IsPassed text before (Err (Refused refusal)) after left =
+    left_answer (before.lines + 1) (room_ahead before) text ≡ Err refusal
 IsPassed text before (Err Memory) after left = Unit {0}
 IsPassed text before (Err Read) after left = Unit {0}
 IsPassed text before (Err Write) after left = ⊥

@@ -1,4 +1,5 @@
--- Lines that come in pieces: what was seen of a line, blank lines that are passed, and lines that are taken. Debian Policy 5.1.
+-- Lines that come in pieces: what was seen of a line, blank lines that are passed, and lines that
+-- are taken. Debian Policy 5.1.
 use Rattle.std.specs.Prelude.{◌≡◌, ◌≢◌, ℕ, ◌+◌, ◌<◌, ◌≤◌, ◌⊎◌, true, false, List, [], ◌∷◌, ◌++◌, length, take}
 use Rattle.std.specs.Bool.{MatchBool}
 use Rattle.std.specs.List.{AllByRecursion, slice_index}
@@ -32,13 +33,15 @@ pub record EndsIn (seen fresh : List ℕ) (begun : Begun) : Type 0 where
 
 -- the line goes on through these bytes: to its newline, or through all of them
 abbrev pub GoesAlong : List ℕ → List ℕ → AlongLine → Type 0
-GoesAlong seen fresh result = MatchBool result.ended (EndsIn seen fresh result.begun) (Describes result.begun (seen ++ fresh))
+GoesAlong seen fresh result =
+    MatchBool result.ended (EndsIn seen fresh result.begun) (Describes result.begun (seen ++ fresh))
 
 -- what was seen is the front of a text, and if it is blank, no blank byte follows
 pub record GoesThroughBlanks (line : List ℕ) (begun : Begun) : Type 0 where
   pub within : begun.len ≤ length line
   pub describes : Describes begun (take begun.len line)
-  pub stopped : begun.blank ≡ true → begun.len < length line → is_blank_byte (slice_index line begun.len) ≡ false
+  pub stopped : begun.blank ≡ true → begun.len < length line
+      → is_blank_byte (slice_index line begun.len) ≡ false
 
 -- a line that isn't blank stands at the front of a text, and its newline behind it
 pub record EndsNotBlank (rest : List ℕ) (begun : Begun) : Type 0 where
@@ -56,14 +59,16 @@ pub record SkipsBlanks (text : List ℕ) (skipped : Skipped) : Type 0 where
   pub blank : AreBlank lines
   pub bytes : skipped.bytes ≡ length (with_newlines lines)
   pub counted : skipped.lines ≡ length lines
-  pub behind : MatchBool skipped.ended (EndsNotBlank rest skipped.begun) (Describes skipped.begun rest)
+  pub behind : MatchBool skipped.ended (EndsNotBlank rest skipped.begun)
+      (Describes skipped.begun rest)
 
 -- a line that begins so isn't blank, however it goes on
 abbrev pub CannotBeBlank : List ℕ → Type 0
 CannotBeBlank seen = (is_all_blank seen ≡ false) ⊎ (paragraph_limit ≤ length seen)
 
 -- lines of a paragraph at the front of a text, and what was seen of the line behind them
-pub record RunStands (text : List ℕ) (run : Run) (lines : List Line) (seen fresh : List ℕ) : Type 0 where
+pub record RunStands (text : List ℕ) (run : Run) (lines : List Line)
+    (seen fresh : List ℕ) : Type 0 where
   pub front : StandInFront text lines (seen ++ fresh)
   pub not_blank : AreNotBlank lines
   pub bytes : run.bytes ≡ length (with_newlines lines)
@@ -74,17 +79,21 @@ pub record RunStands (text : List ℕ) (run : Run) (lines : List Line) (seen fre
 
 -- lines can be taken from there on
 abbrev pub CanGoOn : List ℕ → Run → Type 0
-CanGoOn text run = (lines : List Line) × (seen : List ℕ) × (fresh : List ℕ) × RunStands text run lines seen fresh
+CanGoOn text run =
+    (lines : List Line) × (seen : List ℕ) × (fresh : List ℕ) × RunStands text run lines seen fresh
 
 -- a newline comes next
 abbrev pub BeginsWithNewline : List ℕ → Type 0
 BeginsWithNewline fresh = (rest : List ℕ) × (fresh ≡ newline ∷ rest)
 
--- why no line more is taken: no newline is left; or the line ends here and is blank; or with it the lines are too long
+-- why no line more is taken: no newline is left; or the line ends here and is blank; or with it the
+-- lines are too long
 abbrev pub IsStop : Stop → Run → List ℕ → List ℕ → Type 0
 IsStop Open run seen fresh = fresh ≡ []
 IsStop Blank run seen fresh = BeginsWithNewline fresh × (is_blank seen ≡ true)
-IsStop TooLong run seen fresh = BeginsWithNewline fresh × (is_blank seen ≡ false) × (paragraph_limit < run.bytes + (length seen + 1))
+IsStop TooLong run seen fresh =
+    BeginsWithNewline fresh × (is_blank seen ≡ false)
+    × (paragraph_limit < run.bytes + (length seen + 1))
 
 -- where the taking of lines stops
 pub record Stops (text : List ℕ) (stop : Stop) (run : Run) : Type 0 where

@@ -38,7 +38,8 @@ impl Begun {
     /// The same line with more bytes of it.
     fn with(self, bytes: &[u8]) -> Begun
         requires { self.len + length bytes.now < 2 ^ 64 }
-        ensures { (seen : List ℕ) → Describes self seen → HasNoNewline bytes.now → Describes result (seen ++ bytes.now) }
+        ensures { (seen : List ℕ) → Describes self seen → HasNoNewline bytes.now
+            → Describes result (seen ++ bytes.now) }
     {
         Begun {
             len: self.len + bytes.len(),
@@ -56,7 +57,8 @@ pub(crate) struct AlongLine {
     pub(crate) ended: bool,
 }
 
-/// Goes on along a line through bytes that haven't been looked at: to its newline, or through all of them.
+/// Goes on along a line through bytes that haven't been looked at: to its newline, or through all
+/// of them.
 pub(crate) fn along(fresh: &[u8], begun: Begun) -> AlongLine
     requires { begun.len + length fresh.now < 2 ^ 64 }
     ensures { (seen : List ℕ) → Describes begun seen → GoesAlong seen fresh.now result }

@@ -1,4 +1,5 @@
-//! A line that is read to its end and not kept (this project's own: a paragraph's lines have a limit).
+//! A line that is read to its end and not kept (this project's own: a paragraph's lines have a
+//! limit).
 
 ghost use Rattle.std.specs.Prelude.{◌≡◌, ◌≤◌, ℕ, List, [], length, drop, IfErr, IsFalse};
 ghost use Rattle.deb_base.specs.Devices.{read_failures_after};
@@ -21,7 +22,8 @@ pub(crate) struct DroppedLine {
     pub(crate) newline: Option<usize>,
 }
 
-/// Goes to the end of the line behind a run of lines, and keeps none of its bytes but those that came last.
+/// Goes to the end of the line behind a run of lines, and keeps none of its bytes but those that
+/// came last.
 ///
 /// Refused: the line goes on beyond what a file may have (`FileTooLong`, at that line).
 pub(crate) fn drop_line<R: Source>(
@@ -36,9 +38,12 @@ pub(crate) fn drop_line<R: Source>(
     requires seen { Describes run.begun (drop run.bytes (feed_state feed.old).unread) }
     requires few { run.lines ≤ run.bytes }
     ensures found { FindsDropped (feed_state feed.old) run result (feed_state feed.new) }
-    ensures ahead { (text : List ℕ) → IsAhead text [] (feed_state feed.old) (R.left reader.old) → IsDropped text (feed_state feed.old) run result (feed_state feed.new) (R.left reader.new) }
+    ensures ahead { (text : List ℕ) → IsAhead text [] (feed_state feed.old) (R.left reader.old)
+        → IsDropped text (feed_state feed.old) run result (feed_state feed.new)
+        (R.left reader.new) }
     ensures same { SameCounts (feed_state feed.old) (feed_state feed.new) }
-    ensures taken { (text : List ℕ) → IsAhead text [] (feed_state feed.old) (R.left reader.old) → TakesNoMore text (room_ahead (feed_state feed.old)) (R.left reader.new) }
+    ensures taken { (text : List ℕ) → IsAhead text [] (feed_state feed.old) (R.left reader.old)
+        → TakesNoMore text (room_ahead (feed_state feed.old)) (R.left reader.new) }
     ensures fault { IfErr result (λ fault. IsReadersFault fault IsRefusalOfText) }
     ensures counted { R.failures reader.new ≡ read_failures_after (R.failures reader.old) result }
 {

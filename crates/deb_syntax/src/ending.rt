@@ -43,13 +43,15 @@ pub(crate) fn paragraph_extent<R: Source>(
     reader: &mut R,
 ) -> Result<Extent, Fault>
     requires line { KeepsLine begun (feed_state feed.old) }
-    requires reach { (feed_state feed.old).bytes + length (feed_state feed.old).unread ≤ file_limit + piece_limit }
+    requires reach { (feed_state feed.old).bytes + length (feed_state feed.old).unread
+        ≤ file_limit + piece_limit }
     ensures found { HasExtent result (feed_state feed.new) }
     ensures ahead { (text : List ℕ) → IsAhead text [] (feed_state feed.old) (R.left reader.old)
         → IsExtentAhead text
         (feed_state feed.old) result (feed_state feed.new) (R.left reader.new) }
     ensures same { SameCounts (feed_state feed.old) (feed_state feed.new) }
-    ensures taken { (text : List ℕ) → IsAhead text [] (feed_state feed.old) (R.left reader.old) → TakesNoMore text (room_ahead (feed_state feed.old)) (R.left reader.new) }
+    ensures taken { (text : List ℕ) → IsAhead text [] (feed_state feed.old) (R.left reader.old)
+        → TakesNoMore text (room_ahead (feed_state feed.old)) (R.left reader.new) }
     ensures fault { IfErr result (λ fault. IsReadersFault fault IsRefusalOfText) }
     ensures counted { R.failures reader.new ≡ read_failures_after (R.failures reader.old) result }
     ensures quiet { IsTrue (feed_state feed.old).ended → reader.new ≡ reader.old }
@@ -102,7 +104,8 @@ fn extent_beyond<R: Source>(feed: &mut Feed, run: Run, reader: &mut R) -> Result
         → IsExtentAhead text
         (feed_state feed.old) result (feed_state feed.new) (R.left reader.new) }
     ensures same { SameCounts (feed_state feed.old) (feed_state feed.new) }
-    ensures taken { (text : List ℕ) → IsAhead text [] (feed_state feed.old) (R.left reader.old) → TakesNoMore text (room_ahead (feed_state feed.old)) (R.left reader.new) }
+    ensures taken { (text : List ℕ) → IsAhead text [] (feed_state feed.old) (R.left reader.old)
+        → TakesNoMore text (room_ahead (feed_state feed.old)) (R.left reader.new) }
     ensures fault { IfErr result (λ fault. IsReadersFault fault IsRefusalOfText) }
     ensures counted { R.failures reader.new ≡ read_failures_after (R.failures reader.old) result }
 {

@@ -43,11 +43,18 @@ pub(crate) struct Feed {
 
 impl Feed {
     ghost use Rattle.std.specs.Prelude.{[], false, IsFalse, slice_range};
-    ghost use Rattle.deb_syntax.specs.Feeding.{feed_state, buffer_of, start_of, TakesPiece, Sees, PassesOn, KeepsFirst};
+    ghost use Rattle.deb_syntax.specs.Feeding.{feed_state, buffer_of, start_of, TakesPiece, Sees};
+    ghost use Rattle.deb_syntax.specs.Feeding.{PassesOn, KeepsFirst};
 
     /// A file of which nothing has been read. Takes no memory.
     pub(crate) fn new(alloc: Global) -> Feed
-        ensures { feed_state result ≡ record { unread = []; held = 0; bytes = 0; lines = 0; ended = false } }
+        ensures { feed_state result ≡ record {
+          unread = [];
+          held = 0;
+          bytes = 0;
+          lines = 0;
+          ended = false;
+        } }
     {
         Feed {
             window: Window::new(alloc),
@@ -102,7 +109,8 @@ impl Feed {
         self.window.slice(from, to)
     }
 
-    /// The unread bytes that may be looked at, where `hidden` bytes of the file stand among them that aren't kept.
+    /// The unread bytes that may be looked at, where `hidden` bytes of the file stand among them
+    /// that aren't kept.
     #[tactic(auto, unfolding(crate::specs::Lines::file_limit))]
     pub(crate) fn sight(&self, hidden: u64) -> Sight<'_>
         requires { (feed_state self.now).bytes + hidden ≤ file_limit }
@@ -132,7 +140,12 @@ impl Feed {
     pub(crate) fn take<R: Source>(&mut self, reader: &mut R) -> Result<(), Fault>
         requires more { IsFalse (feed_state self.old).ended }
         requires short { length (feed_state self.old).unread ≤ 16777216 }
-        ensures { TakesPiece (feed_state self.old) (record { bytes = R.left reader.old; failures = R.failures reader.old }) result (feed_state self.new) (record { bytes = R.left reader.new; failures = R.failures reader.new }) }
+        ensures { TakesPiece (feed_state self.old) (record
+            { bytes = R.left reader.old; failures = R.failures reader.old }) result
+            (feed_state self.new) (record {
+              bytes = R.left reader.new;
+              failures = R.failures reader.new;
+            }) }
     {
         let count = self.window.take(reader)?;
         self.ended = count == 0;

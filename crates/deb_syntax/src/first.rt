@@ -23,20 +23,24 @@ pub(crate) enum First {
     End,
     /// It begins the unread bytes.
     Kept(Begun),
-    /// It is longer than a paragraph may be, and none of its bytes are kept: its newline begins the unread bytes, or
-    /// there are none.
+    /// It is longer than a paragraph may be, and none of its bytes are kept: its newline begins the
+    /// unread bytes, or there are none.
     Dropped(Begun),
 }
 
 /// Passes blank lines, and goes along the first other line to its end.
 ///
-/// Refused: the file is too long, and no line that isn't blank ends within what it may have (`FileTooLong`).
+/// Refused: the file is too long, and no line that isn't blank ends within what it may have
+/// (`FileTooLong`).
 pub(crate) fn first_line<R: Source>(feed: &mut Feed, reader: &mut R) -> Result<First, Fault>
     requires near { IsNear (feed_state feed.old).unread }
-    requires reach { (feed_state feed.old).bytes + length (feed_state feed.old).unread ≤ file_limit + piece_limit }
+    requires reach { (feed_state feed.old).bytes + length (feed_state feed.old).unread
+        ≤ file_limit + piece_limit }
     ensures found { HasFirst result (feed_state feed.new) }
-    ensures ahead { (text : List ℕ) → IsAhead text [] (feed_state feed.old) (R.left reader.old) → IsFirst text (feed_state feed.old) result (feed_state feed.new) (R.left reader.new) }
-    ensures taken { (text : List ℕ) → IsAhead text [] (feed_state feed.old) (R.left reader.old) → TakesNoMore text (room_ahead (feed_state feed.old)) (R.left reader.new) }
+    ensures ahead { (text : List ℕ) → IsAhead text [] (feed_state feed.old) (R.left reader.old)
+        → IsFirst text (feed_state feed.old) result (feed_state feed.new) (R.left reader.new) }
+    ensures taken { (text : List ℕ) → IsAhead text [] (feed_state feed.old) (R.left reader.old)
+        → TakesNoMore text (room_ahead (feed_state feed.old)) (R.left reader.new) }
     ensures fault { IfErr result (λ fault. IsReadersFault fault IsRefusalOfText) }
     ensures counted { R.failures reader.new ≡ read_failures_after (R.failures reader.old) result }
     ensures stays { IsTrue (feed_state feed.old).ended → IsTrue (feed_state feed.new).ended }
@@ -73,7 +77,9 @@ fn last_line(feed: &mut Feed, begun: Begun) -> First
     requires room { length (feed_state feed.old).unread ≤ room_ahead (feed_state feed.old) }
     ensures stays { IsTrue (feed_state feed.new).ended }
     ensures found { HasFirst (Ok result) (feed_state feed.new) }
-    ensures ahead { (text : List ℕ) (left : Option (List ℕ)) → IsAhead text [] (feed_state feed.old) left → IsFirst text (feed_state feed.old) (Ok result) (feed_state feed.new) left }
+    ensures ahead { (text : List ℕ) (left : Option (List ℕ))
+        → IsAhead text [] (feed_state feed.old) left
+        → IsFirst text (feed_state feed.old) (Ok result) (feed_state feed.new) left }
 {
     if !begun.is_blank() {
         return First::Kept(begun);
@@ -89,8 +95,10 @@ fn drop_first<R: Source>(feed: &mut Feed, begun: Begun, reader: &mut R) -> Resul
     requires room { length (feed_state feed.old).unread ≤ room_ahead (feed_state feed.old) }
     requires long { PARAGRAPH_LIMIT ≤ begun.len }
     ensures found { HasFirst result (feed_state feed.new) }
-    ensures ahead { (text : List ℕ) → IsAhead text [] (feed_state feed.old) (R.left reader.old) → IsFirst text (feed_state feed.old) result (feed_state feed.new) (R.left reader.new) }
-    ensures taken { (text : List ℕ) → IsAhead text [] (feed_state feed.old) (R.left reader.old) → TakesNoMore text (room_ahead (feed_state feed.old)) (R.left reader.new) }
+    ensures ahead { (text : List ℕ) → IsAhead text [] (feed_state feed.old) (R.left reader.old)
+        → IsFirst text (feed_state feed.old) result (feed_state feed.new) (R.left reader.new) }
+    ensures taken { (text : List ℕ) → IsAhead text [] (feed_state feed.old) (R.left reader.old)
+        → TakesNoMore text (room_ahead (feed_state feed.old)) (R.left reader.new) }
     ensures fault { IfErr result (λ fault. IsReadersFault fault IsRefusalOfText) }
     ensures counted { R.failures reader.new ≡ read_failures_after (R.failures reader.old) result }
 {

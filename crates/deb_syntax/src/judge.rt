@@ -34,9 +34,9 @@ struct Line {
 /// Finds where the fields of a paragraph stand, or the first refusal of one of its lines (Debian
 /// Policy 5.1; deb822(5), "Syntax").
 ///
-/// `text` is the paragraph's lines with a newline between two of them, and `first_line` is the number
-/// of the first. After Ok `places` holds the places of the fields in the text, and no others; after an
-/// error what it holds isn't told.
+/// `text` is the paragraph's lines with a newline between two of them, and `first_line` is the
+/// number of the first. After Ok `places` holds the places of the fields in the text, and no
+/// others; after an error what it holds isn't told.
 ///
 /// Refused: a line isn't UTF-8 (`NotUtf8`), begins an armoured message (`Armour`) or a comment
 /// (`Comment`), is a continuation line without a field above it (`StrayContinuation`), has no colon
@@ -51,7 +51,8 @@ pub(crate) fn judge(
     requires { first_line + length text.now < 2 ^ 64 }
     ensures ok { OnOk result
         (judged first_line (pieces_of text.now) ≡ Ok (fields_at text.now places.new.items)) }
-    ensures within { OnOk result (IsTrue (list_all (lies_within (length text.now)) places.new.items)) }
+    ensures within { OnOk result (IsTrue (list_all (lies_within (length text.now))
+        places.new.items)) }
     ensures fault { IfErr result (IsFaultOf (judged first_line (pieces_of text.now))) }
 {
     places.clear();
@@ -204,7 +205,8 @@ fn colon_of(content: &[u8]) -> Result<usize, Code>
     }
 }
 
-/// Whether the first bytes of a line, which are all the bytes of a name at its front, are a name that a colon follows.
+/// Whether the first bytes of a line, which are all the bytes of a name at its front, are a name
+/// that a colon follows.
 fn is_named(content: &[u8], len: usize) -> bool
     requires { IsTrue (list_all is_name_byte (take len content.now)) }
     ensures { result ≡ is_named content.now len }

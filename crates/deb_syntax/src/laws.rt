@@ -2,7 +2,8 @@
 
 ghost use Rattle.deb_syntax.specs.Laws.{JudgedIsSpelled, SpelledIsJudged, RefusedIsNotSpelled, ParagraphHasOneReading, TextHasOneMeaning, TextIsMeantOrRefused, ParagraphsAreRuns, ParagraphsStandInText, LinesGiveTextBack, TextGivesLinesBack, PiecesGiveTextBack, MeaningIsItsBodies, MeaningHasBodies, OrderIsNoMeaning, AcceptedIsNeverRefused, NeverRefusedIsAccepted, RefusalIsOfText, AnswersEnd};
 
-/// What is judged of the lines of a paragraph that is within its limit of length is what the lines spell.
+/// What is judged of the lines of a paragraph that is within its limit of length is what the lines
+/// spell.
 pub fn what_is_judged_is_spelled()
     ensures { JudgedIsSpelled }
 {}
@@ -12,8 +13,8 @@ pub fn what_is_spelled_is_judged()
     ensures { SpelledIsJudged }
 {}
 
-/// A refusal of a paragraph's lines has the number of one of them and a code from 1 to 7, and then no fields
-/// are spelled by the lines.
+/// A refusal of a paragraph's lines has the number of one of them and a code from 1 to 7, and then
+/// no fields are spelled by the lines.
 pub fn what_is_refused_is_not_spelled()
     ensures { RefusedIsNotSpelled }
 {}
@@ -28,24 +29,26 @@ pub fn a_text_has_one_meaning()
     ensures { TextHasOneMeaning }
 {}
 
-/// A text whose paragraphs are within their limit of length means something, or it has a first refusal of a line
-/// and means nothing.
+/// A text whose paragraphs are within their limit of length means something, or it has a first
+/// refusal of a line and means nothing.
 pub fn a_text_is_meant_or_refused()
     ensures { TextIsMeantOrRefused }
 {}
 
-/// The paragraphs of lines are the maximal runs of lines that aren't blank, and there is one such list.
+/// The paragraphs of lines are the maximal runs of lines that aren't blank, and there is one such
+/// list.
 pub fn paragraphs_are_maximal_runs()
     ensures { ParagraphsAreRuns }
 {}
 
-/// Each paragraph of a text stands among the lines of the text, at the number of its first line; it has a line,
-/// and none of its lines is blank.
+/// Each paragraph of a text stands among the lines of the text, at the number of its first line; it
+/// has a line, and none of its lines is blank.
 pub fn paragraphs_stand_in_their_text()
     ensures { ParagraphsStandInText }
 {}
 
-/// The lines of a text, each with its newline, are the text, with a newline at its end where it lacked.
+/// The lines of a text, each with its newline, are the text, with a newline at its end where it
+/// lacked.
 pub fn lines_give_the_text_back()
     ensures { LinesGiveTextBack }
 {}
@@ -65,7 +68,8 @@ pub fn a_meaning_is_its_bodies()
     ensures { MeaningIsItsBodies }
 {}
 
-/// Under the canonical spelling of a name stands the body of the field that has the name, without ASCII case.
+/// Under the canonical spelling of a name stands the body of the field that has the name, without
+/// ASCII case.
 pub fn a_meaning_has_each_body()
     ensures { MeaningHasBodies }
 {}
@@ -85,12 +89,14 @@ pub fn what_is_never_refused_is_accepted()
     ensures { NeverRefusedIsAccepted }
 {}
 
-/// A refusal that a reader of paragraphs answers has the number of one of the file's lines and a code from 1 to 9.
+/// A refusal that a reader of paragraphs answers has the number of one of the file's lines and a
+/// code from 1 to 9.
 pub fn a_refusal_is_of_the_text()
     ensures { RefusalIsOfText }
 {}
 
-/// A reader of paragraphs answers that there is no further one exactly behind the last one of a file that isn't too long.
+/// A reader of paragraphs answers that there is no further one exactly behind the last one of a
+/// file that isn't too long.
 pub fn answers_end()
     ensures { AnswersEnd }
 {}

@@ -16,7 +16,8 @@ pub(crate) fn name_bytes(text: &[u8]) -> usize
     len
 }
 
-/// Whether the first `len` bytes, each of which is one of a name, are the name of a field (Debian Policy 5.1).
+/// Whether the first `len` bytes, each of which is one of a name, are the name of a field (Debian
+/// Policy 5.1).
 pub(crate) fn is_name(text: &[u8], len: usize) -> bool
     requires within { len ≤ length text.now }
     requires all { IsTrue (list_all is_name_byte (take len text.now)) }

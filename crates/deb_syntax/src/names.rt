@@ -35,7 +35,8 @@ impl<'a> Names<'a> {
     }
 }
 
-/// Adds a name behind those at the places, and says whether it is new. Memory: a growth of the set was refused.
+/// Adds a name behind those at the places, and says whether it is new. Memory: a growth of the set
+/// was refused.
 pub(crate) fn add<'a>(
     names: &mut Names<'a>,
     text: &'a [u8],

@@ -22,14 +22,16 @@ use std::alloc::Global;
 
 /// Reads the paragraphs of a file, one after another (Debian Policy 5.1).
 ///
-/// A file has at most 4,294,967,295 bytes, and the lengths of a paragraph's lines, with their newlines, add up to at
-/// most 16,777,216. Each call is handed the file's reader: the file is what was taken so far, followed by what that
-/// reader has left. It is taken by pieces of at most 65,536 bytes; one paragraph and the rest of one piece are kept.
-/// The reader's end is asked for once: after a read of no byte it isn't read again.
+/// A file has at most 4,294,967,295 bytes, and the lengths of a paragraph's lines, with their
+/// newlines, add up to at most 16,777,216. Each call is handed the file's reader: the file is what
+/// was taken so far, followed by what that reader has left. It is taken by pieces of at most 65,536
+/// bytes; one paragraph and the rest of one piece are kept. The reader's end is asked for once:
+/// after a read of no byte it isn't read again.
 #[derive(Drop)]
 pub struct Paragraphs {
     feed: Feed,
-    /// How many bytes of the first unread line aren't kept, since it is longer than a paragraph may be.
+    /// How many bytes of the first unread line aren't kept, since it is longer than a paragraph may
+    /// be.
     hidden: u64,
     /// Whether it was answered that no paragraph follows.
     finished: bool,
@@ -39,7 +41,8 @@ pub struct Paragraphs {
     fault: Option<Fault>,
     alloc: Global,
     ghost near: { IsNear (feed_state feed).unread },
-    ghost reach: { (feed_state feed).bytes + hidden + length (feed_state feed).unread ≤ 4295032831 },
+    ghost reach: { (feed_state feed).bytes + hidden + length (feed_state feed).unread
+        ≤ 4295032831 },
     ghost hides: { IsTrue (hides_line hidden (feed_state feed)) },
     ghost stands: { IsTrue (stands_within (buffer_of feed) places.items current) },
 }
@@ -49,12 +52,26 @@ impl Paragraphs {
     ghost use Rattle.std.specs.Borrow.{sem};
     ghost use Rattle.std.specs.Io.BufRead.{Rests};
     ghost use Rattle.deb_syntax.specs.contracts.paragraphs.Paragraphs.{the_row};
-    ghost use Rattle.deb_syntax.specs.Reading.{moment_of, Fits, Answers, FindsFirst, Passes, Advances, Begins};
-    ghost use Rattle.deb_syntax.specs.Paragraphs.{state_of, seen_of, answer_of, advance_answer, end_answer, ShowsFirst, IsQuiet};
+    ghost use Rattle.deb_syntax.specs.Reading.{moment_of, Fits, Answers, FindsFirst, Passes};
+    ghost use Rattle.deb_syntax.specs.Reading.{Advances, Begins};
+    ghost use Rattle.deb_syntax.specs.Paragraphs.{state_of, seen_of, answer_of, advance_answer};
+    ghost use Rattle.deb_syntax.specs.Paragraphs.{end_answer, ShowsFirst, IsQuiet};
 
-    /// A reader of paragraphs that has read nothing: whatever its source has left is the file. Takes no memory.
+    /// A reader of paragraphs that has read nothing: whatever its source has left is the file.
+    /// Takes no memory.
     pub fn new(alloc: Global) -> Paragraphs
-        ensures state { state_of result ≡ record { unread = []; held = 0; bytes = 0; lines = 0; hidden = 0; ended = false; finished = false; current = None; fault = None } }
+        ensures state { state_of result
+            ≡ record {
+              unread = [];
+              held = 0;
+              bytes = 0;
+              lines = 0;
+              hidden = 0;
+              ended = false;
+              finished = false;
+              current = None;
+              fault = None;
+            } }
         ensures fits { (text : List ℕ) → Fits text [] (state_of result) (Some text) }
     {
         Paragraphs {
@@ -68,8 +85,8 @@ impl Paragraphs {
         }
     }
 
-    /// The length in bytes of the buffer, the one list of bytes that is kept: at most 16,842,752, the most that a
-    /// paragraph may have and one piece.
+    /// The length in bytes of the buffer, the one list of bytes that is kept: at most 16,842,752,
+    /// the most that a paragraph may have and one piece.
     pub fn held(&self) -> usize
         ensures value { result ≡ (state_of self.now).held }
         ensures bounded { result ≤ 16842752 }
@@ -80,14 +97,16 @@ impl Paragraphs {
     /// How many lines the file has, once it was answered that no paragraph follows, and else 0. At
     /// most 4,294,967,295: a line has a byte, and a file at most that many.
     pub fn lines(&self) -> u64
-        ensures finished { (state_of self.now).finished ≡ true → result ≡ (state_of self.now).lines }
+        ensures finished { (state_of self.now).finished ≡ true
+            → result ≡ (state_of self.now).lines }
         ensures unfinished { (state_of self.now).finished ≡ false → result ≡ 0 }
         ensures bounded { result ≤ 4294967295 }
     {
         if self.finished { self.feed.lines() } else { 0 }
     }
 
-    /// The paragraph that `advance` found last, or `None` where it found none since, or `begins` was called.
+    /// The paragraph that `advance` found last, or `None` where it found none since, or `begins`
+    /// was called.
     pub fn current(&self) -> Option<Raw<'_>>
         ensures { option_map seen_of result ≡ (state_of self.now).current }
     {
@@ -99,19 +118,22 @@ impl Paragraphs {
         ))
     }
 
-    /// The line at which the next paragraph begins, or `None` where there is no further one. Blank lines before it pass;
-    /// `next` answers afterwards what it would have answered before. After `None` it goes on answering `None`.
+    /// The line at which the next paragraph begins, or `None` where there is no further one. Blank
+    /// lines before it pass; `next` answers afterwards what it would have answered before. After
+    /// `None` it goes on answering `None`.
     ///
     /// # Errors
     ///
     /// After an error every later call answers the same error, and reads nothing.
     ///
-    /// - `Fault::Refused`: the file is too long, and no further paragraph begins within what it may have
-    ///   (`FileTooLong`).
+    /// - `Fault::Refused`: the file is too long, and no further paragraph begins within what it may
+    ///   have (`FileTooLong`).
     /// - `Fault::Memory`: a growth of memory was refused.
     /// - `Fault::Read`: a read of `reader` failed in this call.
     pub fn begins<R: Source>(&mut self, reader: &mut R) -> Result<Option<u64>, Fault>
-        ensures passes { Passes Begins (moment_of (state_of self.old) (R.left reader.old) (R.failures reader.old)) result (moment_of (state_of self.new) (R.left reader.new) (R.failures reader.new)) }
+        ensures passes { Passes Begins (moment_of (state_of self.old) (R.left reader.old)
+            (R.failures reader.old)) result (moment_of (state_of self.new) (R.left reader.new)
+            (R.failures reader.new)) }
         ensures quiet { IsQuiet (state_of self.old) → reader.new ≡ reader.old }
     {
         if let Some(fault) = self.fault {
@@ -124,21 +146,26 @@ impl Paragraphs {
         answer
     }
 
-    /// The next paragraph of the file, or `None` where there is no further one. After `None` it goes on answering `None`.
+    /// The next paragraph of the file, or `None` where there is no further one. After `None` it
+    /// goes on answering `None`.
     ///
     /// # Errors
     ///
     /// After an error every later call answers the same error, and reads nothing.
     ///
-    /// - `Fault::Refused`: the file is refused there, for the first of these. The paragraph's lines are too long
-    ///   (`ParagraphTooLong`, at the line with which they are), the file is too long and no blank line behind the
-    ///   paragraph was seen before (`FileTooLong`, at the line that is cut off), or a line is refused: it isn't UTF-8,
-    ///   begins an armoured message or a comment, continues no field, has no colon, has no name of a field before it, or
-    ///   one that stood before in its paragraph. Behind the last paragraph: the file is too long.
+    /// - `Fault::Refused`: the file is refused there, for the first of these. The paragraph's lines
+    ///   are too long (`ParagraphTooLong`, at the line with which they are), the file is too long
+    ///   and no blank line behind the paragraph was seen before (`FileTooLong`, at the line that is
+    ///   cut off), or a line is refused: it isn't UTF-8, begins an armoured message or a comment,
+    ///   continues no field, has no colon, has no name of a field before it, or one that stood
+    ///   before in its paragraph. Behind the last paragraph: the file is too long.
     /// - `Fault::Memory`: a growth of memory was refused.
     /// - `Fault::Read`: a read of `reader` failed in this call.
     pub fn next<'a, R: Source>(&'a mut self, reader: &mut R) -> Result<Option<Raw<'a>>, Fault>
-        ensures* after { sem 𝓛 (Rests the_row self.entry (λ new. Passes Advances (moment_of (state_of self.old) (R.left reader.old) (R.failures reader.old)) (answer_of result) (moment_of (state_of new) (R.left reader.new) (R.failures reader.new)))) }
+        ensures* after { sem 𝓛 (Rests the_row self.entry
+            (λ new. Passes Advances (moment_of (state_of self.old) (R.left reader.old)
+            (R.failures reader.old)) (answer_of result) (moment_of (state_of new)
+            (R.left reader.new) (R.failures reader.new)))) }
         ensures quiet { IsQuiet (state_of self.old) → reader.new ≡ reader.old }
     {
         if self.advance(reader)? {
@@ -148,10 +175,12 @@ impl Paragraphs {
         }
     }
 
-    /// Goes on to the next paragraph, which `current` then gives, and says whether there is one. The answers, errors
-    /// among them, are those of `next`.
+    /// Goes on to the next paragraph, which `current` then gives, and says whether there is one.
+    /// The answers, errors among them, are those of `next`.
     pub fn advance<R: Source>(&mut self, reader: &mut R) -> Result<bool, Fault>
-        ensures passes { Passes Advances (moment_of (state_of self.old) (R.left reader.old) (R.failures reader.old)) (advance_answer (state_of self.new) result) (moment_of (state_of self.new) (R.left reader.new) (R.failures reader.new)) }
+        ensures passes { Passes Advances (moment_of (state_of self.old) (R.left reader.old)
+            (R.failures reader.old)) (advance_answer (state_of self.new) result)
+            (moment_of (state_of self.new) (R.left reader.new) (R.failures reader.new)) }
         ensures found { IfOk result (λ found. IsTrue found ↔ IsSome (state_of self.new).current) }
         ensures quiet { IsQuiet (state_of self.old) → reader.new ≡ reader.old }
     {
@@ -167,8 +196,11 @@ impl Paragraphs {
 
     /// The line at which the next paragraph begins.
     fn find_line<R: Source>(&mut self, reader: &mut R) -> Result<Option<u64>, Fault>
-        ensures begins { Begins (moment_of (state_of self.old) (R.left reader.old) (R.failures reader.old)) result (moment_of (state_of self.new) (R.left reader.new) (R.failures reader.new)) }
-        ensures quiet { IsTrue (state_of self.old).ended ⊎ IsTrue (state_of self.old).finished → reader.new ≡ reader.old }
+        ensures begins { Begins (moment_of (state_of self.old) (R.left reader.old)
+            (R.failures reader.old)) result (moment_of (state_of self.new) (R.left reader.new)
+            (R.failures reader.new)) }
+        ensures quiet { IsTrue (state_of self.old).ended ⊎ IsTrue (state_of self.old).finished
+            → reader.new ≡ reader.old }
         ensures kept { self.new.fault ≡ self.old.fault }
     {
         match self.find_first(reader) {
@@ -181,9 +213,12 @@ impl Paragraphs {
 
     /// Finds the next paragraph and passes it.
     fn find<R: Source>(&mut self, reader: &mut R) -> Result<bool, Fault>
-        ensures advances { Advances (moment_of (state_of self.old) (R.left reader.old) (R.failures reader.old)) (advance_answer (state_of self.new) result) (moment_of (state_of self.new) (R.left reader.new) (R.failures reader.new)) }
+        ensures advances { Advances (moment_of (state_of self.old) (R.left reader.old)
+            (R.failures reader.old)) (advance_answer (state_of self.new) result)
+            (moment_of (state_of self.new) (R.left reader.new) (R.failures reader.new)) }
         ensures found { IfOk result (λ found. IsTrue found ↔ IsSome (state_of self.new).current) }
-        ensures quiet { IsTrue (state_of self.old).ended ⊎ IsTrue (state_of self.old).finished → reader.new ≡ reader.old }
+        ensures quiet { IsTrue (state_of self.old).ended ⊎ IsTrue (state_of self.old).finished
+            → reader.new ≡ reader.old }
         ensures kept { self.new.fault ≡ self.old.fault }
     {
         match self.find_first(reader) {
@@ -202,14 +237,21 @@ impl Paragraphs {
 
     /// Passes blank lines up to the first other line. From then on there is no current paragraph.
     fn find_first<R: Source>(&mut self, reader: &mut R) -> Result<First, Fault>
-        ensures first { (text passed : List ℕ) → Fits text passed (state_of self.old) (R.left reader.old) → FindsFirst text passed result (state_of self.new) (R.left reader.new) }
-        ensures shows { ShowsFirst result self.new.hidden self.new.finished (feed_state self.new.feed) }
+        ensures first { (text passed : List ℕ)
+            → Fits text passed (state_of self.old) (R.left reader.old)
+            → FindsFirst text passed result (state_of self.new) (R.left reader.new) }
+        ensures shows { ShowsFirst result self.new.hidden self.new.finished
+            (feed_state self.new.feed) }
         ensures none { (state_of self.new).current ≡ None }
         ensures ended { IsTrue (state_of self.old).finished → result ≡ Ok First.End }
-        ensures taken { (text passed : List ℕ) → Fits text passed (state_of self.old) (R.left reader.old) → TakesNoMore text file_limit (R.left reader.new) }
+        ensures taken { (text passed : List ℕ)
+            → Fits text passed (state_of self.old) (R.left reader.old)
+            → TakesNoMore text file_limit (R.left reader.new) }
         ensures fault { IfErr result (λ fault. IsReadersFault fault IsRefusalOfText) }
-        ensures counted { R.failures reader.new ≡ read_failures_after (R.failures reader.old) result }
-        ensures quiet { IsTrue (state_of self.old).ended ⊎ IsTrue (state_of self.old).finished → reader.new ≡ reader.old }
+        ensures counted { R.failures reader.new
+            ≡ read_failures_after (R.failures reader.old) result }
+        ensures quiet { IsTrue (state_of self.old).ended ⊎ IsTrue (state_of self.old).finished
+            → reader.new ≡ reader.old }
         ensures stays { IsTrue (state_of self.old).ended → IsTrue (state_of self.new).ended }
         ensures kept { self.new.fault ≡ self.old.fault }
     {
@@ -247,11 +289,17 @@ impl Paragraphs {
         requires unfinished { self.old.finished ≡ false }
         requires none { self.old.current ≡ None }
         requires line { KeepsLine begun (feed_state self.old.feed) }
-        ensures answers { (text passed : List ℕ) → Fits text passed (state_of self.old) (R.left reader.old) → Answers text passed (end_answer (state_of self.new) result) (state_of self.new) (R.left reader.new) }
+        ensures answers { (text passed : List ℕ)
+            → Fits text passed (state_of self.old) (R.left reader.old)
+            → Answers text passed (end_answer (state_of self.new) result) (state_of self.new)
+            (R.left reader.new) }
         ensures found { OnOk result (IsSome (state_of self.new).current) }
-        ensures taken { (text passed : List ℕ) → Fits text passed (state_of self.old) (R.left reader.old) → TakesNoMore text file_limit (R.left reader.new) }
+        ensures taken { (text passed : List ℕ)
+            → Fits text passed (state_of self.old) (R.left reader.old)
+            → TakesNoMore text file_limit (R.left reader.new) }
         ensures fault { IfErr result (λ fault. IsReadersFault fault IsRefusalOfText) }
-        ensures counted { R.failures reader.new ≡ read_failures_after (R.failures reader.old) result }
+        ensures counted { R.failures reader.new
+            ≡ read_failures_after (R.failures reader.old) result }
         ensures quiet { IsTrue (state_of self.old).ended → reader.new ≡ reader.old }
         ensures kept { self.new.fault ≡ self.old.fault }
     {
@@ -278,11 +326,16 @@ fn pass_paragraph<R: Source>(
     places: &mut Vec<Place>,
 ) -> Result<Standing, Fault>
     requires line { KeepsLine begun (feed_state feed.old) }
-    requires reach { (feed_state feed.old).bytes + length (feed_state feed.old).unread ≤ file_limit + piece_limit }
-    ensures stands { IfOk result (λ at. IsTrue (stands_within (buffer_of feed.new) places.new.items (Some at))) }
+    requires reach { (feed_state feed.old).bytes + length (feed_state feed.old).unread
+        ≤ file_limit + piece_limit }
+    ensures stands { IfOk result (λ at. IsTrue (stands_within (buffer_of feed.new) places.new.items
+        (Some at))) }
     ensures near { OnOk result (length (feed_state feed.new).unread ≤ piece_limit) }
-    ensures ahead { (text : List ℕ) → IsAhead text [] (feed_state feed.old) (R.left reader.old) → IsPassed text (feed_state feed.old) (standing_answer (buffer_of feed.new) places.new.items result) (feed_state feed.new) (R.left reader.new) }
-    ensures taken { (text : List ℕ) → IsAhead text [] (feed_state feed.old) (R.left reader.old) → TakesNoMore text (room_ahead (feed_state feed.old)) (R.left reader.new) }
+    ensures ahead { (text : List ℕ) → IsAhead text [] (feed_state feed.old) (R.left reader.old)
+        → IsPassed text (feed_state feed.old) (standing_answer (buffer_of feed.new) places.new.items
+        result) (feed_state feed.new) (R.left reader.new) }
+    ensures taken { (text : List ℕ) → IsAhead text [] (feed_state feed.old) (R.left reader.old)
+        → TakesNoMore text (room_ahead (feed_state feed.old)) (R.left reader.new) }
     ensures fault { IfErr result (λ fault. IsReadersFault fault IsRefusalOfText) }
     ensures counted { R.failures reader.new ≡ read_failures_after (R.failures reader.old) result }
     ensures quiet { IsTrue (feed_state feed.old).ended → reader.new ≡ reader.old }

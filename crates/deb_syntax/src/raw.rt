@@ -17,8 +17,8 @@ pub struct RawField<'a> {
     pub name: &'a [u8],
     /// The number of the field's first line in its file, which is counted from 1.
     pub line: u64,
-    /// What stands behind the colon, through the field's continuation lines, with spaces and tabs cut
-    /// at both ends alone. Line ends, and spaces and tabs beside them, stay.
+    /// What stands behind the colon, through the field's continuation lines, with spaces and tabs
+    /// cut at both ends alone. Line ends, and spaces and tabs beside them, stay.
     pub body: &'a [u8],
 }
 
@@ -41,8 +41,8 @@ impl<'a> RawField<'a> {
     }
 }
 
-/// A paragraph, as a view of its bytes: its fields, each with the name and a body of a field, of which no two have one
-/// name, and lines that are counted from 1 (Debian Policy 5.1).
+/// A paragraph, as a view of its bytes: its fields, each with the name and a body of a field, of
+/// which no two have one name, and lines that are counted from 1 (Debian Policy 5.1).
 ///
 /// No call takes memory.
 #[derive(Clone, Copy)]
@@ -56,7 +56,8 @@ pub struct Raw<'a> {
 }
 
 impl<'a> Raw<'a> {
-    ghost use Rattle.deb_syntax.specs.Raw.{field_of, fields_of, fields_left, first_line_of, field_named};
+    ghost use Rattle.deb_syntax.specs.Raw.{field_of, fields_of, fields_left};
+    ghost use Rattle.deb_syntax.specs.Raw.{first_line_of, field_named};
 
     /// The paragraph of these bytes, whose fields stand at the places.
     pub(crate) fn new(text: &'a [u8], places: &'a [Place], first_line: u64) -> Raw<'a>
@@ -105,8 +106,8 @@ impl<'a> Raw<'a> {
         Some(RawField::at(self.text, *place))
     }
 
-    /// The field of a name, where names that differ in ASCII case alone are the same, or `None` where
-    /// there is no such field.
+    /// The field of a name, where names that differ in ASCII case alone are the same, or `None`
+    /// where there is no such field.
     pub fn get(&self, name: &[u8]) -> Option<RawField<'a>>
         ensures field { option_map field_of result ≡ field_named name.now (fields_of self.now) }
         ensures name { IfSome result (λ field. IsTrue (is_name field.name.now)) }

@@ -1,4 +1,5 @@
-//! The one buffer: a window on the file, whose bytes stay where they are until no room is left behind them.
+//! The one buffer: a window on the file, whose bytes stay where they are until no room is left
+//! behind them.
 
 ghost use Rattle.std.specs.Prelude.{◌≡◌, ◌+◌, ◌<◌, ◌≤◌, cond, vec_len, IfOk, IfErr, OnOk, OnErr, IsErrOf, length, take, drop};
 ghost use Rattle.std.specs.Io.KnownBytes.{Keeps, ReadConsumes};
@@ -13,8 +14,9 @@ const PIECE: usize = 65_536;
 /// The most bytes that the buffer has: those of a paragraph, and one piece.
 const MOST_HELD: usize = PARAGRAPH_LIMIT + PIECE;
 
-/// A window on the file. `buffer[start..filled]` are its unread bytes. Those before them have passed; behind them is
-/// room: bytes of no meaning, which are written once, when the buffer grows, and are never cleared again.
+/// A window on the file. `buffer[start..filled]` are its unread bytes. Those before them have
+/// passed; behind them is room: bytes of no meaning, which are written once, when the buffer grows,
+/// and are never cleared again.
 #[derive(Drop)]
 pub(crate) struct Window {
     buffer: Vec<u8>,
@@ -96,12 +98,14 @@ impl Window {
     /// Takes one piece of the reader behind the unread bytes, and says how many bytes came.
     pub(crate) fn take<R: Source>(&mut self, reader: &mut R) -> Result<usize, Fault>
         requires { length (unread_of self.old) ≤ PARAGRAPH_LIMIT }
-        ensures taken { IfOk result (λ count. Fills self.old (R.left reader.old) count self.new (R.left reader.new)) }
+        ensures taken { IfOk result (λ count. Fills self.old (R.left reader.old) count self.new
+            (R.left reader.new)) }
         ensures unread { OnErr result (unread_of self.new ≡ unread_of self.old) }
         ensures kept { OnErr result (Keeps (R.left reader.old) (R.left reader.new)) }
         ensures fault { IfErr result IsMemoryOrRead }
         ensures untouched { IsErrOf result Fault.Memory → reader.new ≡ reader.old }
-        ensures counted { R.failures reader.new ≡ read_failures_after (R.failures reader.old) result }
+        ensures counted { R.failures reader.new
+            ≡ read_failures_after (R.failures reader.old) result }
     {
         self.make_room()?;
         let filled = self.filled;
@@ -116,7 +120,8 @@ impl Window {
 
     /// Makes room for at least one byte behind the unread bytes.
     ///
-    /// Bytes are moved only where others have passed before them, and these then make the room; else the buffer grows.
+    /// Bytes are moved only where others have passed before them, and these then make the room;
+    /// else the buffer grows.
     fn make_room(&mut self) -> Result<(), Fault>
         requires { length (unread_of self.old) ≤ PARAGRAPH_LIMIT }
         ensures unread { unread_of self.new ≡ unread_of self.old }
@@ -163,7 +168,8 @@ impl Window {
     }
 }
 
-/// Grows the buffer to the length `wanted`, and takes no more memory than that. Says whether it could.
+/// Grows the buffer to the length `wanted`, and takes no more memory than that. Says whether it
+/// could.
 fn grown(buffer: &mut Vec<u8>, wanted: usize) -> bool
     requires { vec_len buffer.old ≤ wanted }
     ensures kept { take (vec_len buffer.old) buffer.new.items ≡ buffer.old.items }
@@ -179,7 +185,8 @@ fn read_behind<R: Source>(buffer: &mut [u8], filled: usize, reader: &mut R) -> R
     ensures kept { take filled buffer.new ≡ take filled buffer.old }
     ensures within { IfOk result (λ count. filled + count ≤ length buffer.new) }
     ensures short { IfOk result (λ count. count ≤ PIECE) }
-    ensures bytes { ReadConsumes (R.left reader.old) (R.left reader.new) result (drop filled buffer.new) }
+    ensures bytes { ReadConsumes (R.left reader.old) (R.left reader.new) result
+        (drop filled buffer.new) }
     ensures counted { R.failures reader.new ≡ failures_after (R.failures reader.old) result }
 {
     let end = buffer.len().min(filled + PIECE);

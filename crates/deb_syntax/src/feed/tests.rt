@@ -117,7 +117,8 @@ fn a_failed_read_changes_nothing(rt: HostRuntime) -> Result<(), Fail> {
     Ok(())
 }
 
-/// The buffer holds two pieces as long as no more than one is unread, and its bytes are those of the file.
+/// The buffer holds two pieces as long as no more than one is unread, and its bytes are those of
+/// the file.
 #[test]
 fn bytes_are_moved_where_others_have_passed(rt: HostRuntime) -> Result<(), Fail> {
     let mut file = Vec::new(rt.alloc());

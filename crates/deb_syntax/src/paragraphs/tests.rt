@@ -21,8 +21,9 @@ const SIZES: [usize; 5] = [1, 2, 3, 7, 65_536];
 /// A paragraph of 41 bytes.
 const PACKAGE: &[u8] = b"Package: aa\nVersion: 1\nArchitecture: all\n";
 
-/// Reads a file to its end, and answers how many lines it has, or to a fault. A line `@N` is told for each paragraph,
-/// where N is its first line, and one for each of its fields: its line, its name, and its body or a long one's length.
+/// Reads a file to its end, and answers how many lines it has, or to a fault. A line `@N` is told
+/// for each paragraph, where N is its first line, and one for each of its fields: its line, its
+/// name, and its body or a long one's length.
 fn read_all(
     rt: &impl Abort,
     alloc: Global,

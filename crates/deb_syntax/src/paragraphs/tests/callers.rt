@@ -8,7 +8,8 @@ use deb_base::Source;
 
 /// How many paragraphs a file has: what all the answers of `next` together say of it.
 fn count_paragraphs<R: Source>(alloc: Global, reader: &mut R) -> Result<u64, Fault>
-    ensures { (text : List ℕ) → R.left reader.old ≡ Some text → IfOk result (λ n. n ≡ length (paragraphs_of text)) }
+    ensures { (text : List ℕ) → R.left reader.old ≡ Some text
+        → IfOk result (λ n. n ≡ length (paragraphs_of text)) }
 {
     let mut paragraphs = Paragraphs::new(alloc);
     for count in 0..u64::MAX {

@@ -53,12 +53,14 @@ fn a_refusal_before_a_failed_read(rt: HostRuntime) -> Result<(), Fail> {
     Ok(())
 }
 
-/// At most one piece is taken behind the blank line that ends a paragraph, and behind a paragraph's first line.
+/// At most one piece is taken behind the blank line that ends a paragraph, and behind a paragraph's
+/// first line.
 #[test]
 fn one_piece_is_taken_ahead(rt: HostRuntime) -> Result<(), Fail> {
     let pieces: [(&[u8], u8, usize); 2] = [(b"A: 1\n\nB: ", b'x', 300_000), (b"\n\nC: 3\n", 0, 0)];
     let file = file_of(rt.alloc(), &pieces)?;
-    // each paragraph's first line, and the most bytes that are taken when it is known, and behind the paragraph
+    // each paragraph's first line, and the most bytes that are taken when it is known, and behind
+    // the paragraph
     let rows = [
         (1, 5 + 65_536, 6 + 65_536),
         (3, 300_010 + 65_536, 300_011 + 65_536),

@@ -140,8 +140,8 @@ const LINES: [Line; 21] = [
     Line(b"-", Some(Code::NoColon), Some(Code::NoColon)),
 ];
 
-/// What stands before and behind a line, whether the line is the first of its paragraph, its number, and how many
-/// paragraphs and lines the file has if it isn't refused.
+/// What stands before and behind a line, whether the line is the first of its paragraph, its
+/// number, and how many paragraphs and lines the file has if it isn't refused.
 struct Frame(&'static [u8], &'static [u8], bool, u64, usize, u64);
 
 const FRAMES: [Frame; 11] = [

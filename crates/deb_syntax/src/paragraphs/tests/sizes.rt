@@ -11,8 +11,8 @@ const REST: usize = 16_777_171;
 /// What is told of it.
 const TOLD: &str = "@1\n1 Package: aa\n2 Version: 1\n3 Architecture: all\n4 X: 16777171 bytes\n";
 
-/// The pieces of a file, what is told of its paragraphs, and how many lines it has or the line of the refusal that its
-/// paragraph is too long.
+/// The pieces of a file, what is told of its paragraphs, and how many lines it has or the line of
+/// the refusal that its paragraph is too long.
 struct Row(
     &'static [(&'static [u8], u8, usize)],
     &'static str,
