@@ -17,13 +17,13 @@ use Rattle.deb_syntax.specs.Ahead.{left_answer, left_begin, room_ahead, IsAhead,
 use Rattle.deb_syntax.specs.Answers.{Seen, part_within, paragraphs_within, next_answer, next_begin, seen_from}
 use Rattle.deb_syntax.specs.Extents.{AreBlank, AreNotBlank}
 use Rattle.deb_syntax.specs.Feeding.{FeedState, PassesOn, feed_state, buffer_of, start_of, piece_limit}
-use Rattle.deb_syntax.specs.Fields.{are_fields}
+use Rattle.deb_syntax.specs.Fields.{are_fields, are_numbered}
 use Rattle.deb_syntax.specs.declared.feed.Feed.{Feed}
 use Rattle.deb_syntax.specs.declared.place.Place.{Place}
 use Rattle.std.specs.List.{list_all, slice_range}
 use Rattle.std.proofs.lemmas.List.{length-take-le}
 use Rattle.deb_syntax.proofs.Feeds.{front_of_unread, unread_within}
-use Rattle.deb_syntax.proofs.FieldTests.{are_fields-judged}
+use Rattle.deb_syntax.proofs.FieldTests.{are_fields-judged, are_numbered-judged}
 use Rattle.deb_syntax.proofs.PlacesWithin.{within_test}
 use Rattle.deb_syntax.specs.Judging.{judged}
 use Rattle.deb_syntax.specs.Lines.{lines_of, with_newlines, Paragraph, paragraphs_from, paragraphs_of, total_length, file_limit}
@@ -311,15 +311,16 @@ module _ (mid : Feed) (buffer : List ℕ) (e : Extent) (from : ℕ) (places : Li
   pub standing_bytes : slice_range buffer from (from + e.end) ≡ take e.end (feed_state mid).unread
   standing_bytes = ap (λ zs. slice_range zs from (from + e.end)) same ∙ ap (λ k. slice_range (buffer_of mid) k (k + e.end)) at ∙ front_of_unread mid e.end x.end_within
 
-  pub stands_test : (n : ℕ) → judged n (pieces_of (take e.end (feed_state mid).unread)) ≡ Ok (fields_at (take e.end (feed_state mid).unread) places) → IsTrue (list_all (lies_within (length (take e.end (feed_state mid).unread))) places) → IsTrue (stands_within buffer places (Some (record { from = from; to = from + e.end; first_line = n })))
-  stands_test n judges within =
+  pub stands_test : (n : ℕ) → 1 ≤ n → judged n (pieces_of (take e.end (feed_state mid).unread)) ≡ Ok (fields_at (take e.end (feed_state mid).unread) places) → IsTrue (list_all (lies_within (length (take e.end (feed_state mid).unread))) places) → IsTrue (stands_within buffer places (Some (record { from = from; to = from + e.end; first_line = n })))
+  stands_test n some judges within =
       let len : length (take e.end (feed_state mid).unread) ≡ e.end = length-take-le e.end (feed_state mid).unread x.end_within in
       let room : from + e.end ≤ length buffer = omega (arith, at, x.end_within, unread_within mid, ap length same) in
       let not_blank : AreNotBlank (pieces_of (take e.end (feed_state mid).unread)) = subst AreNotBlank (sym x.pieces) x.not_blank in
       let short : total_length (pieces_of (take e.end (feed_state mid).unread)) ≤ paragraph_limit = subst (λ lines. total_length lines ≤ paragraph_limit) (sym x.pieces) x.short in
       let fields = are_fields-judged n (take e.end (feed_state mid).unread) (fields_at (take e.end (feed_state mid).unread) places) not_blank short judges in
+      let numbered = are_numbered-judged n (take e.end (feed_state mid).unread) (fields_at (take e.end (feed_state mid).unread) places) some not_blank short judges in
       within_test from (from + e.end) (length buffer) (length (take e.end (feed_state mid).unread)) places _ (omega arith) room (omega (arith, len)) within
-      (ap (λ zs. are_fields (fields_at zs places)) standing_bytes ∙ fields)
+      (ap (λ zs. are_fields (fields_at zs places) && are_numbered n (fields_at zs places)) standing_bytes ∙ and_from _ _ fields numbered)
 
   -- and these are its fields
   pub standing_fields : (n m : ℕ) → n ≡ m → judged n (pieces_of (take e.end (feed_state mid).unread)) ≡ Ok (fields_at (take e.end (feed_state mid).unread) places) → judged m (x.first ∷ x.run) ≡ Ok (standing_of buffer places (record { from = from; to = from + e.end; first_line = n })).fields

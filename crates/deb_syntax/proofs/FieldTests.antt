@@ -1,12 +1,12 @@
 -- Fields that pass the test of a paragraph's fields: those that lines spell.
-use Rattle.std.proofs.Common.{◌&&◌, ◌≡◌, ℕ, zero, suc, ◌+◌, ◌<◌, ◌≤◌, true, not, List, [], ◌∷◌, ◌++◌, length, get_or, subst, refl, ap, arith, Ok, IsUtf8}
-use Rattle.std.specs.List.{AllByRecursion}
-use Rattle.std.proofs.lemmas.Bool.{and_parts, and_from}
+use Rattle.std.proofs.Common.{◌&&◌, ◌≡◌, ℕ, zero, suc, ◌+◌, ◌<◌, ◌≤◌, true, not, List, [], ◌∷◌, ◌++◌, length, leb, get_or, subst, refl, ap, arith, Ok, IsUtf8}
+use Rattle.std.specs.List.{AllByRecursion, list_all}
+use Rattle.std.proofs.lemmas.Bool.{and_parts, and_from, le-leb}
 use Rattle.deb_base.specs.Bodies.{Line, IsBody, is_body, paragraph_limit, pieces_of}
 use Rattle.deb_base.specs.FieldNames.{is_name}
 use Rattle.deb_base.proofs.BodyLemmas.{IsBody-from_test, is_body-from_IsBody}
 use Rattle.deb_syntax.specs.Lines.{Paragraph, total_length}
-use Rattle.deb_syntax.specs.Fields.{Field, SpellsField, SpellsFields, SpellsParagraph, AreDistinct, has_name, is_field, are_fields}
+use Rattle.deb_syntax.specs.Fields.{Field, SpellsField, SpellsFields, SpellsParagraph, AreDistinct, has_name, is_field, are_fields, are_numbered}
 use Rattle.deb_syntax.specs.Judging.{judged}
 use Rattle.deb_syntax.specs.Extents.{AreNotBlank}
 use Rattle.deb_syntax.specs.Places.{field_at, fields_at}
@@ -36,6 +36,17 @@ are_fields-from_spells paragraph fields s = are_fields-from fields paragraph.fir
 pub are_fields-judged : (n : ℕ) (text : List ℕ) (fields : List Field) → AreNotBlank (pieces_of text) → total_length (pieces_of text) ≤ paragraph_limit → judged n (pieces_of text) ≡ Ok fields → are_fields fields ≡ true
 are_fields-judged n text fields not_blank short is =
     are_fields-from_spells _ fields (judged-sound_from n (pieces_of text) fields (pieces_of-no_newline text) (not_blank-solid (pieces_of text) not_blank short) is)
+
+numbered-from : (fields : List Field) (n : ℕ) (lines : List Line) → 1 ≤ n → SpellsFields n lines fields → list_all (λ field. leb 1 field.line) fields ≡ true
+numbered-from [] n lines some spelt = refl
+numbered-from (field ∷ fields) n lines some spelt =
+    and_from _ _ (le-leb 1 field.line (omega (arith, spelt.3, some))) (numbered-from fields (n + length spelt.0) spelt.1 (omega (arith, some)) spelt.5)
+
+-- and their lines are counted from 1 where the first is
+pub are_numbered-judged : (n : ℕ) (text : List ℕ) (fields : List Field) → 1 ≤ n → AreNotBlank (pieces_of text) → total_length (pieces_of text) ≤ paragraph_limit → judged n (pieces_of text) ≡ Ok fields → are_numbered n fields ≡ true
+are_numbered-judged n text fields some not_blank short is =
+    let spells = judged-sound_from n (pieces_of text) fields (pieces_of-no_newline text) (not_blank-solid (pieces_of text) not_blank short) is in
+    and_from _ _ (le-leb 1 n some) (numbered-from fields n (pieces_of text) some spells.spelt)
 
 -- the field at one of the places
 pub is_field-at : (text : List ℕ) (places : List Place) (i : ℕ) (d : Place) → i < length places → are_fields (fields_at text places) ≡ true → is_field (field_at text (get_or places i d)) ≡ true

@@ -1,6 +1,6 @@
 -- Fields: names, bodies, and what spells them. Debian Policy 5.1; deb822(5), "Syntax".
-use Rattle.std.specs.Prelude.{◌≡◌, ℕ, ◌+◌, ◌≤◌, ◌&&◌, Bool, true, false, not, IsTrue, IsFalse, List, [], ◌∷◌, ◌++◌, length, IsUtf8, codes, refl}
-use Rattle.std.specs.List.{list_any, AllByRecursion}
+use Rattle.std.specs.Prelude.{◌≡◌, ℕ, ◌+◌, ◌≤◌, ◌&&◌, Bool, true, false, not, IsTrue, IsFalse, List, [], ◌∷◌, ◌++◌, length, nat_le, IsUtf8, codes, refl}
+use Rattle.std.specs.List.{list_any, list_all, AllByRecursion}
 use Rattle.std.specs.Str.{bytes_eq, is_utf8, chars}
 use lib.Utf8.{encode}
 use Rattle.deb_base.specs.Names.{folded}
@@ -49,6 +49,10 @@ abbrev pub are_fields : List Field → Bool
 are_fields [] = true
 are_fields (field ∷ fields) =
     is_field field && not (has_name field.name fields) && are_fields fields
+
+-- whether the first line of a paragraph, and those of its fields, are counted from 1
+abbrev pub are_numbered : ℕ → List Field → Bool
+are_numbered first fields = nat_le 1 first && list_all (λ field. nat_le 1 field.line) fields
 
 -- The lengths of the paragraph's lines add up to no more than a paragraph may have.
 abbrev pub IsShort : Paragraph → Type 0

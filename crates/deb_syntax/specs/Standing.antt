@@ -12,7 +12,7 @@ use Rattle.deb_syntax.specs.declared.place.Place.{Place}
 use Rattle.deb_syntax.specs.declared.standing.Standing.{Standing}
 use Rattle.deb_syntax.specs.Answers.{Seen}
 use Rattle.deb_syntax.specs.Feeding.{FeedState}
-use Rattle.deb_syntax.specs.Fields.{are_fields}
+use Rattle.deb_syntax.specs.Fields.{are_fields, are_numbered}
 use Rattle.deb_syntax.specs.Lines.{lines_of, IsClosed, total_length, file_limit}
 use Rattle.deb_syntax.specs.Places.{fields_at, lies_within}
 
@@ -21,13 +21,15 @@ abbrev pub standing_of : List ℕ → List Place → Standing → Seen
 standing_of buffer places at =
     record { first = at.first_line; fields = fields_at (slice_range buffer at.from at.to) places }
 
--- whether it lies within the buffer, its fields within it, and they can be a paragraph's
+-- whether it lies within the buffer, its fields within it, and they can be a paragraph's, with
+-- lines counted from 1
 abbrev pub stands_within : List ℕ → List Place → Option Standing → Bool
 stands_within buffer places None = true
 stands_within buffer places (Some at) =
     nat_le at.from at.to && nat_le at.to (length buffer)
     && list_all (lies_within (at.to - at.from)) places
-    && are_fields (standing_of buffer places at).fields
+    && (are_fields (standing_of buffer places at).fields
+    && are_numbered at.first_line (standing_of buffer places at).fields)
 
 -- whether a newline comes first
 abbrev pub begins_with_newline : List ℕ → Bool

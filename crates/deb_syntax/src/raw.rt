@@ -1,10 +1,10 @@
 //! The fields of a paragraph, as a view of its bytes.
 
-ghost use Rattle.std.specs.Prelude.{◌≡◌, ◌↔◌, [], length, slice_get, option_map, IsTrue, IfSome};
+ghost use Rattle.std.specs.Prelude.{◌≡◌, ◌≤◌, ◌↔◌, [], length, slice_get, option_map, IsTrue, IfSome};
 ghost use Rattle.std.specs.List.{list_all};
 ghost use Rattle.deb_base.specs.Bodies.{IsBody};
 ghost use Rattle.deb_base.specs.FieldNames.{is_name};
-ghost use Rattle.deb_syntax.specs.Fields.{is_field, are_fields};
+ghost use Rattle.deb_syntax.specs.Fields.{is_field, are_fields, are_numbered};
 ghost use Rattle.deb_syntax.specs.Places.{field_at, fields_at, lies_within};
 
 use crate::place::Place;
@@ -42,7 +42,7 @@ impl<'a> RawField<'a> {
 }
 
 /// A paragraph, as a view of its bytes: its fields, each with the name and a body of a field, of
-/// which no two have one name (Debian Policy 5.1).
+/// which no two have one name, and lines that are counted from 1 (Debian Policy 5.1).
 ///
 /// No call takes memory.
 #[derive(Clone, Copy)]
@@ -52,6 +52,7 @@ pub struct Raw<'a> {
     first_line: u64,
     ghost within: { IsTrue (list_all (lies_within (length text.now)) places.now) },
     ghost fields: { IsTrue (are_fields (fields_at text.now places.now)) },
+    ghost numbered: { IsTrue (are_numbered first_line (fields_at text.now places.now)) },
 }
 
 impl<'a> Raw<'a> {
@@ -62,6 +63,7 @@ impl<'a> Raw<'a> {
     pub(crate) fn new(text: &'a [u8], places: &'a [Place], first_line: u64) -> Raw<'a>
         requires within { IsTrue (list_all (lies_within (length text.now)) places.now) }
         requires fields { IsTrue (are_fields (fields_at text.now places.now)) }
+        requires numbered { IsTrue (are_numbered first_line (fields_at text.now places.now)) }
         ensures fields { fields_of result ≡ fields_at text.now places.now }
         ensures first_line { first_line_of result ≡ first_line }
     {
@@ -74,7 +76,8 @@ impl<'a> Raw<'a> {
 
     /// The number of the paragraph's first line in its file, which is counted from 1.
     pub fn first_line(&self) -> u64
-        ensures { result ≡ first_line_of self.now }
+        ensures value { result ≡ first_line_of self.now }
+        ensures line { 1 ≤ result }
     {
         self.first_line
     }

@@ -22,7 +22,7 @@ pub returns-in-Ok-clause-stands : goal.returns-in-Ok-clause-stands
 returns-in-Ok-clause-stands g c =
     let n = c.lines-first_line.result + 1 in
     let end = c.in_ok-extent.extent.end in
-    stands_test c.paragraph_extent.new.feed (buffer_of c.pass.new.self) c.in_ok-extent.extent c.start-from.result c.judge.new.places.items c.pass.ensures.buffer c.start-from.ensures c.in_ok-extent.ensures.found n
+    stands_test c.paragraph_extent.new.feed (buffer_of c.pass.new.self) c.in_ok-extent.extent c.start-from.result c.judge.new.places.items c.pass.ensures.buffer c.start-from.ensures c.in_ok-extent.ensures.found n (omega arith)
     (subst (λ (zs : List ℕ). judged n (pieces_of (take end zs)) ≡ Ok (fields_at (take end zs) c.judge.new.places.items)) c.unread.ensures c.in-Ok.ensures.ok)
     (subst (λ (zs : List ℕ). IsTrue (list_all (lies_within (length (take end zs))) c.judge.new.places.items)) c.unread.ensures c.in-Ok.ensures.within)
 
