@@ -1,7 +1,7 @@
 -- What a call of a reader of checked paragraphs says, from what its reader of paragraphs says.
-use Rattle.std.proofs.Common.{◌≡◌, ◌⊎◌, inl, inr, ℕ, ◌+◌, ◌<◌, ◌≤◌, ◌==◌, ◌&&◌, not, Bool, true, false, cond, List, [], ◌∷◌, ◌++◌, length, Option, None, Some, Result, Ok, Err, IfOk, IfErr, IfNone, IfSome, MatchResult, IsTrue, IsSome, ◌↔◌, refl, sym, ap, ◌∙◌, subst, arith, length-append, append-nil}
+use Rattle.std.proofs.Common.{◌≡◌, ◌⊎◌, inl, inr, ℕ, ◌+◌, ◌<◌, ◌≤◌, ◌==◌, ◌&&◌, not, Bool, true, false, cond, leb, List, [], ◌∷◌, ◌++◌, length, Option, None, Some, Result, Ok, Err, IfOk, IfErr, IfNone, IfSome, MatchResult, IsTrue, IsSome, ◌↔◌, refl, sym, ap, ◌∙◌, subst, arith, length-append, append-nil}
 use Rattle.std.proofs.Math.Bool.{and-false}
-use Rattle.std.proofs.lemmas.Bool.{ne_eqb, false≢true}
+use Rattle.std.proofs.lemmas.Bool.{ne_eqb, false≢true, and_parts, leb-true}
 use Rattle.deb_base.specs.Codes.{number_of}
 use Rattle.deb_base.specs.Devices.{read_failures_after}
 use Rattle.deb_base.specs.Faults.{IsReadersFault, RefusedOrMemory}
@@ -11,6 +11,7 @@ use Rattle.deb_base.specs.declared.fault.Fault.TheVariants.{Refused, Memory, Rea
 use Rattle.deb_base.specs.declared.refusal.Refusal.{Refusal}
 use Rattle.deb_syntax.specs.Ahead.{TakesNoMore}
 use Rattle.deb_syntax.specs.Answers.{Seen, next_answer, next_begin}
+use Rattle.deb_syntax.specs.Fields.{are_numbered}
 use Rattle.deb_syntax.specs.Lines.{lines_of, paragraphs_of, file_limit}
 use Rattle.deb_syntax.specs.Meaning.{Entries}
 use Rattle.deb_syntax.specs.Paragraphs.{advance_answer}
@@ -165,17 +166,17 @@ module _ (doc : Doc) (reader new : State) (count bytes : ℕ) (left after : Opti
               ∙ ap (λ n. Err (record { code = NoParagraph; line = n })) line;
           taken = λ text before fits. advances.taken text fits.passed fits.fits;
           counted = advances.counted;
-          fault = record { least = omega arith; most = omega arith };
+          fault = record { least = omega arith; most = omega arith; line = omega arith };
           count = refl;
           few = few;
         }
 
     -- the next one is refused
-    pub checks-unpassed : (given : Tally) (seen : Seen) (fault : Fault) → given.paragraphs ≡ count → given.bytes ≡ bytes → Advances (reader_at reader left failures) (Ok (Some seen)) (reader_at new after failures_after) → RefusedOrMemory fault (RefusesSeen doc seen given) → Checks doc (checked_at reader count bytes left failures) (Err fault) (checked_at new count bytes after failures_after)
-    checks-unpassed given seen Memory counted is advances refused = record { answers = λ text before fits. tt; taken = λ text before fits. advances.taken text fits.passed fits.fits; counted = advances.counted; fault = tt; count = refl; few = few }
-    checks-unpassed given seen Read counted is advances refused = absurd refused
-    checks-unpassed given seen Write counted is advances refused = absurd refused
-    checks-unpassed given seen (Refused refusal) counted is advances refused = record {
+    pub checks-unpassed : (given : Tally) (seen : Seen) (fault : Fault) → are_numbered seen.first seen.fields ≡ true → given.paragraphs ≡ count → given.bytes ≡ bytes → Advances (reader_at reader left failures) (Ok (Some seen)) (reader_at new after failures_after) → RefusedOrMemory fault (RefusesSeen doc seen given) → Checks doc (checked_at reader count bytes left failures) (Err fault) (checked_at new count bytes after failures_after)
+    checks-unpassed given seen Memory numbered counted is advances refused = record { answers = λ text before fits. tt; taken = λ text before fits. advances.taken text fits.passed fits.fits; counted = advances.counted; fault = tt; count = refl; few = few }
+    checks-unpassed given seen Read numbered counted is advances refused = absurd refused
+    checks-unpassed given seen Write numbered counted is advances refused = absurd refused
+    checks-unpassed given seen (Refused refusal) numbered counted is advances refused = record {
       answers = λ text before fits.
           let next = advances.answers text fits.passed fits.fits in
           let at : next_answer text (length before) ≡ Ok (Some seen) = ap (next_answer text) (sym fits.paragraphs) ∙ next.answer in
@@ -188,8 +189,8 @@ module _ (doc : Doc) (reader new : State) (count bytes : ℕ) (left after : Opti
       taken = λ text before fits. advances.taken text fits.passed fits.fits;
       counted = advances.counted;
       fault = elim refused [
-        | inl unbuilt ↦ built-code doc seen refusal unbuilt
-        | inr long ↦ subst IsRefusalOfDocument (sym long.is) (record { least = omega arith; most = omega arith })
+        | inl unbuilt ↦ built-code doc seen refusal numbered unbuilt
+        | inr long ↦ subst IsRefusalOfDocument (sym long.is) (record { least = omega arith; most = omega arith; line = leb-true 1 seen.first (and_parts (leb 1 seen.first) _ numbered).0 })
       ];
       count = refl;
       few = few;
@@ -226,17 +227,17 @@ module _ (doc : Doc) (reader new : State) (count bytes : ℕ) (left after : Opti
     }
 
     -- the next one is checked
-    pub checks-passed : (given given_now : Tally) (seen : Seen) (written : List ℕ) (result : Result Bool Fault) → given.paragraphs ≡ count → given.bytes ≡ bytes → Advances (reader_at reader left failures) (Ok (Some seen)) (reader_at new after failures_after) → IfOk result (λ gives. (gives ≡ true) × AddsPassing doc seen given written given_now) → IfErr result (λ fault. RefusedOrMemory fault (RefusesSeen doc seen given)) → IfErr result (λ fault. given_now ≡ given) → Checks doc (checked_at reader count bytes left failures) (found_answer (Some seen) written result) (checked_at new given_now.paragraphs given_now.bytes after failures_after)
-    checks-passed given given_now seen written (Ok true) counted is advances ok fault same = checks-passes given given_now seen written counted is advances ok.1 (few-given given_now)
-    checks-passed given given_now seen written (Ok false) counted is advances ok fault same = absurd (false≢true ok.0)
-    checks-passed given given_now seen written (Err f) counted is advances ok fault same =
+    pub checks-passed : (given given_now : Tally) (seen : Seen) (written : List ℕ) (result : Result Bool Fault) → are_numbered seen.first seen.fields ≡ true → given.paragraphs ≡ count → given.bytes ≡ bytes → Advances (reader_at reader left failures) (Ok (Some seen)) (reader_at new after failures_after) → IfOk result (λ gives. (gives ≡ true) × AddsPassing doc seen given written given_now) → IfErr result (λ fault. RefusedOrMemory fault (RefusesSeen doc seen given)) → IfErr result (λ fault. given_now ≡ given) → Checks doc (checked_at reader count bytes left failures) (found_answer (Some seen) written result) (checked_at new given_now.paragraphs given_now.bytes after failures_after)
+    checks-passed given given_now seen written (Ok true) numbered counted is advances ok fault same = checks-passes given given_now seen written counted is advances ok.1 (few-given given_now)
+    checks-passed given given_now seen written (Ok false) numbered counted is advances ok fault same = absurd (false≢true ok.0)
+    checks-passed given given_now seen written (Err f) numbered counted is advances ok fault same =
         let at : (given_now.paragraphs ≡ count) × (given_now.bytes ≡ bytes) = (ap (λ t. t.paragraphs) same ∙ counted, ap (λ t. t.bytes) same ∙ is) in
-        rw (at.0, at.1) (checks-unpassed given seen f counted is advances fault)
+        rw (at.0, at.1) (checks-unpassed given seen f numbered counted is advances fault)
 
-    pub checks-found : (given given_now : Tally) (seen : Seen) (found : Option Seen) (written : List ℕ) (answer : Result (Option Seen) Fault) (result : Result Bool Fault) → given.paragraphs ≡ count → given.bytes ≡ bytes → found ≡ Some seen → answer ≡ Ok (Some seen) → Advances (reader_at reader left failures) answer (reader_at new after failures_after) → IfOk result (λ gives. (gives ≡ true) × AddsPassing doc seen given written given_now) → IfErr result (λ fault. RefusedOrMemory fault (RefusesSeen doc seen given)) → IfErr result (λ fault. given_now ≡ given) → Checks doc (checked_at reader count bytes left failures) (found_answer found written result) (checked_at new given_now.paragraphs given_now.bytes after failures_after)
-    checks-found given given_now seen found written answer result counted is one some goes ok fault same =
+    pub checks-found : (given given_now : Tally) (seen : Seen) (found : Option Seen) (written : List ℕ) (answer : Result (Option Seen) Fault) (result : Result Bool Fault) → are_numbered seen.first seen.fields ≡ true → given.paragraphs ≡ count → given.bytes ≡ bytes → found ≡ Some seen → answer ≡ Ok (Some seen) → Advances (reader_at reader left failures) answer (reader_at new after failures_after) → IfOk result (λ gives. (gives ≡ true) × AddsPassing doc seen given written given_now) → IfErr result (λ fault. RefusedOrMemory fault (RefusesSeen doc seen given)) → IfErr result (λ fault. given_now ≡ given) → Checks doc (checked_at reader count bytes left failures) (found_answer found written result) (checked_at new given_now.paragraphs given_now.bytes after failures_after)
+    checks-found given given_now seen found written answer result numbered counted is one some goes ok fault same =
         subst (λ f. Checks doc (checked_at reader count bytes left failures) (found_answer f written result) (checked_at new given_now.paragraphs given_now.bytes after failures_after)) (sym one)
-        (checks-passed given given_now seen written result counted is (subst (λ a. Advances (reader_at reader left failures) a (reader_at new after failures_after)) some goes) ok fault same)
+        (checks-passed given given_now seen written result numbered counted is (subst (λ a. Advances (reader_at reader left failures) a (reader_at new after failures_after)) some goes) ok fault same)
 
   -- what it says of the beginning of one that is one too many
   module _ (single : is_single doc ≡ true) (some : 0 < count) where
@@ -262,7 +263,7 @@ module _ (doc : Doc) (reader new : State) (count bytes : ℕ) (left after : Opti
           next_checked-second (rules_of doc) text before single (second text before fits) line (ap (next_begin text) (sym fits.paragraphs) ∙ gives.begin);
       taken = λ text before fits. begins.taken text fits.passed fits.fits;
       counted = begins.counted;
-      fault = record { least = omega arith; most = omega arith };
+      fault = record { least = omega arith; most = omega arith; line = begins.line };
       count = refl;
       few = few;
     }

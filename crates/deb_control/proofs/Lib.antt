@@ -20,3 +20,4 @@ pub mod Building
 pub mod ValueLookups
 pub mod FollowedParagraphs
 pub mod CheckedSoFar
+pub mod ReadCounts

@@ -79,10 +79,11 @@ abbrev pub given_count : Option Passing → ℕ
 given_count None = 0
 given_count (Some given) = 1
 
--- a refusal of a document has a code from 1 to 21
+-- a refusal of a document has a code from 1 to 21, and a line
 pub record IsRefusalOfDocument (refusal : Refusal) : Type 0 where
   pub least : 1 ≤ number_of refusal.code
   pub most : number_of refusal.code ≤ 21
+  pub line : 1 ≤ refusal.line
 
 -- a reader of checked paragraphs, and what its source shows
 pub record CheckedMoment : Type 0 where

@@ -533,7 +533,7 @@ advance_err before after other source e none a kept = record {
 
 pub begins_err : (before : Moment) (after other : State) (source : Shown) (e : Fault) → ((f : Fault) → before.state.fault ≡ Some f → ⊥) → Begins before (Err e) (record { state = after; source = source }) → other.fault ≡ Some e → other.current ≡ after.current → Passes Begins before (Err e) (record { state = other; source = source })
 begins_err before after other source e none a kept same = record {
-  goes = if_none before.state.fault _ (record { answers = λ text passed fits. begin_err text passed e after other source.bytes (a.answers text passed fits); taken = a.taken; counted = a.counted; fault = a.fault; current = same ∙ a.current });
+  goes = if_none before.state.fault _ (record { answers = λ text passed fits. begin_err text passed e after other source.bytes (a.answers text passed fits); taken = a.taken; counted = a.counted; fault = a.fault; current = same ∙ a.current; line = tt });
   keeps = if_none before.state.fault _ kept;
   repeats = if_some before.state.fault _ none;
 }

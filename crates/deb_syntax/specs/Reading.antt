@@ -1,6 +1,6 @@
 -- What a reader of paragraphs is to its callers, which texts fit it, and what its calls say of
 -- them. Debian Policy 5.1; what is kept and how far is read is this project's own.
-use Rattle.std.specs.Prelude.{◌≡◌, ℕ, ◌+◌, ◌≤◌, ◌⊎◌, Bool, List, [], ◌∷◌, ◌++◌, length, Option, Some, None, IfSome, IfNone, Result, Ok, Err, IfErr, MatchResult, IsTrue}
+use Rattle.std.specs.Prelude.{◌≡◌, ℕ, ◌+◌, ◌≤◌, ◌⊎◌, Bool, List, [], ◌∷◌, ◌++◌, length, Option, Some, None, IfSome, IfNone, Result, Ok, Err, IfOk, IfErr, MatchResult, IsTrue}
 use Rattle.deb_base.specs.Bodies.{HasNoNewline}
 use Rattle.deb_base.specs.Codes.{number_of}
 use Rattle.deb_base.specs.Devices.{Shown, read_failures_after}
@@ -183,6 +183,7 @@ pub record Begins (before : Moment) (answer : Result (Option ℕ) Fault)
   pub counted : after.source.failures ≡ read_failures_after before.source.failures answer
   pub fault : IfErr answer (λ fault. IsReadersFault fault IsRefusalOfText)
   pub current : after.state.current ≡ None
+  pub line : IfOk answer (λ line. IfSome line (λ n. 1 ≤ n))
 
 -- A call of a reader: without an error it goes on, and keeps the error that it then answers; with
 -- one it answers that error, and neither reads nor changes.

@@ -1,8 +1,8 @@
 use Rattle.std.proofs.Common.{◌∙◌, ◌+◌, ℕ, ap, refl, arith}
 use Rattle.std.proofs.lemmas.Result.{err_from_is_err_and}
-use Rattle.deb_base.proofs.Counts.{TellsReads-from_count}
 use Rattle.deb_syntax.specs.Lines.{file_limit}
 use Rattle.deb_control.proofs.CheckedSoFar.{goes_on, sound_on, all_checked, refusal_behind, counted_on, start_checked}
+use Rattle.deb_control.proofs.ReadCounts.{TellsReads-from_count}
 use Rattle.deb_control.proofs.checking.check.Goals as goal
 
 pub loop-count-init : goal.loop-count-init

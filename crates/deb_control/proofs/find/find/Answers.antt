@@ -50,4 +50,4 @@ returns-in-Some-clause-checks g c =
     let some : state.current ≡ Some seen = sym c.in-Some.ensures in
     let advances = goes-from_passes Advances _ _ _ c.requires.sound c.in_ok-advance.ensures.passes in
     checks-found c.args.doc _ state given.paragraphs given.bytes _ _ _ _ (few-given given) may given c.pass.new.given seen state.current c.pass.new.canonical.items _ c.pass.result
-    refl refl some (one_found state c.in_ok-advance.field-0 seen some c.in_ok-advance.ensures.found) advances c.pass.ensures.ok c.pass.ensures.fault c.pass.ensures.unchanged
+    c.in-Some.raw.numbered refl refl some (one_found state c.in_ok-advance.field-0 seen some c.in_ok-advance.ensures.found) advances c.pass.ensures.ok c.pass.ensures.fault c.pass.ensures.unchanged

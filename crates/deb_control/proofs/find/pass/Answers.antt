@@ -21,7 +21,7 @@ returns-in_default-clause-fault c =
       entries = map (body_under value_text) (values_in c.in_ok-read_fields.field-0.items);
       built = c.in_ok-read_fields.ensures.ok.passes;
       long = long;
-      is = ap (λ line. record { code = Rattle.deb_base.specs.declared.code.Code.TheVariants.FileTooLong; line = line }) c.first_line.ensures;
+      is = ap (λ line. record { code = Rattle.deb_base.specs.declared.code.Code.TheVariants.FileTooLong; line = line }) c.first_line.ensures.value;
     }))
 
 pub returns-clause-ok : goal.returns-clause-ok

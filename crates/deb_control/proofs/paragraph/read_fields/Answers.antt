@@ -16,7 +16,7 @@ returns-then-len-gt-PARAGRAPH_LIMIT-clause-fault c =
     let written = c.in_ok-append_fields.ensures ∙ ap (λ m. m ++ text_of_values (values_in c.as_slice.result.now)) c.clear.ensures.items in
     let text : length c.append_fields.new.text.items ≡ length (text_of_values (values_in c.sort.new.fields.items)) = ap length (subst (λ fields. c.append_fields.new.text.items ≡ text_of_values (values_in fields)) c.as_slice.ensures.value written) in
     built-too_long c.args.doc (seen_of raw) c.in_ok-fields.ensures.good c.sort.new.fields.items read named (omega (arith, text, c.len.ensures, c.append_fields.new.text.ok.0, c.if-len-gt-PARAGRAPH_LIMIT.true))
-    ∙ ap (λ line. Err (record { code = ParagraphTooLong; line = line })) (sym c.first_line-then-len-gt-PARAGRAPH_LIMIT.ensures)
+    ∙ ap (λ line. Err (record { code = ParagraphTooLong; line = line })) (sym c.first_line-then-len-gt-PARAGRAPH_LIMIT.ensures.value)
 
 pub returns-clause-ok : goal.returns-clause-ok
 returns-clause-ok c =

@@ -1,4 +1,4 @@
-use Rattle.std.proofs.Common.{◌+◌, ap}
+use Rattle.std.proofs.Common.{◌+◌, ap, arith}
 use Rattle.deb_syntax.proofs.Advancing.{begins_line, first_begin_err}
 use Rattle.deb_syntax.proofs.paragraphs.Paragraphs.find_line.Goals as goal
 
@@ -9,6 +9,7 @@ returns-in-Ok-End-clause-begins g c = record {
   counted = c.in-Ok-End.ensures.counted;
   fault = tt;
   current = c.in-Ok-End.ensures.none;
+  line = tt;
 }
 
 pub returns-in-Ok-Kept-clause-begins : goal.returns-in-Ok-Kept-clause-begins
@@ -18,6 +19,7 @@ returns-in-Ok-Kept-clause-begins g c = record {
   counted = c.in-Ok-Kept.ensures.counted;
   fault = tt;
   current = c.in-Ok-Kept.ensures.none;
+  line = omega arith;
 }
 
 pub returns-in-Ok-Dropped-clause-begins : goal.returns-in-Ok-Dropped-clause-begins
@@ -27,6 +29,7 @@ returns-in-Ok-Dropped-clause-begins g c = record {
   counted = c.in-Ok-Dropped.ensures.counted;
   fault = tt;
   current = c.in-Ok-Dropped.ensures.none;
+  line = omega arith;
 }
 
 pub returns-in-Err-clause-begins : goal.returns-in-Err-clause-begins
@@ -36,4 +39,5 @@ returns-in-Err-clause-begins g c = record {
   counted = c.in-Err.ensures.counted;
   fault = c.in-Err.ensures.fault;
   current = c.in-Err.ensures.none;
+  line = tt;
 }
