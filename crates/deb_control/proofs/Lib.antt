@@ -8,6 +8,10 @@ pub mod ValueFiles
 pub mod Limits
 pub mod FieldValues
 pub mod Passing
+pub mod RefusalCodes
+pub mod NextChecked
+pub mod Checks
+pub mod PassingParagraphs
 pub mod Accepting
 pub mod DocumentRules
 pub mod SortedFields

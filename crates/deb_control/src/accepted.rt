@@ -4,9 +4,9 @@ ghost use Rattle.std.specs.Prelude.{◌≡◌, List, IsTrue};
 ghost use Rattle.deb_syntax.specs.Paragraphs.{seen_of};
 ghost use Rattle.deb_control.specs.Checking.{is_passing};
 
-use crate::paragraph::Paragraph;
+use crate::paragraph::{Paragraph, value_of};
 use deb_base::Fault;
-use deb_field::{Doc, Value, ValueFault};
+use deb_field::{Doc, Value};
 use deb_syntax::{Fields, Raw, RawField};
 use std::alloc::{AllocError, Global};
 
@@ -85,10 +85,9 @@ impl<'a> Accepted<'a> {
         let Some(field) = self.raw.get(name) else {
             return Ok(None);
         };
-        match Value::parse(alloc, self.doc, field.name, field.body) {
+        match value_of(alloc, self.doc, &field) {
             Ok(value) => Ok(Some(value)),
-            Err(ValueFault::Memory) => Err(AllocError),
-            Err(ValueFault::Refused(_)) => unreachable!(),
+            Err(fault) => Err(want_of_memory(fault)),
         }
     }
 
@@ -102,8 +101,17 @@ impl<'a> Accepted<'a> {
     {
         match Paragraph::build(alloc, self.doc, &self.raw) {
             Ok(paragraph) => Ok(paragraph),
-            Err(Fault::Memory) => Err(AllocError),
-            Err(_) => unreachable!(),
+            Err(fault) => Err(want_of_memory(fault)),
         }
+    }
+}
+
+/// Want of memory, which is the only fault that reading again what passes can have.
+fn want_of_memory(fault: Fault) -> AllocError
+    requires { fault ≡ Fault.Memory }
+{
+    match fault {
+        Fault::Memory => AllocError,
+        Fault::Refused(_) | Fault::Read | Fault::Write => unreachable!(),
     }
 }

@@ -93,19 +93,24 @@ impl Checked {
         if let Some(fault) = self.fault {
             return Err(fault);
         }
-        let answer = find(
+        match find(
             self.alloc,
             self.doc,
             &mut self.paragraphs,
             &mut self.given,
             &mut self.canonical,
             reader,
-        );
-        self.gives = matches!(answer, Ok(true));
-        if let Err(fault) = answer {
-            self.fault = Some(fault);
+        ) {
+            Ok(gives) => {
+                self.gives = gives;
+                Ok(gives)
+            }
+            Err(fault) => {
+                self.gives = false;
+                self.fault = Some(fault);
+                Err(fault)
+            }
         }
-        answer
     }
 
     /// The paragraph that was given last, or `None` where the last answer was none.

@@ -1,6 +1,6 @@
 //! Paragraphs whose values have been read.
 
-ghost use Rattle.std.specs.Prelude.{◌≡◌, ◌++◌, Some, None, Err, IfOk, IfErr, OnOk, OnErr, find, length, map};
+ghost use Rattle.std.specs.Prelude.{◌≡◌, ◌++◌, ◌≤◌, Some, None, Err, IfOk, IfErr, OnOk, OnErr, find, length, map};
 ghost use Rattle.std.specs.Option.{option_map};
 ghost use Rattle.std.specs.FinMap.{find as value_under};
 ghost use Rattle.std.specs.List.{AllByRecursion};
@@ -106,6 +106,7 @@ pub(crate) fn read_fields<'a>(
 ) -> Result<Vec<TypedField<'a>>, Fault>
     ensures ok { IfOk result (λ fields. AreValuesOf doc (seen_of paragraph.now) (values_in fields.items)) }
     ensures text { IfOk result (λ fields. text.new.items ≡ text_of_values (values_in fields.items)) }
+    ensures short { IfOk result (λ fields. length text.new.items ≤ 16777216) }
     ensures fault { IfErr result (λ fault. RefusedOrMemory fault (λ refusal. built (rules_of doc) (seen_of paragraph.now) ≡ Err refusal)) }
 {
     let mut fields = fields_with_values(alloc, doc, paragraph)?;
@@ -149,7 +150,11 @@ fn fields_with_values<'a>(
 }
 
 /// The value of one field.
-fn value_of<'a>(alloc: Global, doc: Doc, field: &RawField<'a>) -> Result<Value<'a>, Fault>
+pub(crate) fn value_of<'a>(
+    alloc: Global,
+    doc: Doc,
+    field: &RawField<'a>,
+) -> Result<Value<'a>, Fault>
     requires { IsBody field.now.body.now }
     ensures ok { IfOk result (λ value. SpellsValue doc (canonical_name field.now.name.now) field.now.body.now (value_meaning value)) }
     ensures fault { IfErr result (λ fault. RefusedOrMemory fault (λ refusal. (refusal.line ≡ field.now.line) × (value_refusal doc (canonical_name field.now.name.now) field.now.body.now ≡ Some refusal.code))) }

@@ -30,6 +30,7 @@ impl Tally {
     /// With a further paragraph, whose canonical text has this length; or `None` where the file's
     /// has too many bytes then.
     pub(crate) fn with(self, length: usize) -> Option<Tally>
+        requires { length ≤ 16777216 }
         ensures some { IfSome result (λ given. (given.paragraphs ≡ self.paragraphs + 1) × (given.bytes ≡ bytes_with self.paragraphs self.bytes length)) }
         ensures none { IfNone result (4294967295 < bytes_with self.paragraphs self.bytes length) }
     {
