@@ -35,17 +35,19 @@ fn refusal_at(code: Code, line: u64) -> Fault {
     Fault::Refused(Refusal { code, line })
 }
 
-/// What each call answers and writes of a file, however it is cut.
+/// What each call answers and writes of a file, in pieces of each size.
 fn assert_file(
     rt: &impl Abort,
     alloc: Global,
+    sizes: &[usize],
     doc: Doc,
     file: &[u8],
     wanted: Result<u64, Fault>,
     written: &[u8],
 ) -> Result<(), Fail> {
     let shown = file.escape_ascii();
-    for size in SIZES {
+    for size in sizes {
+        let size = *size;
         let mut reader = Pieces::new(file, size, 0);
         let answer = check(alloc, doc, &mut Input::new(&mut reader));
         assert_eq!(rt; answer, wanted, "check: {shown} in pieces of {size}");

@@ -146,8 +146,8 @@ const ROWS: [Row; 20] = [
 fn files_are_accepted(rt: HostRuntime) -> Result<(), Fail> {
     for Row(doc, file, answer, written) in &ROWS {
         let wanted = answer_of(*answer);
-        assert_file(&rt, rt.alloc(), *doc, file, wanted, written)?;
-        assert_file(&rt, rt.alloc(), *doc, written, wanted, written)?;
+        assert_file(&rt, rt.alloc(), &SIZES, *doc, file, wanted, written)?;
+        assert_file(&rt, rt.alloc(), &SIZES, *doc, written, wanted, written)?;
     }
     Ok(())
 }

@@ -185,13 +185,11 @@ const BEFORE: [Before; 2] = [
     ),
 ];
 
-/// What stands behind it: nothing, a line end, and paragraphs that are refused too, or would not be.
-const BEHIND: [&[u8]; 5] = [
+/// What stands behind it: nothing, a paragraph that passes, and one that is refused too.
+const BEHIND: [&[u8]; 3] = [
     b"",
-    b"\n",
-    b"\n\nPackage: zz\n",
-    b"\n \t\n#\xff\n\n",
     b"\n\nPackage: aa\nVersion: 1\nArchitecture: all\n",
+    b"\n \t\n#\xff\n\n",
 ];
 
 #[test]
@@ -220,7 +218,15 @@ fn assert_refused(
     let wanted = Err(refusal_at(*code, lines.saturating_add(*line)));
     for behind in BEHIND {
         let file = file_of(alloc, &[(front, 0, 0), (paragraph, 0, 0), (behind, 0, 0)])?;
-        assert_file(rt, alloc, *doc, file.as_slice(), wanted, written)?;
+        assert_file(
+            rt,
+            alloc,
+            &[1, 65_536],
+            *doc,
+            file.as_slice(),
+            wanted,
+            written,
+        )?;
     }
     Ok(())
 }
@@ -344,7 +350,15 @@ const ROWS: [Row; 20] = [
 #[test]
 fn files_are_refused(rt: HostRuntime) -> Result<(), Fail> {
     for Row(doc, file, answer, written) in &ROWS {
-        assert_file(&rt, rt.alloc(), *doc, file, answer_of(*answer), written)?;
+        assert_file(
+            &rt,
+            rt.alloc(),
+            &SIZES,
+            *doc,
+            file,
+            answer_of(*answer),
+            written,
+        )?;
     }
     Ok(())
 }
