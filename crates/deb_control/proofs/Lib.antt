@@ -18,3 +18,5 @@ pub mod SortedFields
 pub mod FieldsRead
 pub mod Building
 pub mod ValueLookups
+pub mod FollowedParagraphs
+pub mod CheckedSoFar

@@ -76,7 +76,7 @@ impl Checked {
     /// - `Fault::Memory`: a growth of memory was refused.
     /// - `Fault::Read`: a read of `reader` failed in this call.
     pub fn next<'a, R: Source>(&'a mut self, reader: &mut R) -> Result<Option<Accepted<'a>>, Fault>
-        ensures* after { sem 𝓛 (Rests the_row self.entry (λ new. ChecksOn self.old.doc (checked_moment self.old (R.left reader.old) (R.failures reader.old)) (checked_answer result) (checked_moment new (R.left reader.new) (R.failures reader.new)))) }
+        ensures* after { sem 𝓛 (Rests the_row self.entry (λ new. ChecksOn self.old.doc (checked_moment self.old (R.left reader.old) (R.failures reader.old)) (checked_answer result) (checked_moment new (R.left reader.new) (R.failures reader.new)) × (new.doc ≡ self.old.doc))) }
     {
         if self.step(reader)? {
             Ok(self.current())
@@ -89,6 +89,7 @@ impl Checked {
     fn step<R: Source>(&mut self, reader: &mut R) -> Result<bool, Fault>
         ensures checks { ChecksOn self.old.doc (checked_moment self.old (R.left reader.old) (R.failures reader.old)) (found_answer (state_of self.new.paragraphs).current self.new.canonical.items result) (checked_moment self.new (R.left reader.new) (R.failures reader.new)) }
         ensures gives { IfOk result (λ gives. self.new.gives ≡ gives) }
+        ensures doc { self.new.doc ≡ self.old.doc }
     {
         if let Some(fault) = self.fault {
             return Err(fault);
