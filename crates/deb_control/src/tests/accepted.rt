@@ -205,12 +205,14 @@ fn assert_shown(rt: &impl Abort, paragraph: &Accepted<'_>, shown: &Shown) {
     let Shown(first_line, wanted, text) = shown;
     assert_eq!(rt; paragraph.first_line(), *first_line);
     assert_eq!(rt; paragraph.canonical_text(), *text);
-    assert_eq!(rt; paragraph.fields().count(), wanted.len());
-    for (found, Field(name, line, body)) in paragraph.fields().zip(wanted.iter()) {
-        assert_eq!(rt; found.name, *name);
-        assert_eq!(rt; found.line, *line);
-        assert_eq!(rt; found.body, *body);
+    let mut fields = paragraph.fields();
+    for Field(name, line, body) in wanted {
+        let found = fields
+            .next()
+            .map(|field| (field.name, field.line, field.body));
+        assert_eq!(rt; found, Some((*name, *line, *body)));
     }
+    assert!(rt; fields.next().is_none(), "no more fields");
     for Field(name, line, body) in wanted {
         let found = paragraph.get(name).map(|field| (field.line, field.body));
         assert_eq!(rt; found, Some((*line, *body)));

@@ -115,8 +115,8 @@ fn a_failed_write_leaves_a_prefix(rt: HostRuntime) -> Result<(), Fail> {
     for (file, wanted, text) in rows {
         for then in [Then::Fails, Then::TakesNone] {
             for most in [1, 7, 65_536] {
-                for calls in 0..140 {
-                    let mut writer = Slow::new(rt.alloc(), most, calls, then);
+                for calls in 0..140u8 {
+                    let mut writer = Slow::new(rt.alloc(), most, u64::from(calls), then);
                     let answer = normalise(
                         rt.alloc(),
                         Doc::Packages,
@@ -125,7 +125,7 @@ fn a_failed_write_leaves_a_prefix(rt: HostRuntime) -> Result<(), Fail> {
                     );
                     assert_written(&rt, &writer, answer, wanted, text);
                     if most == 1 {
-                        let count = (calls as usize).min(text.len());
+                        let count = usize::from(calls).min(text.len());
                         assert_eq!(rt; writer.held.len(), count, "{calls} bytes taken");
                     }
                 }

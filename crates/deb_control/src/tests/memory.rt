@@ -174,7 +174,7 @@ fn append_all(rt: &impl Abort, alloc: Global, typed: &Paragraph<'_>, refusals: &
             assert_eq!(rt; out.as_slice(), b"=".as_slice());
             refusals.count();
         } else {
-            assert_eq!(rt; out.get(1..), Some(&TEXT[..41]), "room for {room}");
+            assert_eq!(rt; out.get(1..), TEXT.get(..41), "room for {room}");
         }
     }
 }

@@ -179,8 +179,8 @@ fn paragraphs_have_a_limit(rt: HostRuntime) -> Result<(), Fail> {
         );
         assert_eq!(rt; answer, wanted, "row {index}");
         assert_eq!(rt; held.len(), *len, "row {index}");
-        let front = SMALL_TEXT.len().min(held.len());
-        assert!(rt; held[..front] == SMALL_TEXT[..front], "row {index}");
+        let begins = held.as_slice().starts_with(SMALL_TEXT);
+        assert_eq!(rt; begins, *len > 0, "row {index}");
         let mut reader = Pieces::new(file.as_slice(), 65_536, 0);
         let mut given = Vec::new(rt.alloc());
         let answer = read_all(&rt, rt.alloc(), *doc, &mut reader, &mut given)?;
@@ -190,34 +190,37 @@ fn paragraphs_have_a_limit(rt: HostRuntime) -> Result<(), Fail> {
     Ok(())
 }
 
-/// Paragraphs by themselves: the length of the canonical text, or the code and the line of the refusal.
+/// A paragraph by itself, and the length of its canonical text, or the code and the line of its refusal.
+struct Single(FilePieces, Result<u64, (Code, u64)>);
+
+const SINGLE: [Single; 5] = [
+    Single(&[(FULL, b'x', REST)], Ok(16_777_216)),
+    Single(&[(SHORT, b'x', REST)], Ok(16_777_216)),
+    Single(&[(SHORT, b'x', REST + 1)], Err((Code::ParagraphTooLong, 1))),
+    Single(
+        &[
+            (b"\n\n", 0, 0),
+            (SHORT, b'x', REST - 7),
+            (b"\nSize: y", 0, 0),
+        ],
+        Err((Code::BadNumber, 7)),
+    ),
+    Single(
+        &[(b"\nPackage: aa\nVersion:1\nX: ", b'x', REST + 19)],
+        Err((Code::MissingField, 2)),
+    ),
+];
+
 #[test]
 fn typed_paragraphs_have_a_limit(rt: HostRuntime) -> Result<(), Fail> {
-    let rows: [(FilePieces, Result<u64, (Code, u64)>); 5] = [
-        (&[(FULL, b'x', REST)], Ok(16_777_216)),
-        (&[(SHORT, b'x', REST)], Ok(16_777_216)),
-        (&[(SHORT, b'x', REST + 1)], Err((Code::ParagraphTooLong, 1))),
-        (
-            &[
-                (b"\n\n", 0, 0),
-                (SHORT, b'x', REST - 7),
-                (b"\nSize: y", 0, 0),
-            ],
-            Err((Code::BadNumber, 7)),
-        ),
-        (
-            &[(b"\nPackage: aa\nVersion:1\nX: ", b'x', REST + 19)],
-            Err((Code::MissingField, 2)),
-        ),
-    ];
-    for (pieces, wanted) in rows {
+    for (index, Single(pieces, wanted)) in SINGLE.iter().enumerate() {
         let file = file_of(rt.alloc(), pieces)?;
         let mut paragraphs = Paragraphs::new(rt.alloc());
         let mut input = Input::new(file.as_slice());
         let raw = paragraphs.next(&mut input)?.ok_or("no paragraph")?;
         let built = Paragraph::build(rt.alloc(), Doc::Packages, &raw);
         let len = built.map(|paragraph| paragraph.canon_len());
-        assert_eq!(rt; len, answer_of(wanted));
+        assert_eq!(rt; len, answer_of(*wanted), "row {index}");
     }
     Ok(())
 }
