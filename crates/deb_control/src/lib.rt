@@ -30,3 +30,6 @@ pub use checking::check;
 pub use normalising::normalise;
 pub use paragraph::Paragraph;
 pub use typed_field::TypedField;
+
+#[cfg(test)]
+mod tests;

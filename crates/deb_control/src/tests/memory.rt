@@ -1,0 +1,180 @@
+//! Want of memory. `rt try --test --fail-alloc N -- want_of_memory` refuses the Nth growth of a run and no other: exactly
+//! one of the calls below then wants memory, or the test itself, and where N passes their growths none does.
+
+use super::*;
+use crate::Paragraph;
+use deb_syntax::Paragraphs;
+
+/// Two paragraphs, of which the second is longer, and a third that lacks fields.
+const FILE: &[u8] = b"Package: aa\nVersion: 1\nArchitecture: all\n\n\
+    version:01.0-0\nPackage: bb\nArchitecture: amd64\nX: a long value\n a\n b\n c\nY: z\n\n\
+    Package: cc\n";
+
+const TEXT: &[u8] = b"Architecture: all\nPackage: aa\nVersion: 1\n\n\
+    Architecture: amd64\nPackage: bb\nVersion: 1.0\nX: a long value\n a\n b\n c\nY: z\n";
+
+/// How many bytes of that are whole paragraphs.
+const FRONTS: [usize; 3] = [0, 41, 117];
+
+/// How often memory was refused.
+#[derive(Drop)]
+struct Refusals(u32);
+
+impl Refusals {
+    fn count(&mut self) {
+        self.0 = self.0.saturating_add(1);
+    }
+
+    /// An answer that is want of memory is counted, and each other one is the one that is wanted.
+    fn count_fault(
+        &mut self,
+        rt: &impl Abort,
+        answer: Result<u64, Fault>,
+        wanted: Result<u64, Fault>,
+    ) {
+        if answer == Err(Fault::Memory) {
+            self.count();
+        } else {
+            assert_eq!(rt; answer, wanted);
+        }
+    }
+}
+
+#[test]
+fn want_of_memory(rt: HostRuntime) -> Result<(), Fail> {
+    let refused = Err(refusal_at(Code::MissingField, 14));
+    let rows: [(&[u8], Result<u64, Fault>, &[u8]); 3] = [
+        (TEXT, Ok(2), TEXT),
+        (FILE, refused, TEXT),
+        (b"\n \n", Ok(0), b""),
+    ];
+    let mut refusals = Refusals(0);
+    for (file, wanted, text) in rows {
+        let answer = check(rt.alloc(), Doc::Packages, &mut Input::new(file));
+        refusals.count_fault(&rt, answer, wanted);
+        normalise_all(&rt, rt.alloc(), file, wanted, text, &mut refusals);
+    }
+    give_all(&rt, rt.alloc(), &mut refusals);
+    build_all(&rt, rt.alloc(), &mut refusals);
+    assert!(rt; refusals.0 <= 1, "one growth at most is refused in a run");
+    Ok(())
+}
+
+/// Whole paragraphs are written before want of memory, and all of them without it. The writer needs no growth.
+fn normalise_all(
+    rt: &impl Abort,
+    alloc: Global,
+    file: &[u8],
+    wanted: Result<u64, Fault>,
+    text: &[u8],
+    refusals: &mut Refusals,
+) {
+    let Ok(mut held) = Vec::with_capacity(alloc, 200) else {
+        refusals.count();
+        return;
+    };
+    let answer = normalise(
+        alloc,
+        Doc::Packages,
+        &mut Input::new(file),
+        &mut Output::new(&mut held),
+    );
+    refusals.count_fault(rt, answer, wanted);
+    if answer == Err(Fault::Memory) {
+        let is_whole = FRONTS.iter().any(|front| held.len() == *front);
+        assert!(rt;
+            is_whole && text.starts_with(held.as_slice()),
+            "whole paragraphs"
+        );
+    } else {
+        assert_eq!(rt; held.as_slice(), text);
+    }
+}
+
+/// Paragraphs are given to the end or to want of memory, which comes again though no further growth is refused.
+fn give_all(rt: &impl Abort, alloc: Global, refusals: &mut Refusals) {
+    let mut input = Input::new(TEXT);
+    let mut checked = Checked::new(alloc, Doc::Packages);
+    for count in 0..3 {
+        match give_next(rt, alloc, &mut checked, &mut input, refusals) {
+            Ok(gives) => assert_eq!(rt; gives, count < 2),
+            Err(fault) => {
+                assert_eq!(rt; fault, Fault::Memory);
+                refusals.count();
+                let again = give_next(rt, alloc, &mut checked, &mut input, refusals);
+                assert_eq!(rt; again, Err(Fault::Memory));
+                return;
+            }
+        }
+    }
+}
+
+/// Whether there is a next paragraph, whose values are read.
+fn give_next(
+    rt: &impl Abort,
+    alloc: Global,
+    checked: &mut Checked,
+    input: &mut Input<&[u8]>,
+    refusals: &mut Refusals,
+) -> Result<bool, Fault> {
+    let Some(paragraph) = checked.next(input)? else {
+        return Ok(false);
+    };
+    let names: [&[u8]; 4] = [b"Package", b"Version", b"Architecture", b"X"];
+    for name in names {
+        match paragraph.value(alloc, name) {
+            Ok(value) => assert_eq!(rt; value.is_some(), paragraph.get(name).is_some()),
+            Err(_) => refusals.count(),
+        }
+    }
+    match paragraph.paragraph(alloc) {
+        Ok(typed) => {
+            let len = paragraph.canonical_text().len() as u64;
+            assert_eq!(rt; typed.canon_len(), len);
+        }
+        Err(_) => refusals.count(),
+    }
+    Ok(true)
+}
+
+/// A paragraph by itself, and its canonical text.
+fn build_all(rt: &impl Abort, alloc: Global, refusals: &mut Refusals) {
+    let mut paragraphs = Paragraphs::new(alloc);
+    match paragraphs.next(&mut Input::new(TEXT)) {
+        Ok(None) => assert!(rt; false, "no paragraph"),
+        Ok(Some(raw)) => match Paragraph::build(alloc, Doc::Packages, &raw) {
+            Ok(typed) => append_all(rt, alloc, &typed, refusals),
+            Err(fault) => {
+                assert_eq!(rt; fault, Fault::Memory);
+                refusals.count();
+            }
+        },
+        Err(fault) => {
+            assert_eq!(rt; fault, Fault::Memory);
+            refusals.count();
+        }
+    }
+}
+
+/// Appends the canonical text of 41 bytes to lists with several rooms: one grows exactly where it doesn't fit, and stays
+/// as it was where that growth is refused.
+fn append_all(rt: &impl Abort, alloc: Global, typed: &Paragraph<'_>, refusals: &mut Refusals) {
+    for room in [1usize, 40, 41, 42, 60] {
+        let Ok(mut out) = Vec::with_capacity(alloc, room) else {
+            refusals.count();
+            continue;
+        };
+        if out.push(b'=').is_err() {
+            refusals.count();
+            continue;
+        }
+        let grows = out.capacity() < 42;
+        if typed.canon_into(&mut out).is_err() {
+            assert!(rt; grows, "refused with room for {room}");
+            assert_eq!(rt; out.as_slice(), b"=".as_slice());
+            refusals.count();
+        } else {
+            assert_eq!(rt; out.get(1..), TEXT.get(..41), "room for {room}");
+        }
+    }
+}

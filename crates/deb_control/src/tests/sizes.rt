@@ -1,0 +1,280 @@
+//! Paragraphs and files near the most bytes that they and their canonical text may have.
+
+use super::*;
+use crate::Paragraph;
+use deb_syntax::Paragraphs;
+use devices::{Counted, Repeated};
+
+/// The most bytes of a paragraph.
+const LIMIT: usize = 16_777_216;
+
+/// A paragraph of the most bytes, if so many times `x` and a newline follow, and its canonical text has as many.
+const FULL: &[u8] = b"Package: aa\nVersion: 1\nArchitecture: all\nX: ";
+
+const REST: usize = 16_777_171;
+
+/// The same with a byte less, which the canonical text has more.
+const SHORT: &[u8] = b"Package: aa\nVersion:1\nArchitecture: all\nX: ";
+
+/// What is written of a paragraph of three fields.
+const SMALL_TEXT: &[u8] = b"Architecture: all\nPackage: aa\nVersion: 1\n";
+
+/// Pieces of a file.
+type FilePieces = &'static [(&'static [u8], u8, usize)];
+
+/// A kind of document, a file, how many paragraphs it has or the code and the line of its refusal, and how many bytes
+/// are written of it.
+struct Long(Doc, FilePieces, Result<u64, (Code, u64)>, usize);
+
+const LONG: [Long; 17] = [
+    // a paragraph of the most bytes, with its last newline and without
+    Long(
+        Doc::Packages,
+        &[(FULL, b'x', REST), (b"\n", 0, 0)],
+        Ok(1),
+        LIMIT,
+    ),
+    Long(Doc::Binary, &[(FULL, b'x', REST)], Ok(1), LIMIT),
+    // of a byte more, in the canonical text alone and in the file
+    Long(
+        Doc::Packages,
+        &[(SHORT, b'x', REST + 1), (b"\n", 0, 0)],
+        Err((Code::ParagraphTooLong, 1)),
+        0,
+    ),
+    Long(
+        Doc::Packages,
+        &[(FULL, b'x', REST + 1), (b"\n", 0, 0)],
+        Err((Code::ParagraphTooLong, 4)),
+        0,
+    ),
+    Long(
+        Doc::Binary,
+        &[(FULL, b'x', REST + 1)],
+        Err((Code::ParagraphTooLong, 4)),
+        0,
+    ),
+    // in the file alone
+    Long(
+        Doc::Packages,
+        &[(FULL, b'x', REST), (b" \n", 0, 0)],
+        Err((Code::ParagraphTooLong, 4)),
+        0,
+    ),
+    // behind blank lines, and behind another paragraph
+    Long(
+        Doc::Binary,
+        &[(b"\n \n", 0, 0), (SHORT, b'x', REST + 1), (b"\n\n", 0, 0)],
+        Err((Code::ParagraphTooLong, 3)),
+        0,
+    ),
+    Long(
+        Doc::Packages,
+        &[
+            (b"Package: aa\nVersion: 1\nArchitecture: all\n\n", 0, 0),
+            (SHORT, b'x', REST + 1),
+        ],
+        Err((Code::ParagraphTooLong, 5)),
+        41,
+    ),
+    Long(
+        Doc::Packages,
+        &[
+            (b"Package: aa\nVersion: 1\nArchitecture: all\n\n", 0, 0),
+            (SHORT, b'x', REST),
+            (b"\n\nPackage: A\n", 0, 0),
+        ],
+        Err((Code::BadName, 10)),
+        42 + LIMIT,
+    ),
+    // the lines' lengths go before a line, a line before a value
+    Long(
+        Doc::Packages,
+        &[(b"#\n\xff\nX: ", b'x', LIMIT)],
+        Err((Code::ParagraphTooLong, 3)),
+        0,
+    ),
+    // a value and a field that is missing go before the length of the canonical text
+    Long(
+        Doc::Packages,
+        &[(SHORT, b'x', REST - 7), (b"\nSize: y\n", 0, 0)],
+        Err((Code::BadNumber, 5)),
+        0,
+    ),
+    Long(
+        Doc::Packages,
+        &[(b"Package: aa\nVersion:1\nX: ", b'x', REST + 19)],
+        Err((Code::MissingField, 1)),
+        0,
+    ),
+    // and the length of the canonical text before any later paragraph
+    Long(
+        Doc::Packages,
+        &[(SHORT, b'x', REST + 1), (b"\n\n\xff", 0, 0)],
+        Err((Code::ParagraphTooLong, 1)),
+        0,
+    ),
+    Long(
+        Doc::Packages,
+        &[(b"Package: aa\n\nX: ", b'x', LIMIT)],
+        Err((Code::MissingField, 1)),
+        0,
+    ),
+    // a second paragraph goes before its length
+    Long(
+        Doc::Binary,
+        &[
+            (
+                b"Package: aa\nVersion: 1\nArchitecture: all\n\n",
+                b'x',
+                20_000_000,
+            ),
+            (b"\n", 0, 0),
+        ],
+        Err((Code::TooManyParagraphs, 5)),
+        41,
+    ),
+    // a line of spaces that is too long is no blank line
+    Long(
+        Doc::Binary,
+        &[
+            (
+                b"Package: aa\nVersion: 1\nArchitecture: all\n\n",
+                b' ',
+                LIMIT - 1,
+            ),
+            (b"\n", 0, 0),
+        ],
+        Ok(1),
+        41,
+    ),
+    Long(
+        Doc::Binary,
+        &[
+            (
+                b"Package: aa\nVersion: 1\nArchitecture: all\n\n",
+                b' ',
+                LIMIT,
+            ),
+            (b"\n", 0, 0),
+        ],
+        Err((Code::TooManyParagraphs, 5)),
+        41,
+    ),
+];
+
+#[test]
+fn paragraphs_have_a_limit(rt: HostRuntime) -> Result<(), Fail> {
+    for (index, Long(doc, pieces, answer, len)) in LONG.iter().enumerate() {
+        let file = file_of(rt.alloc(), pieces)?;
+        let wanted = answer_of(*answer);
+        let answer = check(rt.alloc(), *doc, &mut Input::new(file.as_slice()));
+        assert_eq!(rt; answer, wanted, "row {index}");
+        let mut held = Vec::new(rt.alloc());
+        let answer = normalise(
+            rt.alloc(),
+            *doc,
+            &mut Input::new(file.as_slice()),
+            &mut Output::new(&mut held),
+        );
+        assert_eq!(rt; answer, wanted, "row {index}");
+        assert_eq!(rt; held.len(), *len, "row {index}");
+        let begins = held.as_slice().starts_with(SMALL_TEXT);
+        assert_eq!(rt; begins, *len > 0, "row {index}");
+        let mut reader = Pieces::new(file.as_slice(), 65_536, 0);
+        let mut given = Vec::new(rt.alloc());
+        let answer = read_all(&rt, rt.alloc(), *doc, &mut reader, &mut given)?;
+        assert_eq!(rt; answer, wanted, "row {index}");
+        assert!(rt; given == held, "row {index}");
+    }
+    Ok(())
+}
+
+/// A paragraph by itself, and the length of its canonical text, or the code and the line of its refusal.
+struct Single(FilePieces, Result<u64, (Code, u64)>);
+
+const SINGLE: [Single; 5] = [
+    Single(&[(FULL, b'x', REST)], Ok(16_777_216)),
+    Single(&[(SHORT, b'x', REST)], Ok(16_777_216)),
+    Single(&[(SHORT, b'x', REST + 1)], Err((Code::ParagraphTooLong, 1))),
+    Single(
+        &[
+            (b"\n\n", 0, 0),
+            (SHORT, b'x', REST - 7),
+            (b"\nSize: y", 0, 0),
+        ],
+        Err((Code::BadNumber, 7)),
+    ),
+    Single(
+        &[(b"\nPackage: aa\nVersion:1\nX: ", b'x', REST + 19)],
+        Err((Code::MissingField, 2)),
+    ),
+];
+
+#[test]
+fn typed_paragraphs_have_a_limit(rt: HostRuntime) -> Result<(), Fail> {
+    for (index, Single(pieces, wanted)) in SINGLE.iter().enumerate() {
+        let file = file_of(rt.alloc(), pieces)?;
+        let mut paragraphs = Paragraphs::new(rt.alloc());
+        let mut input = Input::new(file.as_slice());
+        let raw = paragraphs.next(&mut input)?.ok_or("no paragraph")?;
+        let built = Paragraph::build(rt.alloc(), Doc::Packages, &raw);
+        let len = built.map(|paragraph| paragraph.canon_len());
+        assert_eq!(rt; len, answer_of(*wanted), "row {index}");
+    }
+    Ok(())
+}
+
+/// 255 paragraphs whose canonical text has the most bytes, and another one: that of the file has the most bytes with it,
+/// or one more. The file itself has the most bytes at most.
+#[test]
+fn canonical_text_of_files_has_a_limit(rt: HostRuntime) -> Result<(), Fail> {
+    let text = file_of(rt.alloc(), &[(SHORT, b'x', REST), (b"\n\n", 0, 0)])?;
+    let rows: [(usize, Result<u64, (Code, u64)>, u64); 2] = [
+        (256, Ok(256), 4_294_967_295),
+        (255, Err((Code::FileTooLong, 1_276)), 4_278_190_334),
+    ];
+    for (missing, wanted, written) in rows {
+        let count = REST.saturating_sub(missing);
+        let last = file_of(rt.alloc(), &[(SHORT, b'x', count), (b"\n", 0, 0)])?;
+        let mut reader = Repeated::new(text.as_slice(), 255, last.as_slice(), None);
+        let mut counted = Counted { bytes: 0 };
+        let answer = normalise(
+            rt.alloc(),
+            Doc::Packages,
+            &mut Input::new(&mut reader),
+            &mut Output::new(&mut counted),
+        );
+        assert_eq!(rt; answer, answer_of(wanted), "{missing} bytes less");
+        assert_eq!(rt; counted.bytes, written, "{missing} bytes less");
+    }
+    Ok(())
+}
+
+/// A byte that comes for ever.
+#[test]
+fn files_without_end_are_refused(rt: HostRuntime) -> Result<(), Fail> {
+    let front = b"Package: aa\nVersion: 1\nArchitecture: all\n\n".as_slice();
+    let rows: [(Doc, &[u8], u8, u64, u64); 3] = [
+        (Doc::Source, b"", b'\n', 4_294_967_296, 0),
+        (Doc::Packages, front, b'x', 5, 41),
+        (Doc::Binary, front, b'\n', 4_294_967_258, 41),
+    ];
+    for (doc, front, byte, line, written) in rows {
+        let mut reader = Repeated::new(b"", 0, front, Some(byte));
+        let mut counted = Counted { bytes: 0 };
+        let answer = normalise(
+            rt.alloc(),
+            doc,
+            &mut Input::new(&mut reader),
+            &mut Output::new(&mut counted),
+        );
+        assert_eq!(rt;
+            answer,
+            Err(refusal_at(Code::FileTooLong, line)),
+            "{byte} for ever"
+        );
+        assert_eq!(rt; counted.bytes, written, "{byte} for ever");
+    }
+    Ok(())
+}
