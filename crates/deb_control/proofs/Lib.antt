@@ -20,3 +20,5 @@ pub mod Building
 pub mod ValueLookups
 pub mod FollowedParagraphs
 pub mod CheckedSoFar
+pub mod PartsWithin
+pub mod ReadAlone
