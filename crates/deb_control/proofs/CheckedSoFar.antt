@@ -23,6 +23,7 @@ use Rattle.deb_control.specs.ValueFiles.{body_under, bodies_of}
 use Rattle.deb_control.proofs.Accepting.{accepted-from_none, outcome-accepted, accepted_is_written}
 use Rattle.deb_control.proofs.DocumentRules.{document_rules}
 use Rattle.deb_control.proofs.FollowedParagraphs.{outcome-from_refusal, outcome-from_end, outcome-starts}
+use Rattle.deb_control.proofs.ReadAlone.{read-alone}
 
 -- a reader without an error goes on
 pub goes_on : (doc : Doc) (before : CheckedMoment) (answer : Result (Option Passing) Fault) (after : CheckedMoment) → before.state.fault ≡ None → ChecksOn doc before answer after → Checks doc before answer after
@@ -122,6 +123,7 @@ writes_read doc text state left old new checked written =
       more = starts.0;
       passed = starts.1;
       all = fits.paragraphs;
+      alone = read-alone (rules_of doc) text fits.passed (fits.fits.hidden ++ (state.reader.unread ++ fits.fits.rest)) checked.before fits.fits.whole fits.paragraphs fits.given fits.fits.closed;
       written = written;
     }
 

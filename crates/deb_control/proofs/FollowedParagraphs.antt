@@ -19,7 +19,7 @@ follow-push rules text front (first ∷ more) entries follow next =
 suc_plus : (k : ℕ) → suc k + 1 ≡ suc (k + 1)
 suc_plus k = omega arith
 
-drop_one : {X : Type 0} (k : ℕ) (xs : List X) → drop 1 (drop k xs) ≡ drop (k + 1) xs
+pub drop_one : {X : Type 0} (k : ℕ) (xs : List X) → drop 1 (drop k xs) ≡ drop (k + 1) xs
 drop_one zero xs = refl
 drop_one (suc k) [] = sym (ap (λ m. drop m []) (suc_plus k))
 drop_one (suc k) (x ∷ xs) = drop_one k xs ∙ sym (ap (λ m. drop m (x ∷ xs)) (suc_plus k))

@@ -21,3 +21,5 @@ pub mod ValueLookups
 pub mod FollowedParagraphs
 pub mod CheckedSoFar
 pub mod ReadCounts
+pub mod PartsWithin
+pub mod ReadAlone

@@ -53,14 +53,14 @@ seen_fields n (Ok fields) seen h =
     (fields, refl, some_same (Some seen) seen found refl (ok_same (Ok (Some found)) (Some seen) (Some found) h refl))
 
 -- the parts of an answer about a paragraph's lines
-record IsSeen (beyond : Option ℕ) (p : Paragraph) (seen : Seen) : Type 0 where
-  short : line_too_long p.first paragraph_limit p.lines ≡ None
-  whole : is_line (p.first + length p.lines) beyond ≡ false
-  fields : List Field
-  judges : judged p.first p.lines ≡ Ok fields
-  is : seen ≡ record { first = p.first; fields = fields }
+pub record IsSeen (beyond : Option ℕ) (p : Paragraph) (seen : Seen) : Type 0 where
+  pub short : line_too_long p.first paragraph_limit p.lines ≡ None
+  pub whole : is_line (p.first + length p.lines) beyond ≡ false
+  pub fields : List Field
+  pub judges : judged p.first p.lines ≡ Ok fields
+  pub is : seen ≡ record { first = p.first; fields = fields }
 
-seen-parts : (o beyond : Option ℕ) (p : Paragraph) (seen : Seen) → line_too_long p.first paragraph_limit p.lines ≡ o → paragraph_answer o beyond p ≡ Ok (Some seen) → IsSeen beyond p seen
+pub seen-parts : (o beyond : Option ℕ) (p : Paragraph) (seen : Seen) → line_too_long p.first paragraph_limit p.lines ≡ o → paragraph_answer o beyond p ≡ Ok (Some seen) → IsSeen beyond p seen
 seen-parts (Some line) beyond p seen e h = absurd (cc)
 seen-parts None beyond p seen e h =
     let whole = not_refused (is_line (p.first + length p.lines) beyond) (record { code = FileTooLong; line = p.first + length p.lines }) (seen_from p.first (judged p.first p.lines)) (Some seen) h in

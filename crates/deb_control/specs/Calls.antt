@@ -46,7 +46,8 @@ pub record WritesRefused (doc : Doc) (text : List ℕ) (refusal : Refusal) (old 
   pub written : Appends old new (out_of doc text)
 
 -- A front of the file was read that ends with a blank line and its newline, or is all of it: its paragraphs are the
--- first of those that pass, and exactly their canonical text was written.
+-- first of those that pass, and so they are where that front is a file of its own; exactly their canonical text was
+-- written.
 pub record WritesRead (doc : Doc) (text : List ℕ) (old new : Option (List ℕ)) : Type 0 where
   pub read : List ℕ
   pub behind : List ℕ
@@ -56,4 +57,5 @@ pub record WritesRead (doc : Doc) (text : List ℕ) (old new : Option (List ℕ)
   pub more : List Entries
   pub passed : (outcome (rules_of doc) text).passed ≡ first ++ more
   pub all : passed_count read ≡ length first
+  pub alone : (outcome (rules_of doc) read).passed ≡ first
   pub written : Appends old new (file_text first)
