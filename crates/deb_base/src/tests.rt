@@ -427,3 +427,24 @@ fn bodies_of_fields(rt: HostRuntime) {
         assert_eq!(rt; is_body(body), wanted, "{body:?}");
     }
 }
+
+#[test]
+fn spaces_and_tabs_are_cut_at_the_ends(rt: HostRuntime) {
+    // a text, what is left of it without those at both ends, and without those at its end
+    let rows: [(&[u8], &[u8], &[u8]); 7] = [
+        (b"", b"", b""),
+        (b" \t", b"", b""),
+        (b"a b", b"a b", b"a b"),
+        (b" a b\t ", b"a b", b" a b"),
+        (b"\ta", b"a", b"\ta"),
+        (b"\n a\n ", b"\n a\n", b"\n a\n"),
+        (b"\xa0a\r\x0b ", b"\xa0a\r\x0b", b"\xa0a\r\x0b"),
+    ];
+    for (text, inner, front) in rows {
+        assert_eq!(rt; trimmed(text), inner, "both ends of {text:?}");
+        assert_eq!(rt; without_trailing_blanks(text), front, "the end of {text:?}");
+        assert_eq!(rt; is_only_blanks(text), inner.is_empty(), "{text:?}");
+        let begins = text.len() > 0 && is_blank_byte(text[0]);
+        assert_eq!(rt; begins_with_blank(text), begins, "the front of {text:?}");
+    }
+}
