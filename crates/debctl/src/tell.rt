@@ -1,7 +1,7 @@
 //! Faults told on standard error, and the status that goes with them.
 
 ghost use Rattle.std.specs.Prelude.{◌≡◌};
-ghost use Rattle.debctl.specs.Running.{status_of, TellsFault};
+ghost use Rattle.debctl.specs.Telling.{status_of, TellsFault};
 
 use deb_base::{Fault, Sink};
 
