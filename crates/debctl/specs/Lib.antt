@@ -5,3 +5,4 @@ pub mod DocumentJobs
 pub mod Running
 pub mod Telling
 pub mod VersionJobs
+pub mod WordsTelling

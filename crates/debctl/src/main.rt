@@ -32,7 +32,7 @@ use std::process::ExitCode;
 fn main(rt: HostRuntime) -> ExitCode {
     let status = match streams::call_of(&rt) {
         Ok(call) => streams::answer(&rt, &call),
-        Err(fault) => streams::tell_words(&rt, &fault),
+        Err(fault) => streams::tell_fault(&rt, &fault),
     };
     ExitCode::from(status)
 }

@@ -2,16 +2,13 @@
 
 use crate::jobs::{Call, Job};
 use crate::run;
-use crate::tell::tell;
+use crate::tell::{FAULT_STATUS, tell, tell_words};
 use crate::words::{UsageFault, job_of};
-use deb_base::{Fault, Input, Output, Sink, put_all};
+use deb_base::{Fault, Input, Output};
 use std::alloc::Global;
 use std::env;
 use std::fs::File;
 use std::io::{self, BufWriter, ErrorKind, Read, Stdin, Write};
-
-/// The status of a fault that isn't a refusal.
-const FAULT_STATUS: u8 = 3;
 
 /// What a job reads.
 #[derive(Drop)]
@@ -52,24 +49,12 @@ pub(crate) fn call_of(rt: &HostRuntime) -> Result<Call, UsageFault> {
 }
 
 /// Tells why the words ask for no job, or the help that they ask for, and answers the status.
-pub(crate) fn tell_words(rt: &HostRuntime, fault: &UsageFault) -> u8 {
-    let mut err = Output::new(rt.stderr());
-    match fault {
-        UsageFault::Memory => tell(&Fault::Memory, &mut err),
-        UsageFault::Usage(text) => {
-            let _ = put_line(&mut err, text.as_str());
-            FAULT_STATUS
-        }
-        UsageFault::Help(text) => match put_line(&mut Output::new(rt.stdout()), text.as_str()) {
-            Ok(()) => 0,
-            Err(fault) => tell(&fault, &mut err),
-        },
-    }
-}
-
-fn put_line<W: Sink>(out: &mut W, line: &str) -> Result<(), Fault> {
-    put_all(out, line.as_bytes())?;
-    put_all(out, b"\n")
+pub(crate) fn tell_fault(rt: &HostRuntime, fault: &UsageFault) -> u8 {
+    tell_words(
+        fault,
+        &mut Output::new(rt.stdout()),
+        &mut Output::new(rt.stderr()),
+    )
 }
 
 /// Does the job that a call asks for, and answers the status.
