@@ -49,6 +49,9 @@ Example:
   Package: aa
   Version: 1.0";
 
+const KIND_HELP: &str =
+    "The kind of file: packages (a list of packages; the default), binary or source";
+
 const COMPARE_HELP: &str = "\
 Nothing is printed: the status is the answer.
 
@@ -199,7 +202,7 @@ fn kind_option<'a>(alloc: Global) -> Arg<'a>
     Arg::new(alloc, "kind")
         .long("kind")
         .value_name("K")
-        .help("The kind of file: packages (a list of packages; the default), binary or source")
+        .help(KIND_HELP)
 }
 
 fn optional_word<'a>(alloc: Global, id: &'a str, shown: &'a str, help: &'a str) -> Arg<'a>

@@ -93,9 +93,11 @@ const HELLO: &[u8] = b"vERSION: 01.0-0\npackage:hello\nArchitecture: amd64\n";
 
 const HELLO_CANONICAL: &[u8] = b"Architecture: amd64\nPackage: hello\nVersion: 1.0\n";
 
-const SPACED: &[u8] = b"Package: aa\nVersion: 1\nArchitecture: all\n \n\npackage:bb\nVERSION:2\nArchitecture:all";
+const SPACED: &[u8] =
+    b"Package: aa\nVersion: 1\nArchitecture: all\n \n\npackage:bb\nVERSION:2\nArchitecture:all";
 
-const SPACED_CANONICAL: &[u8] = b"Architecture: all\nPackage: aa\nVersion: 1\n\nArchitecture: all\nPackage: bb\nVersion: 2\n";
+const SPACED_CANONICAL: &[u8] =
+    b"Architecture: all\nPackage: aa\nVersion: 1\n\nArchitecture: all\nPackage: bb\nVersion: 2\n";
 
 const CUT_SHORT: &[u8] = b"Package: aa\nVersion: 1\nArchitecture: all\n\nPackage: bb\n";
 
@@ -140,12 +142,7 @@ const REFUSED: Row = Row {
 };
 
 /// Runs a job on the bytes of a row, which come in pieces of so many bytes.
-fn run_row<T: Abort + AllocGlobal>(
-    rt: &T,
-    job: &Job,
-    row: &Row,
-    most: usize,
-) -> Result<(), Fail> {
+fn run_row<T: Abort + AllocGlobal>(rt: &T, job: &Job, row: &Row, most: usize) -> Result<(), Fail> {
     let name = row.name;
     let mut unused = Pieces::new(b"x", ALL, EVER);
     let mut out = Slow::new(rt.alloc(), 1, row.writes, Then::Fails);
@@ -158,9 +155,21 @@ fn run_row<T: Abort + AllocGlobal>(
         &mut Output::new(&mut out),
         &mut Output::new(&mut err),
     );
-    assert_eq!(rt; status, row.status, "the status of {name}, in pieces of {most}");
-    assert_eq!(rt; out.held.as_slice(), row.written, "what {name} writes, in pieces of {most}");
-    assert_eq!(rt; err.held.as_slice(), row.told, "what {name} tells, in pieces of {most}");
+    assert_eq!(rt;
+        status,
+        row.status,
+        "the status of {name}, in pieces of {most}"
+    );
+    assert_eq!(rt;
+        out.held.as_slice(),
+        row.written,
+        "what {name} writes, in pieces of {most}"
+    );
+    assert_eq!(rt;
+        err.held.as_slice(),
+        row.told,
+        "what {name} tells, in pieces of {most}"
+    );
     assert_eq!(rt; unused.rest.len(), 1, "the second reader, by {name}");
     Ok(())
 }
@@ -344,13 +353,21 @@ fn a_failed_read_leaves_whole_paragraphs(rt: HostRuntime) -> Result<(), Fail> {
         );
         if reader.has_failed {
             assert_eq!(rt; status, 3, "a failure after {calls} reads");
-            assert_eq!(rt; told.as_slice(), b"fault: read\n".as_slice(), "a failure after {calls} reads");
+            assert_eq!(rt;
+                told.as_slice(),
+                b"fault: read\n".as_slice(),
+                "a failure after {calls} reads"
+            );
             let is_whole = held.is_empty() || held.as_slice() == FIRST_CANONICAL;
             assert!(rt; is_whole, "a failure after {calls} reads");
         } else {
             assert!(rt; calls > 27, "so many bytes take more reads than {calls}");
             assert_eq!(rt; status, 0, "no failure in {calls} reads");
-            assert_eq!(rt; held.as_slice(), SPACED_CANONICAL, "no failure in {calls} reads");
+            assert_eq!(rt;
+                held.as_slice(),
+                SPACED_CANONICAL,
+                "no failure in {calls} reads"
+            );
         }
     }
     Ok(())
