@@ -100,7 +100,7 @@ GivesLine bytes text (Err Memory) = IsVersion text
 GivesLine bytes text (Err Read) = ⊥
 GivesLine bytes text (Err Write) = ⊥
 
--- The text is a version, and exactly its line was written; or a front of it was, before a write failed.
+-- The text is a version, and exactly its line was written; or a prefix of it was, before a write failed.
 pub record WritesLine {W : Type 0} (text : List ℕ) (held : W → Option (List ℕ)) (failures : W → ℕ) (old new : W) : Type 0 where
   pub version : Meaning
   pub spelled : SpellsVersion text version

@@ -19,7 +19,7 @@ use std::cmp::Ordering;
 /// - 0 and 1: they compare as the operator asks, and they don't.
 /// - 2: one of them is no version. `err` has `line 0: 18 BadVersion`.
 /// - 3: memory was wanting, and `err` has `fault: memory`; or a write on `err` failed, and `err` has
-///   a front of its line.
+///   a prefix of its line.
 pub(crate) fn run_compare<E: Sink>(
     alloc: Global,
     left: &str,
@@ -49,7 +49,7 @@ pub(crate) fn run_compare<E: Sink>(
 /// - 0: that line was written, and nothing on `err`.
 /// - 2: this is no version. Nothing was written on `out`, and `line 0: 18 BadVersion` on `err`.
 /// - 3: memory was wanting, or a write failed. `err` has `fault: memory` or `fault: write`; where a
-///   write on `err` failed, a front of its line.
+///   write on `err` failed, a prefix of its line.
 pub(crate) fn run_canon_version<W: Sink, E: Sink>(
     alloc: Global,
     version: &str,
