@@ -34,7 +34,7 @@ from_all : {X : Type 0} (P : X → Type 0) (xs : List X) → All P xs → AllByR
 from_all P [] h = tt
 from_all P (x ∷ xs) h = (All-get_or P (x ∷ xs) 0 x (omega arith) h, from_all P xs (All-tail P x xs h))
 
-distinct-from : (fields : List Field) → are_fields fields ≡ true → AreDistinct fields
+pub distinct-from : (fields : List Field) → are_fields fields ≡ true → AreDistinct fields
 distinct-from [] h = tt
 distinct-from (field ∷ fields) h =
     let outer = and_parts (is_field field && not (has_name field.name fields)) (are_fields fields) h in

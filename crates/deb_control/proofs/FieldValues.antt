@@ -43,7 +43,7 @@ none_first : (o : Option Code) (line : ℕ) (other : Option Refusal) → refusal
 none_first None line other h = (refl, h)
 none_first (Some code) line other h = absurd (cc)
 
-each-from_none : (rules : Rules) (fields : List Field) → value_refusal_of rules fields ≡ None → NoneRefused rules fields
+pub each-from_none : (rules : Rules) (fields : List Field) → value_refusal_of rules fields ≡ None → NoneRefused rules fields
 each-from_none rules [] h = tt
 each-from_none rules (field ∷ fields) h =
     let p = none_first (rules.refusal (canonical_name field.name) field.body) field.line (value_refusal_of rules fields) h in

@@ -8,9 +8,15 @@ pub mod ValueFiles
 pub mod Limits
 pub mod FieldValues
 pub mod Passing
+pub mod RefusalCodes
+pub mod NextChecked
+pub mod Checks
+pub mod PassingParagraphs
 pub mod Accepting
 pub mod DocumentRules
 pub mod SortedFields
 pub mod FieldsRead
 pub mod Building
 pub mod ValueLookups
+pub mod FollowedParagraphs
+pub mod CheckedSoFar

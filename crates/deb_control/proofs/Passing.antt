@@ -68,13 +68,13 @@ seen-parts None beyond p seen e h =
     record { short = e; whole = whole.0; fields = fields.0; judges = fields.1; is = fields.2 }
 
 -- the parts of what is built
-record IsBuilt (rules : Rules) (seen : Seen) (entries : Entries) : Type 0 where
-  good : value_refusal_of rules seen.fields ≡ None
-  named : have_names seen.fields rules.required ≡ true
-  short : length (paragraph_text (canonical_entries rules seen.fields)) ≤ paragraph_limit
-  is : entries ≡ canonical_entries rules seen.fields
+pub record IsBuilt (rules : Rules) (seen : Seen) (entries : Entries) : Type 0 where
+  pub good : value_refusal_of rules seen.fields ≡ None
+  pub named : have_names seen.fields rules.required ≡ true
+  pub short : length (paragraph_text (canonical_entries rules seen.fields)) ≤ paragraph_limit
+  pub is : entries ≡ canonical_entries rules seen.fields
 
-built-parts : (rules : Rules) (seen : Seen) (entries : Entries) (o : Option Refusal) → value_refusal_of rules seen.fields ≡ o → refused_or_built rules seen o ≡ Ok entries → IsBuilt rules seen entries
+pub built-parts : (rules : Rules) (seen : Seen) (entries : Entries) (o : Option Refusal) → value_refusal_of rules seen.fields ≡ o → refused_or_built rules seen o ≡ Ok entries → IsBuilt rules seen entries
 built-parts rules seen entries (Some refusal) e h = absurd (cc)
 built-parts rules seen entries None e h =
     let named = not_refused (not (have_names seen.fields rules.required)) _ _ entries h in

@@ -8,6 +8,12 @@ pub mod ValueFileLaws
 pub mod AcceptanceLaws
 pub mod Documents
 pub mod Laws
+pub mod Checking
+pub mod Calls
+pub mod Tallies
+pub mod Finding
+pub mod PassingValues
+pub mod CheckedStates
 pub mod Sorting
 pub mod Paragraphs
 pub mod ParagraphValues

@@ -11,12 +11,22 @@
 //! ```
 #![tactic(auto)]
 
+mod accepted;
+mod checked;
+mod checking;
 mod field;
+mod find;
 pub mod laws;
 mod name;
+mod normalising;
 mod paragraph;
+mod tally;
 mod typed_field;
 pub mod value_laws;
 
+pub use accepted::Accepted;
+pub use checked::Checked;
+pub use checking::check;
+pub use normalising::normalise;
 pub use paragraph::Paragraph;
 pub use typed_field::TypedField;

@@ -1,6 +1,6 @@
 //! Paragraphs whose values have been read.
 
-ghost use Rattle.std.specs.Prelude.{◌≡◌, ◌++◌, Some, None, Err, IfOk, IfErr, OnOk, OnErr, find, length, map};
+ghost use Rattle.std.specs.Prelude.{◌≡◌, ◌++◌, ◌≤◌, Some, None, Err, IfOk, IfErr, OnOk, OnErr, find, length, map};
 ghost use Rattle.std.specs.Option.{option_map};
 ghost use Rattle.std.specs.FinMap.{find as value_under};
 ghost use Rattle.std.specs.List.{AllByRecursion};
@@ -51,22 +51,8 @@ impl<'a> Paragraph<'a> {
         ensures ok { IfOk result (λ typed. AreValuesOf doc (seen_of paragraph.now) (values_of typed)) }
         ensures fault { IfErr result (λ fault. RefusedOrMemory fault (λ refusal. built (rules_of doc) (seen_of paragraph.now) ≡ Err refusal)) }
     {
-        let mut fields = fields_with_values(alloc, doc, paragraph)?;
-        if !has_required(doc, paragraph) {
-            return Err(Fault::Refused(Refusal {
-                code: Code::MissingField,
-                line: paragraph.first_line(),
-            }));
-        }
-        sort(&mut fields);
         let mut text = Vec::new(alloc);
-        append_fields(fields.as_slice(), &mut text)?;
-        if text.len() > PARAGRAPH_LIMIT {
-            return Err(Fault::Refused(Refusal {
-                code: Code::ParagraphTooLong,
-                line: paragraph.first_line(),
-            }));
-        }
+        let fields = read_fields(alloc, doc, paragraph, &mut text)?;
         Ok(Paragraph { fields, text })
     }
 
@@ -110,6 +96,38 @@ impl<'a> Paragraph<'a> {
     }
 }
 
+/// The fields of a paragraph with their values, in ascending order of the canonical spellings of
+/// their names. Their canonical text then is all of `text`. The errors are those of `Paragraph::build`.
+pub(crate) fn read_fields<'a>(
+    alloc: Global,
+    doc: Doc,
+    paragraph: &Raw<'a>,
+    text: &mut Vec<u8>,
+) -> Result<Vec<TypedField<'a>>, Fault>
+    ensures ok { IfOk result (λ fields. AreValuesOf doc (seen_of paragraph.now) (values_in fields.items)) }
+    ensures text { IfOk result (λ fields. text.new.items ≡ text_of_values (values_in fields.items)) }
+    ensures short { IfOk result (λ fields. length text.new.items ≤ 16777216) }
+    ensures fault { IfErr result (λ fault. RefusedOrMemory fault (λ refusal. built (rules_of doc) (seen_of paragraph.now) ≡ Err refusal)) }
+{
+    let mut fields = fields_with_values(alloc, doc, paragraph)?;
+    if !has_required(doc, paragraph) {
+        return Err(Fault::Refused(Refusal {
+            code: Code::MissingField,
+            line: paragraph.first_line(),
+        }));
+    }
+    sort(&mut fields);
+    text.clear();
+    append_fields(fields.as_slice(), text)?;
+    if text.len() > PARAGRAPH_LIMIT {
+        return Err(Fault::Refused(Refusal {
+            code: Code::ParagraphTooLong,
+            line: paragraph.first_line(),
+        }));
+    }
+    Ok(fields)
+}
+
 /// The fields of a paragraph with their values, in the order of the file.
 fn fields_with_values<'a>(
     alloc: Global,
@@ -132,7 +150,11 @@ fn fields_with_values<'a>(
 }
 
 /// The value of one field.
-fn value_of<'a>(alloc: Global, doc: Doc, field: &RawField<'a>) -> Result<Value<'a>, Fault>
+pub(crate) fn value_of<'a>(
+    alloc: Global,
+    doc: Doc,
+    field: &RawField<'a>,
+) -> Result<Value<'a>, Fault>
     requires { IsBody field.now.body.now }
     ensures ok { IfOk result (λ value. SpellsValue doc (canonical_name field.now.name.now) field.now.body.now (value_meaning value)) }
     ensures fault { IfErr result (λ fault. RefusedOrMemory fault (λ refusal. (refusal.line ≡ field.now.line) × (value_refusal doc (canonical_name field.now.name.now) field.now.body.now ≡ Some refusal.code))) }

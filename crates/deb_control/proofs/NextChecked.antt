@@ -1,0 +1,82 @@
+-- What is answered of a document's next paragraph, from what its reader of paragraphs answers.
+use Rattle.std.proofs.Common.{◌≡◌, ◌⊎◌, inl, inr, ℕ, ◌+◌, ◌<◌, ◌≤◌, ◌==◌, ◌&&◌, not, Bool, true, false, cond, nat_le, List, [], ◌∷◌, ◌++◌, drop, length, Option, None, Some, Result, Ok, Err, refl, sym, ap, ◌∙◌, subst, arith, length-append}
+use Rattle.std.proofs.lemmas.Bool.{le-leb, lt-leb, ne_eqb}
+use Rattle.deb_base.specs.Bodies.{newline}
+use Rattle.deb_base.specs.declared.code.Code.TheVariants.{FileTooLong, NoParagraph, TooManyParagraphs}
+use Rattle.deb_base.specs.declared.refusal.Refusal.{Refusal}
+use Rattle.deb_syntax.specs.Answers.{Seen, line_beyond, paragraphs_within, answer_of_first, begin_of_first, next_answer, next_begin}
+use Rattle.deb_syntax.specs.Lines.{Paragraph, file_limit}
+use Rattle.deb_syntax.specs.Meaning.{Entries}
+use Rattle.deb_control.specs.Canonical.{paragraph_text, file_text}
+use Rattle.deb_control.specs.Refusals.{built, within_file, has_some, answer_of_seen, answer_behind, line_behind, next_checked}
+use Rattle.deb_control.specs.Rules.{Rules}
+use Rattle.deb_control.specs.Tallies.{bytes_with}
+
+-- of a document of which no paragraph is one too many
+pub next_checked-seen : (rules : Rules) (text : List ℕ) (before : List Entries) → (rules.single && has_some before) ≡ false → next_checked rules text before ≡ answer_of_seen rules (line_behind text) before (next_answer text (length before))
+next_checked-seen rules text before few = go (drop (length before) (paragraphs_within text))
+  where
+    go : (left : List Paragraph) → answer_behind rules (line_beyond 1 file_limit text) (line_behind text) before left ≡ answer_of_seen rules (line_behind text) before (answer_of_first (line_beyond 1 file_limit text) left)
+    go [] = refl
+    go (p ∷ left) = rw few refl
+
+-- where each further paragraph is one too many
+module _ (rules : Rules) (text : List ℕ) (before : List Entries) (single : rules.single ≡ true) (some : has_some before ≡ true) where
+  pub next_checked-second : (line : ℕ) → next_begin text (length before) ≡ Ok (Some line) → next_checked rules text before ≡ Err (record { code = TooManyParagraphs; line = line })
+  next_checked-second line begins = go (line_beyond 1 file_limit text) (drop (length before) (paragraphs_within text)) begins
+    where
+      go : (beyond : Option ℕ) (left : List Paragraph) → begin_of_first beyond left ≡ Ok (Some line) → answer_behind rules beyond (line_behind text) before left ≡ Err (record { code = TooManyParagraphs; line = line })
+      go None [] e = absurd (cc)
+      go (Some n) [] e = absurd (cc)
+      go beyond (p ∷ left) e =
+          let same : p.first ≡ line = cc in
+          rw (single, some) (ap (λ n. Err (record { code = TooManyParagraphs; line = n })) same)
+
+  pub next_checked-last : next_begin text (length before) ≡ Ok None → next_checked rules text before ≡ Ok None
+  next_checked-last begins = go (line_beyond 1 file_limit text) (drop (length before) (paragraphs_within text)) begins
+    where
+      go : (beyond : Option ℕ) (left : List Paragraph) → begin_of_first beyond left ≡ Ok None → answer_behind rules beyond (line_behind text) before left ≡ Ok None
+      go None [] e = rw (single, some) refl
+      go (Some n) [] e = absurd (cc)
+      go beyond (p ∷ left) e = absurd (cc)
+
+  pub next_checked-refused : (refusal : Refusal) → next_begin text (length before) ≡ Err refusal → next_checked rules text before ≡ Err refusal
+  next_checked-refused refusal begins = go (line_beyond 1 file_limit text) (drop (length before) (paragraphs_within text)) begins
+    where
+      go : (beyond : Option ℕ) (left : List Paragraph) → begin_of_first beyond left ≡ Err refusal → answer_behind rules beyond (line_behind text) before left ≡ Err refusal
+      go None [] e = absurd (cc)
+      go (Some n) [] e = cc
+      go beyond (p ∷ left) e = absurd (cc)
+
+-- the canonical text of a file with a further paragraph
+one-more : (before : List Entries) (entries : Entries) → 0 < length before → length (file_text (before ++ entries ∷ [])) ≡ length (file_text before) + 1 + length (paragraph_text entries)
+one-more [] entries some = absurd (omega (arith, some))
+one-more (first ∷ []) entries some = omega (arith, length-append (paragraph_text first) (newline ∷ paragraph_text entries))
+one-more (first ∷ next ∷ before) entries some =
+    let rest : length (file_text (next ∷ (before ++ entries ∷ []))) ≡ length (file_text (next ∷ before)) + 1 + length (paragraph_text entries) = one-more (next ∷ before) entries (omega arith) in
+    let all : length (paragraph_text first ++ newline ∷ file_text (next ∷ (before ++ entries ∷ []))) ≡ length (paragraph_text first ++ newline ∷ file_text (next ∷ before)) + 1 + length (paragraph_text entries) =
+    omega (arith, length-append (paragraph_text first) (newline ∷ file_text (next ∷ (before ++ entries ∷ []))), length-append (paragraph_text first) (newline ∷ file_text (next ∷ before)), rest) in
+    all
+
+length-file_text : (before : List Entries) (entries : Entries) → length (file_text (before ++ entries ∷ [])) ≡ bytes_with (length before) (length (file_text before)) (length (paragraph_text entries))
+length-file_text [] entries = omega arith
+length-file_text (first ∷ before) entries =
+    one-more (first ∷ before) entries (omega arith)
+    ∙ sym (ap (λ t. cond t (length (file_text (first ∷ before)) + length (paragraph_text entries)) (length (file_text (first ∷ before)) + 1 + length (paragraph_text entries))) (ne_eqb (length (first ∷ before)) 0 (λ e. omega (arith, e))))
+
+pub bytes-with : (before : List Entries) (entries : Entries) (count bytes : ℕ) → count ≡ length before → bytes ≡ length (file_text before) → bytes_with count bytes (length (paragraph_text entries)) ≡ length (file_text (before ++ entries ∷ []))
+bytes-with before entries count bytes counted is = ap (λ n. bytes_with n bytes (length (paragraph_text entries))) counted ∙ ap (λ n. bytes_with (length before) n (length (paragraph_text entries))) is ∙ sym (length-file_text before entries)
+
+-- what is answered of a paragraph that was seen behind these
+module _ (rules : Rules) (text : List ℕ) (before : List Entries) (seen : Seen) (few : (rules.single && has_some before) ≡ false) (answer : next_answer text (length before) ≡ Ok (Some seen)) where
+  next_checked-built : next_checked rules text before ≡ within_file before seen.first (built rules seen)
+  next_checked-built = next_checked-seen rules text before few ∙ ap (answer_of_seen rules (line_behind text) before) answer
+
+  pub next_checked-passes : (entries : Entries) → built rules seen ≡ Ok entries → length (file_text (before ++ entries ∷ [])) ≤ file_limit → next_checked rules text before ≡ Ok (Some entries)
+  next_checked-passes entries is short = next_checked-built ∙ ap (within_file before seen.first) is ∙ rw (le-leb (length (file_text (before ++ entries ∷ []))) file_limit short) refl
+
+  pub next_checked-unbuilt : (refusal : Refusal) → built rules seen ≡ Err refusal → next_checked rules text before ≡ Err refusal
+  next_checked-unbuilt refusal is = next_checked-built ∙ ap (within_file before seen.first) is
+
+  pub next_checked-too_long : (entries : Entries) → built rules seen ≡ Ok entries → file_limit < length (file_text (before ++ entries ∷ [])) → next_checked rules text before ≡ Err (record { code = FileTooLong; line = seen.first })
+  next_checked-too_long entries is long = next_checked-built ∙ ap (within_file before seen.first) is ∙ rw (lt-leb (length (file_text (before ++ entries ∷ []))) file_limit long) refl

@@ -1,0 +1,31 @@
+-- What a `Checked` and its parts show.
+use Rattle.std.specs.Prelude.{ℕ, List, Option, Result, Ok, Err}
+use Rattle.std.specs.Option.{option_map}
+use Rattle.deb_base.specs.declared.fault.Fault.{Fault}
+use Rattle.deb_syntax.specs.Paragraphs.{state_of, seen_of}
+use Rattle.deb_control.specs.Checking.{CheckedMoment, CheckedState, Passing, passing_found}
+use Rattle.deb_control.specs.declared.accepted.Accepted.{Accepted}
+use Rattle.deb_control.specs.declared.checked.Checked.{Checked}
+
+abbrev pub checked_state : Checked → CheckedState
+checked_state c = record {
+  reader = state_of c.paragraphs;
+  count = c.given.paragraphs;
+  bytes = c.given.bytes;
+  current = passing_found c.gives (state_of c.paragraphs).current c.canonical.items;
+  fault = c.fault;
+}
+
+abbrev pub checked_moment : Checked → Option (List ℕ) → ℕ → CheckedMoment
+checked_moment c left failures = record {
+  state = checked_state c;
+  source = record { bytes = left; failures = failures };
+}
+
+-- what a view of a paragraph that passes shows
+abbrev pub passing_of : Accepted → Passing
+passing_of accepted = record { seen = seen_of accepted.raw; text = accepted.canonical.now }
+
+abbrev pub checked_answer : Result (Option Accepted) Fault → Result (Option Passing) Fault
+checked_answer (Ok accepted) = Ok (option_map passing_of accepted)
+checked_answer (Err fault) = Err fault

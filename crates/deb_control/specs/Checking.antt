@@ -1,0 +1,138 @@
+-- What a reader of checked paragraphs is to its callers, which texts fit it, and what its calls say of them (Debian
+-- Policy 5.1; the limits and the order of the refusals are this project's own).
+use Rattle.std.specs.Prelude.{◌≡◌, ℕ, ◌+◌, ◌≤◌, Bool, true, false, List, [], ◌∷◌, ◌++◌, length, Option, Some, None, IfSome, IfNone, Result, Ok, Err, IfErr, MatchResult}
+use Rattle.std.specs.Option.{option_map}
+use Rattle.std.specs.Str.{bytes_eq}
+use Rattle.deb_base.specs.Codes.{number_of}
+use Rattle.deb_base.specs.Devices.{Shown, read_failures_after}
+use Rattle.deb_base.specs.Faults.{IsReadersFault}
+use Rattle.deb_base.specs.declared.fault.Fault.{Fault}
+use Rattle.deb_base.specs.declared.fault.Fault.TheVariants.{Refused, Memory, Read, Write}
+use Rattle.deb_base.specs.declared.refusal.Refusal.{Refusal}
+use Rattle.deb_syntax.specs.Ahead.{TakesNoMore}
+use Rattle.deb_syntax.specs.Answers.{Seen, next_answer}
+use Rattle.deb_syntax.specs.Lines.{file_limit}
+use Rattle.deb_syntax.specs.Meaning.{Entries}
+use Rattle.deb_syntax.specs.Reading.{State, Fits, passed_count}
+use Rattle.deb_field.specs.declared.kind.Doc.{Doc}
+use Rattle.deb_control.specs.Canonical.{paragraph_text, file_text}
+use Rattle.deb_control.specs.Documents.{rules_of}
+use Rattle.deb_control.specs.Refusals.{built, next_checked}
+use Rattle.deb_control.specs.Rules.{Rules}
+
+-- A paragraph that passes: what was seen of it, and its canonical text.
+pub record Passing : Type 0 where
+  pub seen : Seen
+  pub text : List ℕ
+
+-- A reader of checked paragraphs: its reader of paragraphs, how many paragraphs it has given and how long their
+-- canonical text is as a file, the paragraph that it gave last, and the error.
+pub record CheckedState : Type 0 where
+  pub reader : State
+  pub count : ℕ
+  pub bytes : ℕ
+  pub current : Option Passing
+  pub fault : Option Fault
+
+-- Behind `front`, these are the canonical bodies of the next paragraphs of a file: each is the answer behind those
+-- before it.
+abbrev pub Follow : Rules → List ℕ → List Entries → List Entries → Type 0
+Follow rules text front [] = Unit {0}
+Follow rules text front (entries ∷ more) =
+    (next_checked rules text front ≡ Ok (Some entries)) × Follow rules text (front ++ entries ∷ []) more
+
+-- A file fits where these are the canonical bodies of the paragraphs that were given: they are its first ones, and what
+-- its reader of paragraphs has passed.
+pub record FitsChecked (doc : Doc) (text : List ℕ) (before : List Entries) (state : CheckedState) (left : Option (List ℕ)) : Type 0 where
+  pub passed : List ℕ
+  pub fits : Fits text passed state.reader left
+  pub given : Follow (rules_of doc) text [] before
+  pub paragraphs : passed_count passed ≡ length before
+  pub counted : state.count ≡ length before
+  pub bytes : state.bytes ≡ length (file_text before)
+
+-- The next paragraph of a file passes behind these, and was given: no further one has been.
+pub record GivesPassing (doc : Doc) (text : List ℕ) (before : List Entries) (given : Passing) (new : CheckedState) (left : Option (List ℕ)) : Type 0 where
+  pub entries : Entries
+  pub answer : next_checked (rules_of doc) text before ≡ Ok (Some entries)
+  pub seen : next_answer text (length before) ≡ Ok (Some given.seen)
+  pub built : built (rules_of doc) given.seen ≡ Ok entries
+  pub written : given.text ≡ paragraph_text entries
+  pub again : FitsChecked doc text (before ++ entries ∷ []) new left
+
+-- All paragraphs of the file pass, and were given.
+pub record GivesEnd (doc : Doc) (text : List ℕ) (before : List Entries) (new : CheckedState) (left : Option (List ℕ)) : Type 0 where
+  pub answer : next_checked (rules_of doc) text before ≡ Ok None
+  pub again : FitsChecked doc text before new left
+
+-- What an answer says of a file that fits, where these paragraphs were given.
+abbrev pub AnswersChecked : (doc : Doc) (text : List ℕ) (before : List Entries) → Result (Option Passing) Fault → CheckedState → Option (List ℕ) → Type 0
+AnswersChecked doc text before (Ok None) new left = GivesEnd doc text before new left
+AnswersChecked doc text before (Ok (Some given)) new left = GivesPassing doc text before given new left
+AnswersChecked doc text before (Err (Refused refusal)) new left = next_checked (rules_of doc) text before ≡ Err refusal
+AnswersChecked doc text before (Err Memory) new left = Unit {0}
+AnswersChecked doc text before (Err Read) new left = Unit {0}
+AnswersChecked doc text before (Err Write) new left = ⊥
+
+-- how many paragraphs an answer gives
+abbrev pub given_count : Option Passing → ℕ
+given_count None = 0
+given_count (Some given) = 1
+
+-- a refusal of a document has a code from 1 to 21
+pub record IsRefusalOfDocument (refusal : Refusal) : Type 0 where
+  pub least : 1 ≤ number_of refusal.code
+  pub most : number_of refusal.code ≤ 21
+
+-- a reader of checked paragraphs, and what its source shows
+pub record CheckedMoment : Type 0 where
+  pub state : CheckedState
+  pub source : Shown
+
+-- A call without error: what it answers of each file that fits, how much of it was taken by then, how often its source
+-- failed, which errors there are, and how many paragraphs were given, which are few for every source.
+pub record Checks (doc : Doc) (before : CheckedMoment) (answer : Result (Option Passing) Fault) (after : CheckedMoment) : Type 0 where
+  pub answers : (text : List ℕ) (given : List Entries) → FitsChecked doc text given before.state before.source.bytes → AnswersChecked doc text given answer after.state after.source.bytes
+  pub taken : (text : List ℕ) (given : List Entries) → FitsChecked doc text given before.state before.source.bytes → TakesNoMore text file_limit after.source.bytes
+  pub counted : after.source.failures ≡ read_failures_after before.source.failures answer
+  pub fault : IfErr answer (λ fault. IsReadersFault fault IsRefusalOfDocument)
+  pub count : MatchResult answer (λ given. after.state.count ≡ before.state.count + given_count given) (λ fault. after.state.count ≡ before.state.count)
+  pub few : after.state.count ≤ file_limit + 1
+
+-- A call: without an error it goes on, and keeps the error that it then answers; with one it answers that error, and
+-- neither reads nor changes.
+pub record ChecksOn (doc : Doc) (before : CheckedMoment) (answer : Result (Option Passing) Fault) (after : CheckedMoment) : Type 0 where
+  pub goes : IfNone before.state.fault (Checks doc before answer after)
+  pub keeps : IfNone before.state.fault (MatchResult answer (λ _. after.state.fault ≡ None) (λ fault. after.state.fault ≡ Some fault))
+  pub repeats : IfSome before.state.fault (λ fault. (answer ≡ Err fault) × (after ≡ before))
+
+-- the bytes are the canonical text of what is built
+abbrev pub is_text_of : Result Entries Refusal → List ℕ → Bool
+is_text_of (Ok entries) text = bytes_eq text (paragraph_text entries)
+is_text_of (Err refusal) text = false
+
+-- the paragraph passes by itself, and the bytes are its canonical text
+abbrev pub is_passing : Doc → Seen → List ℕ → Bool
+is_passing doc seen text = is_text_of (built (rules_of doc) seen) text
+
+-- where a paragraph is given, that is the one that was found, and it passes
+abbrev pub passes_if : Bool → Doc → Option Seen → List ℕ → Bool
+passes_if false doc found text = true
+passes_if true doc None text = false
+passes_if true doc (Some seen) text = is_passing doc seen text
+
+-- where there is no error, there is none inside
+abbrev pub is_sound : Option Fault → Option Fault → Bool
+is_sound (Some fault) inside = true
+is_sound None (Some fault) = false
+is_sound None None = true
+
+-- a paragraph that was found, with its canonical text, where it is given
+abbrev pub passing_found : Bool → Option Seen → List ℕ → Option Passing
+passing_found false found text = None
+passing_found true found text = option_map (λ seen. record { seen = seen; text = text }) found
+
+-- what an answer that there is a paragraph, or none, shows by the one that was found
+abbrev pub found_answer : Option Seen → List ℕ → Result Bool Fault → Result (Option Passing) Fault
+found_answer found text (Ok gives) = Ok (passing_found gives found text)
+found_answer found text (Err fault) = Err fault

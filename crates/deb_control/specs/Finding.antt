@@ -1,0 +1,51 @@
+-- What the parts of a reader of checked paragraphs show while the next one is found.
+use Rattle.std.specs.Prelude.{◌≡◌, ◌⊎◌, ℕ, ◌+◌, ◌<◌, ◌≤◌, ◌==◌, ◌&&◌, Bool, false, cond, List, length, Option, None, Result, Ok, Err}
+use Rattle.deb_base.specs.declared.code.Code.TheVariants.{NoParagraph, FileTooLong}
+use Rattle.deb_base.specs.declared.fault.Fault.{Fault}
+use Rattle.deb_base.specs.declared.fault.Fault.TheVariants.{Refused}
+use Rattle.deb_base.specs.declared.refusal.Refusal.{Refusal}
+use Rattle.deb_syntax.specs.Answers.{Seen}
+use Rattle.deb_syntax.specs.Lines.{file_limit}
+use Rattle.deb_syntax.specs.Meaning.{Entries}
+use Rattle.deb_field.specs.Kinds.{is_single}
+use Rattle.deb_field.specs.declared.kind.Doc.{Doc}
+use Rattle.deb_control.specs.Canonical.{paragraph_text}
+use Rattle.deb_control.specs.Documents.{rules_of}
+use Rattle.deb_control.specs.Refusals.{built}
+use Rattle.deb_control.specs.Tallies.{bytes_with}
+use Rattle.deb_syntax.specs.Paragraphs.{state_of}
+use Rattle.deb_syntax.specs.declared.paragraphs.Paragraphs.{Paragraphs}
+use Rattle.deb_control.specs.Checking.{CheckedMoment}
+use Rattle.deb_control.specs.declared.tally.Tally.{Tally}
+
+-- a reader of paragraphs and what was given of it, with a source that has these bytes left and failed so often
+abbrev pub moment_from : Paragraphs → Tally → Option (List ℕ) → ℕ → CheckedMoment
+moment_from paragraphs given left failures = record {
+  state = record { reader = state_of paragraphs; count = given.paragraphs; bytes = given.bytes; current = None; fault = None };
+  source = record { bytes = left; failures = failures };
+}
+
+-- what is answered where no paragraph follows, behind so many lines
+abbrev pub end_answer : Doc → Tally → ℕ → Result Bool Fault
+end_answer doc given lines =
+    cond (is_single doc && (given.paragraphs == 0)) (Err (Refused (record { code = NoParagraph; line = lines + 1 }))) (Ok false)
+
+-- The paragraph passes behind those that were given, and counts as given then; the bytes are its canonical text.
+pub record AddsPassing (doc : Doc) (seen : Seen) (old : Tally) (text : List ℕ) (new : Tally) : Type 0 where
+  pub entries : Entries
+  pub built : built (rules_of doc) seen ≡ Ok entries
+  pub written : text ≡ paragraph_text entries
+  pub paragraphs : new.paragraphs ≡ old.paragraphs + 1
+  pub bytes : new.bytes ≡ bytes_with old.paragraphs old.bytes (length (paragraph_text entries))
+  pub within : new.bytes ≤ file_limit
+
+-- With the paragraph, the canonical text of the file is too long.
+pub record IsTooLong (doc : Doc) (seen : Seen) (given : Tally) (refusal : Refusal) : Type 0 where
+  pub entries : Entries
+  pub built : built (rules_of doc) seen ≡ Ok entries
+  pub long : file_limit < bytes_with given.paragraphs given.bytes (length (paragraph_text entries))
+  pub is : refusal ≡ record { code = FileTooLong; line = seen.first }
+
+-- The paragraph is refused so, by itself or behind those that were given.
+abbrev pub RefusesSeen : Doc → Seen → Tally → Refusal → Type 0
+RefusesSeen doc seen given refusal = (built (rules_of doc) seen ≡ Err refusal) ⊎ IsTooLong doc seen given refusal

@@ -1,0 +1,117 @@
+//! A view of a paragraph that passes.
+
+ghost use Rattle.std.specs.Prelude.{◌≡◌, List, IsTrue};
+ghost use Rattle.deb_syntax.specs.Paragraphs.{seen_of};
+ghost use Rattle.deb_control.specs.Checking.{is_passing};
+
+use crate::paragraph::{Paragraph, value_of};
+use deb_base::Fault;
+use deb_field::{Doc, Value};
+use deb_syntax::{Fields, Raw, RawField};
+use std::alloc::{AllocError, Global};
+
+/// A paragraph of a document that passes every rule of its kind, as a view: its fields as they stand
+/// in the file, and its canonical text. Values are read from it on demand, and are never refused.
+#[derive(Clone, Copy)]
+pub struct Accepted<'a> {
+    doc: Doc,
+    raw: Raw<'a>,
+    canonical: &'a [u8],
+    ghost passes: { IsTrue (is_passing doc (seen_of raw) canonical.now) },
+}
+
+impl<'a> Accepted<'a> {
+    ghost use Rattle.std.specs.Prelude.{Some, None, IfOk, IfSome, option_map, length};
+    ghost use Rattle.std.specs.FinMap.{find as value_under};
+    ghost use Rattle.deb_base.specs.Names.{canonical_name};
+    ghost use Rattle.deb_syntax.specs.Meaning.{byte_order};
+    ghost use Rattle.deb_syntax.specs.Raw.{field_of, field_named, fields_left};
+    ghost use Rattle.deb_field.specs.ValueMeanings.{value_meaning};
+    ghost use Rattle.deb_control.specs.CheckedStates.{passing_of};
+    ghost use Rattle.deb_control.specs.Paragraphs.{AreValuesOf};
+    ghost use Rattle.deb_control.specs.ParagraphValues.{values_of};
+    ghost use Rattle.deb_control.specs.PassingValues.{HasValue};
+
+    pub(crate) fn new(doc: Doc, raw: Raw<'a>, canonical: &'a [u8]) -> Accepted<'a>
+        requires { IsTrue (is_passing doc (seen_of raw) canonical.now) }
+        ensures doc { result.doc ≡ doc }
+        ensures passing { passing_of result ≡ record { seen = seen_of raw.entry; text = canonical.now } }
+    {
+        Accepted {
+            doc,
+            raw,
+            canonical,
+        }
+    }
+
+    /// The number of the paragraph's first line in its file, which is counted from 1.
+    pub fn first_line(&self) -> u64
+        ensures { result ≡ (passing_of self.now).seen.first }
+    {
+        self.raw.first_line()
+    }
+
+    /// The field of a name as it stands in the file, without ASCII case, or `None` where there is no
+    /// such field.
+    pub fn get(&self, name: &[u8]) -> Option<RawField<'a>>
+        ensures { option_map field_of result ≡ field_named name.now (passing_of self.now).seen.fields }
+    {
+        self.raw.get(name)
+    }
+
+    /// The fields in the order of the file.
+    pub fn fields(&self) -> Fields<'a>
+        ensures { fields_left result ≡ (passing_of self.now).seen.fields }
+    {
+        self.raw.fields()
+    }
+
+    /// The paragraph's canonical text: each field on lines of its own, in ascending order of the
+    /// canonical spellings of their names.
+    pub fn canonical_text(&self) -> &'a [u8]
+        ensures { result.now ≡ (passing_of self.now).text }
+    {
+        self.canonical
+    }
+
+    /// The value of the field of a name, without ASCII case, or `None` where there is no such field.
+    ///
+    /// # Errors
+    ///
+    /// Want of memory alone.
+    pub fn value(&self, alloc: Global, name: &[u8]) -> Result<Option<Value<'a>>, AllocError>
+        ensures { IfOk result (λ value. HasValue self.now.doc (passing_of self.now).seen name.now (option_map value_meaning value)) }
+    {
+        let Some(field) = self.raw.get(name) else {
+            return Ok(None);
+        };
+        match value_of(alloc, self.doc, &field) {
+            Ok(value) => Ok(Some(value)),
+            Err(fault) => Err(want_of_memory(fault)),
+        }
+    }
+
+    /// The paragraph with its values.
+    ///
+    /// # Errors
+    ///
+    /// Want of memory alone.
+    pub fn paragraph(&self, alloc: Global) -> Result<Paragraph<'a>, AllocError>
+        ensures { IfOk result (λ typed. AreValuesOf self.now.doc (passing_of self.now).seen (values_of typed)) }
+    {
+        match Paragraph::build(alloc, self.doc, &self.raw) {
+            Ok(paragraph) => Ok(paragraph),
+            Err(fault) => Err(want_of_memory(fault)),
+        }
+    }
+}
+
+/// Want of memory, which is the only fault that reading again what passes can have.
+fn want_of_memory(fault: Fault) -> AllocError
+    requires { fault ≡ Fault.Memory }
+{
+    match fault {
+        Fault::Memory => AllocError,
+        Fault::Refused(_) | Fault::Read | Fault::Write => unreachable!(),
+    }
+}

@@ -1,0 +1,127 @@
+//! Paragraphs of a document, checked one after another.
+
+ghost use Rattle.std.specs.Prelude.{◌≡◌, ◌+◌, ◌≤◌, ℕ, List, [], Some, None, IfOk, IsTrue};
+ghost use Rattle.deb_syntax.specs.Paragraphs.{state_of};
+ghost use Rattle.deb_control.specs.Checking.{passes_if, is_sound, found_answer};
+
+use crate::accepted::Accepted;
+use crate::find::find;
+use crate::tally::Tally;
+use deb_base::{Fault, Source};
+use deb_field::Doc;
+use deb_syntax::Paragraphs;
+use std::alloc::Global;
+
+/// Reads the paragraphs of a document of a kind, one after another, and gives those that pass every
+/// rule of the kind (Debian Policy 5.1 and 5.3 to 5.6).
+///
+/// Each call is handed the file's reader, as those of `Paragraphs` are. Beside its `Paragraphs` it
+/// keeps the canonical text of one paragraph; of earlier ones only their number and the length of
+/// their canonical text.
+#[derive(Drop)]
+pub struct Checked {
+    paragraphs: Paragraphs,
+    doc: Doc,
+    given: Tally,
+    /// The canonical text of the paragraph that was given last.
+    canonical: Vec<u8>,
+    /// Whether the last answer was a paragraph.
+    gives: bool,
+    fault: Option<Fault>,
+    alloc: Global,
+    ghost sound: { IsTrue (is_sound fault (state_of paragraphs).fault) },
+    ghost passes: { IsTrue (passes_if gives doc (state_of paragraphs).current canonical.items) },
+}
+
+impl Checked {
+    ghost use Rattle.std.specs.Borrow.{sem};
+    ghost use Rattle.std.specs.Io.BufRead.{Rests};
+    ghost use Rattle.std.specs.Option.{option_map};
+    ghost use Rattle.deb_control.specs.contracts.checked.Checked.{the_row};
+    ghost use Rattle.deb_control.specs.Checking.{FitsChecked, ChecksOn};
+    ghost use Rattle.deb_control.specs.CheckedStates.{checked_state, checked_moment, checked_answer, passing_of};
+
+    /// A reader of checked paragraphs that has read nothing: whatever its source has left is the
+    /// file. Takes no memory.
+    pub fn new(alloc: Global, doc: Doc) -> Checked
+        ensures doc { result.doc ≡ doc }
+        ensures sound { (checked_state result).fault ≡ None }
+        ensures none { (checked_state result).count ≡ 0 }
+        ensures fits { (text : List ℕ) → FitsChecked doc text [] (checked_state result) (Some text) }
+    {
+        Checked {
+            paragraphs: Paragraphs::new(alloc),
+            doc,
+            given: Tally::none(),
+            canonical: Vec::new(alloc),
+            gives: false,
+            fault: None,
+            alloc,
+        }
+    }
+
+    /// The next paragraph of the file, if it passes, or `None` where there is no further one and none
+    /// is missing.
+    ///
+    /// # Errors
+    ///
+    /// After an error every later call answers the same error, and reads nothing.
+    ///
+    /// - `Fault::Refused`: the file is refused there. Where the kind of document has one paragraph,
+    ///   that there is none (`NoParagraph`, at the line behind the last one) or a second one
+    ///   (`TooManyParagraphs`, at its first line, whatever it holds). Else the first of these that
+    ///   holds of the next paragraph: what `Paragraphs::next` refuses, what `Paragraph::build` does,
+    ///   and that the canonical text of the file has more than 4,294,967,295 bytes with it
+    ///   (`FileTooLong`, at its first line).
+    /// - `Fault::Memory`: a growth of memory was refused.
+    /// - `Fault::Read`: a read of `reader` failed in this call.
+    pub fn next<'a, R: Source>(&'a mut self, reader: &mut R) -> Result<Option<Accepted<'a>>, Fault>
+        ensures* after { sem 𝓛 (Rests the_row self.entry (λ new. ChecksOn self.old.doc (checked_moment self.old (R.left reader.old) (R.failures reader.old)) (checked_answer result) (checked_moment new (R.left reader.new) (R.failures reader.new)) × (new.doc ≡ self.old.doc))) }
+    {
+        if self.step(reader)? {
+            Ok(self.current())
+        } else {
+            Ok(None)
+        }
+    }
+
+    /// Goes on to the next paragraph, which `current` then gives, and says whether there is one.
+    fn step<R: Source>(&mut self, reader: &mut R) -> Result<bool, Fault>
+        ensures checks { ChecksOn self.old.doc (checked_moment self.old (R.left reader.old) (R.failures reader.old)) (found_answer (state_of self.new.paragraphs).current self.new.canonical.items result) (checked_moment self.new (R.left reader.new) (R.failures reader.new)) }
+        ensures gives { IfOk result (λ gives. self.new.gives ≡ gives) }
+        ensures doc { self.new.doc ≡ self.old.doc }
+    {
+        if let Some(fault) = self.fault {
+            return Err(fault);
+        }
+        match find(
+            self.alloc,
+            self.doc,
+            &mut self.paragraphs,
+            &mut self.given,
+            &mut self.canonical,
+            reader,
+        ) {
+            Ok(gives) => {
+                self.gives = gives;
+                Ok(gives)
+            }
+            Err(fault) => {
+                self.gives = false;
+                self.fault = Some(fault);
+                Err(fault)
+            }
+        }
+    }
+
+    /// The paragraph that was given last, or `None` where the last answer was none.
+    fn current(&self) -> Option<Accepted<'_>>
+        ensures { option_map passing_of result ≡ (checked_state self.now).current }
+    {
+        if !self.gives {
+            return None;
+        }
+        let raw = self.paragraphs.current()?;
+        Some(Accepted::new(self.doc, raw, self.canonical.as_slice()))
+    }
+}

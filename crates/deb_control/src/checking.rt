@@ -1,0 +1,43 @@
+//! Whether a file is accepted.
+
+ghost use Rattle.std.specs.Prelude.{◌≡◌, ℕ, List, Some, IfOk, IfErr};
+ghost use Rattle.deb_base.specs.Devices.{read_failures_after, TellsReads};
+ghost use Rattle.deb_base.specs.Faults.{IsReadersFault};
+ghost use Rattle.deb_control.specs.Calls.{IfRefused, HasParagraphs};
+ghost use Rattle.deb_control.specs.Checking.{IsRefusalOfDocument};
+ghost use Rattle.deb_control.specs.Documents.{refusal_of};
+
+use crate::checked::Checked;
+use deb_base::{Fault, Source};
+use deb_field::Doc;
+use std::alloc::Global;
+
+/// Reads a file as a document of a kind, and answers the number of its paragraphs (Debian Policy 5.1
+/// and 5.3 to 5.6).
+///
+/// What is said of the file's text holds for a reader that tells its bytes.
+///
+/// # Errors
+///
+/// - `Fault::Refused`: the file isn't accepted. This is the first refusal, with a code from 1 to 21 and
+///   a line of the file, which are counted from 1.
+/// - `Fault::Memory`: a growth of memory was refused.
+/// - `Fault::Read`: a read failed in this call.
+pub fn check<R: Source>(alloc: Global, doc: Doc, reader: &mut R) -> Result<u64, Fault>
+    ensures ok { (text : List ℕ) → R.left reader.old ≡ Some text → IfOk result (HasParagraphs doc text) }
+    ensures refused { (text : List ℕ) → R.left reader.old ≡ Some text → IfRefused result (λ refusal. refusal_of doc text ≡ Some refusal) }
+
+    // Whether or not the reader tells its bytes.
+    ensures fault { IfErr result (λ fault. IsReadersFault fault IsRefusalOfDocument) }
+    ensures reads { R.failures reader.new ≡ read_failures_after (R.failures reader.old) result }
+    ensures tells_reads { TellsReads (R.failures reader.old) (R.failures reader.new) result }
+{
+    let mut checked = Checked::new(alloc, doc);
+    for count in 0..u64::MAX {
+        let Some(_) = checked.next(reader)? else {
+            return Ok(count);
+        };
+    }
+    // No file has so many paragraphs.
+    unreachable!()
+}

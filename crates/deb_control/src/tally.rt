@@ -1,0 +1,47 @@
+//! What was given of a file.
+
+ghost use Rattle.std.specs.Prelude.{◌≡◌, ◌+◌, ◌≤◌, ◌<◌, Some, None, IfSome, IfNone};
+ghost use Rattle.deb_control.specs.Tallies.{bytes_with};
+
+/// The most bytes that the canonical text of a file may have.
+const FILE_LIMIT: u64 = 4_294_967_295;
+
+/// How many paragraphs were given, and how long their canonical text is as a file.
+#[derive(Clone, Copy)]
+pub(crate) struct Tally {
+    pub(crate) paragraphs: u64,
+    pub(crate) bytes: u64,
+    ghost within: { bytes ≤ 4294967295 },
+    ghost few: { paragraphs ≤ bytes + 1 },
+}
+
+impl Tally {
+    /// Nothing was given.
+    pub(crate) fn none() -> Tally
+        ensures paragraphs { result.paragraphs ≡ 0 }
+        ensures bytes { result.bytes ≡ 0 }
+    {
+        Tally {
+            paragraphs: 0,
+            bytes: 0,
+        }
+    }
+
+    /// With a further paragraph, whose canonical text has this length; or `None` where the file's
+    /// has too many bytes then.
+    pub(crate) fn with(self, length: usize) -> Option<Tally>
+        requires { length ≤ 16777216 }
+        ensures some { IfSome result (λ given. (given.paragraphs ≡ self.paragraphs + 1) × (given.bytes ≡ bytes_with self.paragraphs self.bytes length)) }
+        ensures none { IfNone result (4294967295 < bytes_with self.paragraphs self.bytes length) }
+    {
+        let separator = u64::from(self.paragraphs > 0);
+        let bytes = self.bytes + separator + length as u64;
+        if bytes > FILE_LIMIT {
+            return None;
+        }
+        Some(Tally {
+            paragraphs: self.paragraphs + 1,
+            bytes,
+        })
+    }
+}
