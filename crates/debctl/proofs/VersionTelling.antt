@@ -6,17 +6,9 @@ use Rattle.deb_base.specs.Lines.{refusal_line}
 use Rattle.deb_base.specs.declared.fault.Fault.{Fault}
 use Rattle.deb_base.specs.declared.fault.Fault.TheVariants.{Refused, Memory, Read, Write}
 use Rattle.deb_base.specs.declared.refusal.Refusal.{Refusal}
-use Rattle.debctl.specs.Running.{TellsFault}
+use Rattle.debctl.specs.Telling.{TellsFault}
+use Rattle.debctl.proofs.Telling.{told_as_two}
 use Rattle.debctl.specs.VersionJobs.{bad_version, Canonicalises, IsNoVersion}
-
--- a fault whose status is 2 is a refusal, and its line was written
-told_as_two : {E : Type 0} (held : E → Option (List ℕ)) (failures : E → ℕ) (err err_after : E) (status : ℕ) (fault : Fault)
-    → TellsFault held failures err err_after fault status → status ≡ 2 → (refusal : Refusal) × (fault ≡ Refused refusal) × Appends (held err) (held err_after) (refusal_line refusal)
-told_as_two held failures err err_after status fault (inr front) is = absurd (omega (arith, front.status, is))
-told_as_two held failures err err_after status (Refused refusal) (inl whole) is = (refusal, refl, whole.written)
-told_as_two held failures err err_after status Memory (inl whole) is = absurd (omega (arith, whole.status, is))
-told_as_two held failures err err_after status Read (inl whole) is = absurd (omega (arith, whole.status, is))
-told_as_two held failures err err_after status Write (inl whole) is = absurd (omega (arith, whole.status, is))
 
 pub line_refused : {W E : Type 0} (text : List ℕ) (held_out : W → Option (List ℕ)) (failures_out : W → ℕ) (out out_after : W) (held : E → Option (List ℕ)) (failures : E → ℕ) (err err_after : E) (status : ℕ) (fault : Fault)
     → Canonicalises {T = ⊤} text held_out failures_out out out_after (Err fault) → TellsFault held failures err err_after fault status → status ≡ 2

@@ -8,7 +8,8 @@ use Rattle.clap.specs.Walk.{Row, Text, first_of}
 use Rattle.clap.specs.declared.error.kind.ErrorKind.{ErrorKind}
 use Rattle.clap.specs.declared.error.kind.ErrorKind.TheVariants.{DisplayHelp, DisplayVersion, OutOfMemory}
 use Rattle.debctl.specs.Commands.{debctl_app, check_word, normalise_word, compare_word, canon_version_word, help_word}
-use Rattle.debctl.specs.Documents.{Doc, Binary, Packages, Source}
+use Rattle.deb_field.specs.declared.kind.Doc.{Doc}
+use Rattle.deb_field.specs.declared.kind.Doc.TheVariants.{Binary, Packages, Source}
 use Rattle.debctl.specs.declared.jobs.Call.{Call}
 use Rattle.debctl.specs.declared.jobs.Cmp.{Cmp}
 use Rattle.debctl.specs.declared.jobs.Cmp.TheVariants as cmp

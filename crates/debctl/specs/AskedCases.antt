@@ -7,7 +7,7 @@ use Rattle.clap.specs.Walk.{Text}
 use Rattle.clap.specs.declared.error.kind.ErrorKind.TheVariants as kind
 use Rattle.debctl.specs.Asked.{asked_of, asks, asks_help, canonicalises, checks, compares, normalises, unknown_command, unknown_kind, unknown_operator}
 use Rattle.debctl.specs.Commands.{debctl_app}
-use Rattle.debctl.specs.Documents.{Packages, Source}
+use Rattle.deb_field.specs.declared.kind.Doc.TheVariants.{Packages, Source}
 use Rattle.debctl.specs.declared.jobs.Cmp.TheVariants as cmp
 
 -- words behind the program's name

@@ -1,10 +1,8 @@
 pub mod Asked
 pub mod AskedCases
-pub mod Canonical
-pub mod CanonicalLaws
 pub mod Commands
-pub mod Documents
-pub mod EntryMap
-pub mod Normalising
+pub mod DocumentJobs
 pub mod Running
+pub mod Telling
 pub mod VersionJobs
+pub mod WordsTelling

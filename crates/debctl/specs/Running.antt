@@ -1,69 +1,52 @@
--- What a run of the program leaves: its status, and the line on standard error. Both are this project's own.
-use Rattle.std.specs.Prelude.{◌≡◌, ◌⊎◌, ℕ, List, Option, Some, Result, Ok, Err, IfOk, codes, refl}
+-- What a whole command answers and writes, by its job. The jobs and their statuses are this project's own.
+use Rattle.std.specs.Prelude.{◌≡◌, ◌⊎◌, ℕ, Bool, true, false, List, Option, Some, Result, string_bytes}
+use Rattle.std.specs.Prelude.{⊤}
 use Rattle.std.specs.Io.KnownBytes.{Appends}
-use Rattle.deb_base.specs.Devices.{AppendsFront, one_more, read_failures_after, write_failures_after}
-use Rattle.deb_base.specs.Lines.{fault_line, refusal_line}
-use Rattle.std.specs.Fmt.{digits}
-use Rattle.deb_base.specs.declared.code.Code.TheVariants.{NoColon}
+use Rattle.deb_base.specs.Lines.{refusal_line}
 use Rattle.deb_base.specs.declared.fault.Fault.{Fault}
-use Rattle.deb_base.specs.declared.fault.Fault.TheVariants.{Refused, Memory, Read, Write}
-use Rattle.deb_base.specs.declared.refusal.Refusal.{Refusal}
-use Rattle.deb_syntax.specs.Reading.{IsRefusalOfText}
-use Rattle.debctl.specs.Normalising.{IfRefused, IfWriteFailed, IfNotWritten, IsRefused, WritesAll, WritesFront}
+use Rattle.deb_control.specs.Calls.{WritesCanonical}
+use Rattle.debctl.specs.DocumentJobs.{ChecksFile, NormalisesFile, TellsRefusal, TellsRefusalBehind, WritesOk}
+use Rattle.debctl.specs.Telling.{done_status, Tells}
+use Rattle.debctl.specs.VersionJobs.{bad_version, verdict_status, Canonicalises, Compared, Compares, IsNoVersion, WritesLine}
+use Rattle.debctl.specs.declared.jobs.Job.{Job}
+use Rattle.debctl.specs.declared.jobs.Job.TheVariants.{Check, Normalise, Compare, CanonVersion}
 
--- the status of a fault: 2 where a text is refused, else 3
-abbrev pub status_of : Fault → ℕ
-status_of (Refused _) = 2
-status_of Memory = 3
-status_of Read = 3
-status_of Write = 3
+-- Status 0: `ok N` for an accepted file, its canonical text, yes, and a version's canonical text with a newline.
+abbrev pub Done : {W : Type 0} → Job → Option (List ℕ) → (W → Option (List ℕ)) → (W → ℕ) → W → W → Type 0
+Done (Check doc) left held failures out out_after = (text : List ℕ) → left ≡ Some text → WritesOk doc text (held out) (held out_after)
+Done (Normalise doc) left held failures out out_after = (text : List ℕ) → left ≡ Some text → (n : ℕ) × WritesCanonical doc text n (held out) (held out_after)
+Done (Compare former operator latter) left held failures out out_after = (out_after ≡ out) × Compared (string_bytes former) operator (string_bytes latter) true
+Done (CanonVersion version) left held failures out out_after = WritesLine (string_bytes version) held failures out out_after
 
--- The answer is one that `normalise` may give: what it says of the reader's text and of what was written, with the
--- reader's count of failed calls before and after, and the writer before and after.
-pub record Normalises {W : Type 0} (left : Option (List ℕ)) (count count_after : ℕ) (held : W → Option (List ℕ)) (failures : W → ℕ) (old new : W) (answer : Result ℕ Fault) : Type 0 where
-  pub ok : (text : List ℕ) → left ≡ Some text → IfOk answer (λ n. WritesAll text n (held old) (held new))
-  pub refused : (text : List ℕ) → left ≡ Some text → IfRefused answer (IsRefused text)
-  pub write : (text : List ℕ) → left ≡ Some text → IfWriteFailed answer (WritesFront text (held old) (held new))
-  pub refusal : IfRefused answer IsRefusalOfText
-  pub unwritten : IfNotWritten answer (new ≡ old)
-  pub reads : count_after ≡ read_failures_after count answer
-  pub writes : failures new ≡ write_failures_after (failures old) answer
+-- Status 1: no, and nothing was written.
+abbrev pub SaysNo : {W : Type 0} → Job → W → W → Type 0
+SaysNo (Check doc) out out_after = ⊥
+SaysNo (Normalise doc) out out_after = ⊥
+SaysNo (Compare former operator latter) out out_after = (out_after ≡ out) × Compared (string_bytes former) operator (string_bytes latter) false
+SaysNo (CanonVersion version) out out_after = ⊥
 
--- The line was written whole, and the status is the one that is wanted.
-pub record TellsWhole {E : Type 0} (held : E → Option (List ℕ)) (failures : E → ℕ) (old new : E) (line : List ℕ) (wanted ended : ℕ) : Type 0 where
-  pub written : Appends (held old) (held new) line
-  pub counted : failures new ≡ failures old
-  pub status : ended ≡ wanted
+-- Status 2: the file or a version is refused, exactly the refusal's line was written on `err`, and nothing on `out` but
+-- the canonical text of the paragraphs before the first that fails, by `normalise`.
+abbrev pub IsRefused : {W : Type 0} → Job → Option (List ℕ) → (W → Option (List ℕ)) → W → W → Option (List ℕ) → Option (List ℕ) → Type 0
+IsRefused (Check doc) left held out out_after err err_after = (out_after ≡ out) × TellsRefusal doc left err err_after
+IsRefused (Normalise doc) left held out out_after err err_after = TellsRefusalBehind doc left (held out) (held out_after) err err_after
+IsRefused (Compare former operator latter) left held out out_after err err_after = (out_after ≡ out) × (IsNoVersion (string_bytes former) ⊎ IsNoVersion (string_bytes latter)) × Appends err err_after (refusal_line bad_version)
+IsRefused (CanonVersion version) left held out out_after err err_after = (out_after ≡ out) × IsNoVersion (string_bytes version) × Appends err err_after (refusal_line bad_version)
 
--- A write failed: a front of the line was written, and the status is that of a fault.
-pub record TellsFront {E : Type 0} (held : E → Option (List ℕ)) (failures : E → ℕ) (old new : E) (line : List ℕ) (ended : ℕ) : Type 0 where
-  pub written : AppendsFront (held old) (held new) line
-  pub counted : failures new ≡ one_more (failures old)
-  pub status : ended ≡ 3
+-- Whatever the status: there is an answer to the job, and it is told.
+abbrev pub Told : {W E : Type 0} → Job → Option (List ℕ) → ℕ → ℕ → (W → Option (List ℕ)) → (W → ℕ) → W → W → (E → Option (List ℕ)) → (E → ℕ) → E → E → ℕ → Type 0
+Told (Check doc) left reads reads_after held writes out out_after held_err tells err err_after status =
+    (answer : Result ⊤ Fault) × ChecksFile doc left reads reads_after held writes out out_after answer × Tells done_status held_err tells err err_after answer status
+Told (Normalise doc) left reads reads_after held writes out out_after held_err tells err err_after status =
+    (answer : Result ℕ Fault) × NormalisesFile doc left reads reads_after held writes out out_after answer × Tells done_status held_err tells err err_after answer status
+Told (Compare former operator latter) left reads reads_after held writes out out_after held_err tells err err_after status =
+    (answer : Result Bool Fault) × Compares (string_bytes former) operator (string_bytes latter) answer × (out_after ≡ out) × Tells verdict_status held_err tells err err_after answer status
+Told (CanonVersion version) left reads reads_after held writes out out_after held_err tells err err_after status =
+    (answer : Result ⊤ Fault) × Canonicalises (string_bytes version) held writes out out_after answer × Tells done_status held_err tells err err_after answer status
 
--- A fault is told by its line, and by its status unless a write of the line fails.
-abbrev pub TellsFault : {E : Type 0} → (E → Option (List ℕ)) → (E → ℕ) → E → E → Fault → ℕ → Type 0
-TellsFault held failures old new fault status =
-    TellsWhole held failures old new (fault_line fault) (status_of fault) status ⊎ TellsFront held failures old new (fault_line fault) status
-
--- An answer is told: a text that was written by status 0 and nothing else.
-abbrev pub TellsAnswer : {E : Type 0} → (E → Option (List ℕ)) → (E → ℕ) → E → E → Result ℕ Fault → ℕ → Type 0
-TellsAnswer held failures old new (Ok _) status = (status ≡ 0) × (new ≡ old)
-TellsAnswer held failures old new (Err fault) status = TellsFault held failures old new fault status
-
--- The text is refused, and exactly the refusal's line was written.
-pub record TellsRefusal (left : Option (List ℕ)) (err err_after : Option (List ℕ)) : Type 0 where
-  pub refusal : Refusal
-  pub is_file_refusal : IsRefusalOfText refusal
-  pub refused : (text : List ℕ) → left ≡ Some text → IsRefused text refusal
-  pub told : Appends err err_after (refusal_line refusal)
-
-status_of_refusal : status_of (Refused (record { code = NoColon; line = 1 })) ≡ 2
-status_of_refusal = refl
-
-status_of_failed_read : status_of Read ≡ 3
-status_of_failed_read = refl
-
-line_of_refusal : fault_line (Refused (record { code = NoColon; line = 1 })) ≡ codes "line 1: 6 NoColon\n"
-unfolding digits
-line_of_refusal = refl
+-- A job that reads no file leaves its reader as it was.
+abbrev pub IfUnread : Job → Type 0 → Type 0
+IfUnread (Check doc) P = Unit {0}
+IfUnread (Normalise doc) P = Unit {0}
+IfUnread (Compare former operator latter) P = P
+IfUnread (CanonVersion version) P = P

@@ -18,7 +18,6 @@ use Rattle.deb_version.specs.Order.{version_cmp}
 use Rattle.deb_version.specs.Parts.{Meaning}
 use Rattle.deb_version.specs.Version.{meaning_of}
 use Rattle.deb_version.specs.declared.version.Version.{Version}
-use Rattle.debctl.specs.Running.{TellsFault}
 use Rattle.debctl.specs.declared.jobs.Cmp.{Cmp}
 use Rattle.debctl.specs.declared.jobs.Cmp.TheVariants as cmp
 
@@ -83,10 +82,9 @@ Compares left operator right (Err Memory) = IsVersion left × IsVersion right
 Compares left operator right (Err Read) = ⊥
 Compares left operator right (Err Write) = ⊥
 
--- An answer is told: yes by status 0 and no by status 1, and by nothing else.
-abbrev pub TellsVerdict : {E : Type 0} → (E → Option (List ℕ)) → (E → ℕ) → E → E → Result Bool Fault → ℕ → Type 0
-TellsVerdict held failures old new (Ok answer) status = (status ≡ (if answer then 0 else 1)) × (new ≡ old)
-TellsVerdict held failures old new (Err fault) status = TellsFault held failures old new fault status
+-- the status of an answer: 0 for yes, 1 for no
+abbrev pub verdict_status : Bool → ℕ
+verdict_status answer = if answer then 0 else 1
 
 -- ---- canon-version
 
@@ -102,7 +100,7 @@ GivesLine bytes text (Err Memory) = IsVersion text
 GivesLine bytes text (Err Read) = ⊥
 GivesLine bytes text (Err Write) = ⊥
 
--- The text is a version, and exactly its line was written; or a front of it was, before a write failed.
+-- The text is a version, and exactly its line was written; or a prefix of it was, before a write failed.
 pub record WritesLine {W : Type 0} (text : List ℕ) (held : W → Option (List ℕ)) (failures : W → ℕ) (old new : W) : Type 0 where
   pub version : Meaning
   pub spelled : SpellsVersion text version
@@ -122,11 +120,6 @@ Canonicalises text held failures old new (Err (Refused refusal)) = (refusal ≡ 
 Canonicalises text held failures old new (Err Memory) = IsVersion text × (new ≡ old)
 Canonicalises text held failures old new (Err Read) = ⊥
 Canonicalises text held failures old new (Err Write) = WritesFrontOfLine text held failures old new
-
--- An answer is told: a line that was written by status 0 and nothing else.
-abbrev pub TellsDone : {E T : Type 0} → (E → Option (List ℕ)) → (E → ℕ) → E → E → Result T Fault → ℕ → Type 0
-TellsDone held failures old new (Ok _) status = (status ≡ 0) × (new ≡ old)
-TellsDone held failures old new (Err fault) status = TellsFault held failures old new fault status
 
 line_of_bad_version : refusal_line bad_version ≡ codes "line 0: 18 BadVersion\n"
 unfolding digits

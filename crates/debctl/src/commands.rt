@@ -15,13 +15,15 @@ Statuses:
      with line 0 for a word of the command line
   3  a word is wrong, memory is wanting, or a read or a write failed
 
-Words that begin with a hyphen come after `--`, as in
-  debctl canon-version -- -1-1";
+A version or a path that begins with a hyphen comes after `--`:
+  $ debctl canon-version -- -1-1
+  -1-1
+
+`debctl help COMMAND` has more on a command, with an example.";
 
 const CHECK_HELP: &str = "\
-K is binary (one paragraph: the control file of a binary package), packages
-(any number: a list of packages; this is the default) or source (one: the
-description of a source package). Without PATH standard input is read.
+A control file of a binary package and a source description have one paragraph,
+a list of packages any number.
 
 Statuses:
   0  accepted: `ok N` is printed, for a file of N paragraphs
@@ -29,25 +31,29 @@ Statuses:
   3  a word is wrong, memory is wanting, or a read or a write failed
 
 Example:
-  debctl check --kind packages Packages";
+  $ printf 'Package: aa\\nVersion: 1\\nArchitecture: all\\n' | debctl check
+  ok 1";
 
 const NORMALISE_HELP: &str = "\
-K is binary (one paragraph: the control file of a binary package), packages
-(any number: a list of packages; this is the default) or source (one: the
-description of a source package). Without PATH standard input is read.
+Files of one kind that mean the same have one canonical text.
 
 Statuses:
   0  accepted: the canonical text is printed
   2  refused: standard error has `line N: CODE NAME`, for the first fault, and
-     only whole paragraphs before it were printed
+     the paragraphs before the one with the fault are printed
   3  a word is wrong, memory is wanting, or a read or a write failed
 
 Example:
-  debctl normalise --kind binary control";
+  $ printf 'package:aa\\nVERSION: 1.0-0\\narchitecture: all\\n' | debctl normalise
+  Architecture: all
+  Package: aa
+  Version: 1.0";
+
+const KIND_HELP: &str =
+    "The kind of file: packages (a list of packages; the default), binary or source";
 
 const COMPARE_HELP: &str = "\
-OP is lt (earlier), le (earlier or equal), eq (equal), ne (not equal),
-ge (later or equal) or gt (later). Nothing is printed.
+Nothing is printed: the status is the answer.
 
 Statuses:
   0  the versions compare so
@@ -56,10 +62,16 @@ Statuses:
   3  a word is wrong, memory is wanting, or a write failed
 
 Example:
-  debctl compare 1.0~rc1 lt 1.0
+  $ debctl compare 1.0~rc1 lt 1.0; echo $?
+  0
 
 A version that begins with a hyphen comes after `--`, and so do the words
-behind it: debctl compare -- -1 lt 2";
+behind it:
+  $ debctl compare -- -1-1 gt 2; echo $?
+  0";
+
+const OPERATORS_HELP: &str =
+    "lt (earlier), le (earlier or equal), eq (equal), ne (not equal), ge or gt (later)";
 
 const CANON_VERSION_HELP: &str = "\
 Versions are equal exactly if their canonical texts are the same.
@@ -70,10 +82,12 @@ Statuses:
   3  a word is wrong, memory is wanting, or a write failed
 
 Example:
-  debctl canon-version 00:1.02-0
+  $ debctl canon-version 00:1.02-0
+  1.2
 
 A version that begins with a hyphen comes after `--`:
-  debctl canon-version -- -1-1";
+  $ debctl canon-version -- -1-1
+  -1-1";
 
 /// The program: `debctl`, with a command for each job, and `help`.
 pub(crate) fn debctl_command<'a>(alloc: Global) -> Result<Command<'a>, AllocError>
@@ -136,7 +150,12 @@ fn document_command<'a>(
         .about(about)
         .after_help(more)
         .arg(kind_option(alloc))?
-        .arg(optional_word(alloc, "path", "PATH"))
+        .arg(optional_word(
+            alloc,
+            "path",
+            "PATH",
+            "The file; without it standard input is read",
+        ))
 }
 
 /// `compare V OP V`
@@ -146,9 +165,9 @@ pub(crate) fn compare_command<'a>(alloc: Global) -> Result<Command<'a>, AllocErr
     Command::new(alloc, "compare")
         .about("Says whether two versions compare so in Debian's order")
         .after_help(COMPARE_HELP)
-        .arg(required_word(alloc, "left", "V"))?
-        .arg(required_word(alloc, "operator", "OP"))?
-        .arg(required_word(alloc, "right", "V"))
+        .arg(required_word(alloc, "left", "V", "A version"))?
+        .arg(required_word(alloc, "operator", "OP", OPERATORS_HELP))?
+        .arg(required_word(alloc, "right", "V", "A version"))
 }
 
 /// `canon-version V`
@@ -158,7 +177,7 @@ pub(crate) fn canon_version_command<'a>(alloc: Global) -> Result<Command<'a>, Al
     Command::new(alloc, "canon-version")
         .about("Writes the canonical text of a version")
         .after_help(CANON_VERSION_HELP)
-        .arg(required_word(alloc, "version", "V"))
+        .arg(required_word(alloc, "version", "V", "A version"))
 }
 
 /// `help [COMMAND]`
@@ -167,7 +186,12 @@ pub(crate) fn help_command<'a>(alloc: Global) -> Result<Command<'a>, AllocError>
 {
     Command::new(alloc, "help")
         .about("Prints the help of the program, or of a command")
-        .arg(optional_word(alloc, "command", "COMMAND"))
+        .arg(optional_word(
+            alloc,
+            "command",
+            "COMMAND",
+            "The command; without it the help of the program is printed",
+        ))
 }
 
 /// `--kind K`
@@ -178,19 +202,22 @@ fn kind_option<'a>(alloc: Global) -> Arg<'a>
     Arg::new(alloc, "kind")
         .long("kind")
         .value_name("K")
-        .help("The kind of file: binary, packages or source")
+        .help(KIND_HELP)
 }
 
-fn optional_word<'a>(alloc: Global, id: &'a str, shown: &'a str) -> Arg<'a>
+fn optional_word<'a>(alloc: Global, id: &'a str, shown: &'a str, help: &'a str) -> Arg<'a>
     ensures rule { rule_of result ≡ optional_rule id.entry.now }
     ensures local { result.global ≡ false }
 {
-    Arg::new(alloc, id).value_name(shown)
+    Arg::new(alloc, id).value_name(shown).help(help)
 }
 
-fn required_word<'a>(alloc: Global, id: &'a str, shown: &'a str) -> Arg<'a>
+fn required_word<'a>(alloc: Global, id: &'a str, shown: &'a str, help: &'a str) -> Arg<'a>
     ensures rule { rule_of result ≡ required_rule id.entry.now }
     ensures local { result.global ≡ false }
 {
-    Arg::new(alloc, id).value_name(shown).required(true)
+    Arg::new(alloc, id)
+        .value_name(shown)
+        .help(help)
+        .required(true)
 }

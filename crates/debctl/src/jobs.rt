@@ -1,6 +1,6 @@
 //! What the program can be asked to do.
 
-pub use crate::document::Doc;
+use deb_field::Doc;
 
 /// How two versions are asked to compare, in Debian's order (deb-version(7)).
 #[derive(Clone, Copy, Debug, PartialEq, Eq)]

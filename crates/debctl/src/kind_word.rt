@@ -3,7 +3,8 @@
 ghost use Rattle.std.specs.Prelude.{◌≡◌};
 ghost use Rattle.debctl.specs.Asked.{kind_named, operator_named};
 
-use crate::jobs::{Cmp, Doc};
+use crate::jobs::Cmp;
+use deb_field::Doc;
 
 /// The kind of document that a word names, if it names one.
 pub(crate) fn kind_named(word: &str) -> Option<Doc>

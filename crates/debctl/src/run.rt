@@ -1,73 +1,56 @@
-//! A whole command, over a reader and two writers.
+//! A whole command, over two readers and two writers.
 
-ghost use Rattle.std.specs.Prelude.{◌≡◌, ◌<◌, ℕ, List, Some, Result};
-ghost use Rattle.deb_base.specs.declared.fault.Fault.{Fault};
-ghost use Rattle.debctl.specs.Normalising.{WritesAll};
-ghost use Rattle.debctl.specs.Running.{status_of, Normalises, TellsAnswer, TellsFault, TellsRefusal};
+ghost use Rattle.std.specs.Prelude.{◌≡◌, ◌<◌};
+ghost use Rattle.debctl.specs.Running.{Done, IfUnread, IsRefused, SaysNo, Told};
 
-use crate::normalise;
-use deb_base::{Fault, Sink, Source};
+use crate::document_jobs::{run_check, run_normalise};
+use crate::jobs::Job;
+use crate::version_jobs::{run_canon_version, run_compare};
+use deb_base::{Sink, Source};
 use std::alloc::Global;
-
-/// What the program is asked to do.
-#[derive(Clone, Copy, Debug, PartialEq, Eq)]
-pub enum Job {
-    /// Write the canonical text of a file.
-    Normalise,
-}
 
 /// Does a job over readers and writers, tells on `err` why it wasn't done, and answers the status.
 ///
-/// - 0: the canonical text of `first` was written on `out`, and nothing on `err`.
-/// - 2: `first` is refused. Nothing was written on `out`, and the refusal's line on `err`.
+/// `check` and `normalise` read `first`; a reader that a job doesn't use is left as it was.
+///
+/// - 0: done, or the answer is yes. `out` has `ok N` and a newline, the canonical text of the file,
+///   nothing, or the canonical version and a newline. Nothing was written on `err`.
+/// - 1: the answer of `compare` is no. Nothing was written.
+/// - 2: the file or a version is refused. `err` has the refusal's line, and `out` nothing but, by
+///   `normalise`, the canonical text of the paragraphs before the first that fails.
 /// - 3: memory was wanting, a read of `first` failed, or a write failed. `err` has `fault: memory`,
-///   `fault: read` or `fault: write`; where a write on `err` failed, a front of the line that was to
+///   `fault: read` or `fault: write`; where a write on `err` failed, a prefix of the line that was to
 ///   be written there.
-pub fn run<R: Source, W: Sink, E: Sink>(
+pub fn run<R: Source, S: Source, W: Sink, E: Sink>(
     alloc: Global,
     job: &Job,
     first: &mut R,
+    _second: &mut S,
     out: &mut W,
     err: &mut E,
 ) -> u8
-    // After status 0 the canonical text was written, and nothing else.
-    ensures done { result ≡ 0 → (err.new ≡ err.old) × ((text : List ℕ) → R.left first.old ≡ Some text → (n : ℕ) × WritesAll text n (W.held out.old) (W.held out.new)) }
-
-    // After status 2 the refusal's line was written, and nothing else.
-    ensures refused { result ≡ 2 → (out.new ≡ out.old) × TellsRefusal (R.left first.old) (E.held err.old) (E.held err.new) }
+    ensures done { result ≡ 0 → (err.new ≡ err.old) × Done job.now (R.left first.old) W.held W.failures out.old out.new }
+    ensures no { result ≡ 1 → (err.new ≡ err.old) × SaysNo job.now out.old out.new }
+    ensures refused { result ≡ 2 → IsRefused job.now (R.left first.old) W.held out.old out.new (E.held err.old) (E.held err.new) }
 
     // Where a call of a device failed, the status is 3.
     ensures read_failed { R.failures first.old < R.failures first.new → result ≡ 3 }
     ensures write_failed { W.failures out.old < W.failures out.new → result ≡ 3 }
     ensures telling_failed { E.failures err.old < E.failures err.new → result ≡ 3 }
 
-    // Whatever the status: `normalise` gave an answer, and that is told.
-    ensures told { (answer : Result ℕ Fault) × Normalises (R.left first.old) (R.failures first.old) (R.failures first.new) W.held W.failures out.old out.new answer × TellsAnswer E.held E.failures err.old err.new answer result }
-{
-    let answer = match job {
-        Job::Normalise => normalise(alloc, first, out),
-    };
-    match answer {
-        Ok(_) => 0,
-        Err(fault) => tell(&fault, err),
-    }
-}
+    // What a job doesn't use.
+    ensures unread { IfUnread job.now (first.new ≡ first.old) }
+    ensures second { _second.new ≡ _second.old }
 
-/// Writes the line of a fault, and answers the status.
-fn tell<E: Sink>(fault: &Fault, err: &mut E) -> u8
-    ensures { TellsFault E.held E.failures err.old err.new fault.now result }
+    // Whatever the status: there is an answer to the job, and that is told.
+    ensures told { Told job.now (R.left first.old) (R.failures first.old) (R.failures first.new) W.held W.failures out.old out.new E.held E.failures err.old err.new result }
 {
-    match fault.write_line(err) {
-        Ok(()) => status_of(fault),
-        Err(_) => 3,
-    }
-}
-
-fn status_of(fault: &Fault) -> u8
-    ensures { result ≡ status_of fault.now }
-{
-    match fault {
-        Fault::Refused(_) => 2,
-        Fault::Memory | Fault::Read | Fault::Write => 3,
+    match job {
+        Job::Check(doc) => run_check(alloc, *doc, first, out, err),
+        Job::Normalise(doc) => run_normalise(alloc, *doc, first, out, err),
+        Job::Compare(left, operator, right) => {
+            run_compare(alloc, left.as_str(), *operator, right.as_str(), err)
+        }
+        Job::CanonVersion(version) => run_canon_version(alloc, version.as_str(), out, err),
     }
 }

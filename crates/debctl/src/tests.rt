@@ -1,7 +1,10 @@
-use crate::*;
-use deb_base::{Code, Fault, Input, Output, Refusal};
+use crate::jobs::{Cmp, Job};
+use crate::run;
+use deb_base::{Input, Output};
+use deb_field::Doc;
 use std::alloc::Global;
 use std::io::{self, ErrorKind, Read, Write};
+use std::process::Abort;
 use std::test::Fail;
 
 /// A reader that gives at most so many bytes a call, fails at one call, and then goes on.
@@ -88,121 +91,23 @@ pub(crate) const EVER: u64 = u64::MAX;
 
 const HELLO: &[u8] = b"vERSION: 01.0-0\npackage:hello\nArchitecture: amd64\n";
 
-const HELLO_CANONICAL: &[u8] = b"Architecture: amd64\nPackage: hello\nVersion: 01.0-0\n";
+const HELLO_CANONICAL: &[u8] = b"Architecture: amd64\nPackage: hello\nVersion: 1.0\n";
 
-const TWO: &[u8] = b"b:1\n \n\nA: 2";
+const SPACED: &[u8] =
+    b"Package: aa\nVersion: 1\nArchitecture: all\n \n\npackage:bb\nVERSION:2\nArchitecture:all";
 
-const TWO_CANONICAL: &[u8] = b"B: 1\n\nA: 2\n";
+const SPACED_CANONICAL: &[u8] =
+    b"Architecture: all\nPackage: aa\nVersion: 1\n\nArchitecture: all\nPackage: bb\nVersion: 2\n";
 
-#[test]
-fn files_are_normalised_however_they_are_cut(rt: HostRuntime) -> Result<(), Fail> {
-    let no_colon = Refusal {
-        code: Code::NoColon,
-        line: 1,
-    };
-    let rows: [(&str, &[u8], Result<u64, Fault>, &[u8]); 6] = [
-        ("three fields", HELLO, Ok(1), HELLO_CANONICAL),
-        ("the empty file", b"", Ok(0), b""),
-        ("two paragraphs", TWO, Ok(2), TWO_CANONICAL),
-        (
-            "no colon",
-            b"Package aa",
-            Err(Fault::Refused(no_colon)),
-            b"",
-        ),
-        (
-            "a description",
-            b"Package: aa\nVersion: 1\nArchitecture: all\nDescription:  short  \n one\t\n .\n\ttwo  ",
-            Ok(1),
-            b"Architecture: all\nDescription: short  \n one\t\n .\n\ttwo\nPackage: aa\nVersion: 1\n",
-        ),
-        (
-            "names and bodies",
-            b"x--1A: \t\nMD5sum:x\nFiles: \n ab 1 c\n",
-            Ok(1),
-            b"Files:\n ab 1 c\nMd5sum: x\nX--1a:\n",
-        ),
-    ];
-    for (name, text, answer, written) in rows {
-        for most in [1, 2, 3, 7, ALL] {
-            let mut held = Vec::new(rt.alloc());
-            let given = normalise(
-                rt.alloc(),
-                &mut Input::new(Pieces::new(text, most, EVER)),
-                &mut Output::new(&mut held),
-            );
-            assert_eq!(rt; given, answer, "{name}, in pieces of {most}");
-            assert_eq!(rt; held.as_slice(), written, "{name}, in pieces of {most}");
-        }
-    }
-    Ok(())
-}
+const CUT_SHORT: &[u8] = b"Package: aa\nVersion: 1\nArchitecture: all\n\nPackage: bb\n";
 
-#[test]
-fn a_failed_read_writes_nothing(rt: HostRuntime) -> Result<(), Fail> {
-    for calls in 0..9 {
-        let mut reader = Pieces::new(TWO, 3, calls);
-        let mut held = Vec::new(rt.alloc());
-        let given = normalise(
-            rt.alloc(),
-            &mut Input::new(&mut reader),
-            &mut Output::new(&mut held),
-        );
-        if reader.has_failed {
-            assert_eq!(rt; given, Err(Fault::Read), "a failure after {calls} reads");
-            assert_eq!(rt;
-                held.as_slice(),
-                b"".as_slice(),
-                "a failure after {calls} reads"
-            );
-        } else {
-            assert!(rt; calls > 3, "eleven bytes take four reads and more");
-            assert_eq!(rt; given, Ok(2), "no failure in {calls} reads");
-            assert_eq!(rt;
-                held.as_slice(),
-                TWO_CANONICAL,
-                "no failure in {calls} reads"
-            );
-        }
-    }
-    Ok(())
-}
-
-#[test]
-fn a_failed_write_leaves_a_front(rt: HostRuntime) -> Result<(), Fail> {
-    for then in [Then::Fails, Then::TakesNone] {
-        for most in [1usize, 4, ALL] {
-            for calls in 0..13u8 {
-                let mut writer = Slow::new(rt.alloc(), most, u64::from(calls), then);
-                let given = normalise(
-                    rt.alloc(),
-                    &mut Input::new(TWO),
-                    &mut Output::new(&mut writer),
-                );
-                let taken = most
-                    .saturating_mul(usize::from(calls))
-                    .min(TWO_CANONICAL.len());
-                let answer = if taken == TWO_CANONICAL.len() {
-                    Ok(2)
-                } else {
-                    Err(Fault::Write)
-                };
-                assert_eq!(rt; given, answer, "{calls} writes of {most} bytes");
-                assert_eq!(rt;
-                    writer.held.as_slice(),
-                    &TWO_CANONICAL[..taken],
-                    "{calls} writes of {most} bytes"
-                );
-            }
-        }
-    }
-    Ok(())
-}
+const FIRST_CANONICAL: &[u8] = b"Architecture: all\nPackage: aa\nVersion: 1\n";
 
 /// A run over devices that fail after so many calls, and what it has to leave.
 #[derive(Clone, Copy)]
 struct Row {
     name: &'static str,
+    doc: Doc,
     text: &'static [u8],
     reads: u64,
     writes: u64,
@@ -213,43 +118,154 @@ struct Row {
 }
 
 const ACCEPTED: Row = Row {
-    name: "a file",
-    text: TWO,
+    name: "two paragraphs",
+    doc: Doc::Packages,
+    text: SPACED,
     reads: EVER,
     writes: EVER,
     tells: 0,
     status: 0,
-    written: TWO_CANONICAL,
+    written: SPACED_CANONICAL,
     told: b"",
 };
 
 const REFUSED: Row = Row {
-    name: "a refusal",
-    text: b"Package aa",
+    name: "a line that isn't UTF-8",
+    doc: Doc::Packages,
+    text: b"#\xff\n",
     reads: EVER,
-    writes: 0,
+    writes: EVER,
     tells: EVER,
     status: 2,
     written: b"",
-    told: b"line 1: 6 NoColon\n",
+    told: b"line 1: 1 NotUtf8\n",
 };
 
+/// Runs a job on the bytes of a row, which come in pieces of so many bytes.
+fn run_row<T: Abort + AllocGlobal>(rt: &T, job: &Job, row: &Row, most: usize) -> Result<(), Fail> {
+    let name = row.name;
+    let mut unused = Pieces::new(b"x", ALL, EVER);
+    let mut out = Slow::new(rt.alloc(), 1, row.writes, Then::Fails);
+    let mut err = Slow::new(rt.alloc(), 1, row.tells, Then::TakesNone);
+    let status = run(
+        rt.alloc(),
+        job,
+        &mut Input::new(Pieces::new(row.text, most, row.reads)),
+        &mut Input::new(&mut unused),
+        &mut Output::new(&mut out),
+        &mut Output::new(&mut err),
+    );
+    assert_eq!(rt;
+        status,
+        row.status,
+        "the status of {name}, in pieces of {most}"
+    );
+    assert_eq!(rt;
+        out.held.as_slice(),
+        row.written,
+        "what {name} writes, in pieces of {most}"
+    );
+    assert_eq!(rt;
+        err.held.as_slice(),
+        row.told,
+        "what {name} tells, in pieces of {most}"
+    );
+    assert_eq!(rt; unused.rest.len(), 1, "the second reader, by {name}");
+    Ok(())
+}
+
 #[test]
-fn a_run_tells_its_answer(rt: HostRuntime) -> Result<(), Fail> {
+fn files_are_normalised_however_they_are_cut(rt: HostRuntime) -> Result<(), Fail> {
     let rows = [
         ACCEPTED,
         REFUSED,
         Row {
+            name: "three fields",
+            text: HELLO,
+            written: HELLO_CANONICAL,
+            ..ACCEPTED
+        },
+        Row {
+            name: "the empty file",
+            text: b"",
+            written: b"",
+            ..ACCEPTED
+        },
+        Row {
+            name: "a description",
+            text: b"Package: aa\nVersion: 1\nArchitecture: all\nDescription:  short  \n one\t\n .\n\ttwo  ",
+            written: b"Architecture: all\nDescription: short  \n one\t\n .\n\ttwo\nPackage: aa\nVersion: 1\n",
+            ..ACCEPTED
+        },
+        Row {
+            name: "a source",
+            doc: Doc::Source,
+            text: b"Version: 1\nSource: aa(1.)\nformat: 1.0\n",
+            written: b"Format: 1.0\nSource: aa (1.0)\nVersion: 1\n",
+            ..ACCEPTED
+        },
+        Row {
             name: "a refusal behind a paragraph",
-            text: b"a: 1\n\nb: 2\nB: 3\n",
-            told: b"line 4: 7 DuplicateField\n",
+            text: CUT_SHORT,
+            written: FIRST_CANONICAL,
+            told: b"line 5: 12 MissingField\n",
             ..REFUSED
         },
         Row {
-            name: "a refusal cut off",
-            tells: 7,
-            status: 3,
-            told: b"line 1:",
+            name: "a second paragraph",
+            doc: Doc::Binary,
+            text: CUT_SHORT,
+            written: FIRST_CANONICAL,
+            told: b"line 5: 11 TooManyParagraphs\n",
+            ..REFUSED
+        },
+    ];
+    for row in rows {
+        for most in [1, 2, 3, 7, ALL] {
+            run_row(&rt, &Job::Normalise(row.doc), &row, most)?;
+        }
+    }
+    Ok(())
+}
+
+#[test]
+fn files_are_checked(rt: HostRuntime) -> Result<(), Fail> {
+    let rows = [
+        REFUSED,
+        Row {
+            written: b"ok 2\n",
+            ..ACCEPTED
+        },
+        Row {
+            name: "the empty file",
+            text: b"",
+            written: b"ok 0\n",
+            ..ACCEPTED
+        },
+        Row {
+            name: "an empty control file",
+            doc: Doc::Binary,
+            text: b"",
+            told: b"line 1: 10 NoParagraph\n",
+            ..REFUSED
+        },
+        Row {
+            name: "two blank lines as a control file",
+            doc: Doc::Binary,
+            text: b"\n\n",
+            told: b"line 3: 10 NoParagraph\n",
+            ..REFUSED
+        },
+        Row {
+            name: "a refusal behind a paragraph",
+            text: CUT_SHORT,
+            told: b"line 5: 12 MissingField\n",
+            ..REFUSED
+        },
+        Row {
+            name: "a version that is none",
+            text: b"Package: aa\nVersion: 1-\nArchitecture: all\n",
+            told: b"line 2: 18 BadVersion\n",
             ..REFUSED
         },
         Row {
@@ -262,11 +278,46 @@ fn a_run_tells_its_answer(rt: HostRuntime) -> Result<(), Fail> {
             ..ACCEPTED
         },
         Row {
-            name: "a failed write",
+            name: "a line that is cut off",
             writes: 3,
             tells: EVER,
             status: 3,
-            written: b"B: ",
+            written: b"ok ",
+            told: b"fault: write\n",
+            ..ACCEPTED
+        },
+    ];
+    for row in rows {
+        run_row(&rt, &Job::Check(row.doc), &row, 3)?;
+    }
+    Ok(())
+}
+
+#[test]
+fn faults_are_told(rt: HostRuntime) -> Result<(), Fail> {
+    let rows = [
+        Row {
+            name: "a refusal cut off",
+            tells: 7,
+            status: 3,
+            told: b"line 1:",
+            ..REFUSED
+        },
+        Row {
+            name: "a failed first read",
+            reads: 0,
+            tells: EVER,
+            status: 3,
+            written: b"",
+            told: b"fault: read\n",
+            ..ACCEPTED
+        },
+        Row {
+            name: "a failed write",
+            writes: 4,
+            tells: EVER,
+            status: 3,
+            written: b"Arch",
             told: b"fault: write\n",
             ..ACCEPTED
         },
@@ -281,19 +332,95 @@ fn a_run_tells_its_answer(rt: HostRuntime) -> Result<(), Fail> {
         },
     ];
     for row in rows {
-        let name = row.name;
-        let mut out = Slow::new(rt.alloc(), 1, row.writes, Then::Fails);
-        let mut err = Slow::new(rt.alloc(), 1, row.tells, Then::TakesNone);
-        let status = run(
-            rt.alloc(),
-            &Job::Normalise,
-            &mut Input::new(Pieces::new(row.text, 3, row.reads)),
-            &mut Output::new(&mut out),
-            &mut Output::new(&mut err),
-        );
-        assert_eq!(rt; status, row.status, "the status of {name}");
-        assert_eq!(rt; out.held.as_slice(), row.written, "what {name} writes");
-        assert_eq!(rt; err.held.as_slice(), row.told, "what {name} tells");
+        run_row(&rt, &Job::Normalise(row.doc), &row, 3)?;
     }
     Ok(())
+}
+
+#[test]
+fn a_failed_read_leaves_whole_paragraphs(rt: HostRuntime) -> Result<(), Fail> {
+    for calls in 0..40 {
+        let mut reader = Pieces::new(SPACED, 3, calls);
+        let mut held = Vec::new(rt.alloc());
+        let mut told = Vec::new(rt.alloc());
+        let status = run(
+            rt.alloc(),
+            &Job::Normalise(Doc::Packages),
+            &mut Input::new(&mut reader),
+            &mut Input::new(b"".as_slice()),
+            &mut Output::new(&mut held),
+            &mut Output::new(&mut told),
+        );
+        if reader.has_failed {
+            assert_eq!(rt; status, 3, "a failure after {calls} reads");
+            assert_eq!(rt;
+                told.as_slice(),
+                b"fault: read\n".as_slice(),
+                "a failure after {calls} reads"
+            );
+            let is_whole = held.is_empty() || held.as_slice() == FIRST_CANONICAL;
+            assert!(rt; is_whole, "a failure after {calls} reads");
+        } else {
+            assert!(rt; calls > 27, "so many bytes take more reads than {calls}");
+            assert_eq!(rt; status, 0, "no failure in {calls} reads");
+            assert_eq!(rt;
+                held.as_slice(),
+                SPACED_CANONICAL,
+                "no failure in {calls} reads"
+            );
+        }
+    }
+    Ok(())
+}
+
+#[test]
+fn jobs_on_versions_read_nothing(rt: HostRuntime) -> Result<(), Fail> {
+    let older = Row {
+        name: "a comparison",
+        text: b"unread",
+        reads: 0,
+        writes: 0,
+        tells: 0,
+        written: b"",
+        ..ACCEPTED
+    };
+    let rows = [
+        ("1.0~rc1", Cmp::Less, "1.0", older),
+        ("1.0-1", Cmp::GreaterOrEqual, "1.0", older),
+        (
+            "1.0-1",
+            Cmp::Equal,
+            "1.0",
+            Row {
+                name: "no",
+                status: 1,
+                ..older
+            },
+        ),
+        (
+            "1_",
+            Cmp::Less,
+            "2",
+            Row {
+                name: "a version that is none",
+                tells: EVER,
+                status: 2,
+                told: b"line 0: 18 BadVersion\n",
+                ..older
+            },
+        ),
+    ];
+    for (left, operator, right, row) in rows {
+        let left = String::from_str(rt.alloc(), left)?;
+        let right = String::from_str(rt.alloc(), right)?;
+        run_row(&rt, &Job::Compare(left, operator, right), &row, ALL)?;
+    }
+    let version = String::from_str(rt.alloc(), "00:1:02-0")?;
+    let row = Row {
+        name: "a canonical version",
+        writes: EVER,
+        written: b"0:1:2\n",
+        ..older
+    };
+    run_row(&rt, &Job::CanonVersion(version), &row, ALL)
 }

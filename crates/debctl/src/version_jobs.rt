@@ -4,7 +4,8 @@ ghost use Rattle.std.specs.Prelude.{◌≡◌, ◌<◌, ◌⊎◌, true, false, 
 ghost use Rattle.std.specs.Io.KnownBytes.{Appends};
 ghost use Rattle.deb_base.specs.Lines.{refusal_line};
 ghost use Rattle.deb_base.specs.declared.fault.Fault.{Fault};
-ghost use Rattle.debctl.specs.VersionJobs.{bad_version, holds, Canonicalises, Compared, Compares, GivesLine, IsNoVersion, ParsesWord, TellsDone, TellsVerdict, WritesLine};
+ghost use Rattle.debctl.specs.Telling.{done_status, Tells};
+ghost use Rattle.debctl.specs.VersionJobs.{bad_version, holds, verdict_status, Canonicalises, Compared, Compares, GivesLine, IsNoVersion, ParsesWord, WritesLine};
 
 use crate::jobs::Cmp;
 use crate::tell::tell;
@@ -18,8 +19,8 @@ use std::cmp::Ordering;
 /// - 0 and 1: they compare as the operator asks, and they don't.
 /// - 2: one of them is no version. `err` has `line 0: 18 BadVersion`.
 /// - 3: memory was wanting, and `err` has `fault: memory`; or a write on `err` failed, and `err` has
-///   a front of its line.
-pub fn run_compare<E: Sink>(
+///   a prefix of its line.
+pub(crate) fn run_compare<E: Sink>(
     alloc: Global,
     left: &str,
     operator: Cmp,
@@ -34,7 +35,7 @@ pub fn run_compare<E: Sink>(
     ensures telling_failed { E.failures err.old < E.failures err.new → result ≡ 3 }
 
     // Whatever the status: there is an answer, and that is told.
-    ensures told { (answer : Result Bool Fault) × Compares left.now operator right.now answer × TellsVerdict E.held E.failures err.old err.new answer result }
+    ensures told { (answer : Result Bool Fault) × Compares left.now operator right.now answer × Tells verdict_status E.held E.failures err.old err.new answer result }
 {
     match compare_words(alloc, left, operator, right) {
         Ok(true) => 0,
@@ -48,8 +49,8 @@ pub fn run_compare<E: Sink>(
 /// - 0: that line was written, and nothing on `err`.
 /// - 2: this is no version. Nothing was written on `out`, and `line 0: 18 BadVersion` on `err`.
 /// - 3: memory was wanting, or a write failed. `err` has `fault: memory` or `fault: write`; where a
-///   write on `err` failed, a front of its line.
-pub fn run_canon_version<W: Sink, E: Sink>(
+///   write on `err` failed, a prefix of its line.
+pub(crate) fn run_canon_version<W: Sink, E: Sink>(
     alloc: Global,
     version: &str,
     out: &mut W,
@@ -63,7 +64,7 @@ pub fn run_canon_version<W: Sink, E: Sink>(
     ensures telling_failed { E.failures err.old < E.failures err.new → result ≡ 3 }
 
     // Whatever the status: there is an answer, and that is told.
-    ensures told { (answer : Result ⊤ Fault) × Canonicalises version.now W.held W.failures out.old out.new answer × TellsDone E.held E.failures err.old err.new answer result }
+    ensures told { (answer : Result ⊤ Fault) × Canonicalises version.now W.held W.failures out.old out.new answer × Tells done_status E.held E.failures err.old err.new answer result }
 {
     match write_canonical(alloc, version, out) {
         Ok(()) => 0,

@@ -9,10 +9,11 @@ use crate::commands::{
     canon_version_command, check_command, compare_command, debctl_command, help_command,
     normalise_command,
 };
-use crate::jobs::{Call, Doc, Job};
+use crate::jobs::{Call, Job};
 use crate::kind_word::{kind_named, operator_named};
 use clap::error::{Error, ErrorKind};
 use clap::{ArgMatches, Command};
+use deb_field::Doc;
 use std::alloc::{AllocError, Global};
 
 /// Why words give no call. A text has no newline at its end.

@@ -1,7 +1,12 @@
-use Rattle.debctl.proofs.Telling.{refused-from_fault}
+use Rattle.debctl.proofs.JobRefusals.{canon_version_refused, compare_refused}
 use Rattle.debctl.proofs.run.run.Goals as goal
 
-pub returns-in-Err-clause-refused : goal.returns-in-Err-clause-refused
-returns-in-Err-clause-refused g c =
-    refused-from_fault (g.R.Source.left c.args.first.now) _ _ g.E.Sink.held g.E.Sink.failures c.args.err.now c.tell.new.err c.tell.result c.in-Err.fault
-    c.tell.ensures c.in-Err.ensures.refused c.in-Err.ensures.refusal c.in-Err.ensures.unwritten
+pub returns-in-Compare-clause-refused : goal.returns-in-Compare-clause-refused
+returns-in-Compare-clause-refused g c = λ is.
+    compare_refused c.args.job.now c.in-Compare.left c.in-Compare.right c.in-Compare.operator c.in-Compare.is (g.R.Source.left c.args.first.now) g.W.Sink.held c.args.out.now _ _
+    c.as_str.result.now c.as_str-in-Compare.result.now c.as_str.ensures.value c.as_str-in-Compare.ensures.value (c.run_compare.ensures.refused is)
+
+pub returns-in-CanonVersion-clause-refused : goal.returns-in-CanonVersion-clause-refused
+returns-in-CanonVersion-clause-refused g c = λ is.
+    canon_version_refused c.args.job.now c.in-CanonVersion.version c.in-CanonVersion.is (g.R.Source.left c.args.first.now) g.W.Sink.held c.args.out.now c.run_canon_version.new.out _ _
+    c.as_str-in-CanonVersion.result.now c.as_str-in-CanonVersion.ensures.value (c.run_canon_version.ensures.refused is)
