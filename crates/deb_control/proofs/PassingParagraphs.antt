@@ -8,6 +8,9 @@ use Rattle.std.specs.Str.{bytes_eq}
 use Rattle.deb_base.proofs.CanonicalNames.{canonical_name-from_folded}
 use Rattle.deb_base.specs.Names.{folded, canonical_name}
 use Rattle.deb_base.specs.declared.code.Code.{Code}
+use Rattle.deb_base.specs.Faults.{RefusedOrMemory}
+use Rattle.deb_base.specs.declared.fault.Fault.{Fault}
+use Rattle.deb_base.specs.declared.fault.Fault.TheVariants.{Refused, Memory, Read, Write}
 use Rattle.deb_base.specs.declared.refusal.Refusal.{Refusal}
 use Rattle.deb_syntax.proofs.JudgingLawsMeaning.{body_at-entries_of}
 use Rattle.deb_syntax.specs.Answers.{Seen}
@@ -37,6 +40,19 @@ built-passing doc seen text passes = go (built (rules_of doc) seen) refl passes
     go : (r : Result Entries Refusal) → built (rules_of doc) seen ≡ r → IsTrue (is_text_of r text) → (entries : Entries) × (built (rules_of doc) seen ≡ Ok entries)
     go (Ok entries) e is = (entries, e)
     go (Err refusal) e is = absurd (cc)
+
+pub built-unrefused : (doc : Doc) (seen : Seen) (text : List ℕ) → IsTrue (is_passing doc seen text) → (refusal : Refusal) → built (rules_of doc) seen ≡ Err refusal → ⊥
+built-unrefused doc seen text passes refusal is = let found = built-passing doc seen text passes in go (built (rules_of doc) seen) found.0 found.1 is
+  where
+    go : (r : Result Entries Refusal) (entries : Entries) → r ≡ Ok entries → r ≡ Err refusal → ⊥
+    go r entries e f = cc
+
+-- a fault that is no refusal is want of memory
+pub only_memory : (fault : Fault) (P : Refusal → Type 0) → RefusedOrMemory fault P → ((refusal : Refusal) → P refusal → ⊥) → fault ≡ Memory
+only_memory (Refused refusal) P is none = absurd (none refusal is)
+only_memory Memory P is none = refl
+only_memory Read P is none = absurd is
+only_memory Write P is none = absurd is
 
 -- its values
 pub values-passing : (doc : Doc) (seen : Seen) (text : List ℕ) → IsTrue (is_passing doc seen text) → (values : ValueEntries ValueMeaning) × AreValuesOf doc seen values
@@ -84,7 +100,8 @@ module _ (doc : Doc) (seen : Seen) (text : List ℕ) (passes : IsTrue (is_passin
       let found = field-body name seen.fields field is in
       let entry : find byte_order (canonical_name name) (entries_of seen.fields) ≡ Some field.body = body_at-entries_of seen.fields (distinct-from seen.fields are) name ∙ found.0 in
       let at = value_at ValueMeaning (SpellsValue doc) value_text (value_law doc) (canonical_name name) field.body (entries_of seen.fields) values.0 values.1.spelled entry in
-      record { values = values.0; are = values.1; found = ? }
+      let same : at.0 ≡ value = (value_law doc (canonical_name name)).one_meaning field.body at.0 value at.1 (subst (λ n. SpellsValue doc n field.body value) found.1 spells) in
+      record { values = values.0; are = values.1; found = ap Some (sym same) ∙ sym at.2 }
 
   -- and it isn't refused
   pub unrefused-passing : (field : Field) (code : Code) → field_named name seen.fields ≡ Some field → value_refusal doc (canonical_name field.name) field.body ≡ Some code → ⊥

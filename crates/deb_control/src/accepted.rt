@@ -87,8 +87,7 @@ impl<'a> Accepted<'a> {
         };
         match value_of(alloc, self.doc, &field) {
             Ok(value) => Ok(Some(value)),
-            Err(Fault::Memory) => Err(AllocError),
-            Err(_) => unreachable!(),
+            Err(fault) => Err(want_of_memory(fault)),
         }
     }
 
@@ -102,8 +101,17 @@ impl<'a> Accepted<'a> {
     {
         match Paragraph::build(alloc, self.doc, &self.raw) {
             Ok(paragraph) => Ok(paragraph),
-            Err(Fault::Memory) => Err(AllocError),
-            Err(_) => unreachable!(),
+            Err(fault) => Err(want_of_memory(fault)),
         }
+    }
+}
+
+/// Want of memory, which is the only fault that reading again what passes can have.
+fn want_of_memory(fault: Fault) -> AllocError
+    requires { fault ≡ Fault.Memory }
+{
+    match fault {
+        Fault::Memory => AllocError,
+        Fault::Refused(_) | Fault::Read | Fault::Write => unreachable!(),
     }
 }
