@@ -22,3 +22,4 @@ pub mod FollowedParagraphs
 pub mod CheckedSoFar
 pub mod PartsWithin
 pub mod ReadAlone
+pub mod RefusalLines
