@@ -1,11 +1,10 @@
 -- What the loops that check and normalise a file know of it, and what they answer by that.
-use Rattle.std.proofs.Common.{◌≡◌, ℕ, ◌+◌, ◌<◌, ◌≤◌, ◌⊎◌, inl, inr, List, [], ◌∷◌, ◌++◌, length, map, Option, None, Some, Result, Ok, Err, IfNone, IfErr, MatchResult, refl, sym, ap, ◌∙◌, subst, arith, append_assoc, append-nil, length-append}
+use Rattle.std.proofs.Common.{◌≡◌, ℕ, ◌+◌, ◌<◌, ◌≤◌, List, [], ◌∷◌, ◌++◌, length, map, Option, None, Some, Result, Ok, Err, IfNone, refl, sym, ap, ◌∙◌, subst, arith, append_assoc, append-nil}
 use Rattle.std.proofs.KnownBytes.{Appends-nil, Appends-trans}
 use Rattle.std.proofs.lemmas.List.{length-map}
 use Rattle.std.specs.Io.KnownBytes.{Appends}
 use Rattle.deb_base.specs.Bodies.{newline}
 use Rattle.deb_base.specs.Devices.{AppendsFront, read_failures_after}
-use Rattle.deb_base.specs.Faults.{IsReadersFault}
 use Rattle.deb_base.specs.declared.fault.Fault.{Fault}
 use Rattle.deb_base.specs.declared.fault.Fault.TheVariants.{Refused, Memory, Read, Write}
 use Rattle.deb_base.specs.declared.refusal.Refusal.{Refusal}
@@ -16,7 +15,7 @@ use Rattle.deb_field.specs.Values.{value_text, ValueMeaning, SpellsValue}
 use Rattle.deb_field.specs.ValueLaws.{value_law}
 use Rattle.deb_control.specs.Calls.{IfRefused, IfCutOff, HasParagraphs, WritesCanonical, WritesRefused, WritesRead}
 use Rattle.deb_control.specs.Canonical.{paragraph_text, file_text}
-use Rattle.deb_control.specs.Checking.{Follow, Passing, CheckedState, CheckedMoment, FitsChecked, GivesPassing, GivesEnd, AnswersChecked, Checks, ChecksOn, IsRefusalOfDocument}
+use Rattle.deb_control.specs.Checking.{Follow, Passing, CheckedState, CheckedMoment, FitsChecked, GivesPassing, GivesEnd, AnswersChecked, Checks, ChecksOn}
 use Rattle.deb_control.specs.Documents.{rules_of, canonical_text, refusal_of, out_of}
 use Rattle.deb_control.specs.Refusals.{outcome}
 use Rattle.deb_control.specs.ValueFiles.{body_under, bodies_of}

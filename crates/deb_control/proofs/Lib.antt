@@ -23,3 +23,4 @@ pub mod CheckedSoFar
 pub mod ReadCounts
 pub mod PartsWithin
 pub mod ReadAlone
+pub mod RefusalLines

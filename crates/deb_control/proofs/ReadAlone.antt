@@ -5,7 +5,7 @@ use Rattle.std.proofs.lemmas.Bool.{cases_lt}
 use Rattle.deb_base.specs.declared.code.Code.TheVariants.{NoParagraph, TooManyParagraphs}
 use Rattle.deb_base.specs.declared.refusal.Refusal.{Refusal}
 use Rattle.deb_syntax.specs.Answers.{Seen, whole_lines, part_within, line_beyond, answer_of_first, paragraphs_within}
-use Rattle.deb_syntax.specs.Lines.{Paragraph, lines_of, IsClosed, paragraphs_from, paragraphs_of, file_limit}
+use Rattle.deb_syntax.specs.Lines.{Paragraph, lines_of, IsClosed, paragraphs_of, file_limit}
 use Rattle.deb_syntax.specs.Meaning.{Entries}
 use Rattle.deb_syntax.specs.Reading.{passed_count}
 use Rattle.deb_syntax.proofs.JudgingLaws.{push-append}

@@ -2,7 +2,6 @@
 -- project's own).
 use Rattle.std.specs.Prelude.{◌≡◌, ◌⊎◌, ℕ, List, [], ◌++◌, length, Option, Some, Result, Ok, Err}
 use Rattle.std.specs.Io.KnownBytes.{Appends}
-use Rattle.deb_base.specs.Devices.{AppendsFront}
 use Rattle.deb_base.specs.Faults.{MatchFault}
 use Rattle.deb_base.specs.declared.fault.Fault.{Fault}
 use Rattle.deb_base.specs.declared.refusal.Refusal.{Refusal}

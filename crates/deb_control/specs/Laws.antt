@@ -1,7 +1,12 @@
 -- Laws of documents: acceptance, refusals and canonical text.
-use Rattle.std.specs.Prelude.{◌≡◌, ◌↔◌, ℕ, List, None}
+use Rattle.std.specs.Prelude.{◌≡◌, ◌⊎◌, ◌↔◌, ◌≤◌, ℕ, List, length, None, Some}
+use Rattle.deb_base.specs.Codes.{number_of}
+use Rattle.deb_base.specs.declared.code.Code.TheVariants.{NoParagraph}
+use Rattle.deb_base.specs.declared.refusal.Refusal.{Refusal}
+use Rattle.deb_syntax.specs.Lines.{lines_of}
 use Rattle.deb_field.specs.declared.kind.Doc.{Doc}
 use Rattle.deb_control.specs.Documents.{Meaning, canonical_text, Accepted, refusal_of, out_of}
+use Rattle.deb_control.specs.Refusals.{line_behind}
 
 -- A file has no refusal exactly where it is accepted with some meaning.
 abbrev pub RefusedOrAccepted : Type 0
@@ -30,3 +35,15 @@ abbrev pub CanonicalTextIsItsOwn : Type 0
 CanonicalTextIsItsOwn =
     (doc : Doc) (text : List ℕ) (meaning : Meaning) → Accepted doc text meaning →
     (refusal_of doc (canonical_text meaning) ≡ None) × (out_of doc (canonical_text meaning) ≡ canonical_text meaning)
+
+-- A refusal of a file as a document: its code is from 1 to 21, and its line one of the file's; or a paragraph is missing
+-- at the line behind the last one.
+pub record IsRefusalOfFile (text : List ℕ) (refusal : Refusal) : Type 0 where
+  pub least : 1 ≤ number_of refusal.code
+  pub most : number_of refusal.code ≤ 21
+  pub first : 1 ≤ refusal.line
+  pub last : (refusal.line ≤ length (lines_of text)) ⊎ (refusal ≡ record { code = NoParagraph; line = line_behind text })
+
+-- Each refusal of a file is one of these.
+abbrev pub RefusalsAreOfTheFile : Type 0
+RefusalsAreOfTheFile = (doc : Doc) (text : List ℕ) (refusal : Refusal) → refusal_of doc text ≡ Some refusal → IsRefusalOfFile text refusal

@@ -1,6 +1,6 @@
 //! Laws of documents. Each function does nothing, and its contract is the law.
 
-ghost use Rattle.deb_control.specs.Laws.{RefusedOrAccepted, AcceptedMeansOneThing, AcceptedIsWritten, CanonicalTextIsAccepted, CanonicalTextTellsMeanings, CanonicalTextIsItsOwn};
+ghost use Rattle.deb_control.specs.Laws.{RefusedOrAccepted, AcceptedMeansOneThing, AcceptedIsWritten, CanonicalTextIsAccepted, CanonicalTextTellsMeanings, CanonicalTextIsItsOwn, RefusalsAreOfTheFile};
 
 /// A file has no refusal exactly where it is accepted with some meaning.
 pub fn a_file_is_refused_or_accepted()
@@ -30,4 +30,10 @@ pub fn canonical_text_tells_meanings()
 /// The canonical text of an accepted file has no refusal, and what is written of it is itself.
 pub fn canonical_text_is_its_own()
     ensures { CanonicalTextIsItsOwn }
+{}
+
+/// The refusal of a file has a code from 1 to 21, and is at one of the file's lines, which are counted from 1; or a
+/// paragraph is missing at the line behind the last one.
+pub fn a_refusal_is_of_the_file()
+    ensures { RefusalsAreOfTheFile }
 {}

@@ -1,5 +1,4 @@
 use Rattle.std.proofs.Common.{◌≡◌, ◌≤◌, ◌+◌, ℕ, List, Some, None}
-use Rattle.std.specs.Io.KnownBytes.{Appends}
 use Rattle.deb_syntax.specs.Lines.{file_limit}
 use Rattle.deb_control.specs.CheckedStates.{checked_state}
 use Rattle.deb_control.proofs.CheckedSoFar.{HasWritten}
