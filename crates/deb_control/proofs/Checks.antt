@@ -137,9 +137,9 @@ module _ (doc : Doc) (reader new : State) (count bytes : ℕ) (left after : Opti
     pub checks-advance_err : (fault : Fault) → Advances (reader_at reader left failures) (Err fault) (reader_at new after failures_after) → Checks doc (checked_at reader count bytes left failures) (Err fault) (checked_at new count bytes after failures_after)
     checks-advance_err fault advances = checks-err (Option Seen) fault
         (λ text before fits refusal is.
-            let answers : Answers text fits.passed (Err (Refused refusal)) new after = subst (λ f. Answers text fits.passed (Err f) new after) is (advances.answers text fits.passed fits.fits) in
-            let at : next_answer text (length before) ≡ Err refusal = ap (next_answer text) (sym fits.paragraphs) ∙ answers in
-            next_checked-seen (rules_of doc) text before (few_of text before fits) ∙ ap (answer_of_seen (rules_of doc) (line_behind text) before) at)
+        let answers : Answers text fits.passed (Err (Refused refusal)) new after = subst (λ f. Answers text fits.passed (Err f) new after) is (advances.answers text fits.passed fits.fits) in
+        let at : next_answer text (length before) ≡ Err refusal = ap (next_answer text) (sym fits.paragraphs) ∙ answers in
+        next_checked-seen (rules_of doc) text before (few_of text before fits) ∙ ap (answer_of_seen (rules_of doc) (line_behind text) before) at)
         advances.taken advances.counted (readers_fault fault advances.fault)
 
     -- none follows: one is missing, or none is
@@ -150,11 +150,13 @@ module _ (doc : Doc) (reader new : State) (count bytes : ℕ) (left after : Opti
       where
         advances : Advances (reader_at reader left failures) (Ok None) (reader_at new after failures_after)
         advances = subst (λ a. Advances (reader_at reader left failures) a (reader_at new after failures_after)) none goes
+
         behind : (text : List ℕ) (before : List Entries) → FitsChecked doc text before (state_at reader count bytes) left → (passed : List ℕ) → GivesNone text passed new after → passed_count passed ≡ length before → next_checked (rules_of doc) text before ≡ cond (is_single doc && (given.paragraphs == 0)) (Err (record { code = NoParagraph; line = line_behind text })) (Ok None)
         behind text before fits passed all counts =
             next_checked-seen (rules_of doc) text before (few_of text before fits)
             ∙ ap (answer_of_seen (rules_of doc) (line_behind text) before) (ap (next_answer text) (sym counts) ∙ all.answer)
             ∙ ap (λ t. cond (is_single doc && t) (Err (record { code = NoParagraph; line = line_behind text })) (Ok None)) (sym (none-test before given.paragraphs (same ∙ fits.counted)))
+
         go : (t : Bool) → (is_single doc && (given.paragraphs == 0)) ≡ t → Checks doc (checked_at reader count bytes left failures) (found_answer found bytes_now (cond t (Err (Refused (record { code = NoParagraph; line = lines + 1 }))) (Ok false))) (checked_at new count bytes after failures_after)
         go false e = checks-none (λ text before fits passed all counts. behind text before fits passed all counts ∙ ap (λ t. cond t (Err (record { code = NoParagraph; line = line_behind text })) (Ok None)) e) advances.answers advances.taken advances.counted
         go true e = record {
@@ -247,8 +249,8 @@ module _ (doc : Doc) (reader new : State) (count bytes : ℕ) (left after : Opti
     pub checks-begins_err : (fault : Fault) → Begins (reader_at reader left failures) (Err fault) (reader_at new after failures_after) → Checks doc (checked_at reader count bytes left failures) (Err fault) (checked_at new count bytes after failures_after)
     checks-begins_err fault begins = checks-err (Option ℕ) fault
         (λ text before fits refusal is.
-            let answers : AnswersBegin text fits.passed (Err (Refused refusal)) new after = subst (λ f. AnswersBegin text fits.passed (Err f) new after) is (begins.answers text fits.passed fits.fits) in
-            next_checked-refused (rules_of doc) text before single (second text before fits) refusal (ap (next_begin text) (sym fits.paragraphs) ∙ answers))
+        let answers : AnswersBegin text fits.passed (Err (Refused refusal)) new after = subst (λ f. AnswersBegin text fits.passed (Err f) new after) is (begins.answers text fits.passed fits.fits) in
+        next_checked-refused (rules_of doc) text before single (second text before fits) refusal (ap (next_begin text) (sym fits.paragraphs) ∙ answers))
         begins.taken begins.counted (readers_fault fault begins.fault)
 
     pub checks-begins_none : Begins (reader_at reader left failures) (Ok None) (reader_at new after failures_after) → Checks doc (checked_at reader count bytes left failures) (Ok None) (checked_at new count bytes after failures_after)

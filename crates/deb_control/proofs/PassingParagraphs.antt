@@ -69,6 +69,7 @@ field-body name (first ∷ fields) field is = go (bytes_eq (folded first.name) (
   where
     same : Some first ≡ Some field → first ≡ field
     same e = cc
+
     go : (t : Bool) → bytes_eq (folded first.name) (folded name) ≡ t → cond t (Some first) (field_named name fields) ≡ Some field → (field_named name fields ≡ Some field → (body_of name fields ≡ Some field.body) × (canonical_name field.name ≡ canonical_name name)) → (cond t (Some first.body) (body_of name fields) ≡ Some field.body) × (canonical_name field.name ≡ canonical_name name)
     go true e f rest = (ap (λ x. Some x.body) (same f), ap (λ x. canonical_name x.name) (sym (same f)) ∙ canonical_name-from_folded first.name name ((bytes_eq-Decides (folded first.name) (folded name)).0 e))
     go false e f rest = rest f

@@ -122,9 +122,9 @@ module _ (rules : Rules) (text read behind : List ℕ) (before : List Entries) (
       let beyond : line_beyond 1 file_limit read ≡ line_beyond 1 file_limit text =
       line_beyond-some 1 file_limit read long ∙ ap (λ t. Some (1 + length (lines_of t))) part ∙ sym (line_beyond-some 1 file_limit text longer) in
       from-same (
-        same-passed rules (line_beyond 1 file_limit read) (line_behind read) (line_behind text) [] (paragraphs_within read)
-        ∙ ap (λ b. (outcome_behind rules b (line_behind text) [] (paragraphs_within read)).passed) beyond
-        ∙ ap (λ t. (outcome_behind rules (line_beyond 1 file_limit text) (line_behind text) [] (paragraphs_of t)).passed) part
+      same-passed rules (line_beyond 1 file_limit read) (line_behind read) (line_behind text) [] (paragraphs_within read)
+      ∙ ap (λ b. (outcome_behind rules b (line_behind text) [] (paragraphs_within read)).passed) beyond
+      ∙ ap (λ t. (outcome_behind rules (line_beyond 1 file_limit text) (line_behind text) [] (paragraphs_of t)).passed) part
       )
 
   from-closed : length read ≤ file_limit → IsClosed read → (outcome rules read).passed ≡ before

@@ -91,12 +91,15 @@ built-code doc seen refusal numbered is = go (value_refusal_of (rules_of doc) se
   where
     parts : (nat_le 1 seen.first ≡ true) × (list_all (λ field. nat_le 1 field.line) seen.fields ≡ true)
     parts = and_parts (nat_le 1 seen.first) (list_all (λ field. nat_le 1 field.line) seen.fields) numbered
+
     same : (a : Refusal) (r : Result Entries Refusal) → r ≡ Err a → r ≡ Err refusal → a ≡ refusal
     same a r e f = cc
+
     late : (t u : Bool) → cond (not t) (Err (record { code = MissingField; line = seen.first })) (cond (not u) (Err (record { code = ParagraphTooLong; line = seen.first })) (Ok (canonical_entries (rules_of doc) seen.fields))) ≡ Err refusal → IsRefusalOfDocument refusal
     late false u e = subst IsRefusalOfDocument (same _ _ refl e) (record { least = omega arith; most = omega arith; line = leb-true 1 seen.first parts.0 })
     late true false e = subst IsRefusalOfDocument (same _ _ refl e) (record { least = omega arith; most = omega arith; line = leb-true 1 seen.first parts.0 })
     late true true e = absurd (cc)
+
     go : (o : Option Refusal) → IfSome o IsRefusalOfDocument → refused_or_built (rules_of doc) seen o ≡ Err refusal → IsRefusalOfDocument refusal
     go (Some other) of e = subst IsRefusalOfDocument (same other _ refl e) of
     go None of e = late (have_names seen.fields (rules_of doc).required) (nat_le (length (paragraph_text (canonical_entries (rules_of doc) seen.fields))) paragraph_limit) e

@@ -1,5 +1,5 @@
--- What the calls that check and normalise a file answer and write (Debian Policy 5.1; the canonical text is this
--- project's own).
+-- What the calls that check and normalise a file answer and write (Debian Policy 5.1; the canonical
+-- text is this project's own).
 use Rattle.std.specs.Prelude.{◌≡◌, ◌⊎◌, ℕ, List, [], ◌++◌, length, Option, Some, Result, Ok, Err}
 use Rattle.std.specs.Io.KnownBytes.{Appends}
 use Rattle.deb_base.specs.Faults.{MatchFault}
@@ -13,7 +13,8 @@ use Rattle.deb_control.specs.Canonical.{file_text}
 use Rattle.deb_control.specs.Documents.{rules_of, Meaning, Accepted, canonical_text, refusal_of, out_of}
 use Rattle.deb_control.specs.Refusals.{outcome}
 
--- a fact for the answer that the file is refused, and one each for want of memory, a failed read and a failed write
+-- a fact for the answer that the file is refused, and one each for want of memory, a failed read
+-- and a failed write
 abbrev pub IfRefused : {T : Type 0} → Result T Fault → (Refusal → Type 0) → Type 0
 IfRefused (Ok _) P = Unit {0}
 IfRefused (Err fault) P = MatchFault fault P (Unit {0}) (Unit {0}) (Unit {0})
@@ -33,20 +34,23 @@ pub record HasParagraphs (doc : Doc) (text : List ℕ) (n : ℕ) : Type 0 where
   pub count : length meaning ≡ n
 
 -- And exactly its canonical text was written.
-pub record WritesCanonical (doc : Doc) (text : List ℕ) (n : ℕ) (old new : Option (List ℕ)) : Type 0 where
+pub record WritesCanonical (doc : Doc) (text : List ℕ) (n : ℕ)
+    (old new : Option (List ℕ)) : Type 0 where
   pub meaning : Meaning
   pub accepted : Accepted doc text meaning
   pub count : length meaning ≡ n
   pub written : Appends old new (canonical_text meaning)
 
--- The file is refused so, and exactly the canonical text of the paragraphs before the first that fails was written.
-pub record WritesRefused (doc : Doc) (text : List ℕ) (refusal : Refusal) (old new : Option (List ℕ)) : Type 0 where
+-- The file is refused so, and exactly the canonical text of the paragraphs before the first that
+-- fails was written.
+pub record WritesRefused (doc : Doc) (text : List ℕ) (refusal : Refusal)
+    (old new : Option (List ℕ)) : Type 0 where
   pub refused : refusal_of doc text ≡ Some refusal
   pub written : Appends old new (out_of doc text)
 
--- A front of the file was read that ends with a blank line and its newline, or is all of it: its paragraphs are the
--- first of those that pass, and so they are where that front is a file of its own; exactly their canonical text was
--- written.
+-- A front of the file was read that ends with a blank line and its newline, or is all of it: its
+-- paragraphs are the first of those that pass, and so they are where that front is a file of its
+-- own; exactly their canonical text was written.
 pub record WritesRead (doc : Doc) (text : List ℕ) (old new : Option (List ℕ)) : Type 0 where
   pub read : List ℕ
   pub behind : List ℕ

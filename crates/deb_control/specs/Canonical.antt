@@ -1,4 +1,5 @@
--- The canonical text of a file whose values are all text (this project's own form of Debian Policy 5.1).
+-- The canonical text of a file whose values are all text (this project's own form of Debian Policy
+-- 5.1).
 use Rattle.std.specs.Prelude.{◌≡◌, ℕ, ◌==◌, cond, List, [], ◌∷◌, ◌++◌, map, codes, refl}
 use Rattle.std.specs.List.{flat_map}
 use Rattle.std.specs.Result.{result_unwrap_or}
@@ -10,7 +11,8 @@ use Rattle.deb_base.specs.FieldNames.{colon}
 use Rattle.deb_syntax.specs.Judging.{judged}
 use Rattle.deb_syntax.specs.Meaning.{Entries, entries_of}
 
--- what stands behind the colon: nothing for an empty body, the body where it begins with a newline, else a space and the body
+-- what stands behind the colon: nothing for an empty body, the body where it begins with a newline,
+-- else a space and the body
 abbrev pub behind_colon : List ℕ → List ℕ
 behind_colon [] = []
 behind_colon (b ∷ bs) = cond (b == newline) (b ∷ bs) (32 ∷ b ∷ bs)
@@ -27,29 +29,35 @@ paragraph_text entries = flat_map field_text entries
 abbrev pub file_text : List Entries → List ℕ
 file_text [] = []
 file_text (entries ∷ []) = paragraph_text entries
-file_text (entries ∷ next ∷ meaning) = paragraph_text entries ++ newline ∷ file_text (next ∷ meaning)
+file_text (entries ∷ next ∷ meaning) =
+    paragraph_text entries ++ newline ∷ file_text (next ∷ meaning)
 
--- for the worked cases: the entries of a paragraph, none where it is refused, and the canonical text of a text
+-- for the worked cases: the entries of a paragraph, none where it is refused, and the canonical
+-- text of a text
 abbrev read_entries : Paragraph → Entries
 read_entries paragraph = entries_of (result_unwrap_or (judged paragraph.first paragraph.lines) [])
 
 abbrev rewritten : List ℕ → List ℕ
 rewritten text = file_text (map read_entries (paragraphs_of text))
 
-three_fields : rewritten (codes "vERSION: 01.0-0\npackage:hello\nArchitecture: amd64\n") ≡ codes "Architecture: amd64\nPackage: hello\nVersion: 01.0-0\n"
+three_fields : rewritten (codes "vERSION: 01.0-0\npackage:hello\nArchitecture: amd64\n")
+    ≡ codes "Architecture: amd64\nPackage: hello\nVersion: 01.0-0\n"
 unfolding paragraph_limit is_utf8 chars encode
 three_fields = refl
 
 empty_file : rewritten [] ≡ []
 empty_file = refl
 
--- a line of one space and an empty one become one empty line, and a last newline comes where it lacks
+-- a line of one space and an empty one become one empty line, and a last newline comes where it
+-- lacks
 two_paragraphs : rewritten (codes "b:1\n \n\nA: 2") ≡ codes "B: 1\n\nA: 2\n"
 unfolding paragraph_limit is_utf8 chars encode
 two_paragraphs = refl
 
 -- spaces and tabs go at the ends of a body alone
-description : rewritten (codes "Package: aa\nVersion: 1\nArchitecture: all\nDescription:  short  \n one\t\n .\n\ttwo  ") ≡ codes "Architecture: all\nDescription: short  \n one\t\n .\n\ttwo\nPackage: aa\nVersion: 1\n"
+description : rewritten
+    (codes "Package: aa\nVersion: 1\nArchitecture: all\nDescription:  short  \n one\t\n .\n\ttwo  ")
+    ≡ codes "Architecture: all\nDescription: short  \n one\t\n .\n\ttwo\nPackage: aa\nVersion: 1\n"
 unfolding paragraph_limit is_utf8 chars encode
 description = refl
 
@@ -72,6 +80,7 @@ unfolding paragraph_limit is_utf8 chars encode
 empty_body = refl
 
 -- a carriage return stays, and so do the two bytes of `é`
-other_bytes : rewritten (codes "name:\tAndr" ++ 195 ∷ 169 ∷ codes "\r\n") ≡ codes "Name: Andr" ++ 195 ∷ 169 ∷ codes "\r\n"
+other_bytes : rewritten (codes "name:\tAndr" ++ 195 ∷ 169 ∷ codes "\r\n")
+    ≡ codes "Name: Andr" ++ 195 ∷ 169 ∷ codes "\r\n"
 unfolding paragraph_limit is_utf8 chars encode
 other_bytes = refl

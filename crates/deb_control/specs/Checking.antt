@@ -1,5 +1,5 @@
--- What a reader of checked paragraphs is to its callers, which texts fit it, and what its calls say of them (Debian
--- Policy 5.1; the limits and the order of the refusals are this project's own).
+-- What a reader of checked paragraphs is to its callers, which texts fit it, and what its calls say
+-- of them (Debian Policy 5.1; the limits and the order of the refusals are this project's own).
 use Rattle.std.specs.Prelude.{◌≡◌, ℕ, ◌+◌, ◌≤◌, Bool, true, false, List, [], ◌∷◌, ◌++◌, length, Option, Some, None, IfSome, IfNone, Result, Ok, Err, IfErr, MatchResult}
 use Rattle.std.specs.Option.{option_map}
 use Rattle.std.specs.Str.{bytes_eq}
@@ -25,8 +25,8 @@ pub record Passing : Type 0 where
   pub seen : Seen
   pub text : List ℕ
 
--- A reader of checked paragraphs: its reader of paragraphs, how many paragraphs it has given and how long their
--- canonical text is as a file, the paragraph that it gave last, and the error.
+-- A reader of checked paragraphs: its reader of paragraphs, how many paragraphs it has given and
+-- how long their canonical text is as a file, the paragraph that it gave last, and the error.
 pub record CheckedState : Type 0 where
   pub reader : State
   pub count : ℕ
@@ -34,16 +34,18 @@ pub record CheckedState : Type 0 where
   pub current : Option Passing
   pub fault : Option Fault
 
--- Behind `front`, these are the canonical bodies of the next paragraphs of a file: each is the answer behind those
--- before it.
+-- Behind `front`, these are the canonical bodies of the next paragraphs of a file: each is the
+-- answer behind those before it.
 abbrev pub Follow : Rules → List ℕ → List Entries → List Entries → Type 0
 Follow rules text front [] = Unit {0}
 Follow rules text front (entries ∷ more) =
-    (next_checked rules text front ≡ Ok (Some entries)) × Follow rules text (front ++ entries ∷ []) more
+    (next_checked rules text front ≡ Ok (Some entries))
+    × Follow rules text (front ++ entries ∷ []) more
 
--- A file fits where these are the canonical bodies of the paragraphs that were given: they are its first ones, and what
--- its reader of paragraphs has passed.
-pub record FitsChecked (doc : Doc) (text : List ℕ) (before : List Entries) (state : CheckedState) (left : Option (List ℕ)) : Type 0 where
+-- A file fits where these are the canonical bodies of the paragraphs that were given: they are its
+-- first ones, and what its reader of paragraphs has passed.
+pub record FitsChecked (doc : Doc) (text : List ℕ) (before : List Entries) (state : CheckedState)
+    (left : Option (List ℕ)) : Type 0 where
   pub passed : List ℕ
   pub fits : Fits text passed state.reader left
   pub given : Follow (rules_of doc) text [] before
@@ -52,7 +54,8 @@ pub record FitsChecked (doc : Doc) (text : List ℕ) (before : List Entries) (st
   pub bytes : state.bytes ≡ length (file_text before)
 
 -- The next paragraph of a file passes behind these, and was given: no further one has been.
-pub record GivesPassing (doc : Doc) (text : List ℕ) (before : List Entries) (given : Passing) (new : CheckedState) (left : Option (List ℕ)) : Type 0 where
+pub record GivesPassing (doc : Doc) (text : List ℕ) (before : List Entries) (given : Passing)
+    (new : CheckedState) (left : Option (List ℕ)) : Type 0 where
   pub entries : Entries
   pub answer : next_checked (rules_of doc) text before ≡ Ok (Some entries)
   pub seen : next_answer text (length before) ≡ Ok (Some given.seen)
@@ -61,15 +64,19 @@ pub record GivesPassing (doc : Doc) (text : List ℕ) (before : List Entries) (g
   pub again : FitsChecked doc text (before ++ entries ∷ []) new left
 
 -- All paragraphs of the file pass, and were given.
-pub record GivesEnd (doc : Doc) (text : List ℕ) (before : List Entries) (new : CheckedState) (left : Option (List ℕ)) : Type 0 where
+pub record GivesEnd (doc : Doc) (text : List ℕ) (before : List Entries) (new : CheckedState)
+    (left : Option (List ℕ)) : Type 0 where
   pub answer : next_checked (rules_of doc) text before ≡ Ok None
   pub again : FitsChecked doc text before new left
 
 -- What an answer says of a file that fits, where these paragraphs were given.
-abbrev pub AnswersChecked : (doc : Doc) (text : List ℕ) (before : List Entries) → Result (Option Passing) Fault → CheckedState → Option (List ℕ) → Type 0
+abbrev pub AnswersChecked : (doc : Doc) (text : List ℕ) (before : List Entries)
+    → Result (Option Passing) Fault → CheckedState → Option (List ℕ) → Type 0
 AnswersChecked doc text before (Ok None) new left = GivesEnd doc text before new left
-AnswersChecked doc text before (Ok (Some given)) new left = GivesPassing doc text before given new left
-AnswersChecked doc text before (Err (Refused refusal)) new left = next_checked (rules_of doc) text before ≡ Err refusal
+AnswersChecked doc text before (Ok (Some given)) new left =
+    GivesPassing doc text before given new left
+AnswersChecked doc text before (Err (Refused refusal)) new left =
+    next_checked (rules_of doc) text before ≡ Err refusal
 AnswersChecked doc text before (Err Memory) new left = Unit {0}
 AnswersChecked doc text before (Err Read) new left = Unit {0}
 AnswersChecked doc text before (Err Write) new left = ⊥
@@ -90,21 +97,31 @@ pub record CheckedMoment : Type 0 where
   pub state : CheckedState
   pub source : Shown
 
--- A call without error: what it answers of each file that fits, how much of it was taken by then, how often its source
--- failed, which errors there are, and how many paragraphs were given, which are few for every source.
-pub record Checks (doc : Doc) (before : CheckedMoment) (answer : Result (Option Passing) Fault) (after : CheckedMoment) : Type 0 where
-  pub answers : (text : List ℕ) (given : List Entries) → FitsChecked doc text given before.state before.source.bytes → AnswersChecked doc text given answer after.state after.source.bytes
-  pub taken : (text : List ℕ) (given : List Entries) → FitsChecked doc text given before.state before.source.bytes → TakesNoMore text file_limit after.source.bytes
+-- A call without error: what it answers of each file that fits, how much of it was taken by then,
+-- how often its source failed, which errors there are, and how many paragraphs were given, which
+-- are few for every source.
+pub record Checks (doc : Doc) (before : CheckedMoment) (answer : Result (Option Passing) Fault)
+    (after : CheckedMoment) : Type 0 where
+  pub answers : (text : List ℕ) (given : List Entries)
+      → FitsChecked doc text given before.state before.source.bytes
+      → AnswersChecked doc text given answer after.state after.source.bytes
+  pub taken : (text : List ℕ) (given : List Entries)
+      → FitsChecked doc text given before.state before.source.bytes
+      → TakesNoMore text file_limit after.source.bytes
   pub counted : after.source.failures ≡ read_failures_after before.source.failures answer
   pub fault : IfErr answer (λ fault. IsReadersFault fault IsRefusalOfDocument)
-  pub count : MatchResult answer (λ given. after.state.count ≡ before.state.count + given_count given) (λ fault. after.state.count ≡ before.state.count)
+  pub count : MatchResult answer
+      (λ given. after.state.count ≡ before.state.count + given_count given)
+      (λ fault. after.state.count ≡ before.state.count)
   pub few : after.state.count ≤ file_limit + 1
 
--- A call: without an error it goes on, and keeps the error that it then answers; with one it answers that error, and
--- neither reads nor changes.
-pub record ChecksOn (doc : Doc) (before : CheckedMoment) (answer : Result (Option Passing) Fault) (after : CheckedMoment) : Type 0 where
+-- A call: without an error it goes on, and keeps the error that it then answers; with one it
+-- answers that error, and neither reads nor changes.
+pub record ChecksOn (doc : Doc) (before : CheckedMoment) (answer : Result (Option Passing) Fault)
+    (after : CheckedMoment) : Type 0 where
   pub goes : IfNone before.state.fault (Checks doc before answer after)
-  pub keeps : IfNone before.state.fault (MatchResult answer (λ _. after.state.fault ≡ None) (λ fault. after.state.fault ≡ Some fault))
+  pub keeps : IfNone before.state.fault
+      (MatchResult answer (λ _. after.state.fault ≡ None) (λ fault. after.state.fault ≡ Some fault))
   pub repeats : IfSome before.state.fault (λ fault. (answer ≡ Err fault) × (after ≡ before))
 
 -- the bytes are the canonical text of what is built

@@ -1,5 +1,5 @@
--- What a file means as a document of a kind, and which files are accepted as one. Debian Policy 5.1 and 5.3 to 5.6; the
--- limits and the order of refusals are this project's own.
+-- What a file means as a document of a kind, and which files are accepted as one. Debian Policy 5.1
+-- and 5.3 to 5.6; the limits and the order of refusals are this project's own.
 use Rattle.std.specs.Prelude.{◌≡◌, ℕ, List, [], Option, None, Some, codes, refl}
 use Rattle.std.specs.Str.{is_utf8, chars}
 use lib.Utf8.{encode}
@@ -19,14 +19,16 @@ use Rattle.deb_control.specs.Refusals.{outcome, refusal_by, text_by}
 use Rattle.deb_control.specs.ValueFiles.{ValueEntries, MeansValues, values_text}
 use Rattle.deb_control.specs.Acceptance.{IsAccepted}
 
--- what a file means: a list of paragraphs, each of values under the canonical spellings of their names, in ascending
--- order of these
+-- what a file means: a list of paragraphs, each of values under the canonical spellings of their
+-- names, in ascending order of these
 abbrev pub Meaning : Type 0
 Meaning = List (ValueEntries ValueMeaning)
 
 -- the canonical text of the value that a body spells, and nothing where it is refused
-abbrev pub text_unless_refused : (doc : Doc) (name body : List ℕ) (o : Option Code) → value_refusal doc name body ≡ o → List ℕ
-text_unless_refused doc name body None none = value_text ((value_refusals doc name).spelled body none).0
+abbrev pub text_unless_refused : (doc : Doc) (name body : List ℕ) (o : Option Code)
+    → value_refusal doc name body ≡ o → List ℕ
+text_unless_refused doc name body None none =
+    value_text ((value_refusals doc name).spelled body none).0
 text_unless_refused doc name body (Some code) some = []
 
 abbrev pub rules_of : Doc → Rules
@@ -53,21 +55,43 @@ Accepted doc = IsAccepted ValueMeaning (SpellsValue doc) value_text (rules_of do
 abbrev pub refusal_of : Doc → List ℕ → Option Refusal
 refusal_of doc = refusal_by (rules_of doc)
 
--- What is written of the file: the canonical text of the paragraphs before the first that is refused, or of all.
+-- What is written of the file: the canonical text of the paragraphs before the first that is
+-- refused, or of all.
 abbrev pub out_of : Doc → List ℕ → List ℕ
 out_of doc = text_by (rules_of doc)
 
 -- no paragraph: nothing is written, and one is missing where one is asked
-no_paragraph : (outcome (rules_of Packages) [] ≡ record { passed = []; refusal = None }) × (refusal_of Binary [] ≡ Some (record { code = NoParagraph; line = 1 })) × (refusal_of Binary (codes "\n\n") ≡ Some (record { code = NoParagraph; line = 3 })) × (refusal_of Source (codes "\n \n") ≡ Some (record { code = NoParagraph; line = 3 }))
+no_paragraph : (outcome (rules_of Packages) [] ≡ record { passed = []; refusal = None })
+    × (refusal_of Binary [] ≡ Some (record { code = NoParagraph; line = 1 }))
+    × (refusal_of Binary (codes "\n\n") ≡ Some (record { code = NoParagraph; line = 3 }))
+    × (refusal_of Source (codes "\n \n") ≡ Some (record { code = NoParagraph; line = 3 }))
 unfolding file_limit paragraph_limit
 no_paragraph = (refl, refl, refl, refl)
 
--- refusals of a line, of values in the order of the file, and of names: a value goes before a name that is missing
-first_paragraphs : (refusal_of Packages (codes "Package: aa\npackage: bb") ≡ Some (record { code = DuplicateField; line = 2 })) × (refusal_of Packages (codes "Package aa") ≡ Some (record { code = NoColon; line = 1 })) × (refusal_of Packages (codes "Package: aa\nVersion: 1") ≡ Some (record { code = MissingField; line = 1 })) × (refusal_of Packages (codes "Package: aa\nSize: 1k") ≡ Some (record { code = BadNumber; line = 2 })) × (refusal_of Packages (codes "\nPackage: aa\nHomepage: x\n y\nSize: 1k") ≡ Some (record { code = NotOneLine; line = 3 }))
+-- refusals of a line, of values in the order of the file, and of names: a value goes before a name
+-- that is missing
+first_paragraphs : (refusal_of Packages (codes "Package: aa\npackage: bb")
+    ≡ Some (record { code = DuplicateField; line = 2 }))
+    × (refusal_of Packages (codes "Package aa") ≡ Some (record { code = NoColon; line = 1 }))
+    × (refusal_of Packages (codes "Package: aa\nVersion: 1")
+    ≡ Some (record { code = MissingField; line = 1 }))
+    × (refusal_of Packages (codes "Package: aa\nSize: 1k")
+    ≡ Some (record { code = BadNumber; line = 2 }))
+    × (refusal_of Packages (codes "\nPackage: aa\nHomepage: x\n y\nSize: 1k")
+    ≡ Some (record { code = NotOneLine; line = 3 }))
 unfolding file_limit paragraph_limit is_utf8 chars encode is_one_of first_fault
 first_paragraphs = (refl, refl, refl, refl, refl)
 
 -- refusals of versions, sources, architectures and words
-values : (refusal_of Packages (codes "Package: aa\nVersion: 1-\nArchitecture: all") ≡ Some (record { code = BadVersion; line = 2 })) × (refusal_of Packages (codes "Package: aa\nVersion: 1\nArchitecture: any all") ≡ Some (record { code = BadArchitecture; line = 3 })) × (refusal_of Packages (codes "Package: aa\nVersion: 1\nArchitecture: all\nSource: A (1_)") ≡ Some (record { code = BadName; line = 4 })) × (refusal_of Packages (codes "Package: aa\nVersion: 1\nArchitecture: all\nSource: aa ()") ≡ Some (record { code = BadVersion; line = 4 })) × (refusal_of Packages (codes "Package: aa\nVersion: 1\nArchitecture: all\nEssential: maybe") ≡ Some (record { code = BadWord; line = 4 }))
+values : (refusal_of Packages (codes "Package: aa\nVersion: 1-\nArchitecture: all")
+    ≡ Some (record { code = BadVersion; line = 2 }))
+    × (refusal_of Packages (codes "Package: aa\nVersion: 1\nArchitecture: any all")
+    ≡ Some (record { code = BadArchitecture; line = 3 }))
+    × (refusal_of Packages (codes "Package: aa\nVersion: 1\nArchitecture: all\nSource: A (1_)")
+    ≡ Some (record { code = BadName; line = 4 }))
+    × (refusal_of Packages (codes "Package: aa\nVersion: 1\nArchitecture: all\nSource: aa ()")
+    ≡ Some (record { code = BadVersion; line = 4 }))
+    × (refusal_of Packages (codes "Package: aa\nVersion: 1\nArchitecture: all\nEssential: maybe")
+    ≡ Some (record { code = BadWord; line = 4 }))
 unfolding file_limit paragraph_limit is_utf8 chars encode is_one_of first_fault
 values = (refl, refl, refl, refl, refl)

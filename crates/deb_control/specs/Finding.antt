@@ -18,20 +18,31 @@ use Rattle.deb_syntax.specs.declared.paragraphs.Paragraphs.{Paragraphs}
 use Rattle.deb_control.specs.Checking.{CheckedMoment}
 use Rattle.deb_control.specs.declared.tally.Tally.{Tally}
 
--- a reader of paragraphs and what was given of it, with a source that has these bytes left and failed so often
+-- a reader of paragraphs and what was given of it, with a source that has these bytes left and
+-- failed so often
 abbrev pub moment_from : Paragraphs → Tally → Option (List ℕ) → ℕ → CheckedMoment
 moment_from paragraphs given left failures = record {
-  state = record { reader = state_of paragraphs; count = given.paragraphs; bytes = given.bytes; current = None; fault = None };
+  state =
+      record {
+        reader = state_of paragraphs;
+        count = given.paragraphs;
+        bytes = given.bytes;
+        current = None;
+        fault = None;
+      };
   source = record { bytes = left; failures = failures };
 }
 
 -- what is answered where no paragraph follows, behind so many lines
 abbrev pub end_answer : Doc → Tally → ℕ → Result Bool Fault
 end_answer doc given lines =
-    cond (is_single doc && (given.paragraphs == 0)) (Err (Refused (record { code = NoParagraph; line = lines + 1 }))) (Ok false)
+    cond (is_single doc && (given.paragraphs == 0))
+    (Err (Refused (record { code = NoParagraph; line = lines + 1 }))) (Ok false)
 
--- The paragraph passes behind those that were given, and counts as given then; the bytes are its canonical text.
-pub record AddsPassing (doc : Doc) (seen : Seen) (old : Tally) (text : List ℕ) (new : Tally) : Type 0 where
+-- The paragraph passes behind those that were given, and counts as given then; the bytes are its
+-- canonical text.
+pub record AddsPassing (doc : Doc) (seen : Seen) (old : Tally) (text : List ℕ)
+    (new : Tally) : Type 0 where
   pub entries : Entries
   pub built : built (rules_of doc) seen ≡ Ok entries
   pub written : text ≡ paragraph_text entries
@@ -48,4 +59,5 @@ pub record IsTooLong (doc : Doc) (seen : Seen) (given : Tally) (refusal : Refusa
 
 -- The paragraph is refused so, by itself or behind those that were given.
 abbrev pub RefusesSeen : Doc → Seen → Tally → Refusal → Type 0
-RefusesSeen doc seen given refusal = (built (rules_of doc) seen ≡ Err refusal) ⊎ IsTooLong doc seen given refusal
+RefusesSeen doc seen given refusal =
+    (built (rules_of doc) seen ≡ Err refusal) ⊎ IsTooLong doc seen given refusal

@@ -10,40 +10,54 @@ use Rattle.deb_control.specs.Refusals.{line_behind}
 
 -- A file has no refusal exactly where it is accepted with some meaning.
 abbrev pub RefusedOrAccepted : Type 0
-RefusedOrAccepted = (doc : Doc) (text : List ℕ) → (refusal_of doc text ≡ None) ↔ ((meaning : Meaning) × Accepted doc text meaning)
+RefusedOrAccepted =
+    (doc : Doc) (text : List ℕ) → (refusal_of doc text ≡ None)
+    ↔ ((meaning : Meaning) × Accepted doc text meaning)
 
 -- A file is accepted with at most one meaning.
 abbrev pub AcceptedMeansOneThing : Type 0
-AcceptedMeansOneThing = (doc : Doc) (text : List ℕ) (meaning other : Meaning) → Accepted doc text meaning → Accepted doc text other → meaning ≡ other
+AcceptedMeansOneThing =
+    (doc : Doc) (text : List ℕ) (meaning other : Meaning) → Accepted doc text meaning
+    → Accepted doc text other → meaning ≡ other
 
 -- What is written of an accepted file is the canonical text of its meaning.
 abbrev pub AcceptedIsWritten : Type 0
-AcceptedIsWritten = (doc : Doc) (text : List ℕ) (meaning : Meaning) → Accepted doc text meaning → out_of doc text ≡ canonical_text meaning
+AcceptedIsWritten =
+    (doc : Doc) (text : List ℕ) (meaning : Meaning) → Accepted doc text meaning
+    → out_of doc text ≡ canonical_text meaning
 
 -- The canonical text of an accepted file is accepted with the same meaning, within all limits.
 abbrev pub CanonicalTextIsAccepted : Type 0
-CanonicalTextIsAccepted = (doc : Doc) (text : List ℕ) (meaning : Meaning) → Accepted doc text meaning → Accepted doc (canonical_text meaning) meaning
+CanonicalTextIsAccepted =
+    (doc : Doc) (text : List ℕ) (meaning : Meaning) → Accepted doc text meaning
+    → Accepted doc (canonical_text meaning) meaning
 
--- Files that are accepted as one kind of document have equal canonical text exactly where they mean the same.
+-- Files that are accepted as one kind of document have equal canonical text exactly where they mean
+-- the same.
 abbrev pub CanonicalTextTellsMeanings : Type 0
 CanonicalTextTellsMeanings =
-    (doc : Doc) (text other : List ℕ) (meaning other_meaning : Meaning) → Accepted doc text meaning → Accepted doc other other_meaning →
+    (doc : Doc) (text other : List ℕ) (meaning other_meaning : Meaning) → Accepted doc text meaning
+    → Accepted doc other other_meaning →
     (canonical_text meaning ≡ canonical_text other_meaning) ↔ (meaning ≡ other_meaning)
 
 -- The canonical text of an accepted file has no refusal, and what is written of it is that text.
 abbrev pub CanonicalTextIsItsOwn : Type 0
 CanonicalTextIsItsOwn =
     (doc : Doc) (text : List ℕ) (meaning : Meaning) → Accepted doc text meaning →
-    (refusal_of doc (canonical_text meaning) ≡ None) × (out_of doc (canonical_text meaning) ≡ canonical_text meaning)
+    (refusal_of doc (canonical_text meaning) ≡ None)
+    × (out_of doc (canonical_text meaning) ≡ canonical_text meaning)
 
--- A refusal of a file as a document: its code is from 1 to 21, and its line one of the file's; or a paragraph is missing
--- at the line behind the last one.
+-- A refusal of a file as a document: its code is from 1 to 21, and its line one of the file's; or a
+-- paragraph is missing at the line behind the last one.
 pub record IsRefusalOfFile (text : List ℕ) (refusal : Refusal) : Type 0 where
   pub least : 1 ≤ number_of refusal.code
   pub most : number_of refusal.code ≤ 21
   pub first : 1 ≤ refusal.line
-  pub last : (refusal.line ≤ length (lines_of text)) ⊎ (refusal ≡ record { code = NoParagraph; line = line_behind text })
+  pub last : (refusal.line ≤ length (lines_of text))
+      ⊎ (refusal ≡ record { code = NoParagraph; line = line_behind text })
 
 -- Each refusal of a file is one of these.
 abbrev pub RefusalsAreOfTheFile : Type 0
-RefusalsAreOfTheFile = (doc : Doc) (text : List ℕ) (refusal : Refusal) → refusal_of doc text ≡ Some refusal → IsRefusalOfFile text refusal
+RefusalsAreOfTheFile =
+    (doc : Doc) (text : List ℕ) (refusal : Refusal) → refusal_of doc text ≡ Some refusal
+    → IsRefusalOfFile text refusal

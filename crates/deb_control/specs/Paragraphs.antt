@@ -32,10 +32,12 @@ text_of_values values = paragraph_text (map (body_under value_text) values)
 
 -- The body of the field spells its value.
 abbrev pub IsTypedField : Doc → TypedField → Type 0
-IsTypedField doc field = SpellsValue doc (canonical_name field.raw.name.now) field.raw.body.now (value_meaning field.value)
+IsTypedField doc field =
+    SpellsValue doc (canonical_name field.raw.name.now) field.raw.body.now
+    (value_meaning field.value)
 
--- These are the values of a paragraph that passes by itself: its bodies spell them, and their texts are its canonical
--- bodies.
+-- These are the values of a paragraph that passes by itself: its bodies spell them, and their texts
+-- are its canonical bodies.
 pub record AreValuesOf (doc : Doc) (seen : Seen) (values : ValueEntries ValueMeaning) : Type 0 where
   pub spelled : Pairwise (SpellsEntry (SpellsValue doc)) (entries_of seen.fields) values
   pub passes : built (rules_of doc) seen ≡ Ok (map (body_under value_text) values)

@@ -10,7 +10,8 @@ use Rattle.deb_control.specs.Paragraphs.{AreValuesOf}
 use Rattle.deb_control.specs.ValueFiles.{ValueEntries}
 
 -- Of the paragraph's values, this is the one under a name, without ASCII case.
-pub record HasValue (doc : Doc) (seen : Seen) (name : List ℕ) (value : Option ValueMeaning) : Type 0 where
+pub record HasValue (doc : Doc) (seen : Seen) (name : List ℕ)
+    (value : Option ValueMeaning) : Type 0 where
   pub values : ValueEntries ValueMeaning
   pub are : AreValuesOf doc seen values
   pub found : value ≡ find byte_order (canonical_name name) values

@@ -1,5 +1,6 @@
--- What is answered of a file's paragraphs, one after another: the canonical bodies of those that pass, and the first
--- refusal. Debian Policy 5.1; the order of the refusals, their lines and the limits are this project's own.
+-- What is answered of a file's paragraphs, one after another: the canonical bodies of those that
+-- pass, and the first refusal. Debian Policy 5.1; the order of the refusals, their lines and the
+-- limits are this project's own.
 use Rattle.std.specs.Prelude.{◌≡◌, ℕ, ◌+◌, ◌&&◌, Bool, true, false, cond, not, List, [], ◌∷◌, ◌++◌, length, drop, map, nat_le, ◌==◌, Option, Some, None, Result, Ok, Err, codes, refl}
 use Rattle.std.specs.Str.{bytes_eq, is_utf8, chars}
 use lib.Utf8.{encode}
@@ -24,7 +25,9 @@ refusal_or None line other = other
 -- the first field, in the order of the file, whose body is refused
 abbrev pub value_refusal_of : Rules → List Field → Option Refusal
 value_refusal_of rules [] = None
-value_refusal_of rules (field ∷ fields) = refusal_or (rules.refusal (canonical_name field.name) field.body) field.line (value_refusal_of rules fields)
+value_refusal_of rules (field ∷ fields) =
+    refusal_or (rules.refusal (canonical_name field.name) field.body) field.line
+    (value_refusal_of rules fields)
 
 -- each of the names stands among the fields, without ASCII case
 abbrev pub have_names : List Field → List (List ℕ) → Bool
@@ -32,18 +35,26 @@ have_names fields names = list_all (λ name. has_name name fields) names
 
 -- a field with the canonical text of its value in place of its body
 abbrev pub canonical_field : Rules → Field → Field
-canonical_field rules field = record { name = field.name; line = field.line; body = rules.canonical (canonical_name field.name) field.body }
+canonical_field rules field =
+    record {
+      name = field.name;
+      line = field.line;
+      body = rules.canonical
+          (canonical_name field.name) field.body;
+    }
 
 -- the canonical texts of the fields' values, under their names in ascending order
 abbrev pub canonical_entries : Rules → List Field → Entries
 canonical_entries rules fields = entries_of (map (canonical_field rules) fields)
 
--- a paragraph of which all values are good: no name is missing, and its canonical text isn't too long
+-- a paragraph of which all values are good: no name is missing, and its canonical text isn't too
+-- long
 abbrev pub named_and_short : Rules → Seen → Result Entries Refusal
 named_and_short rules seen =
     cond (not (have_names seen.fields rules.required))
     (Err (record { code = MissingField; line = seen.first }))
-    (cond (not (nat_le (length (paragraph_text (canonical_entries rules seen.fields))) paragraph_limit))
+    (cond (not (nat_le (length (paragraph_text (canonical_entries rules seen.fields)))
+    paragraph_limit))
     (Err (record { code = ParagraphTooLong; line = seen.first }))
     (Ok (canonical_entries rules seen.fields)))
 
@@ -51,8 +62,9 @@ abbrev pub refused_or_built : Rules → Seen → Option Refusal → Result Entri
 refused_or_built rules seen (Some refusal) = Err refusal
 refused_or_built rules seen None = named_and_short rules seen
 
--- What is answered of one paragraph by itself, of which the fields were seen: the canonical bodies of its values, or the
--- first refusal of a body in the order of the file, else that a name is missing, else that its canonical text is too long.
+-- What is answered of one paragraph by itself, of which the fields were seen: the canonical bodies
+-- of its values, or the first refusal of a body in the order of the file, else that a name is
+-- missing, else that its canonical text is too long.
 abbrev pub built : Rules → Seen → Result Entries Refusal
 built rules seen = refused_or_built rules seen (value_refusal_of rules seen.fields)
 
@@ -69,17 +81,20 @@ abbrev pub has_some : List Entries → Bool
 has_some [] = false
 has_some (entries ∷ more) = true
 
--- What is answered behind paragraphs that have passed, where this was seen of the next one: n is the number of the line
--- behind the last one.
-abbrev pub answer_of_seen : Rules → ℕ → List Entries → Result (Option Seen) Refusal → Result (Option Entries) Refusal
+-- What is answered behind paragraphs that have passed, where this was seen of the next one: n is
+-- the number of the line behind the last one.
+abbrev pub answer_of_seen : Rules → ℕ → List Entries → Result (Option Seen) Refusal
+    → Result (Option Entries) Refusal
 answer_of_seen rules n before (Err refusal) = Err refusal
 answer_of_seen rules n before (Ok None) =
-    cond (rules.single && not (has_some before)) (Err (record { code = NoParagraph; line = n })) (Ok None)
+    cond (rules.single && not (has_some before)) (Err (record { code = NoParagraph; line = n }))
+    (Ok None)
 answer_of_seen rules n before (Ok (Some seen)) = within_file before seen.first (built rules seen)
 
--- What is answered behind paragraphs that have passed, where these are left: a second paragraph is one too many where
--- one is asked, whatever it holds.
-abbrev pub answer_behind : Rules → Option ℕ → ℕ → List Entries → List Paragraph → Result (Option Entries) Refusal
+-- What is answered behind paragraphs that have passed, where these are left: a second paragraph is
+-- one too many where one is asked, whatever it holds.
+abbrev pub answer_behind : Rules → Option ℕ → ℕ → List Entries → List Paragraph
+    → Result (Option Entries) Refusal
 answer_behind rules beyond n before [] = answer_of_seen rules n before (answer_of_first beyond [])
 answer_behind rules beyond n before (p ∷ left) =
     cond (rules.single && has_some before)
@@ -90,13 +105,16 @@ answer_behind rules beyond n before (p ∷ left) =
 abbrev pub line_behind : List ℕ → ℕ
 line_behind text = length (lines_of text) + 1
 
--- What is answered of a file behind its first paragraphs, which have passed and have these canonical bodies: those of
--- the next one, none where there is no further one, or why the file is refused.
+-- What is answered of a file behind its first paragraphs, which have passed and have these
+-- canonical bodies: those of the next one, none where there is no further one, or why the file is
+-- refused.
 abbrev pub next_checked : Rules → List ℕ → List Entries → Result (Option Entries) Refusal
 next_checked rules text before =
-    answer_behind rules (line_beyond 1 file_limit text) (line_behind text) before (drop (length before) (paragraphs_within text))
+    answer_behind rules (line_beyond 1 file_limit text) (line_behind text) before
+    (drop (length before) (paragraphs_within text))
 
--- What comes of a file: the canonical bodies of the paragraphs before the first that fails, and why it is refused.
+-- What comes of a file: the canonical bodies of the paragraphs before the first that fails, and why
+-- it is refused.
 pub record Outcome : Type 0 where
   pub passed : List Entries
   pub refusal : Option Refusal
@@ -115,10 +133,13 @@ followed before (Ok (Some entries)) behind = behind entries
 abbrev pub outcome_behind : Rules → Option ℕ → ℕ → List Entries → List Paragraph → Outcome
 outcome_behind rules beyond n before [] = stopped before (answer_behind rules beyond n before [])
 outcome_behind rules beyond n before (p ∷ left) =
-    followed before (answer_behind rules beyond n before (p ∷ left)) (λ entries. outcome_behind rules beyond n (before ++ entries ∷ []) left)
+    followed before (answer_behind rules beyond n before (p ∷ left))
+    (λ entries. outcome_behind rules beyond n (before ++ entries ∷ []) left)
 
 abbrev pub outcome : Rules → List ℕ → Outcome
-outcome rules text = outcome_behind rules (line_beyond 1 file_limit text) (line_behind text) [] (paragraphs_within text)
+outcome rules text =
+    outcome_behind rules (line_beyond 1 file_limit text) (line_behind text) []
+    (paragraphs_within text)
 
 -- The refusal of a file, if it has one.
 abbrev pub refusal_by : Rules → List ℕ → Option Refusal
@@ -128,31 +149,47 @@ refusal_by rules text = (outcome rules text).refusal
 abbrev pub text_by : Rules → List ℕ → List ℕ
 text_by rules text = file_text (outcome rules text).passed
 
--- for the worked cases: numbers of one digit under Size, all other bodies as they stand, and Package is asked
+-- for the worked cases: numbers of one digit under Size, all other bodies as they stand, and
+-- Package is asked
 abbrev sample : Bool → Rules
 sample single = record {
-  refusal = λ name body. cond (bytes_eq name (codes "Size") && not (length body == 1)) (Some BadNumber) None;
+  refusal =
+      λ name body. cond (bytes_eq name (codes "Size") && not (length body == 1))
+      (Some BadNumber) None;
   canonical = λ name body. body;
   required = codes "Package" ∷ [];
   single = single;
 }
 
 -- the canonical text of a file whose paragraphs pass
-passing : (text_by (sample false) (codes "size:1\nPACKAGE: aa\n\t\n\nPackage:bb") ≡ codes "Package: aa\nSize: 1\n\nPackage: bb\n") × (refusal_by (sample false) (codes "size:1\nPACKAGE: aa\n\t\n\nPackage:bb") ≡ None)
+passing : (text_by (sample false) (codes "size:1\nPACKAGE: aa\n\t\n\nPackage:bb")
+    ≡ codes "Package: aa\nSize: 1\n\nPackage: bb\n")
+    × (refusal_by (sample false) (codes "size:1\nPACKAGE: aa\n\t\n\nPackage:bb") ≡ None)
 unfolding file_limit paragraph_limit is_utf8 chars encode
 passing = (refl, refl)
 
 -- the first paragraph that fails decides, and those before it are written
-second_fails : (refusal_by (sample false) (codes "Package: aa\n\nB: 1\n\nSize: 12") ≡ Some (record { code = MissingField; line = 3 })) × (text_by (sample false) (codes "Package: aa\n\nB: 1\n\nSize: 12") ≡ codes "Package: aa\n")
+second_fails : (refusal_by (sample false) (codes "Package: aa\n\nB: 1\n\nSize: 12")
+    ≡ Some (record { code = MissingField; line = 3 }))
+    × (text_by (sample false) (codes "Package: aa\n\nB: 1\n\nSize: 12") ≡ codes "Package: aa\n")
 unfolding file_limit paragraph_limit is_utf8 chars encode
 second_fails = (refl, refl)
 
 -- a value goes before a name that is missing, and a line before a value
-first_step : (refusal_by (sample false) (codes "B: 1\nSize: 12") ≡ Some (record { code = BadNumber; line = 2 })) × (refusal_by (sample false) (codes "Size: 12\n# x") ≡ Some (record { code = Comment; line = 2 }))
+first_step : (refusal_by (sample false) (codes "B: 1\nSize: 12")
+    ≡ Some (record { code = BadNumber; line = 2 }))
+    × (refusal_by (sample false) (codes "Size: 12\n# x")
+    ≡ Some (record { code = Comment; line = 2 }))
 unfolding file_limit paragraph_limit is_utf8 chars encode
 first_step = (refl, refl)
 
 -- a second paragraph is one too many whatever it holds, and a first one that fails goes before it
-one_asked : (refusal_by (sample true) (codes "Package: aa\n\n x") ≡ Some (record { code = TooManyParagraphs; line = 3 })) × (text_by (sample true) (codes "Package: aa\n\n x") ≡ codes "Package: aa\n") × (refusal_by (sample true) (codes "Size: 12\n\n x") ≡ Some (record { code = BadNumber; line = 1 })) × (refusal_by (sample true) (codes "\n \n") ≡ Some (record { code = NoParagraph; line = 3 })) × (refusal_by (sample true) (codes "Package: aa") ≡ None)
+one_asked : (refusal_by (sample true) (codes "Package: aa\n\n x")
+    ≡ Some (record { code = TooManyParagraphs; line = 3 }))
+    × (text_by (sample true) (codes "Package: aa\n\n x") ≡ codes "Package: aa\n")
+    × (refusal_by (sample true) (codes "Size: 12\n\n x")
+    ≡ Some (record { code = BadNumber; line = 1 }))
+    × (refusal_by (sample true) (codes "\n \n") ≡ Some (record { code = NoParagraph; line = 3 }))
+    × (refusal_by (sample true) (codes "Package: aa") ≡ None)
 unfolding file_limit paragraph_limit is_utf8 chars encode
 one_asked = (refl, refl, refl, refl, refl)

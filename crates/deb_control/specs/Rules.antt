@@ -1,4 +1,5 @@
--- What the files of a kind of document are judged by, beyond their lines (this project's own order of refusals).
+-- What the files of a kind of document are judged by, beyond their lines (this project's own order
+-- of refusals).
 use Rattle.std.specs.Prelude.{◌≡◌, ℕ, Bool, List, Option, None}
 use Rattle.deb_base.specs.declared.code.Code.{Code}
 
@@ -13,9 +14,11 @@ pub record Rules : Type 0 where
   -- whether a file has exactly one paragraph
   pub single : Bool
 
--- Where bodies under names spell values, the rules are those of these values: a body is refused exactly where it spells
--- none, and its canonical text is that of the value that it spells.
-pub record AreRulesOf (V : Type 0) (spells : List ℕ → List ℕ → V → Type 0) (text_of : V → List ℕ) (rules : Rules) : Type 0 where
+-- Where bodies under names spell values, the rules are those of these values: a body is refused
+-- exactly where it spells none, and its canonical text is that of the value that it spells.
+pub record AreRulesOf (V : Type 0) (spells : List ℕ → List ℕ → V → Type 0) (text_of : V → List ℕ)
+    (rules : Rules) : Type 0 where
   pub spelled : (name body : List ℕ) → rules.refusal name body ≡ None → (v : V) × spells name body v
   pub unrefused : (name body : List ℕ) (v : V) → spells name body v → rules.refusal name body ≡ None
-  pub text : (name body : List ℕ) (v : V) → spells name body v → rules.canonical name body ≡ text_of v
+  pub text : (name body : List ℕ) (v : V) → spells name body v
+      → rules.canonical name body ≡ text_of v

@@ -7,4 +7,5 @@ use Rattle.deb_control.specs.declared.typed_field.TypedField.{TypedField}
 
 -- the canonical spelling of the field's name comes before that of the other's
 abbrev pub comes_before : TypedField → TypedField → Bool
-comes_before field other = is_lt (byte_order (canonical_name field.raw.name.now) (canonical_name other.raw.name.now))
+comes_before field other =
+    is_lt (byte_order (canonical_name field.raw.name.now) (canonical_name other.raw.name.now))

@@ -1,6 +1,7 @@
 -- How long the canonical text of a file is (this project's own).
 use Rattle.std.specs.Prelude.{ℕ, ◌+◌, ◌==◌, cond}
 
--- with a further paragraph of so many bytes behind `count` ones that have `bytes` bytes: an empty line stands between two
+-- with a further paragraph of so many bytes behind `count` ones that have `bytes` bytes: an empty
+-- line stands between two
 abbrev pub bytes_with : (count bytes length : ℕ) → ℕ
 bytes_with count bytes length = cond (count == 0) (bytes + length) (bytes + 1 + length)

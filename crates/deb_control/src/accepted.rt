@@ -10,8 +10,9 @@ use deb_field::{Doc, Value};
 use deb_syntax::{Fields, Raw, RawField};
 use std::alloc::{AllocError, Global};
 
-/// A paragraph of a document that passes every rule of its kind, as a view: its fields as they stand
-/// in the file, and its canonical text. Values are read from it on demand, and are never refused.
+/// A paragraph of a document that passes every rule of its kind, as a view: its fields as they
+/// stand in the file, and its canonical text. Values are read from it on demand, and are never
+/// refused.
 #[derive(Clone, Copy)]
 pub struct Accepted<'a> {
     doc: Doc,
@@ -35,7 +36,8 @@ impl<'a> Accepted<'a> {
     pub(crate) fn new(doc: Doc, raw: Raw<'a>, canonical: &'a [u8]) -> Accepted<'a>
         requires { IsTrue (is_passing doc (seen_of raw) canonical.now) }
         ensures doc { result.doc ≡ doc }
-        ensures passing { passing_of result ≡ record { seen = seen_of raw.entry; text = canonical.now } }
+        ensures passing { passing_of result
+            ≡ record { seen = seen_of raw.entry; text = canonical.now } }
     {
         Accepted {
             doc,
@@ -51,10 +53,11 @@ impl<'a> Accepted<'a> {
         self.raw.first_line()
     }
 
-    /// The field of a name as it stands in the file, without ASCII case, or `None` where there is no
-    /// such field.
+    /// The field of a name as it stands in the file, without ASCII case, or `None` where there is
+    /// no such field.
     pub fn get(&self, name: &[u8]) -> Option<RawField<'a>>
-        ensures { option_map field_of result ≡ field_named name.now (passing_of self.now).seen.fields }
+        ensures { option_map field_of result
+            ≡ field_named name.now (passing_of self.now).seen.fields }
     {
         self.raw.get(name)
     }
@@ -74,13 +77,16 @@ impl<'a> Accepted<'a> {
         self.canonical
     }
 
-    /// The value of the field of a name, without ASCII case, or `None` where there is no such field.
+    /// The value of the field of a name, without ASCII case, or `None` where there is no such
+    /// field.
     ///
     /// # Errors
     ///
     /// Want of memory alone.
     pub fn value(&self, alloc: Global, name: &[u8]) -> Result<Option<Value<'a>>, AllocError>
-        ensures { IfOk result (λ value. HasValue self.now.doc (passing_of self.now).seen name.now (option_map value_meaning value)) }
+        ensures { IfOk result
+            (λ value. HasValue self.now.doc (passing_of self.now).seen name.now
+            (option_map value_meaning value)) }
     {
         let Some(field) = self.raw.get(name) else {
             return Ok(None);
@@ -97,7 +103,8 @@ impl<'a> Accepted<'a> {
     ///
     /// Want of memory alone.
     pub fn paragraph(&self, alloc: Global) -> Result<Paragraph<'a>, AllocError>
-        ensures { IfOk result (λ typed. AreValuesOf self.now.doc (passing_of self.now).seen (values_of typed)) }
+        ensures { IfOk result
+            (λ typed. AreValuesOf self.now.doc (passing_of self.now).seen (values_of typed)) }
     {
         match Paragraph::build(alloc, self.doc, &self.raw) {
             Ok(paragraph) => Ok(paragraph),

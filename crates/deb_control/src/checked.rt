@@ -47,7 +47,8 @@ impl Checked {
         ensures doc { result.doc ≡ doc }
         ensures sound { (checked_state result).fault ≡ None }
         ensures none { (checked_state result).count ≡ 0 }
-        ensures fits { (text : List ℕ) → FitsChecked doc text [] (checked_state result) (Some text) }
+        ensures fits { (text : List ℕ)
+            → FitsChecked doc text [] (checked_state result) (Some text) }
     {
         Checked {
             paragraphs: Paragraphs::new(alloc),
@@ -60,8 +61,8 @@ impl Checked {
         }
     }
 
-    /// The next paragraph of the file, if it passes, or `None` where there is no further one and none
-    /// is missing.
+    /// The next paragraph of the file, if it passes, or `None` where there is no further one and
+    /// none is missing.
     ///
     /// # Errors
     ///
@@ -70,13 +71,18 @@ impl Checked {
     /// - `Fault::Refused`: the file is refused there. Where the kind of document has one paragraph,
     ///   that there is none (`NoParagraph`, at the line behind the last one) or a second one
     ///   (`TooManyParagraphs`, at its first line, whatever it holds). Else the first of these that
-    ///   holds of the next paragraph: what `Paragraphs::next` refuses, what `Paragraph::build` does,
+    /// holds of the next paragraph: what `Paragraphs::next` refuses, what `Paragraph::build` does,
     ///   and that the canonical text of the file has more than 4,294,967,295 bytes with it
     ///   (`FileTooLong`, at its first line).
     /// - `Fault::Memory`: a growth of memory was refused.
     /// - `Fault::Read`: a read of `reader` failed in this call.
     pub fn next<'a, R: Source>(&'a mut self, reader: &mut R) -> Result<Option<Accepted<'a>>, Fault>
-        ensures* after { sem 𝓛 (Rests the_row self.entry (λ new. ChecksOn self.old.doc (checked_moment self.old (R.left reader.old) (R.failures reader.old)) (checked_answer result) (checked_moment new (R.left reader.new) (R.failures reader.new)) × (new.doc ≡ self.old.doc))) }
+        ensures* after { sem 𝓛
+            (Rests the_row self.entry
+            (λ new. ChecksOn self.old.doc
+            (checked_moment self.old (R.left reader.old) (R.failures reader.old))
+            (checked_answer result) (checked_moment new (R.left reader.new) (R.failures reader.new))
+            × (new.doc ≡ self.old.doc))) }
     {
         if self.step(reader)? {
             Ok(self.current())
@@ -87,7 +93,10 @@ impl Checked {
 
     /// Goes on to the next paragraph, which `current` then gives, and says whether there is one.
     fn step<R: Source>(&mut self, reader: &mut R) -> Result<bool, Fault>
-        ensures checks { ChecksOn self.old.doc (checked_moment self.old (R.left reader.old) (R.failures reader.old)) (found_answer (state_of self.new.paragraphs).current self.new.canonical.items result) (checked_moment self.new (R.left reader.new) (R.failures reader.new)) }
+        ensures checks { ChecksOn self.old.doc
+            (checked_moment self.old (R.left reader.old) (R.failures reader.old))
+            (found_answer (state_of self.new.paragraphs).current self.new.canonical.items result)
+            (checked_moment self.new (R.left reader.new) (R.failures reader.new)) }
         ensures gives { IfOk result (λ gives. self.new.gives ≡ gives) }
         ensures doc { self.new.doc ≡ self.old.doc }
     {

@@ -12,20 +12,23 @@ use deb_base::{Fault, Source};
 use deb_field::Doc;
 use std::alloc::Global;
 
-/// Reads a file as a document of a kind, and answers the number of its paragraphs (Debian Policy 5.1
-/// and 5.3 to 5.6).
+/// Reads a file as a document of a kind, and answers the number of its paragraphs (Debian Policy
+/// 5.1 and 5.3 to 5.6).
 ///
 /// What is said of the file's text holds for a reader that tells its bytes.
 ///
 /// # Errors
 ///
-/// - `Fault::Refused`: the file isn't accepted. This is the first refusal, with a code from 1 to 21 and
+/// - `Fault::Refused`: the file isn't accepted. This is the first refusal, with a code from 1 to 21
+///   and
 ///   a line of the file, which are counted from 1.
 /// - `Fault::Memory`: a growth of memory was refused.
 /// - `Fault::Read`: a read failed in this call.
 pub fn check<R: Source>(alloc: Global, doc: Doc, reader: &mut R) -> Result<u64, Fault>
-    ensures ok { (text : List ℕ) → R.left reader.old ≡ Some text → IfOk result (HasParagraphs doc text) }
-    ensures refused { (text : List ℕ) → R.left reader.old ≡ Some text → IfRefused result (λ refusal. refusal_of doc text ≡ Some refusal) }
+    ensures ok { (text : List ℕ) → R.left reader.old ≡ Some text
+        → IfOk result (HasParagraphs doc text) }
+    ensures refused { (text : List ℕ) → R.left reader.old ≡ Some text
+        → IfRefused result (λ refusal. refusal_of doc text ≡ Some refusal) }
 
     // Whether or not the reader tells its bytes.
     ensures fault { IfErr result (λ fault. IsReadersFault fault IsRefusalOfDocument) }

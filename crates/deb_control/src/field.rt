@@ -8,13 +8,16 @@ use crate::name::append_name;
 use deb_field::Canon;
 use std::alloc::AllocError;
 
-/// Appends a field: the canonical spelling of its name, a colon, and what stands behind that, with a line end.
+/// Appends a field: the canonical spelling of its name, a colon, and what stands behind that, with
+/// a line end.
 pub(crate) fn append_field<V: Canon>(
     name: &[u8],
     value: &V,
     text: &mut Vec<u8>,
 ) -> Result<(), AllocError>
-    ensures { OnOk result (text.new.items ≡ text.old.items ++ field_text (canonical_name name.now, V.text_of (V.meaning value.now))) }
+    ensures { OnOk result
+        (text.new.items ≡ text.old.items ++ field_text
+        (canonical_name name.now, V.text_of (V.meaning value.now))) }
 {
     append_name(name, text)?;
     text.push(b':')?;
@@ -23,10 +26,11 @@ pub(crate) fn append_field<V: Canon>(
     Ok(())
 }
 
-/// Appends what stands behind the colon: nothing for an empty value, the value itself where it begins
-/// on the next line, else a space and the value.
+/// Appends what stands behind the colon: nothing for an empty value, the value itself where it
+/// begins on the next line, else a space and the value.
 fn append_value<V: Canon>(value: &V, text: &mut Vec<u8>) -> Result<(), AllocError>
-    ensures { OnOk result (text.new.items ≡ text.old.items ++ behind_colon (V.text_of (V.meaning value.now))) }
+    ensures { OnOk result
+        (text.new.items ≡ text.old.items ++ behind_colon (V.text_of (V.meaning value.now))) }
 {
     let place = text.len();
     text.push(b' ')?;

@@ -15,7 +15,8 @@ use deb_field::{Doc, is_single};
 use deb_syntax::{Paragraphs, Raw};
 use std::alloc::Global;
 
-/// Finds the next paragraph and checks it: where it passes, its canonical text stands in `canonical`.
+/// Finds the next paragraph and checks it: where it passes, its canonical text stands in
+/// `canonical`.
 pub(crate) fn find<R: Source>(
     alloc: Global,
     doc: Doc,
@@ -25,9 +26,14 @@ pub(crate) fn find<R: Source>(
     reader: &mut R,
 ) -> Result<bool, Fault>
     requires sound { (state_of paragraphs.old).fault ≡ None }
-    ensures checks { Checks doc (moment_from paragraphs.old given.old (R.left reader.old) (R.failures reader.old)) (found_answer (state_of paragraphs.new).current canonical.new.items result) (moment_from paragraphs.new given.new (R.left reader.new) (R.failures reader.new)) }
+    ensures checks { Checks doc
+        (moment_from paragraphs.old given.old (R.left reader.old) (R.failures reader.old))
+        (found_answer (state_of paragraphs.new).current canonical.new.items result)
+        (moment_from paragraphs.new given.new (R.left reader.new) (R.failures reader.new)) }
     ensures sound { IfOk result (λ _. (state_of paragraphs.new).fault ≡ None) }
-    ensures passes { IfOk result (λ gives. IsTrue (passes_if gives doc (state_of paragraphs.new).current canonical.new.items)) }
+    ensures passes { IfOk result
+        (λ gives. IsTrue (passes_if gives doc
+        (state_of paragraphs.new).current canonical.new.items)) }
 {
     if is_single(doc) && given.paragraphs > 0 {
         return none_follows(paragraphs, reader);
@@ -42,7 +48,10 @@ pub(crate) fn find<R: Source>(
 /// Answers that no paragraph follows the one that a document has, or refuses a second one.
 fn none_follows<R: Source>(paragraphs: &mut Paragraphs, reader: &mut R) -> Result<bool, Fault>
     requires sound { (state_of paragraphs.old).fault ≡ None }
-    ensures checks { (doc : Doc) (given : Tally) → is_one doc ≡ true → 0 < given.paragraphs → Checks doc (moment_from paragraphs.old given (R.left reader.old) (R.failures reader.old)) (found_answer None [] result) (moment_from paragraphs.new given (R.left reader.new) (R.failures reader.new)) }
+    ensures checks { (doc : Doc) (given : Tally) → is_one doc ≡ true → 0 < given.paragraphs
+        → Checks doc (moment_from paragraphs.old given (R.left reader.old) (R.failures reader.old))
+        (found_answer None [] result)
+        (moment_from paragraphs.new given (R.left reader.new) (R.failures reader.new)) }
     ensures sound { IfOk result (λ _. (state_of paragraphs.new).fault ≡ None) }
     ensures none { IfOk result (λ gives. gives ≡ false) }
 {
@@ -71,8 +80,11 @@ fn pass(
     given: &mut Tally,
     canonical: &mut Vec<u8>,
 ) -> Result<bool, Fault>
-    ensures ok { IfOk result (λ gives. (gives ≡ true) × AddsPassing doc (seen_of raw.now) given.old canonical.new.items given.new) }
-    ensures fault { IfErr result (λ fault. RefusedOrMemory fault (RefusesSeen doc (seen_of raw.now) given.old)) }
+    ensures ok { IfOk result
+        (λ gives. (gives ≡ true)
+        × AddsPassing doc (seen_of raw.now) given.old canonical.new.items given.new) }
+    ensures fault { IfErr result
+        (λ fault. RefusedOrMemory fault (RefusesSeen doc (seen_of raw.now) given.old)) }
     ensures unchanged { IfErr result (λ fault. given.new ≡ given.old) }
 {
     read_fields(alloc, doc, raw, canonical)?;

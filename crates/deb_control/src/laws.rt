@@ -17,12 +17,14 @@ pub fn canonical_text_is_written_of_an_accepted_file()
     ensures { AcceptedIsWritten }
 {}
 
-/// The canonical text of an accepted file is accepted with the same meaning: both limits hold of it too.
+/// The canonical text of an accepted file is accepted with the same meaning: both limits hold of it
+/// too.
 pub fn canonical_text_is_accepted()
     ensures { CanonicalTextIsAccepted }
 {}
 
-/// Two files that are accepted as one kind of document have equal canonical text exactly where they mean the same.
+/// Two files that are accepted as one kind of document have equal canonical text exactly where they
+/// mean the same.
 pub fn canonical_text_tells_meanings()
     ensures { CanonicalTextTellsMeanings }
 {}
@@ -32,8 +34,8 @@ pub fn canonical_text_is_its_own()
     ensures { CanonicalTextIsItsOwn }
 {}
 
-/// The refusal of a file has a code from 1 to 21, and is at one of the file's lines, which are counted from 1; or a
-/// paragraph is missing at the line behind the last one.
+/// The refusal of a file has a code from 1 to 21, and is at one of the file's lines, which are
+/// counted from 1; or a paragraph is missing at the line behind the last one.
 pub fn a_refusal_is_of_the_file()
     ensures { RefusalsAreOfTheFile }
 {}

@@ -46,7 +46,8 @@ pub(crate) fn append_name(name: &[u8], text: &mut Vec<u8>) -> Result<(), AllocEr
     Ok(())
 }
 
-/// A byte of a name in the canonical spelling: a letter that begins a word in upper case, each other one in lower case.
+/// A byte of a name in the canonical spelling: a letter that begins a word in upper case, each
+/// other one in lower case.
 fn canonical_byte(begins_word: bool, byte: u8) -> u8
     ensures { result ≡ (if begins_word then to_ascii_uppercase byte else to_ascii_lowercase byte) }
 {

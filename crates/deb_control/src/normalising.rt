@@ -14,17 +14,19 @@ use std::alloc::Global;
 /// Reads a file as a document of a kind, writes its canonical text, and answers the number of its
 /// paragraphs (Debian Policy 5.1 and 5.3 to 5.6).
 ///
-/// A paragraph is written when it has passed every rule of the kind, with the empty line that stands
-/// between it and the one before, and not sooner.
+/// A paragraph is written when it has passed every rule of the kind, with the empty line that
+/// stands between it and the one before, and not sooner.
 ///
 /// What is said of the file's text holds for a reader that tells its bytes.
 ///
 /// # Errors
 ///
-/// - `Fault::Refused`: the file isn't accepted. This is the first refusal, with a code from 1 to 21 and
-///   a line of the file, which are counted from 1. The canonical text of the paragraphs before it was
+/// - `Fault::Refused`: the file isn't accepted. This is the first refusal, with a code from 1 to 21
+///   and
+/// a line of the file, which are counted from 1. The canonical text of the paragraphs before it was
 ///   written.
-/// - `Fault::Memory`: a growth of memory was refused, and `Fault::Read`: a read failed in this call.
+/// - `Fault::Memory`: a growth of memory was refused, and `Fault::Read`: a read failed in this
+///   call.
 ///   The canonical text of the first paragraphs was written, each of which passes and was read with
 ///   the blank line behind it.
 /// - `Fault::Write`: a write failed in this call. A prefix of what else would have been written was
@@ -35,10 +37,16 @@ pub fn normalise<R: Source, W: Sink>(
     reader: &mut R,
     writer: &mut W,
 ) -> Result<u64, Fault>
-    ensures ok { (text : List ℕ) → R.left reader.old ≡ Some text → IfOk result (λ n. WritesCanonical doc text n (W.held writer.old) (W.held writer.new)) }
-    ensures refused { (text : List ℕ) → R.left reader.old ≡ Some text → IfRefused result (λ refusal. WritesRefused doc text refusal (W.held writer.old) (W.held writer.new)) }
-    ensures cut_off { (text : List ℕ) → R.left reader.old ≡ Some text → IfCutOff result (WritesRead doc text (W.held writer.old) (W.held writer.new)) }
-    ensures write { (text : List ℕ) → R.left reader.old ≡ Some text → IfWriteFailed result (AppendsFront (W.held writer.old) (W.held writer.new) (out_of doc text)) }
+    ensures ok { (text : List ℕ) → R.left reader.old ≡ Some text
+        → IfOk result (λ n. WritesCanonical doc text n (W.held writer.old) (W.held writer.new)) }
+    ensures refused { (text : List ℕ) → R.left reader.old ≡ Some text
+        → IfRefused result (λ refusal. WritesRefused doc text refusal (W.held writer.old)
+        (W.held writer.new)) }
+    ensures cut_off { (text : List ℕ) → R.left reader.old ≡ Some text
+        → IfCutOff result (WritesRead doc text (W.held writer.old) (W.held writer.new)) }
+    ensures write { (text : List ℕ) → R.left reader.old ≡ Some text
+        → IfWriteFailed result
+        (AppendsFront (W.held writer.old) (W.held writer.new) (out_of doc text)) }
 
     // Whether or not the reader tells its bytes.
     ensures refusal { IfRefused result IsRefusalOfDocument }

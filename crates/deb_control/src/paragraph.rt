@@ -27,9 +27,11 @@ use std::alloc::{AllocError, Global};
 /// The most bytes that the canonical text of a paragraph may have.
 const PARAGRAPH_LIMIT: usize = 16_777_216;
 
-/// A paragraph of a document of a kind: its fields with their values, by the canonical spellings of their names.
+/// A paragraph of a document of a kind: its fields with their values, by the canonical spellings of
+/// their names.
 ///
-/// It owns the list of its fields and its canonical text, and borrows the bytes that the fields stand in.
+/// It owns the list of its fields and its canonical text, and borrows the bytes that the fields
+/// stand in.
 #[derive(Drop)]
 pub struct Paragraph<'a> {
     fields: Vec<TypedField<'a>>,
@@ -44,12 +46,16 @@ impl<'a> Paragraph<'a> {
     ///
     /// # Errors
     ///
-    /// The first body that is refused, in the order of the file, at the line of its field; else `MissingField` where a
-    /// field that the kind of document asks for is missing, and `ParagraphTooLong` where the canonical text has more
-    /// than 16,777,216 bytes, both at the paragraph's first line. `Fault::Memory` where a growth was refused.
+    /// The first body that is refused, in the order of the file, at the line of its field; else
+    /// `MissingField` where a field that the kind of document asks for is missing, and
+    /// `ParagraphTooLong` where the canonical text has more than 16,777,216 bytes, both at the
+    /// paragraph's first line. `Fault::Memory` where a growth was refused.
     pub fn build(alloc: Global, doc: Doc, paragraph: &Raw<'a>) -> Result<Paragraph<'a>, Fault>
-        ensures ok { IfOk result (λ typed. AreValuesOf doc (seen_of paragraph.now) (values_of typed)) }
-        ensures fault { IfErr result (λ fault. RefusedOrMemory fault (λ refusal. built (rules_of doc) (seen_of paragraph.now) ≡ Err refusal)) }
+        ensures ok { IfOk result
+            (λ typed. AreValuesOf doc (seen_of paragraph.now) (values_of typed)) }
+        ensures fault { IfErr result
+            (λ fault. RefusedOrMemory fault
+            (λ refusal. built (rules_of doc) (seen_of paragraph.now) ≡ Err refusal)) }
     {
         let mut text = Vec::new(alloc);
         let fields = read_fields(alloc, doc, paragraph, &mut text)?;
@@ -63,9 +69,11 @@ impl<'a> Paragraph<'a> {
         self.fields.as_slice()
     }
 
-    /// The value of the field of a name, without ASCII case, or `None` where there is no such field.
+    /// The value of the field of a name, without ASCII case, or `None` where there is no such
+    /// field.
     pub fn get(&self, name: &[u8]) -> Option<&Value<'a>>
-        ensures { option_map (λ value. value_meaning value.now) result ≡ value_under byte_order (canonical_name name.now) (values_of self.now) }
+        ensures { option_map (λ value. value_meaning value.now) result
+            ≡ value_under byte_order (canonical_name name.now) (values_of self.now) }
     {
         for field in self.fields.as_slice() {
             if same_name(field.raw.name, name) {
@@ -82,14 +90,15 @@ impl<'a> Paragraph<'a> {
         self.text.len() as u64
     }
 
-    /// Appends the canonical text: each field on lines of its own, in ascending order of the canonical spellings of
-    /// their names.
+    /// Appends the canonical text: each field on lines of its own, in ascending order of the
+    /// canonical spellings of their names.
     ///
     /// # Errors
     ///
     /// Want of memory, and `out` is then unchanged.
     pub fn canon_into(&self, out: &mut Vec<u8>) -> Result<(), AllocError>
-        ensures ok { OnOk result (out.new.items ≡ out.old.items ++ text_of_values (values_of self.now)) }
+        ensures ok { OnOk result
+            (out.new.items ≡ out.old.items ++ text_of_values (values_of self.now)) }
         ensures unchanged { OnErr result (out.new.items ≡ out.old.items) }
     {
         out.extend_from_slice(self.text.as_slice())
@@ -97,17 +106,22 @@ impl<'a> Paragraph<'a> {
 }
 
 /// The fields of a paragraph with their values, in ascending order of the canonical spellings of
-/// their names. Their canonical text then is all of `text`. The errors are those of `Paragraph::build`.
+/// their names. Their canonical text then is all of `text`. The errors are those of
+/// `Paragraph::build`.
 pub(crate) fn read_fields<'a>(
     alloc: Global,
     doc: Doc,
     paragraph: &Raw<'a>,
     text: &mut Vec<u8>,
 ) -> Result<Vec<TypedField<'a>>, Fault>
-    ensures ok { IfOk result (λ fields. AreValuesOf doc (seen_of paragraph.now) (values_in fields.items)) }
-    ensures text { IfOk result (λ fields. text.new.items ≡ text_of_values (values_in fields.items)) }
+    ensures ok { IfOk result
+        (λ fields. AreValuesOf doc (seen_of paragraph.now) (values_in fields.items)) }
+    ensures text { IfOk result
+        (λ fields. text.new.items ≡ text_of_values (values_in fields.items)) }
     ensures short { IfOk result (λ fields. length text.new.items ≤ 16777216) }
-    ensures fault { IfErr result (λ fault. RefusedOrMemory fault (λ refusal. built (rules_of doc) (seen_of paragraph.now) ≡ Err refusal)) }
+    ensures fault { IfErr result
+        (λ fault. RefusedOrMemory fault
+        (λ refusal. built (rules_of doc) (seen_of paragraph.now) ≡ Err refusal)) }
 {
     let mut fields = fields_with_values(alloc, doc, paragraph)?;
     if !has_required(doc, paragraph) {
@@ -136,8 +150,11 @@ fn fields_with_values<'a>(
 ) -> Result<Vec<TypedField<'a>>, Fault>
     ensures fields { IfOk result (λ fields. map field_in fields.items ≡ fields_of paragraph.now) }
     ensures values { IfOk result (λ fields. AllByRecursion (IsTypedField doc) fields.items) }
-    ensures good { IfOk result (λ fields. value_refusal_of (rules_of doc) (fields_of paragraph.now) ≡ None) }
-    ensures fault { IfErr result (λ fault. RefusedOrMemory fault (λ refusal. value_refusal_of (rules_of doc) (fields_of paragraph.now) ≡ Some refusal)) }
+    ensures good { IfOk result
+        (λ fields. value_refusal_of (rules_of doc) (fields_of paragraph.now) ≡ None) }
+    ensures fault { IfErr result
+        (λ fault. RefusedOrMemory fault
+        (λ refusal. value_refusal_of (rules_of doc) (fields_of paragraph.now) ≡ Some refusal)) }
 {
     let mut fields = Vec::new(alloc);
     for index in 0..paragraph.len() {
@@ -156,8 +173,14 @@ pub(crate) fn value_of<'a>(
     field: &RawField<'a>,
 ) -> Result<Value<'a>, Fault>
     requires { IsBody field.now.body.now }
-    ensures ok { IfOk result (λ value. SpellsValue doc (canonical_name field.now.name.now) field.now.body.now (value_meaning value)) }
-    ensures fault { IfErr result (λ fault. RefusedOrMemory fault (λ refusal. (refusal.line ≡ field.now.line) × (value_refusal doc (canonical_name field.now.name.now) field.now.body.now ≡ Some refusal.code))) }
+    ensures ok { IfOk result
+        (λ value. SpellsValue doc (canonical_name field.now.name.now) field.now.body.now
+        (value_meaning value)) }
+    ensures fault { IfErr result
+        (λ fault. RefusedOrMemory fault
+        (λ refusal. (refusal.line ≡ field.now.line)
+        × (value_refusal doc (canonical_name field.now.name.now) field.now.body.now
+        ≡ Some refusal.code))) }
 {
     match Value::parse(alloc, doc, field.name, field.body) {
         Ok(value) => Ok(value),

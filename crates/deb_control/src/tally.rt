@@ -31,7 +31,9 @@ impl Tally {
     /// has too many bytes then.
     pub(crate) fn with(self, length: usize) -> Option<Tally>
         requires { length ≤ 16777216 }
-        ensures some { IfSome result (λ given. (given.paragraphs ≡ self.paragraphs + 1) × (given.bytes ≡ bytes_with self.paragraphs self.bytes length)) }
+        ensures some { IfSome result
+            (λ given. (given.paragraphs ≡ self.paragraphs + 1)
+            × (given.bytes ≡ bytes_with self.paragraphs self.bytes length)) }
         ensures none { IfNone result (4294967295 < bytes_with self.paragraphs self.bytes length) }
     {
         let separator = u64::from(self.paragraphs > 0);

@@ -1,4 +1,5 @@
-//! Files of each kind of document: what is answered of them and what is written, in pieces of several sizes.
+//! Files of each kind of document: what is answered of them and what is written, in pieces of
+//! several sizes.
 
 mod accepted;
 mod devices;
@@ -18,8 +19,8 @@ use std::test::Fail;
 /// How many bytes a read gives at most.
 const SIZES: [usize; 5] = [1, 2, 3, 7, 65_536];
 
-/// A kind of document, a file, how many paragraphs it has or the code and the line of its refusal, and what is
-/// written of it.
+/// A kind of document, a file, how many paragraphs it has or the code and the line of its refusal,
+/// and what is written of it.
 struct Row(Doc, &'static [u8], Result<u64, (Code, u64)>, &'static [u8]);
 
 /// What a row's answer is to the calls.
@@ -80,8 +81,8 @@ fn assert_file(
     Ok(())
 }
 
-/// Reads a file to its end, and answers how many paragraphs it has, or to a fault. Their canonical texts are appended,
-/// with an empty line between them.
+/// Reads a file to its end, and answers how many paragraphs it has, or to a fault. Their canonical
+/// texts are appended, with an empty line between them.
 ///
 /// The last answer comes again and again, and the reader isn't asked for it.
 fn read_all(

@@ -30,7 +30,8 @@ pub(crate) fn sort(fields: &mut Vec<TypedField<'_>>)
 
 /// Appends the canonical text of fields.
 pub(crate) fn append_fields(fields: &[TypedField<'_>], text: &mut Vec<u8>) -> Result<(), AllocError>
-    ensures { OnOk result (text.new.items ≡ text.old.items ++ text_of_values (values_in fields.now)) }
+    ensures { OnOk result
+        (text.new.items ≡ text.old.items ++ text_of_values (values_in fields.now)) }
 {
     for field in fields {
         append_field(field.raw.name, &field.value, text)?;

@@ -1,5 +1,5 @@
--- The canonical text of a version: a function of its meaning alone, so that spellings of one version have one text.
--- Debian Policy 5.6.12; deb-version(7), "Sorting algorithm".
+-- The canonical text of a version: a function of its meaning alone, so that spellings of one
+-- version have one text. Debian Policy 5.6.12; deb-version(7), "Sorting algorithm".
 use Rattle.std.specs.Prelude.{◌≡◌, ℕ, zero, suc, ◌+◌, ◌-◌, ◌==◌, ◌&&◌, Bool, true, false, not, cond, List, [], ◌∷◌, ◌++◌, map, length, slice_get, Option, Some, None, refl, codes}
 use Rattle.std.specs.Char.{is_ascii_alphabetic}
 use Rattle.std.specs.Int.Digits.{digits_of as digits_in_base}
@@ -45,14 +45,24 @@ holds_hyphen text = list_any (λ b. b == 45) text
 
 -- the epoch is written exactly if it isn't 0 or the upstream version holds a colon
 abbrev pub canonical_epoch : Meaning → Option (List ℕ)
-canonical_epoch m = cond ((m.epoch == 0) && not (holds_colon (component_text m.upstream))) None (Some (digits_of m.epoch))
+canonical_epoch m =
+    cond ((m.epoch == 0) && not (holds_colon (component_text m.upstream))) None
+    (Some (digits_of m.epoch))
 
--- the revision is written exactly if it isn't that of an absent one or the upstream version holds a hyphen
+-- the revision is written exactly if it isn't that of an absent one or the upstream version holds a
+-- hyphen
 abbrev pub canonical_revision : Meaning → Option (List ℕ)
-canonical_revision m = cond (is_no_revision m.revision && not (holds_hyphen (component_text m.upstream))) None (Some (component_text m.revision))
+canonical_revision m =
+    cond (is_no_revision m.revision && not (holds_hyphen (component_text m.upstream))) None
+    (Some (component_text m.revision))
 
 abbrev pub canonical_components : Meaning → Components
-canonical_components m = record { epoch = canonical_epoch m; upstream = component_text m.upstream; revision = canonical_revision m }
+canonical_components m =
+    record {
+      epoch = canonical_epoch m;
+      upstream = component_text m.upstream;
+      revision = canonical_revision m;
+    }
 
 -- the canonical text of a version: `[epoch:]upstream[-revision]`
 abbrev pub version_text : Meaning → List ℕ
@@ -64,10 +74,13 @@ Extends old new = (more : List ℕ) × (new ≡ old ++ more)
 
 -- The worked cases: the canonical text of the texts of a version.
 abbrev canonical_text_of : Option (List ℕ) → List ℕ → Option (List ℕ) → List ℕ
-canonical_text_of epoch upstream revision = version_text (meaning_of_components (record { epoch = epoch; upstream = upstream; revision = revision }))
+canonical_text_of epoch upstream revision =
+    version_text (meaning_of_components
+    (record { epoch = epoch; upstream = upstream; revision = revision }))
 
 -- `0:1.0-0` and `1.00`; `1`
-worked-nothing_to_say : canonical_text_of (Some (codes "0")) (codes "1.0") (Some (codes "0")) ≡ codes "1.0"
+worked-nothing_to_say : canonical_text_of (Some (codes "0")) (codes "1.0") (Some (codes "0"))
+    ≡ codes "1.0"
 worked-nothing_to_say = refl
 
 worked-long_zero : canonical_text_of None (codes "1.00") None ≡ codes "1.0"
@@ -83,14 +96,17 @@ worked-zero = refl
 worked-hyphen : canonical_text_of None (codes "01.0-a00") (Some (codes "00")) ≡ codes "1.0-a-0"
 worked-hyphen = refl
 
--- `00:1:02-0`: the epoch 0 is written, since the upstream version `1:2` holds a colon; `1:2` has the epoch 1
-worked-colon : canonical_text_of (Some (codes "00")) (codes "1:02") (Some (codes "0")) ≡ codes "0:1:2"
+-- `00:1:02-0`: the epoch 0 is written, since the upstream version `1:2` holds a colon; `1:2` has
+-- the epoch 1
+worked-colon : canonical_text_of (Some (codes "00")) (codes "1:02") (Some (codes "0"))
+    ≡ codes "0:1:2"
 worked-colon = refl
 
 worked-epoch : canonical_text_of (Some (codes "1")) (codes "2") None ≡ codes "1:2"
 worked-epoch = refl
 
--- `1.` and `1+`: the last zero is written after a byte that is no letter; `1a0` and `1a00-0`: it is left out after a letter
+-- `1.` and `1+`: the last zero is written after a byte that is no letter; `1a0` and `1a00-0`: it is
+-- left out after a letter
 worked-dot : canonical_text_of None (codes "1.") None ≡ codes "1.0"
 worked-dot = refl
 
@@ -103,14 +119,19 @@ worked-letter = refl
 worked-letter_zeros : canonical_text_of None (codes "1a00") (Some (codes "0")) ≡ codes "1a"
 worked-letter_zeros = refl
 
--- `1A0`, with a capital letter; `1Z`, `1z`; after `@`, `[`, `` ` `` and `{`, which stand beside the letters, the zero is written
+-- `1A0`, with a capital letter; `1Z`, `1z`; after `@`, `[`, `` ` `` and `{`, which stand beside the
+-- letters, the zero is written
 worked-capital : canonical_text_of None (codes "1A0") None ≡ codes "1A"
 worked-capital = refl
 
-worked-last_letters : map ends_in_letter (codes "1A" ∷ codes "1Z" ∷ codes "1a" ∷ codes "1z" ∷ codes "a1" ∷ codes "" ∷ []) ≡ true ∷ true ∷ true ∷ true ∷ false ∷ false ∷ []
+worked-last_letters : map ends_in_letter
+    (codes "1A" ∷ codes "1Z" ∷ codes "1a" ∷ codes "1z" ∷ codes "a1" ∷ codes "" ∷ []) ≡ true ∷ true
+    ∷ true ∷ true ∷ false ∷ false ∷ []
 worked-last_letters = refl
 
-worked-no_letters : map ends_in_letter (codes "@" ∷ codes "[" ∷ codes "`" ∷ codes "{" ∷ codes "~" ∷ []) ≡ false ∷ false ∷ false ∷ false ∷ false ∷ []
+worked-no_letters : map ends_in_letter
+    (codes "@" ∷ codes "[" ∷ codes "`" ∷ codes "{" ∷ codes "~" ∷ []) ≡ false ∷ false ∷ false ∷ false
+    ∷ false ∷ []
 worked-no_letters = refl
 
 worked-inner_zero : canonical_text_of None (codes "1a0b0") None ≡ codes "1a0b"
@@ -123,17 +144,20 @@ worked-tilde = refl
 worked-hyphens : canonical_text_of None (codes "1-") (Some (codes "1")) ≡ codes "1-0-1"
 worked-hyphens = refl
 
-worked-hyphens_zero : canonical_text_of (Some (codes "2")) (codes "1-") (Some (codes "0")) ≡ codes "2:1-0-0"
+worked-hyphens_zero : canonical_text_of (Some (codes "2")) (codes "1-") (Some (codes "0"))
+    ≡ codes "2:1-0-0"
 worked-hyphens_zero = refl
 
 worked-zeros : canonical_text_of None (codes "01.001") None ≡ codes "1.1"
 worked-zeros = refl
 
 -- `1:0-0a` and `1:0-a` differ
-worked-zero_first : canonical_text_of (Some (codes "1")) (codes "0") (Some (codes "0a")) ≡ codes "1:0-0a"
+worked-zero_first : canonical_text_of (Some (codes "1")) (codes "0") (Some (codes "0a"))
+    ≡ codes "1:0-0a"
 worked-zero_first = refl
 
-worked-letter_first : canonical_text_of (Some (codes "1")) (codes "0") (Some (codes "a")) ≡ codes "1:0-a"
+worked-letter_first : canonical_text_of (Some (codes "1")) (codes "0") (Some (codes "a"))
+    ≡ codes "1:0-a"
 worked-letter_first = refl
 
 -- `1-0.0`: the revision has a further part, so it is written; `1-2`; `1A1`
@@ -147,5 +171,6 @@ worked-letter_number : canonical_text_of None (codes "1A01") None ≡ codes "1A1
 worked-letter_number = refl
 
 -- every digit
-worked-digits : map (λ s. canonical_text_of None s None) (codes "0123" ∷ codes "0456" ∷ codes "0789" ∷ []) ≡ codes "123" ∷ codes "456" ∷ codes "789" ∷ []
+worked-digits : map (λ s. canonical_text_of None s None)
+    (codes "0123" ∷ codes "0456" ∷ codes "0789" ∷ []) ≡ codes "123" ∷ codes "456" ∷ codes "789" ∷ []
 worked-digits = refl

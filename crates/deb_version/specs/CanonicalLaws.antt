@@ -9,20 +9,29 @@ use Rattle.deb_version.specs.Canonical.{version_text}
 
 -- The canonical text of a version that is spelled spells that version.
 abbrev pub CanonicalTextSpells : Type 0
-CanonicalTextSpells = (text : List ℕ) (m : Meaning) → SpellsVersion text m → SpellsVersion (version_text m) m
+CanonicalTextSpells =
+    (text : List ℕ) (m : Meaning) → SpellsVersion text m → SpellsVersion (version_text m) m
 
 -- Two versions that are spelled have one canonical text exactly if they mean the same.
 abbrev pub CanonicalTextDecides : Type 0
-CanonicalTextDecides = (s t : List ℕ) (m n : Meaning) → SpellsVersion s m → SpellsVersion t n → (version_text m ≡ version_text n) ↔ (m ≡ n)
+CanonicalTextDecides =
+    (s t : List ℕ) (m n : Meaning) → SpellsVersion s m → SpellsVersion t n
+    → (version_text m ≡ version_text n) ↔ (m ≡ n)
 
 -- The canonical text of what canonical text spells is that text.
 abbrev pub CanonicalTextStays : Type 0
-CanonicalTextStays = (text : List ℕ) (m n : Meaning) → SpellsVersion text m → SpellsVersion (version_text m) n → version_text n ≡ version_text m
+CanonicalTextStays =
+    (text : List ℕ) (m n : Meaning) → SpellsVersion text m → SpellsVersion (version_text m) n
+    → version_text n ≡ version_text m
 
 -- Canonical text is at most twice as long as each text that spells the version.
 abbrev pub CanonicalTextIsShort : Type 0
-CanonicalTextIsShort = (text : List ℕ) (m : Meaning) → SpellsVersion text m → length (version_text m) ≤ 2 * length text
+CanonicalTextIsShort =
+    (text : List ℕ) (m : Meaning) → SpellsVersion text m → length (version_text m) ≤ 2 * length text
 
--- Two versions that are spelled are equal in Debian's order exactly if they have one canonical text.
+-- Two versions that are spelled are equal in Debian's order exactly if they have one canonical
+-- text.
 abbrev pub EqualVersionsHaveOneText : Type 0
-EqualVersionsHaveOneText = (s t : List ℕ) (m n : Meaning) → SpellsVersion s m → SpellsVersion t n → (version_cmp m n ≡ Equal) ↔ (version_text m ≡ version_text n)
+EqualVersionsHaveOneText =
+    (s t : List ℕ) (m n : Meaning) → SpellsVersion s m → SpellsVersion t n
+    → (version_cmp m n ≡ Equal) ↔ (version_text m ≡ version_text n)

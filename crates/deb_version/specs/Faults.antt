@@ -1,5 +1,6 @@
 -- Which fault of a text is answered, and at which byte: the first of an ordered list.
--- The components and their bytes are those of Debian Policy 5.6.12; the order and the places are this project's.
+-- The components and their bytes are those of Debian Policy 5.6.12; the order and the places are
+-- this project's.
 use Rattle.std.specs.Prelude.{◌≡◌, ℕ, ◌+◌, ◌==◌, nat_lt, Bool, false, not, List, [], ◌∷◌, ◌++◌, length, Option, Some, None, is_some, if◌then◌else◌, codes, refl}
 use Rattle.std.specs.Char.{is_ascii_digit}
 use Rattle.std.specs.List.{list_any, position_or_len}
@@ -10,8 +11,8 @@ use Rattle.deb_version.specs.Parts.{value_of}
 use Rattle.deb_version.specs.Grammar.{Components, epoch_limit, epoch_text, spelling, is_upstream_byte, is_revision_byte}
 use Rattle.deb_version.specs.Places.{components_in}
 
--- The tests below ask whether a fault stands, so each is the contrary of a test of `Grammar`: a text is faultless exactly
--- where its components are allowed, which is a law.
+-- The tests below ask whether a fault stands, so each is the contrary of a test of `Grammar`: a
+-- text is faultless exactly where its components are allowed, which is a law.
 
 abbrev pub is_empty : List ℕ → Bool
 is_empty text = length text == 0
@@ -50,7 +51,8 @@ revision_at c = upstream_at c + length c.upstream + 1
 abbrev pub first_bad : (ℕ → Bool) → Option (List ℕ) → ℕ
 first_bad test component = option_map_or (position_or_len test) component 0
 
--- the faults that an epoch may have, each with the test whether it has it, in the order in which they are judged
+-- the faults that an epoch may have, each with the test whether it has it, in the order in which
+-- they are judged
 abbrev pub epoch_faults : Option (List ℕ) → List (Bool × BadVersion)
 epoch_faults epoch =
     (some_passes is_empty epoch, EpochEmpty)
@@ -63,8 +65,16 @@ abbrev pub rest_faults : Components → List (Bool × BadVersion)
 rest_faults c =
     (some_passes is_empty c.revision, RevisionEmpty)
     ∷ (is_empty c.upstream, UpstreamEmpty)
-    ∷ (list_any (is_bad_in_upstream (is_some c.epoch)) c.upstream, UpstreamByte (upstream_at c + position_or_len (is_bad_in_upstream (is_some c.epoch)) c.upstream))
-    ∷ (some_passes (list_any is_bad_in_revision) c.revision, RevisionByte (revision_at c + first_bad is_bad_in_revision c.revision))
+    ∷ (
+      list_any (is_bad_in_upstream (is_some c.epoch)) c.upstream,
+      UpstreamByte
+          (upstream_at c + position_or_len (is_bad_in_upstream (is_some c.epoch)) c.upstream),
+    )
+    ∷ (
+      some_passes (list_any is_bad_in_revision) c.revision,
+      RevisionByte
+          (revision_at c + first_bad is_bad_in_revision c.revision),
+    )
     ∷ []
 
 abbrev pub faults_of : Components → List (Bool × BadVersion)

@@ -1,5 +1,5 @@
--- The laws of the grammar of versions: what the definitions of `Parts`, `Grammar`, `Places` and `Faults` amount to.
--- Debian Policy 5.6.12; deb-version(7).
+-- The laws of the grammar of versions: what the definitions of `Parts`, `Grammar`, `Places` and
+-- `Faults` amount to. Debian Policy 5.6.12; deb-version(7).
 use Rattle.std.specs.Prelude.{◌≡◌, ◌↔◌, List, ℕ, None, IsTrue}
 use Rattle.deb_version.specs.Parts.{Part, HasParts, parts_of, Meaning}
 use Rattle.deb_version.specs.Grammar.{Components, AreComponents, SpellsVersion, are_components, spelling}
@@ -10,17 +10,21 @@ use Rattle.deb_version.specs.Version.{components_of, meaning_of}
 
 -- A text spells at most one version.
 abbrev pub SpellsOneVersion : Type 0
-SpellsOneVersion = (text : List ℕ) (m n : Meaning) → SpellsVersion text m → SpellsVersion text n → m ≡ n
+SpellsOneVersion =
+    (text : List ℕ) (m n : Meaning) → SpellsVersion text m → SpellsVersion text n → m ≡ n
 
 -- A text spells a version exactly where it has no fault.
 abbrev pub SpellsWhereFaultless : Type 0
-SpellsWhereFaultless = (text : List ℕ) → ((m : Meaning) × SpellsVersion text m) ↔ (first_fault text ≡ None)
+SpellsWhereFaultless =
+    (text : List ℕ) → ((m : Meaning) × SpellsVersion text m) ↔ (first_fault text ≡ None)
 
 -- A text has one list of parts.
 abbrev pub HasOneListOfParts : Type 0
-HasOneListOfParts = (text : List ℕ) (parts : List Part) → HasParts text parts ↔ (parts ≡ parts_of text)
+HasOneListOfParts =
+    (text : List ℕ) (parts : List Part) → HasParts text parts ↔ (parts ≡ parts_of text)
 
--- Every text is spelled by the components that stand in it, and allowed components stand in their spelling.
+-- Every text is spelled by the components that stand in it, and allowed components stand in their
+-- spelling.
 abbrev pub ComponentsSpell : Type 0
 ComponentsSpell = (text : List ℕ) → spelling (components_in text) ≡ text
 

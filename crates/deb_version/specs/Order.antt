@@ -7,7 +7,8 @@ use Rattle.std.specs.declared.cmp.Ordering.{Ordering}
 use Rattle.std.specs.declared.cmp.Ordering.TheVariants.{Less, Equal}
 use Rattle.deb_version.specs.Parts.{Part, Meaning, no_revision, parts_of}
 
--- two lists: the first place at which they differ decides, where the shorter list is continued by `rest` without end
+-- two lists: the first place at which they differ decides, where the shorter list is continued by
+-- `rest` without end
 abbrev pub continued_cmp : {K : Type 0} → (K → K → Ordering) → K → List K → List K → Ordering
 continued_cmp cmp rest [] [] = Equal
 continued_cmp cmp rest [] (y ∷ ys) = ordering_then (cmp rest y) (continued_cmp cmp rest [] ys)
@@ -18,11 +19,13 @@ continued_cmp cmp rest (x ∷ xs) (y ∷ ys) = ordering_then (cmp x y) (continue
 abbrev pub end_rank : ℕ
 end_rank = 1
 
--- the rank of a byte: tilde before the end of the text, then letters by their code, then all others by their code
+-- the rank of a byte: tilde before the end of the text, then letters by their code, then all others
+-- by their code
 abbrev pub rank_of : ℕ → ℕ
 rank_of b = cond (b == 126) 0 (cond (is_ascii_alphabetic b) (b + 1) (b + 257))
 
--- two texts without digits: the first place whose ranks differ decides, where each place past the end has the end's rank
+-- two texts without digits: the first place whose ranks differ decides, where each place past the
+-- end has the end's rank
 abbrev pub text_cmp : List ℕ → List ℕ → Ordering
 text_cmp a b = continued_cmp nat_cmp end_rank (map rank_of a) (map rank_of b)
 
@@ -40,7 +43,9 @@ component_cmp a b = continued_cmp part_cmp empty_part a b
 
 -- two versions: by epoch, then by upstream version, then by revision
 abbrev pub version_cmp : Meaning → Meaning → Ordering
-version_cmp a b = ordering_then (nat_cmp a.epoch b.epoch) (ordering_then (component_cmp a.upstream b.upstream) (component_cmp a.revision b.revision))
+version_cmp a b =
+    ordering_then (nat_cmp a.epoch b.epoch)
+    (ordering_then (component_cmp a.upstream b.upstream) (component_cmp a.revision b.revision))
 
 -- tilde stands before the end, the end before letters, letters before the rest
 worked-tilde : text_cmp (codes "~") [] ≡ Less
@@ -58,8 +63,8 @@ worked-letter = refl
 worked-rest : text_cmp (codes "z") (codes "+") ≡ Less
 worked-rest = refl
 
--- letters by their code, so capital ones first; bytes that are no letters by theirs; `:`, `@`, `[`, `` ` `` and `{` stand
--- beside the letters and are none
+-- letters by their code, so capital ones first; bytes that are no letters by theirs; `:`, `@`, `[`,
+-- `` ` `` and `{` stand beside the letters and are none
 worked-capital : text_cmp (codes "Z") (codes "a") ≡ Less
 worked-capital = refl
 
@@ -69,7 +74,8 @@ worked-capitals = refl
 worked-others : text_cmp (codes "+") (codes "-") ≡ Less
 worked-others = refl
 
-worked-beside_letters : map (λ b. text_cmp (codes "z") (b ∷ [])) (codes "@[`{") ≡ Less ∷ Less ∷ Less ∷ Less ∷ []
+worked-beside_letters : map (λ b. text_cmp (codes "z") (b ∷ [])) (codes "@[`{") ≡ Less ∷ Less ∷ Less
+    ∷ Less ∷ []
 worked-beside_letters = refl
 
 worked-ranks : map rank_of (codes "~AZaz+") ≡ 0 ∷ 66 ∷ 91 ∷ 98 ∷ 123 ∷ 300 ∷ []
@@ -80,7 +86,9 @@ worked-same = refl
 
 -- two versions of epoch 0 without revision
 abbrev upstream_cmp : List ℕ → List ℕ → Ordering
-upstream_cmp a b = version_cmp (record { epoch = 0; upstream = parts_of a; revision = no_revision }) (record { epoch = 0; upstream = parts_of b; revision = no_revision })
+upstream_cmp a b =
+    version_cmp (record { epoch = 0; upstream = parts_of a; revision = no_revision })
+    (record { epoch = 0; upstream = parts_of b; revision = no_revision })
 
 -- 1~~ before 1~~a before 1~ before 1 before 1a before 1+
 worked-1~~ : upstream_cmp (codes "1~~") (codes "1~~a") ≡ Less
@@ -117,27 +125,35 @@ worked-ten = refl
 
 -- 1.0~rc1 before 1.0~rc1-1 before 1.0; 1.0 and 1.0-0 are equal; the epoch goes first
 abbrev meaning : ℕ → List ℕ → List Part → Meaning
-meaning epoch upstream revision = record { epoch = epoch; upstream = parts_of upstream; revision = revision }
+meaning epoch upstream revision =
+    record { epoch = epoch; upstream = parts_of upstream; revision = revision }
 
-worked-revision : version_cmp (meaning 0 (codes "1.0~rc1") no_revision) (meaning 0 (codes "1.0~rc1") (parts_of (codes "1"))) ≡ Less
+worked-revision : version_cmp (meaning 0 (codes "1.0~rc1") no_revision)
+    (meaning 0 (codes "1.0~rc1") (parts_of (codes "1"))) ≡ Less
 worked-revision = refl
 
-worked-upstream : version_cmp (meaning 0 (codes "1.0~rc1") (parts_of (codes "1"))) (meaning 0 (codes "1.0") no_revision) ≡ Less
+worked-upstream : version_cmp (meaning 0 (codes "1.0~rc1") (parts_of (codes "1")))
+    (meaning 0 (codes "1.0") no_revision) ≡ Less
 worked-upstream = refl
 
-worked-no_revision : version_cmp (meaning 0 (codes "1.0") no_revision) (meaning 0 (codes "1.0") (parts_of (codes "0"))) ≡ Equal
+worked-no_revision : version_cmp (meaning 0 (codes "1.0") no_revision)
+    (meaning 0 (codes "1.0") (parts_of (codes "0"))) ≡ Equal
 worked-no_revision = refl
 
-worked-epoch : version_cmp (meaning 0 (codes "a") no_revision) (meaning 1 (codes "0") no_revision) ≡ Less
+worked-epoch : version_cmp (meaning 0 (codes "a") no_revision) (meaning 1 (codes "0") no_revision)
+    ≡ Less
 worked-epoch = refl
 
 -- 00:1:02-0 before 1:2
-worked-colon : version_cmp (meaning 0 (codes "1:02") (parts_of (codes "0"))) (meaning 1 (codes "2") no_revision) ≡ Less
+worked-colon : version_cmp (meaning 0 (codes "1:02") (parts_of (codes "0")))
+    (meaning 1 (codes "2") no_revision) ≡ Less
 worked-colon = refl
 
 -- the number of a part goes behind its text, the revision behind the upstream version
-worked-text_first : version_cmp (meaning 0 (codes "a9") no_revision) (meaning 0 (codes "b1") no_revision) ≡ Less
+worked-text_first : version_cmp (meaning 0 (codes "a9") no_revision)
+    (meaning 0 (codes "b1") no_revision) ≡ Less
 worked-text_first = refl
 
-worked-upstream_first : version_cmp (meaning 0 (codes "1") (parts_of (codes "9"))) (meaning 0 (codes "2") no_revision) ≡ Less
+worked-upstream_first : version_cmp (meaning 0 (codes "1") (parts_of (codes "9")))
+    (meaning 0 (codes "2") no_revision) ≡ Less
 worked-upstream_first = refl

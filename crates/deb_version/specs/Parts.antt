@@ -33,11 +33,13 @@ HasNoDigit text = AllByRecursion (λ b. IsFalse (is_ascii_digit b)) text
 abbrev pub IsDigits : List ℕ → Type 0
 IsDigits run = AllByRecursion (λ b. IsTrue (is_ascii_digit b)) run
 
--- texts and runs in turns: at least one of each; each text but the first is nonempty, and so is each run but the last
+-- texts and runs in turns: at least one of each; each text but the first is nonempty, and so is
+-- each run but the last
 abbrev pub AreCuts : List Cut → Type 0
 AreCuts [] = ⊥
 AreCuts (cut ∷ []) = HasNoDigit cut.0 × IsDigits cut.1
-AreCuts (cut ∷ next ∷ cuts) = HasNoDigit cut.0 × IsDigits cut.1 × (cut.1 ≢ []) × (next.0 ≢ []) × AreCuts (next ∷ cuts)
+AreCuts (cut ∷ next ∷ cuts) =
+    HasNoDigit cut.0 × IsDigits cut.1 × (cut.1 ≢ []) × (next.0 ≢ []) × AreCuts (next ∷ cuts)
 
 -- a run of digits counts as its number
 abbrev pub part_of : Cut → Part
@@ -48,14 +50,15 @@ parts_of_cuts cuts = map part_of cuts
 
 -- The text has these parts.
 abbrev pub HasParts : List ℕ → List Part → Type 0
-HasParts text parts = (cuts : List Cut) × AreCuts cuts × (text ≡ joined cuts) × (parts ≡ parts_of_cuts cuts)
+HasParts text parts =
+    (cuts : List Cut) × AreCuts cuts × (text ≡ joined cuts) × (parts ≡ parts_of_cuts cuts)
 
--- The cuts of a text are found from its end: `cuts_of` puts its last byte in front of the cuts of the empty text, and so
--- on, up to its first byte.
--- A digit in front of a cut, of a text and a run, and of more cuts: where the cut's text is empty, the digit stands right
--- before its run and joins it (`1` before `2a` gives `12a`); else it stands before a text, and so is a run of its own
--- behind an empty text (`1` before `a2`). `AreCuts` says what comes out, and the law that a text has one list of parts
--- says that nothing else may.
+-- The cuts of a text are found from its end: `cuts_of` puts its last byte in front of the cuts of
+-- the empty text, and so on, up to its first byte. A digit in front of a cut, of a text and a run,
+-- and of more cuts: where the cut's text is empty, the digit stands right before its run and joins
+-- it (`1` before `2a` gives `12a`); else it stands before a text, and so is a run of its own behind
+-- an empty text (`1` before `a2`). `AreCuts` says what comes out, and the law that a text has one
+-- list of parts says that nothing else may.
 abbrev pub with_digit : ℕ → List ℕ → List ℕ → List Cut → List Cut
 with_digit b [] run cuts = ([], b ∷ run) ∷ cuts
 with_digit b (c ∷ text) run cuts = ([], b ∷ []) ∷ (c ∷ text, run) ∷ cuts
@@ -63,7 +66,8 @@ with_digit b (c ∷ text) run cuts = ([], b ∷ []) ∷ (c ∷ text, run) ∷ cu
 -- a byte in front of cuts: a digit as above; any other byte joins the text of the first cut
 abbrev pub with_byte : ℕ → List Cut → List Cut
 with_byte b [] = (b ∷ [], []) ∷ []
-with_byte b (cut ∷ cuts) = cond (is_ascii_digit b) (with_digit b cut.0 cut.1 cuts) ((b ∷ cut.0, cut.1) ∷ cuts)
+with_byte b (cut ∷ cuts) =
+    cond (is_ascii_digit b) (with_digit b cut.0 cut.1 cuts) ((b ∷ cut.0, cut.1) ∷ cuts)
 
 -- the one way to cut a text
 abbrev pub cuts_of : List ℕ → List Cut
@@ -74,8 +78,8 @@ cuts_of (b ∷ bs) = with_byte b (cuts_of bs)
 abbrev pub parts_of : List ℕ → List Part
 parts_of text = parts_of_cuts (cuts_of text)
 
--- The meaning of a version: the epoch's value, and the parts of its upstream version and of its revision.
--- Debian Policy 5.6.12.
+-- The meaning of a version: the epoch's value, and the parts of its upstream version and of its
+-- revision. Debian Policy 5.6.12.
 pub record Meaning : Type 0 where
   pub epoch : ℕ
   pub upstream : List Part
@@ -85,7 +89,8 @@ pub record Meaning : Type 0 where
 abbrev pub no_revision : List Part
 no_revision = ([], 0) ∷ []
 
--- 1.0~rc01, 1a, the empty text; a text and a digit before a text and before a run; every digit, and the bytes beside them
+-- 1.0~rc01, 1a, the empty text; a text and a digit before a text and before a run; every digit, and
+-- the bytes beside them
 worked-dots : parts_of (codes "1.0~rc01") ≡ ([], 1) ∷ (codes ".", 0) ∷ (codes "~rc", 1) ∷ []
 worked-dots = refl
 

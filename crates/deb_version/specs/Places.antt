@@ -1,5 +1,6 @@
 -- Where the epoch, the upstream version and the revision of a text stand, allowed or not.
--- Debian Policy 5.6.12: the epoch ends at the first colon; the revision follows the last hyphen after that.
+-- Debian Policy 5.6.12: the epoch ends at the first colon; the revision follows the last hyphen
+-- after that.
 use Rattle.std.specs.Prelude.{◌≡◌, ℕ, ◌==◌, Bool, List, Option, Some, None, if◌then◌else◌, codes, refl}
 use Rattle.std.specs.List.{list_any, before_first, after_first, before_last, after_last}
 use Rattle.deb_version.specs.Grammar.{Components}
@@ -27,14 +28,23 @@ abbrev pub upstream_in : List ℕ → List ℕ
 upstream_in rest = if list_any is_hyphen rest then before_last is_hyphen rest else rest
 
 abbrev pub components_in : List ℕ → Components
-components_in text = record { epoch = epoch_in text; upstream = upstream_in (rest_in text); revision = revision_in (rest_in text) }
+components_in text =
+    record {
+      epoch = epoch_in text;
+      upstream = upstream_in (rest_in text);
+      revision = revision_in
+          (rest_in text);
+    }
 
 -- 2:1--0, 1.0 and 1:2-3:4
-worked-hyphens : components_in (codes "2:1--0") ≡ record { epoch = Some (codes "2"); upstream = codes "1-"; revision = Some (codes "0") }
+worked-hyphens : components_in (codes "2:1--0")
+    ≡ record { epoch = Some (codes "2"); upstream = codes "1-"; revision = Some (codes "0") }
 worked-hyphens = refl
 
-worked-plain : components_in (codes "1.0") ≡ record { epoch = None; upstream = codes "1.0"; revision = None }
+worked-plain : components_in (codes "1.0")
+    ≡ record { epoch = None; upstream = codes "1.0"; revision = None }
 worked-plain = refl
 
-worked-colons : components_in (codes "1:2-3:4") ≡ record { epoch = Some (codes "1"); upstream = codes "2"; revision = Some (codes "3:4") }
+worked-colons : components_in (codes "1:2-3:4")
+    ≡ record { epoch = Some (codes "1"); upstream = codes "2"; revision = Some (codes "3:4") }
 worked-colons = refl

@@ -36,13 +36,15 @@ impl Version<'_> {
     ///
     /// Numbers are written without leading zeros. At the end of the upstream version and of the
     /// revision the number 0 is left out exactly if a letter stands before it. An epoch of 0 is
-    /// written only if the upstream version holds a colon, a revision of 0 only if it holds a hyphen.
+    /// written only if the upstream version holds a colon, a revision of 0 only if it holds a
+    /// hyphen.
     ///
     /// # Errors
     ///
     /// Want of memory, and `out` is then unchanged.
     pub fn canon_into(&self, out: &mut Vec<u8>) -> Result<(), AllocError>
-        ensures ok { OnOk result (out.new.items ≡ out.old.items ++ version_text (meaning_of self.now)) }
+        ensures ok { OnOk result
+            (out.new.items ≡ out.old.items ++ version_text (meaning_of self.now)) }
         ensures unchanged { OnErr result (out.new.items ≡ out.old.items) }
     {
         let len = out.len();
@@ -55,7 +57,8 @@ impl Version<'_> {
 
     /// Appends the canonical text, or a part of it where memory is wanting.
     fn append_to(&self, out: &mut Vec<u8>) -> Result<(), AllocError>
-        ensures ok { OnOk result (out.new.items ≡ out.old.items ++ version_text (meaning_of self.now)) }
+        ensures ok { OnOk result
+            (out.new.items ≡ out.old.items ++ version_text (meaning_of self.now)) }
         ensures begun { OnErr result (Extends out.old.items out.new.items) }
     {
         if let Some(epoch) = self.written_epoch() {
@@ -88,7 +91,8 @@ impl Version<'_> {
     /// The revision, where canonical text has one: it isn't that of an absent one, or the upstream
     /// version holds a hyphen.
     fn written_revision(&self) -> Option<&[u8]>
-        ensures { option_map (λ revision. component_text (parts_of revision)) (option_copied result) ≡ canonical_revision (meaning_of self.now) }
+        ensures { option_map (λ revision. component_text (parts_of revision)) (option_copied result)
+            ≡ canonical_revision (meaning_of self.now) }
     {
         let revision = self.revision.unwrap_or(b"0");
         if is_no_revision(revision) && !self.upstream.contains(&b'-') {
@@ -118,7 +122,8 @@ fn component_len(component: &[u8]) -> u64
 
 /// Appends the canonical text of a component, or a part of it where memory is wanting.
 fn append_component(component: &[u8], out: &mut Vec<u8>) -> Result<(), AllocError>
-    ensures ok { OnOk result (out.new.items ≡ out.old.items ++ component_text (parts_of component.now)) }
+    ensures ok { OnOk result
+        (out.new.items ≡ out.old.items ++ component_text (parts_of component.now)) }
     ensures begun { OnErr result (Extends out.old.items out.new.items) }
 {
     let mut rest = component;
@@ -136,7 +141,9 @@ fn append_component(component: &[u8], out: &mut Vec<u8>) -> Result<(), AllocErro
 /// The number of a cut without leading zeros; in the last cut the number 0 is left out exactly if
 /// the cut's text ends in a letter.
 fn canonical_digits(cut: Cut<'_>, is_last: bool) -> &[u8]
-    ensures { result.now ≡ (if is_last then last_digits_of (part_of (cut_of cut.entry)) else digits_of (value_of cut.entry.run.now)) }
+    ensures { result.now ≡
+        (if is_last then last_digits_of (part_of (cut_of cut.entry)) else digits_of
+        (value_of cut.entry.run.now)) }
 {
     let digits = without_zeros(cut.run);
     if !digits.is_empty() {

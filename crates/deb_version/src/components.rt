@@ -123,8 +123,11 @@ pub(crate) fn judge_rest(
     upstream: &[u8],
     revision: Option<&[u8]>,
 ) -> Result<(), BadVersion>
-    requires { length (spelling (components_with (option_copied epoch) upstream.now (option_copied revision))) < 2 ^ 64 }
-    ensures { result_err result ≡ first_of (rest_faults (components_with (option_copied epoch.entry) upstream.now (option_copied revision.entry))) }
+    requires { length (spelling
+        (components_with (option_copied epoch) upstream.now (option_copied revision))) < 2 ^ 64 }
+    ensures { result_err result
+        ≡ first_of (rest_faults
+        (components_with (option_copied epoch.entry) upstream.now (option_copied revision.entry))) }
 {
     if is_empty_revision(revision) {
         return Err(BadVersion::RevisionEmpty);

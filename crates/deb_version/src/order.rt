@@ -25,7 +25,8 @@ use std::cmp::Ordering;
 /// memory for the lists of parts is refused.
 pub fn compare(alloc: Global, a: &Version<'_>, b: &Version<'_>) -> Result<Ordering, AllocError>
     ensures ok { IfOk result (λ o. o ≡ version_cmp (meaning_of a.now) (meaning_of b.now)) }
-    ensures canonical { IfOk result (λ o. (o ≡ Equal) ↔ (version_text (meaning_of a.now) ≡ version_text (meaning_of b.now))) }
+    ensures canonical { IfOk result
+        (λ o. (o ≡ Equal) ↔ (version_text (meaning_of a.now) ≡ version_text (meaning_of b.now))) }
 {
     let order = compare_runs(a.epoch.unwrap_or(&[]), b.epoch.unwrap_or(&[]));
     if order.is_ne() {
@@ -49,7 +50,8 @@ fn compare_components(alloc: Global, a: &[u8], b: &[u8]) -> Result<Ordering, All
 
 /// Two lists of cuts: the first place that differs decides.
 fn compare_cuts(a: &[Cut<'_>], b: &[Cut<'_>]) -> Ordering
-    ensures { result ≡ component_cmp (parts_of_cuts (map cut_of a.now)) (parts_of_cuts (map cut_of b.now)) }
+    ensures { result ≡ component_cmp (parts_of_cuts (map cut_of a.now))
+        (parts_of_cuts (map cut_of b.now)) }
 {
     for i in 0..a.len().max(b.len()) {
         let order = compare_parts(cut_at(a, i), cut_at(b, i));
@@ -62,7 +64,8 @@ fn compare_cuts(a: &[Cut<'_>], b: &[Cut<'_>]) -> Ordering
 
 /// The cut at a place, or an empty one past the end.
 fn cut_at<'a>(cuts: &[Cut<'a>], i: usize) -> Cut<'a>
-    ensures { part_of (cut_of result) ≡ slice_index_or (parts_of_cuts (map cut_of cuts.now)) i empty_part }
+    ensures { part_of (cut_of result)
+        ≡ slice_index_or (parts_of_cuts (map cut_of cuts.now)) i empty_part }
 {
     match cuts.get(i) {
         Some(cut) => *cut,

@@ -12,8 +12,12 @@ pub struct Version<'a> {
     pub(crate) epoch: Option<&'a [u8]>,
     pub(crate) upstream: &'a [u8],
     pub(crate) revision: Option<&'a [u8]>,
-    ghost well_formed: { IsTrue (are_components (components_with (option_copied epoch) upstream.now (option_copied revision))) },
-    ghost short: { length (spelling (components_with (option_copied epoch) upstream.now (option_copied revision))) < 2 ^ 63 },
+    ghost well_formed: { IsTrue
+        (are_components (components_with (option_copied epoch) upstream.now
+        (option_copied revision))) },
+    ghost short: { length
+        (spelling (components_with (option_copied epoch) upstream.now (option_copied revision)))
+        < 2 ^ 63 },
 }
 
 impl<'a> Version<'a> {
@@ -34,7 +38,8 @@ impl<'a> Version<'a> {
     pub fn parse(text: &'a [u8]) -> Result<Version<'a>, BadVersion>
         ensures ok { IfOk result (λ v. SpellsVersion text.now (meaning_of v)) }
         ensures spelled { IfOk result (λ v. text.now ≡ spelling (components_of v)) }
-        ensures accepted { (m : Meaning) → SpellsVersion text.now m → IsOkAnd result (λ v. meaning_of v ≡ m) }
+        ensures accepted { (m : Meaning) → SpellsVersion text.now m
+            → IsOkAnd result (λ v. meaning_of v ≡ m) }
         ensures refused { IfErr result (λ e. first_fault text.now ≡ Some e) }
         ensures faultless { IsOk result ↔ (first_fault text.now ≡ None) }
     {

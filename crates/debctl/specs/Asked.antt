@@ -1,4 +1,5 @@
--- What the program's words ask, as a function of what `clap` makes of them. (The words are this project's own.)
+-- What the program's words ask, as a function of what `clap` makes of them. (The words are this
+-- project's own.)
 use Rattle.std.specs.Prelude.{◌≡◌, ◌⊎◌, Bool, true, false, not, List, [], Option, Some, None, unwrap_or, option_map, if◌then◌else◌, codes, string_bytes, bytes_eq, Result, Ok, Err}
 use Rattle.std.specs.List.{list_any}
 use Rattle.std.specs.Option.{option_map_or}
@@ -71,11 +72,17 @@ pub record Request : Type 0 where
 abbrev pub wanted_of : Job → Wanted
 wanted_of (job.Check kind) = checks kind
 wanted_of (job.Normalise kind) = normalises kind
-wanted_of (job.Compare left operator right) = compares (string_bytes left) operator (string_bytes right)
+wanted_of (job.Compare left operator right) =
+    compares (string_bytes left) operator (string_bytes right)
 wanted_of (job.CanonVersion version) = canonicalises (string_bytes version)
 
 abbrev pub request_of : Call → Request
-request_of call = record { wanted = wanted_of call.job; first = option_map string_bytes call.first; second = option_map string_bytes call.second }
+request_of call =
+    record {
+      wanted = wanted_of call.job;
+      first = option_map string_bytes call.first;
+      second = option_map string_bytes call.second;
+    }
 
 -- ---- what is asked
 
@@ -94,16 +101,26 @@ word_in id rows = unwrap_or (first_of id rows) []
 -- `check` and `normalise`
 abbrev pub document_asked : (Doc → Wanted) → List Row → Asked
 document_asked wanted rows = option_map_or
-    (λ kind. asks (record { wanted = wanted kind; first = first_of (codes "path") rows; second = None }))
+    (λ kind. asks (record
+    { wanted = wanted kind; first = first_of (codes "path") rows; second = None }))
     (kind_asked (first_of (codes "kind") rows)) unknown_kind
 
 abbrev pub compare_asked : List Row → Asked
 compare_asked rows = option_map_or
-    (λ operator. asks (record { wanted = compares (word_in (codes "left") rows) operator (word_in (codes "right") rows); first = None; second = None }))
+    (λ operator. asks (record {
+      wanted = compares (word_in (codes "left") rows) operator (word_in (codes "right") rows);
+      first = None;
+      second = None;
+    }))
     (operator_named (word_in (codes "operator") rows)) unknown_operator
 
 abbrev pub canon_version_asked : List Row → Asked
-canon_version_asked rows = asks (record { wanted = canonicalises (word_in (codes "version") rows); first = None; second = None })
+canon_version_asked rows =
+    asks (record {
+      wanted = canonicalises (word_in (codes "version") rows);
+      first = None;
+      second = None;
+    })
 
 abbrev pub help_asked : Option Text → Asked
 help_asked None = asks_help
@@ -142,7 +159,8 @@ AnswersError asked (Usage text) = IsUsage asked (string_bytes text)
 AnswersError asked (Help text) = asked ≡ asks_help
 AnswersError asked Memory = Unit {0}
 
--- an answer to what is asked: the call itself, and an error only where there is none, or for want of memory
+-- an answer to what is asked: the call itself, and an error only where there is none, or for want
+-- of memory
 abbrev pub Answers : Asked → Result Call UsageFault → Type 0
 Answers asked (Ok call) = asked ≡ asks (request_of call)
 Answers asked (Err error) = AnswersError asked error
@@ -164,7 +182,8 @@ abbrev pub AnswersMet : Option Asked → Result Call UsageFault → Type 0
 AnswersMet None result = ⊥
 AnswersMet (Some asked) result = Answers asked result
 
--- all of the kinds are mistakes, and all are calls for help or for the version; there is one at least
+-- all of the kinds are mistakes, and all are calls for help or for the version; there is one at
+-- least
 abbrev pub AreMistakes : Kinds → Type 0
 AreMistakes kinds = (has_mistake kinds ≡ true) × (has_request kinds ≡ false)
 
@@ -173,8 +192,10 @@ AreRequests kinds = (has_request kinds ≡ true) × (has_mistake kinds ≡ false
 
 -- why words give no call: by the kinds of `clap`'s error, or where that has none, by what is asked
 abbrev pub MeansError : Kinds → Option Asked → UsageFault → Type 0
-MeansError kinds asked (Usage text) = AreMistakes kinds ⊎ ((kinds ≡ []) × AnswersMet asked (Err (Usage text)))
-MeansError kinds asked (Help text) = AreRequests kinds ⊎ ((kinds ≡ []) × AnswersMet asked (Err (Help text)))
+MeansError kinds asked (Usage text) =
+    AreMistakes kinds ⊎ ((kinds ≡ []) × AnswersMet asked (Err (Usage text)))
+MeansError kinds asked (Help text) =
+    AreRequests kinds ⊎ ((kinds ≡ []) × AnswersMet asked (Err (Help text)))
 MeansError kinds asked Memory = Unit {0}
 
 -- ---- what the parts of `job_of` answer

@@ -14,28 +14,38 @@ use Rattle.debctl.specs.declared.jobs.Cmp.TheVariants as cmp
 abbrev line : List Text → List Text
 line words = codes "debctl" ∷ words
 
-check_alone : asked_of (line (codes "check" ∷ [])) ≡ Some (asks (record { wanted = checks Packages; first = None; second = None }))
+check_alone : asked_of (line (codes "check" ∷ []))
+    ≡ Some (asks (record { wanted = checks Packages; first = None; second = None }))
 unfolding clap_on_literals
 check_alone = refl
 
-kind_and_path : asked_of (line (codes "normalise" ∷ codes "--kind=source" ∷ codes "x" ∷ [])) ≡ Some (asks (record { wanted = normalises Source; first = Some (codes "x"); second = None }))
+kind_and_path : asked_of (line (codes "normalise" ∷ codes "--kind=source" ∷ codes "x" ∷ []))
+    ≡ Some (asks (record { wanted = normalises Source; first = Some (codes "x"); second = None }))
 unfolding clap_on_literals
 kind_and_path = refl
 
-unknown_kind_word : asked_of (line (codes "check" ∷ codes "--kind" ∷ codes "foo" ∷ [])) ≡ Some unknown_kind
+unknown_kind_word : asked_of (line (codes "check" ∷ codes "--kind" ∷ codes "foo" ∷ []))
+    ≡ Some unknown_kind
 unfolding clap_on_literals
 unknown_kind_word = refl
 
-comparison : asked_of (line (codes "compare" ∷ codes "1" ∷ codes "lt" ∷ codes "2" ∷ [])) ≡ Some (asks (record { wanted = compares (codes "1") cmp.Less (codes "2"); first = None; second = None }))
+comparison : asked_of (line (codes "compare" ∷ codes "1" ∷ codes "lt" ∷ codes "2" ∷ []))
+    ≡ Some (asks (record {
+      wanted = compares (codes "1") cmp.Less (codes "2");
+      first = None;
+      second = None;
+    }))
 unfolding clap_on_literals
 comparison = refl
 
-unknown_operator_word : asked_of (line (codes "compare" ∷ codes "1" ∷ codes "xx" ∷ codes "2" ∷ [])) ≡ Some unknown_operator
+unknown_operator_word : asked_of (line (codes "compare" ∷ codes "1" ∷ codes "xx" ∷ codes "2" ∷ []))
+    ≡ Some unknown_operator
 unfolding clap_on_literals
 unknown_operator_word = refl
 
 -- a version that begins with a hyphen comes after `--`
-version_with_hyphen : asked_of (line (codes "canon-version" ∷ codes "--" ∷ codes "-1-1" ∷ [])) ≡ Some (asks (record { wanted = canonicalises (codes "-1-1"); first = None; second = None }))
+version_with_hyphen : asked_of (line (codes "canon-version" ∷ codes "--" ∷ codes "-1-1" ∷ []))
+    ≡ Some (asks (record { wanted = canonicalises (codes "-1-1"); first = None; second = None }))
 unfolding clap_on_literals
 version_with_hyphen = refl
 
@@ -55,19 +65,24 @@ no_words : fault_of debctl_app (line []) ≡ kind.MissingSubcommand ∷ []
 unfolding clap_on_literals
 no_words = refl
 
-too_many_words : fault_of debctl_app (line (codes "check" ∷ codes "a" ∷ codes "b" ∷ [])) ≡ kind.UnknownArgument ∷ []
+too_many_words : fault_of debctl_app (line (codes "check" ∷ codes "a" ∷ codes "b" ∷ []))
+    ≡ kind.UnknownArgument ∷ []
 unfolding clap_on_literals
 too_many_words = refl
 
-missing_word : fault_of debctl_app (line (codes "compare" ∷ codes "1" ∷ codes "lt" ∷ [])) ≡ kind.MissingRequiredArgument ∷ []
+missing_word : fault_of debctl_app (line (codes "compare" ∷ codes "1" ∷ codes "lt" ∷ []))
+    ≡ kind.MissingRequiredArgument ∷ []
 unfolding clap_on_literals
 missing_word = refl
 
-kind_twice : fault_of debctl_app (line (codes "check" ∷ codes "--kind" ∷ codes "source" ∷ codes "--kind" ∷ codes "source" ∷ [])) ≡ kind.ArgumentConflict ∷ []
+kind_twice : fault_of debctl_app
+    (line (codes "check" ∷ codes "--kind" ∷ codes "source" ∷ codes "--kind" ∷ codes "source" ∷ []))
+    ≡ kind.ArgumentConflict ∷ []
 unfolding clap_on_literals
 kind_twice = refl
 
-call_for_help : fault_of debctl_app (line (codes "check" ∷ codes "--help" ∷ [])) ≡ kind.DisplayHelp ∷ []
+call_for_help : fault_of debctl_app (line (codes "check" ∷ codes "--help" ∷ [])) ≡ kind.DisplayHelp
+    ∷ []
 unfolding clap_on_literals
 call_for_help = refl
 

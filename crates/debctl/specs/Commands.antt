@@ -1,5 +1,5 @@
--- The commands, as what `clap` reads of them: their names, their options and the words that they take.
--- (This project's own.)
+-- The commands, as what `clap` reads of them: their names, their options and the words that they
+-- take. (This project's own.)
 use Rattle.std.specs.Prelude.{◌≡◌, true, false, Some, codes}
 use Rattle.clap.specs.Simple.{App, app_of, new_app, new_rule, on_top, with_rule, with_subcommand}
 use Rattle.clap.specs.Walk.{Rule, Text}
@@ -38,7 +38,9 @@ document_app name = with_rule (with_rule (new_app name) kind_rule) (optional_rul
 
 -- `compare V OP V`
 abbrev pub compare_app : App
-compare_app = with_rule (with_rule (with_rule (new_app compare_word) (required_rule (codes "left"))) (required_rule (codes "operator"))) (required_rule (codes "right"))
+compare_app =
+    with_rule (with_rule (with_rule (new_app compare_word) (required_rule (codes "left")))
+    (required_rule (codes "operator"))) (required_rule (codes "right"))
 
 -- `canon-version V`
 abbrev pub canon_version_app : App
@@ -50,13 +52,17 @@ help_app = with_rule (new_app help_word) (optional_rule (codes "command"))
 
 -- the program alone: it has a version, asks for a command, and has a command `help` of its own
 abbrev pub bare_app : App
-bare_app = on_top (λ s. record s { has_version = true; subcommand_required = true; disable_help_subcommand = true }) (new_app (codes "debctl"))
+bare_app =
+    on_top (λ s. record s
+    { has_version = true; subcommand_required = true; disable_help_subcommand = true })
+    (new_app (codes "debctl"))
 
 -- the program with its commands
 abbrev pub debctl_app : App
 debctl_app =
     with_subcommand (with_subcommand (with_subcommand (with_subcommand (with_subcommand bare_app
-    (document_app check_word).top) (document_app normalise_word).top) compare_app.top) canon_version_app.top) help_app.top
+    (document_app check_word).top) (document_app normalise_word).top) compare_app.top)
+    canon_version_app.top) help_app.top
 
 -- the command is what `clap` reads so, and none of its arguments is global
 pub record IsShaped (app : App) (command : Command) : Type 0 where

@@ -1,5 +1,5 @@
--- What the jobs on versions answer: Debian Policy 5.6.12 and deb-version(7). The statuses, the line of a refusal and
--- the newline behind a canonical version are this project's own.
+-- What the jobs on versions answer: Debian Policy 5.6.12 and deb-version(7). The statuses, the line
+-- of a refusal and the newline behind a canonical version are this project's own.
 use Rattle.std.specs.Prelude.{◌≡◌, ◌⊎◌, ℕ, Bool, true, false, not, List, [], ◌∷◌, ◌++◌, Option, Result, Ok, Err, if◌then◌else◌, codes, refl}
 use Rattle.std.specs.Fmt.{digits}
 use Rattle.std.specs.Io.KnownBytes.{Appends}
@@ -77,7 +77,8 @@ pub record Compared (left : List ℕ) (operator : Cmp) (right : List ℕ) (answe
 -- the answer to `compare`: a refusal where a text is no version
 abbrev pub Compares : List ℕ → Cmp → List ℕ → Result Bool Fault → Type 0
 Compares left operator right (Ok answer) = Compared left operator right answer
-Compares left operator right (Err (Refused refusal)) = (refusal ≡ bad_version) × (IsNoVersion left ⊎ IsNoVersion right)
+Compares left operator right (Err (Refused refusal)) =
+    (refusal ≡ bad_version) × (IsNoVersion left ⊎ IsNoVersion right)
 Compares left operator right (Err Memory) = IsVersion left × IsVersion right
 Compares left operator right (Err Read) = ⊥
 Compares left operator right (Err Write) = ⊥
@@ -94,29 +95,35 @@ version_line version = version_text version ++ newline ∷ []
 
 -- the line, or a refusal of a text that is no version
 abbrev pub GivesLine : {T : Type 0} → (T → List ℕ) → List ℕ → Result T Fault → Type 0
-GivesLine bytes text (Ok line) = (version : Meaning) × SpellsVersion text version × (bytes line ≡ version_line version)
+GivesLine bytes text (Ok line) =
+    (version : Meaning) × SpellsVersion text version × (bytes line ≡ version_line version)
 GivesLine bytes text (Err (Refused refusal)) = (refusal ≡ bad_version) × IsNoVersion text
 GivesLine bytes text (Err Memory) = IsVersion text
 GivesLine bytes text (Err Read) = ⊥
 GivesLine bytes text (Err Write) = ⊥
 
--- The text is a version, and exactly its line was written; or a prefix of it was, before a write failed.
-pub record WritesLine {W : Type 0} (text : List ℕ) (held : W → Option (List ℕ)) (failures : W → ℕ) (old new : W) : Type 0 where
+-- The text is a version, and exactly its line was written; or a prefix of it was, before a write
+-- failed.
+pub record WritesLine {W : Type 0} (text : List ℕ) (held : W → Option (List ℕ)) (failures : W → ℕ)
+    (old new : W) : Type 0 where
   pub version : Meaning
   pub spelled : SpellsVersion text version
   pub written : Appends (held old) (held new) (version_line version)
   pub counted : failures new ≡ failures old
 
-pub record WritesFrontOfLine {W : Type 0} (text : List ℕ) (held : W → Option (List ℕ)) (failures : W → ℕ) (old new : W) : Type 0 where
+pub record WritesFrontOfLine {W : Type 0} (text : List ℕ) (held : W → Option (List ℕ))
+    (failures : W → ℕ) (old new : W) : Type 0 where
   pub version : Meaning
   pub spelled : SpellsVersion text version
   pub written : AppendsFront (held old) (held new) (version_line version)
   pub counted : failures new ≡ one_more (failures old)
 
 -- the answer to `canon-version`, and what it wrote
-abbrev pub Canonicalises : {T W : Type 0} → List ℕ → (W → Option (List ℕ)) → (W → ℕ) → W → W → Result T Fault → Type 0
+abbrev pub Canonicalises : {T W : Type 0} → List ℕ → (W → Option (List ℕ)) → (W → ℕ) → W → W
+    → Result T Fault → Type 0
 Canonicalises text held failures old new (Ok _) = WritesLine text held failures old new
-Canonicalises text held failures old new (Err (Refused refusal)) = (refusal ≡ bad_version) × IsNoVersion text × (new ≡ old)
+Canonicalises text held failures old new (Err (Refused refusal)) =
+    (refusal ≡ bad_version) × IsNoVersion text × (new ≡ old)
 Canonicalises text held failures old new (Err Memory) = IsVersion text × (new ≡ old)
 Canonicalises text held failures old new (Err Read) = ⊥
 Canonicalises text held failures old new (Err Write) = WritesFrontOfLine text held failures old new
@@ -125,5 +132,6 @@ line_of_bad_version : refusal_line bad_version ≡ codes "line 0: 18 BadVersion\
 unfolding digits
 line_of_bad_version = refl
 
-less_or_equal_holds_of_equal : (holds cmp.LessOrEqual order.Equal ≡ true) × (holds cmp.Less order.Equal ≡ false) × (holds cmp.NotEqual order.Equal ≡ false)
+less_or_equal_holds_of_equal : (holds cmp.LessOrEqual order.Equal ≡ true)
+    × (holds cmp.Less order.Equal ≡ false) × (holds cmp.NotEqual order.Equal ≡ false)
 less_or_equal_holds_of_equal = (refl, refl, refl)

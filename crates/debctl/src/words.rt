@@ -46,7 +46,7 @@ impl From<AllocError> for UsageFault {
 /// ask for a call. `help [COMMAND]` asks for help, and so do `--help` and `--version`.
 ///
 /// - `UsageFault::Usage`: a word is wrong, or one is missing. Of a K, an OP or a COMMAND that isn't
-///   known the text is `usage: unknown kind`, `usage: unknown operator` or `usage: unknown command`,
+/// known the text is `usage: unknown kind`, `usage: unknown operator` or `usage: unknown command`,
 ///   of all else `clap`'s.
 /// - `UsageFault::Help`: the words ask for help or for the version.
 /// - `UsageFault::Memory`: a growth of memory was refused.
@@ -54,13 +54,18 @@ pub fn job_of(alloc: Global, words: &[String]) -> Result<Call, UsageFault>
     // A call is what `clap` takes the words for.
     ensures taken { IfOk result (λ _. takes debctl_app (map string_bytes words.now) ≡ true) }
     ensures faultless { IfOk result (λ _. fault_of debctl_app (map string_bytes words.now) ≡ []) }
-    ensures ok { IfOk result (λ call. asked_of (map string_bytes words.now) ≡ Some (asks (request_of call))) }
+    ensures ok { IfOk result
+        (λ call. asked_of (map string_bytes words.now) ≡ Some (asks (request_of call))) }
 
     // An error comes by what `clap` refuses, or by what isn't known.
-    ensures refused { IfErr result (MeansError (fault_of debctl_app (map string_bytes words.now)) (asked_of (map string_bytes words.now))) }
+    ensures refused { IfErr result
+        (MeansError (fault_of debctl_app (map string_bytes words.now))
+        (asked_of (map string_bytes words.now))) }
 
     // Words that `clap` takes, and that ask for a call, aren't refused.
-    ensures accepted { takes debctl_app (map string_bytes words.now) ≡ true → (request : Request) → asked_of (map string_bytes words.now) ≡ Some (asks request) → IfErr result (λ error. error ≡ UsageFault.Memory) }
+    ensures accepted { takes debctl_app (map string_bytes words.now) ≡ true → (request : Request)
+        → asked_of (map string_bytes words.now) ≡ Some (asks request)
+        → IfErr result (λ error. error ≡ UsageFault.Memory) }
 {
     let command = debctl_command(alloc)?;
     match command.try_get_matches_from(words) {
@@ -166,7 +171,8 @@ fn canon_version_call(alloc: Global, found: &ArgMatches<'_>) -> Result<Call, Usa
 
 /// The kind of document that `--kind` names, or a list of packages without it.
 fn kind_in(alloc: Global, found: &ArgMatches<'_>) -> Result<Doc, UsageFault>
-    ensures { MeansKind (kind_asked (first_of (codes "kind") (rows_of (found_of found.now)))) result }
+    ensures { MeansKind (kind_asked (first_of (codes "kind") (rows_of (found_of found.now))))
+        result }
 {
     let Some(word) = given(found, "kind") else {
         return Ok(Doc::Packages);
@@ -179,7 +185,9 @@ fn kind_in(alloc: Global, found: &ArgMatches<'_>) -> Result<Doc, UsageFault>
 
 /// The path among the words, if there is one.
 fn path_in(alloc: Global, found: &ArgMatches<'_>) -> Result<Option<String>, AllocError>
-    ensures { IfOk result (λ path. option_map string_bytes path ≡ first_of (codes "path") (rows_of (found_of found.now))) }
+    ensures { IfOk result
+        (λ path. option_map string_bytes path
+        ≡ first_of (codes "path") (rows_of (found_of found.now))) }
 {
     match given(found, "path") {
         Some(path) => Ok(Some(String::from_str(alloc, path)?)),

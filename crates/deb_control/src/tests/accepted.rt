@@ -76,7 +76,8 @@ const ROWS: [Row; 20] = [
         b"Architecture: all\nPackage: aa\nVersion: 1.0-a-0\n\n\
         Architecture: all\nPackage: aa\nVersion: 0:1:2\n",
     ),
-    // sources: an empty list of architectures, one of two, and a body that begins in its second line
+    // sources: an empty list of architectures, one of two, and a body that begins in its second
+    // line
     Row(
         Doc::Source,
         b"Format: 1.0\nSource: aa\nVersion: 1\nArchitecture:\n",

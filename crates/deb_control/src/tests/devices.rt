@@ -47,7 +47,8 @@ impl Read for Pieces<'_> {
     }
 }
 
-/// A reader that gives a text so many times, then another one, and then one byte for ever, if there is one.
+/// A reader that gives a text so many times, then another one, and then one byte for ever, if there
+/// is one.
 #[derive(Drop)]
 pub(super) struct Repeated<'a> {
     text: &'a [u8],

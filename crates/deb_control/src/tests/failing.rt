@@ -3,7 +3,8 @@
 use super::*;
 use devices::{Slow, Then};
 
-/// Three paragraphs. The first two are closed by a blank line: with its newline they have 42 and 92 bytes.
+/// Three paragraphs. The first two are closed by a blank line: with its newline they have 42 and 92
+/// bytes.
 const FILE: &[u8] = b"Package: aa\nVersion: 1\nArchitecture: all\n\n\
     version:01.0-0\nPackage: bb\nArchitecture: amd64\n \t\n\n\
     Package: cc\nArchitecture: all\nVersion: 3";
@@ -18,7 +19,8 @@ const REFUSED: &[u8] = b"Package: aa\nVersion: 1\nArchitecture: all\n\nPackage: 
 /// What is written of it.
 const REFUSED_TEXT: &[u8] = b"Architecture: all\nPackage: aa\nVersion: 1\n";
 
-/// How many bytes of the canonical text may be written, and how many of the file have to be read for that.
+/// How many bytes of the canonical text may be written, and how many of the file have to be read
+/// for that.
 const FRONTS: [(usize, usize); 3] = [(0, 0), (41, 42), (87, 92)];
 
 /// The reader fails once, at each of its calls, and would then go on.
@@ -66,7 +68,8 @@ fn assert_front(rt: &impl Abort, held: &[u8], taken: usize) {
     assert!(rt; allowed, "{} bytes written of {taken} bytes", held.len());
 }
 
-/// `check` answers the same, and so does `next` when it is asked again, though the reader would go on.
+/// `check` answers the same, and so does `next` when it is asked again, though the reader would go
+/// on.
 fn assert_same_fault(
     rt: &impl Abort,
     alloc: Global,
@@ -106,8 +109,8 @@ fn a_failed_read_in_a_second_paragraph(rt: HostRuntime) -> Result<(), Fail> {
     Ok(())
 }
 
-/// The writer fails at each of its calls, or takes nothing from then on: a file that is accepted, and one whose second
-/// paragraph is refused.
+/// The writer fails at each of its calls, or takes nothing from then on: a file that is accepted,
+/// and one whose second paragraph is refused.
 #[test]
 fn a_failed_write_leaves_a_prefix(rt: HostRuntime) -> Result<(), Fail> {
     let refused = Err(refusal_at(Code::MissingField, 5));

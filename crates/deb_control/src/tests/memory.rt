@@ -1,5 +1,6 @@
-//! Want of memory. `rt try --test --fail-alloc N -- want_of_memory` refuses the Nth growth of a run and no other: exactly
-//! one of the calls below then wants memory, or the test itself, and where N passes their growths none does.
+//! Want of memory. `rt try --test --fail-alloc N -- want_of_memory` refuses the Nth growth of a run
+//! and no other: exactly one of the calls below then wants memory, or the test itself, and where N
+//! passes their growths none does.
 
 use super::*;
 use crate::Paragraph;
@@ -60,7 +61,8 @@ fn want_of_memory(rt: HostRuntime) -> Result<(), Fail> {
     Ok(())
 }
 
-/// Whole paragraphs are written before want of memory, and all of them without it. The writer needs no growth.
+/// Whole paragraphs are written before want of memory, and all of them without it. The writer needs
+/// no growth.
 fn normalise_all(
     rt: &impl Abort,
     alloc: Global,
@@ -91,7 +93,8 @@ fn normalise_all(
     }
 }
 
-/// Paragraphs are given to the end or to want of memory, which comes again though no further growth is refused.
+/// Paragraphs are given to the end or to want of memory, which comes again though no further growth
+/// is refused.
 fn give_all(rt: &impl Abort, alloc: Global, refusals: &mut Refusals) {
     let mut input = Input::new(TEXT);
     let mut checked = Checked::new(alloc, Doc::Packages);
@@ -156,8 +159,8 @@ fn build_all(rt: &impl Abort, alloc: Global, refusals: &mut Refusals) {
     }
 }
 
-/// Appends the canonical text of 41 bytes to lists with several rooms: one grows exactly where it doesn't fit, and stays
-/// as it was where that growth is refused.
+/// Appends the canonical text of 41 bytes to lists with several rooms: one grows exactly where it
+/// doesn't fit, and stays as it was where that growth is refused.
 fn append_all(rt: &impl Abort, alloc: Global, typed: &Paragraph<'_>, refusals: &mut Refusals) {
     for room in [1usize, 40, 41, 42, 60] {
         let Ok(mut out) = Vec::with_capacity(alloc, room) else {

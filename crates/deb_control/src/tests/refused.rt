@@ -2,7 +2,8 @@
 
 use super::*;
 
-/// A kind of document, a paragraph of it that is refused, and the code and the line of the paragraph.
+/// A kind of document, a paragraph of it that is refused, and the code and the line of the
+/// paragraph.
 struct Refused(Doc, &'static [u8], Code, u64);
 
 const REFUSED: [Refused; 34] = [

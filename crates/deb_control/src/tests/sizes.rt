@@ -8,7 +8,8 @@ use devices::{Counted, Repeated};
 /// The most bytes of a paragraph.
 const LIMIT: usize = 16_777_216;
 
-/// A paragraph of the most bytes, if so many times `x` and a newline follow, and its canonical text has as many.
+/// A paragraph of the most bytes, if so many times `x` and a newline follow, and its canonical text
+/// has as many.
 const FULL: &[u8] = b"Package: aa\nVersion: 1\nArchitecture: all\nX: ";
 
 const REST: usize = 16_777_171;
@@ -22,8 +23,8 @@ const SMALL_TEXT: &[u8] = b"Architecture: all\nPackage: aa\nVersion: 1\n";
 /// Pieces of a file.
 type FilePieces = &'static [(&'static [u8], u8, usize)];
 
-/// A kind of document, a file, how many paragraphs it has or the code and the line of its refusal, and how many bytes
-/// are written of it.
+/// A kind of document, a file, how many paragraphs it has or the code and the line of its refusal,
+/// and how many bytes are written of it.
 struct Long(Doc, FilePieces, Result<u64, (Code, u64)>, usize);
 
 const LONG: [Long; 17] = [
@@ -190,7 +191,8 @@ fn paragraphs_have_a_limit(rt: HostRuntime) -> Result<(), Fail> {
     Ok(())
 }
 
-/// A paragraph by itself, and the length of its canonical text, or the code and the line of its refusal.
+/// A paragraph by itself, and the length of its canonical text, or the code and the line of its
+/// refusal.
 struct Single(FilePieces, Result<u64, (Code, u64)>);
 
 const SINGLE: [Single; 5] = [
@@ -225,8 +227,8 @@ fn typed_paragraphs_have_a_limit(rt: HostRuntime) -> Result<(), Fail> {
     Ok(())
 }
 
-/// 255 paragraphs whose canonical text has the most bytes, and another one: that of the file has the most bytes with it,
-/// or one more. The file itself has the most bytes at most.
+/// 255 paragraphs whose canonical text has the most bytes, and another one: that of the file has
+/// the most bytes with it, or one more. The file itself has the most bytes at most.
 #[test]
 fn canonical_text_of_files_has_a_limit(rt: HostRuntime) -> Result<(), Fail> {
     let text = file_of(rt.alloc(), &[(SHORT, b'x', REST), (b"\n\n", 0, 0)])?;

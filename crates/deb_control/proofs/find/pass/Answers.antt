@@ -28,12 +28,14 @@ pub returns-clause-ok : goal.returns-clause-ok
 returns-clause-ok c =
     let given = c.args.given.now in
     let same : c.len.result ≡ length c.read_fields.new.text.items = omega (arith, c.len.ensures, c.read_fields.new.text.ok.0) in
-    let written = same ∙ ap length c.in_ok-read_fields.ensures.text in
-    (refl, record {
-      entries = map (body_under value_text) (values_in c.in_ok-read_fields.field-0.items);
-      built = c.in_ok-read_fields.ensures.ok.passes;
-      written = c.in_ok-read_fields.ensures.text;
-      paragraphs = c.in-Some.ensures.some.0;
-      bytes = c.in-Some.ensures.some.1 ∙ ap (bytes_with given.paragraphs given.bytes) written;
-      within = omega (arith, c.in-Some.more.within, file_limit_is);
-    })
+    let written = same ∙ ap length c.in_ok-read_fields.ensures.text in (
+      refl,
+      record {
+        entries = map (body_under value_text) (values_in c.in_ok-read_fields.field-0.items);
+        built = c.in_ok-read_fields.ensures.ok.passes;
+        written = c.in_ok-read_fields.ensures.text;
+        paragraphs = c.in-Some.ensures.some.0;
+        bytes = c.in-Some.ensures.some.1 ∙ ap (bytes_with given.paragraphs given.bytes) written;
+        within = omega (arith, c.in-Some.more.within, file_limit_is);
+      },
+    )
