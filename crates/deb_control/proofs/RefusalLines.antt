@@ -1,6 +1,7 @@
 -- The refusal of a file: its code, and the line at which it is told.
 use Rattle.std.proofs.Common.{◌≡◌, ℕ, zero, suc, ◌+◌, ◌≤◌, ◌&&◌, inl, inr, not, nat_le, Bool, true, false, cond, List, [], ◌∷◌, ◌++◌, length, drop, Option, None, Some, Result, Ok, Err, refl, sym, ap, ◌∙◌, subst, arith, length-append}
-use Rattle.std.specs.List.{AllByRecursion}
+use Rattle.std.proofs.lemmas.Bool.{and_from, le-leb}
+use Rattle.std.specs.List.{AllByRecursion, list_all}
 use Rattle.deb_base.specs.Bodies.{Line, paragraph_limit}
 use Rattle.deb_base.specs.FieldNames.{colon}
 use Rattle.deb_base.specs.Names.{canonical_name}
@@ -100,6 +101,11 @@ field-lines n m lines (field ∷ fields) spells least most =
     let at : field.line ≡ n = spells.3 in
     ((omega arith, omega arith), field-lines (n + length own) m rest fields spells.5 (omega arith) (omega arith))
 
+-- and counted from 1
+numbered : (m : ℕ) (fields : List Field) → AllByRecursion (λ field. IsLine m field.line) fields → list_all (λ field. nat_le 1 field.line) fields ≡ true
+numbered m [] lines = refl
+numbered m (field ∷ fields) lines = and_from (nat_le 1 field.line) (list_all (λ f. nat_le 1 f.line) fields) (le-leb 1 field.line lines.0.0) (numbered m fields lines.1)
+
 value-line : (rules : Rules) (m : ℕ) (fields : List Field) (refusal : Refusal) → AllByRecursion (λ field. IsLine m field.line) fields → value_refusal_of rules fields ≡ Some refusal → IsLine m refusal.line
 value-line rules m [] refusal lines h = absurd (cc)
 value-line rules m (field ∷ fields) refusal lines h = go (rules.refusal (canonical_name field.name) field.body) (value-line rules m fields refusal lines.1) h
@@ -136,7 +142,7 @@ module _ (doc : Doc) (text : List ℕ) (m : ℕ) (within : m ≤ length (lines_o
       go : (b : Result Entries Refusal) → built (rules_of doc) seen ≡ b → within_file front seen.first b ≡ Err refusal → IsRefusalOfFile text refusal
       go (Err other) is e =
           let same = is ∙ ap Err (same_refusal (Err other) other refusal refl e) in
-          at_line (built-code doc seen refusal same) (built-line (rules_of doc) m seen refusal at lines same)
+          at_line (built-code doc seen refusal (and_from (nat_le 1 seen.first) (list_all (λ field. nat_le 1 field.line) seen.fields) (le-leb 1 seen.first at.0) (numbered m seen.fields lines)) same) (built-line (rules_of doc) m seen refusal at lines same)
       go (Ok entries) is e = long (nat_le (length (file_text (front ++ entries ∷ []))) file_limit) entries e
 
   seen-line : (beyond : Option ℕ) (left : List Paragraph) (seen : Seen) → AllByRecursion (IsAmong m) left → answer_of_first beyond left ≡ Ok (Some seen) → IsLine m seen.first × AllByRecursion (λ field. IsLine m field.line) seen.fields
