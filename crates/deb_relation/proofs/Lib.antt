@@ -1,8 +1,14 @@
 pub mod Ascending
 pub mod AscendingSets
+pub mod Bytes
 pub mod Gathering
 pub mod Inserting
 pub mod Joining
 pub mod Lengths
 pub mod Mapped
+pub mod Runs
+pub mod SpelledParts
+pub mod SpelledGroups
+pub mod SpelledLists
+pub mod SpelledRelation
 pub mod Versions

@@ -3,6 +3,7 @@ use Rattle.std.specs.Prelude.{◌≡◌, ℕ, ◌≤◌, List, [], ◌∷◌, le
 use Rattle.std.specs.List.{AllByRecursion}
 use Rattle.std.specs.declared.cmp.Ordering.TheVariants.{Less}
 use Rattle.deb_relation.specs.declared.fault.Reason.{Reason}
+use Rattle.deb_relation.specs.Grammar.{SpellsRelation}
 use Rattle.deb_relation.specs.Meaning.{Alternative, Relation}
 use Rattle.deb_relation.specs.Reading.{relation_in}
 use Rattle.deb_relation.specs.Sets.{byte_cmp, itself}
@@ -32,3 +33,7 @@ pub record HasAscendingSets (a : Alternative) : Type 0 where
 -- So do those of each alternative of what a text means.
 abbrev pub SetsAscend : Type 0
 SetsAscend = (text : List ℕ) (m : Relation) → relation_in text ≡ Ok m → AllByRecursion (AllByRecursion HasAscendingSets) m
+
+-- A text spells at most one relation.
+abbrev pub SpellsOneRelation : Type 0
+SpellsOneRelation = (text : List ℕ) (m n : Relation) → SpellsRelation text m → SpellsRelation text n → m ≡ n
