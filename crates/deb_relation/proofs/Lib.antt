@@ -8,6 +8,9 @@ pub mod Lengths
 pub mod Mapped
 pub mod Runs
 pub mod SpelledParts
+pub mod CanonicalRelation
+pub mod Regular
+pub mod SetLemmas
 pub mod SpelledGroups
 pub mod SpelledLists
 pub mod SpelledRelation
