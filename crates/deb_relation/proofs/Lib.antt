@@ -9,6 +9,8 @@ pub mod Mapped
 pub mod Runs
 pub mod SpelledParts
 pub mod CanonicalRelation
+pub mod ReadLists
+pub mod ReadParts
 pub mod Regular
 pub mod SetLemmas
 pub mod SpelledGroups

@@ -89,7 +89,7 @@ item_stands close (b ∷ bs) behind some run = rw (at_end-some (b ∷ (bs ++ beh
     no_close false true e = cc
     no_close false false e = refl
 
-signed-some : (negated : Bool) (name : List ℕ) → name ≢ [] → signed_text negated name ≢ []
+pub signed-some : (negated : Bool) (name : List ℕ) → name ≢ [] → signed_text negated name ≢ []
 signed-some true name some e = cons_not_nil 33 name e
 signed-some false name some e = some e
 
