@@ -11,6 +11,7 @@ pub mod SpelledParts
 pub mod CanonicalRelation
 pub mod ReadLists
 pub mod ReadParts
+pub mod ReadRelation
 pub mod Regular
 pub mod SetLemmas
 pub mod SpelledGroups

@@ -143,16 +143,16 @@ no_none : {A : Type 0} (b : Bool) (stopped : Stopped) (x : Next A) → (x ≡ Ok
 no_none true stopped x others e = cc
 no_none false stopped x others e = others e
 
-some_none : {A : Type 0} (q : A × List ℕ) → let r : Next A = Ok (Some q) in r ≡ Ok None → ⊥
+pub some_none : {A : Type 0} (q : A × List ℕ) → let r : Next A = Ok (Some q) in r ≡ Ok None → ⊥
 some_none q e = cc
 
-none_some : {A : Type 0} (q : A × List ℕ) → let r : Next A = Ok None in r ≡ Ok (Some q) → ⊥
+pub none_some : {A : Type 0} (q : A × List ℕ) → let r : Next A = Ok None in r ≡ Ok (Some q) → ⊥
 none_some q e = cc
 
-some_same : {A : Type 0} (p q : A × List ℕ) → let r : Next A = Ok (Some p) in r ≡ Ok (Some q) → p ≡ q
+pub some_same : {A : Type 0} (p q : A × List ℕ) → let r : Next A = Ok (Some p) in r ≡ Ok (Some q) → p ≡ q
 some_same p q e = cc
 
-err_some : {A : Type 0} (stopped : Stopped) (q : A × List ℕ) → let r : Next A = Err stopped in r ≡ Ok (Some q) → ⊥
+pub err_some : {A : Type 0} (stopped : Stopped) (q : A × List ℕ) → let r : Next A = Err stopped in r ≡ Ok (Some q) → ⊥
 err_some stopped q e = cc
 
 architecture_none : (negated : Bool) (rest : List ℕ) → next_architecture negated rest ≡ Ok None → ends_list 93 (behind_white rest) ≡ true

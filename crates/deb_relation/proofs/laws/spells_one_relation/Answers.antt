@@ -1,4 +1,4 @@
-use Rattle.deb_relation.proofs.ReadLists.{list_took}
+use Rattle.deb_relation.proofs.ReadRelation.{relation_took}
 use Rattle.deb_relation.proofs.laws.spells_one_relation.Goals as goal
 
 pub returns : goal.returns
