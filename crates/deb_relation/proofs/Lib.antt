@@ -1,6 +1,7 @@
 pub mod Ascending
 pub mod AscendingSets
 pub mod Bytes
+pub mod Faultless
 pub mod Gathering
 pub mod Inserting
 pub mod Joining
@@ -8,7 +9,9 @@ pub mod Lengths
 pub mod Mapped
 pub mod Runs
 pub mod SpelledParts
+pub mod CanonicalBody
 pub mod CanonicalRelation
+pub mod CanonicalShort
 pub mod ReadLists
 pub mod ReadParts
 pub mod ReadRelation

@@ -51,7 +51,7 @@ bound_regular : (text : List ℕ) (bound : Option (Op × Version)) → SpellsBou
 bound_regular text None is = tt
 bound_regular text (Some bound) is = canonical_text_spells is.version bound.1 is.spells
 
-list_regular : (text : List ℕ) (list : Option (Bool × List (List ℕ))) → SpellsArchitectures text list → IfSome list (λ list. IsNames list.1)
+pub list_regular : (text : List ℕ) (list : Option (Bool × List (List ℕ))) → SpellsArchitectures text list → IfSome list (λ list. IsNames list.1)
 list_regular text None is = tt
 list_regular text (Some list) is = subst IsNames (sym is.set) (record {
   some = set_of-some itself is.names [] is.some;
@@ -59,7 +59,7 @@ list_regular text (Some list) is = subst IsNames (sym is.set) (record {
   are_names = all-set_with itself (λ name. IsTrue (is_arch_name name)) is.names [] is.are_names tt;
 })
 
-items_regular : (text : List ℕ) (list : Restrictions) → SpellsRestrictions text list → IsItems list
+pub items_regular : (text : List ℕ) (list : Restrictions) → SpellsRestrictions text list → IsItems list
 items_regular text list is = subst IsItems (sym is.set) (record {
   some = set_of-some item_text is.members [] is.some;
   ascend = ascends-set_with item_text is.members [] tt;

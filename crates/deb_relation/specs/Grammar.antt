@@ -1,15 +1,18 @@
 -- What spells a relation, and which one: the grammar of relationship fields by cases, apart from any reading of them.
 -- Debian Policy 7.1; restriction formulas are this project's own, after dpkg's build profiles.
-use Rattle.std.specs.Prelude.{◌≡◌, ◌≢◌, ℕ, Bool, List, [], ◌∷◌, ◌++◌, map, Option, Some, None, IsTrue, codes}
+use Rattle.std.specs.Prelude.{◌≡◌, ◌≢◌, ℕ, ◌==◌, ◌||◌, Bool, List, [], ◌∷◌, ◌++◌, map, Option, Some, None, IsTrue, codes}
 use Rattle.std.specs.List.{AllByRecursion}
 use Rattle.deb_base.specs.PackageNames.{is_package_name, is_arch_name, is_profile_name}
 use Rattle.deb_version.specs.Parts.{Meaning as Version}
 use Rattle.deb_version.specs.Grammar.{SpellsVersion}
 use Rattle.deb_relation.specs.declared.operator.Op.{Op}
 use Rattle.deb_relation.specs.Meaning.{Item, Restrictions, Alternative, Group, Relation}
-use Rattle.deb_relation.specs.Reading.{is_white}
 use Rattle.deb_relation.specs.Sets.{insert_by, itself}
 use Rattle.deb_relation.specs.Texts.{operator_text, signed_text, item_text, restrictions_text, group_text}
+
+-- space, tab and newline
+abbrev pub is_white : ℕ → Bool
+is_white b = (b == 32) || (b == 9) || (b == 10)
 
 -- white space, or nothing
 abbrev pub IsWhite : List ℕ → Type 0

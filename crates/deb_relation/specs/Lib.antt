@@ -1,5 +1,6 @@
 pub mod Applying
 pub mod Environments
+pub mod Faults
 pub mod Grammar
 pub mod Groups
 pub mod Laws
