@@ -1,6 +1,6 @@
 -- The bytes of names, items and versions: none of them ends a run that they stand in.
-use Rattle.std.proofs.Common.{◌≡◌, ◌≢◌, ℕ, ◌==◌, ◌||◌, ◌&&◌, Bool, true, false, not, List, [], ◌∷◌, ◌++◌, length, nat_le, IsTrue, Option, Some, None, IfSome, is_some, refl, sym, ap, ◌∙◌, subst, rules, tests}
-use Rattle.std.specs.List.{AllByRecursion, list_all}
+use Rattle.std.proofs.Common.{◌≡◌, ◌≢◌, ℕ, ◌==◌, ◌||◌, ◌&&◌, Bool, true, false, not, List, [], ◌∷◌, ◌++◌, length, nat_le, IsTrue, Option, Some, None, IfSome, is_some, refl, sym, ap, subst, rules, tests}
+use Rattle.std.specs.List.{list_all}
 use Rattle.std.specs.Char.{is_ascii_digit}
 use Rattle.std.proofs.lemmas.Bool.Decides.{Decides-eqb}
 use Rattle.std.proofs.lemmas.Bool.{and_parts, ne_eqb, false≢true}
@@ -13,8 +13,7 @@ use Rattle.deb_version.specs.Faults.{first_fault}
 use Rattle.deb_version.specs.declared.fault.BadVersion.TheVariants.{Empty}
 use Rattle.deb_version.proofs.FaultLemmas.{no_fault-from_spells}
 use Rattle.deb_relation.specs.Reading.{begins, is_at_end, is_before, is_in_name, is_in_operator, is_white}
-use Rattle.deb_relation.specs.Texts.{signed_text, item_text}
-use Rattle.deb_relation.specs.Meaning.{Item}
+use Rattle.deb_relation.specs.Texts.{signed_text}
 use Rattle.deb_relation.proofs.Runs.{Passes, Stops, stops-append, stops-each}
 
 -- a byte that passes a test isn't one that fails it

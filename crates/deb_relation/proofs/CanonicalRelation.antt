@@ -7,11 +7,10 @@ use Rattle.deb_version.specs.Grammar.{SpellsVersion}
 use Rattle.deb_version.specs.Canonical.{version_text}
 use Rattle.deb_version.proofs.PartsLemmas.{cons_not_nil}
 use Rattle.deb_relation.specs.declared.operator.Op.{Op}
-use Rattle.deb_relation.specs.Grammar.{IsWhite, IsApart, SpellItems, SpellBetween, SpellInTurn, SpellsQualifier, IsBound, SpellsBound, IsArchitectures, SpellsArchitectures, SpellsRestrictions, SpellsAlternative, SpellsGroup, SpellsPiece, groups_of, SpellsRelation, set_of}
-use Rattle.deb_relation.specs.Laws.{Ascends}
-use Rattle.deb_relation.specs.Meaning.{Item, Restrictions, Alternative, Group, Relation}
+use Rattle.deb_relation.specs.Grammar.{IsWhite, IsApart, SpellItems, SpellBetween, SpellInTurn, SpellsQualifier, SpellsBound, SpellsArchitectures, SpellsRestrictions, SpellsAlternative, SpellsGroup, SpellsPiece, groups_of, SpellsRelation, set_of}
+use Rattle.deb_relation.specs.Meaning.{Restrictions, Alternative, Group, Relation}
 use Rattle.deb_relation.specs.Sets.{itself}
-use Rattle.deb_relation.specs.Texts.{joined, separated, operator_text, signed_text, item_text, restrictions_text, qualifier_text, bound_text, architectures_text, formula_text, alternative_text, group_text, relation_text}
+use Rattle.deb_relation.specs.Texts.{joined, separated, signed_text, item_text, restrictions_text, qualifier_text, bound_text, architectures_text, formula_text, alternative_text, group_text, relation_text}
 use Rattle.deb_relation.proofs.SetLemmas.{set_of-ascends}
 use Rattle.deb_relation.proofs.SpelledGroups.{one_relation}
 use Rattle.deb_relation.proofs.Regular.{IsNames, IsItems, IsRegular, IsRegularGroup, IsRegularRelation, relation_regular}

@@ -1,5 +1,5 @@
 -- Canonical text is at most twice as long as each spelling.
-use Rattle.std.proofs.Common.{◌≡◌, ◌≢◌, ℕ, ◌+◌, ◌*◌, ◌≤◌, ◌<◌, suc, Bool, true, false, List, [], ◌∷◌, ◌++◌, length, map, IsTrue, Option, Some, None, refl, sym, ap, ◌∙◌, subst, codes, arith, nat_le, ◌&&◌}
+use Rattle.std.proofs.Common.{◌≡◌, ◌≢◌, ℕ, ◌+◌, ◌*◌, ◌≤◌, Bool, true, List, [], ◌∷◌, ◌++◌, length, map, IsTrue, Option, Some, None, refl, ap, codes, arith, nat_le, ◌&&◌}
 use Rattle.std.specs.List.{AllByRecursion, list_all}
 use Rattle.std.proofs.lemmas.Bool.{and_parts}
 use Rattle.std.proofs.lemmas.Bool.Decides.{nat_tests}
@@ -12,7 +12,7 @@ use Rattle.deb_version.specs.Canonical.{version_text}
 use Rattle.deb_version.proofs.CanonicalVersion.{canonical_text_is_short as version_is_short}
 use Rattle.deb_relation.specs.declared.operator.Op.{Op}
 use Rattle.deb_relation.specs.Grammar.{SpellItems, SpellBetween, SpellInTurn, SpellsQualifier, SpellsBound, SpellsArchitectures, SpellsRestrictions, SpellsAlternative, SpellsGroup, SpellsPiece, groups_of, SpellsRelation, set_with, set_of}
-use Rattle.deb_relation.specs.Meaning.{Item, Restrictions, Alternative, Group, Relation}
+use Rattle.deb_relation.specs.Meaning.{Restrictions, Alternative, Group, Relation}
 use Rattle.deb_relation.specs.Sets.{byte_cmp, by_order, insert_by, itself}
 use Rattle.deb_relation.specs.Texts.{joined, separated, operator_text, signed_text, item_text, restrictions_text, qualifier_text, bound_text, architectures_text, formula_text, alternative_text, group_text, relation_text}
 use Rattle.deb_relation.proofs.Bytes.{arch_some, profile_some}

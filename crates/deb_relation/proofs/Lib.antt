@@ -12,6 +12,7 @@ pub mod SpelledParts
 pub mod CanonicalBody
 pub mod CanonicalRelation
 pub mod CanonicalShort
+pub mod Parsed
 pub mod ReadLists
 pub mod ReadParts
 pub mod ReadRelation

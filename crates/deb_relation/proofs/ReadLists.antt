@@ -1,18 +1,18 @@
 -- What is read of an architecture list, a restriction list and a formula is spelled there.
-use Rattle.std.proofs.Common.{◌≡◌, ◌≢◌, ℕ, zero, suc, ◌≤◌, ◌<◌, Bool, true, false, not, List, [], ◌∷◌, ◌++◌, length, map, drop, IsTrue, Option, Some, None, Ok, Err, Result, refl, sym, ap, ◌∙◌, subst, append_assoc, codes, cond, ◌==◌, ◌||◌, arith}
+use Rattle.std.proofs.Common.{◌≡◌, ◌≢◌, ℕ, zero, suc, ◌≤◌, ◌<◌, Bool, true, false, not, List, [], ◌∷◌, ◌++◌, length, map, drop, IsTrue, Option, Some, None, Ok, Err, refl, sym, ap, ◌∙◌, subst, append_assoc, codes, cond, ◌==◌, ◌||◌, arith}
 use Rattle.std.specs.List.{AllByRecursion}
 use Rattle.std.proofs.lemmas.Bool.{false≢true}
 use Rattle.std.proofs.lemmas.Bool.Decides.{Decides-eqb}
-use Rattle.deb_base.specs.PackageNames.{is_arch_name, is_profile_name, is_package_byte}
+use Rattle.deb_base.specs.PackageNames.{is_arch_name, is_profile_name}
 use Rattle.deb_relation.specs.declared.fault.Reason.TheVariants.{Unclosed, ListEmpty, ItemBad, MixedSigns}
-use Rattle.deb_relation.specs.Grammar.{IsWhite, IsApart, SpellItems, SpellInTurn, set_with, IsArchitectures, SpellsArchitectures, SpellsRestrictions}
+use Rattle.deb_relation.specs.Grammar.{IsWhite, IsApart, SpellItems, SpellInTurn, set_with, SpellsArchitectures, SpellsRestrictions}
 use Rattle.deb_relation.specs.Meaning.{Item, Restrictions}
-use Rattle.deb_relation.specs.Reading.{Stopped, Reading, Next, and_then, and_next, gathered, gather, begins, behind_run, behind_white, is_at_end, is_before, is_white, run_of, ends_list, name_of_item, next_architecture, next_restriction, read_list_end, with_behind, end_list, is_empty_list, read_names, read_architectures, read_restrictions, some_next, next_restrictions, read_formula}
+use Rattle.deb_relation.specs.Reading.{Stopped, Next, and_then, and_next, gathered, gather, begins, behind_run, behind_white, is_at_end, is_before, is_white, run_of, ends_list, name_of_item, next_architecture, next_restriction, read_list_end, with_behind, end_list, is_empty_list, read_names, read_architectures, read_restrictions, some_next, next_restrictions, read_formula}
 use Rattle.deb_relation.specs.Sets.{insert_by, itself, same_bool}
 use Rattle.deb_relation.specs.Texts.{signed_text, item_text, restrictions_text}
 use Rattle.deb_relation.proofs.Bytes.{arch_bytes, profile_bytes, arch_some, profile_some, signed_run}
 use Rattle.deb_relation.proofs.Gathering.{IsStep}
-use Rattle.deb_relation.proofs.Lengths.{step-next_architecture, step-next_restriction, step-next_restrictions}
+use Rattle.deb_relation.proofs.Lengths.{step-next_architecture, step-next_restriction}
 use Rattle.deb_relation.proofs.ReadParts.{either, WentOn, went_on, stopped-no, ok-same, begins_is, TookWhite}
 use Rattle.deb_relation.proofs.Runs.{Passes, Stops, run_of-split, run_of-passes, behind_run-stops}
 use Rattle.deb_relation.proofs.SpelledLists.{signed-some}
@@ -81,9 +81,9 @@ module _ {A : Type 0} (step : List ℕ → Next A) (is : IsStep step) (text key 
     set = g.set;
     ended = g.ended;
     spells = λ white more w e.
-      let s = g.spells white more w e in
-      let apart = apart_items s.0 (close ∷ more) g.items s.2 g.good (subst (Stops (is_before close)) s.1 t.stops) in
-      (t.white ++ (text p.0 ++ s.0), t.split ∙ ap (λ r. t.white ++ (text p.0 ++ r)) s.1 ∙ reordered t.white (text p.0) s.0 (close ∷ more), (t.white, s.0, refl, t.is_white, apart, s.2));
+        let s = g.spells white more w e in
+        let apart = apart_items s.0 (close ∷ more) g.items s.2 g.good (subst (Stops (is_before close)) s.1 t.stops) in
+        (t.white ++ (text p.0 ++ s.0), t.split ∙ ap (λ r. t.white ++ (text p.0 ++ r)) s.1 ∙ reordered t.white (text p.0) s.0 (close ∷ more), (t.white, s.0, refl, t.is_white, apart, s.2));
   }
     where
       reordered : (a b c d : List ℕ) → a ++ (b ++ (c ++ d)) ≡ (a ++ (b ++ c)) ++ d

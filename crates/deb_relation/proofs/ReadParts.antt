@@ -1,5 +1,5 @@
 -- What is read of a name, a qualifier and a bound is spelled there.
-use Rattle.std.proofs.Common.{◌≡◌, ◌≢◌, ℕ, Bool, true, false, not, List, [], ◌∷◌, ◌++◌, length, drop, IsTrue, Option, Some, None, Ok, Err, Result, refl, sym, ap, ◌∙◌, subst, append_assoc, codes, cond, ◌==◌}
+use Rattle.std.proofs.Common.{◌≡◌, ℕ, Bool, true, false, not, List, [], ◌∷◌, ◌++◌, length, drop, IsTrue, Option, Some, None, Ok, Err, Result, refl, ap, ◌∙◌, subst, append_assoc, codes, cond}
 use Rattle.std.specs.Str.{bytes_eq}
 use Rattle.std.proofs.lemmas.Bool.Decides.{Decides-eqb}
 use Rattle.std.proofs.lemmas.Slice.Eq.{bytes_eq-Decides}
@@ -13,7 +13,7 @@ use Rattle.deb_version.proofs.FaultLemmas.{spells-from_no_fault}
 use Rattle.deb_relation.specs.declared.operator.Op.{Op}
 use Rattle.deb_relation.specs.declared.operator.Op.TheVariants.{Earlier, EarlierEqual, Equal, LaterEqual, Later}
 use Rattle.deb_relation.specs.declared.fault.Reason.TheVariants.{OperatorBad}
-use Rattle.deb_relation.specs.Grammar.{IsWhite, SpellsQualifier, IsBound, SpellsBound}
+use Rattle.deb_relation.specs.Grammar.{IsWhite, SpellsQualifier, SpellsBound}
 use Rattle.deb_relation.specs.Reading.{Stopped, Reading, and_then, begins, behind_run, behind_white, is_at_end, is_before, is_in_name, is_in_operator, is_white, run_of, operator_of, or_stop, or_fault, read_name, read_qualifier, read_operator, read_version, read_close, read_bound_behind, read_bound, some_read}
 use Rattle.deb_relation.specs.Texts.{operator_text}
 use Rattle.deb_relation.proofs.Runs.{run_of-split, run_of-passes}

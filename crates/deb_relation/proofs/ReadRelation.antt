@@ -1,17 +1,16 @@
 -- What is read of an alternative, a group and a relation is spelled there.
-use Rattle.std.proofs.Common.{◌≡◌, ◌≢◌, ℕ, zero, suc, ◌≤◌, ◌<◌, ◌-◌, Bool, true, false, List, [], ◌∷◌, ◌++◌, length, drop, IsTrue, Option, Some, None, Ok, Err, Result, refl, sym, ap, ◌∙◌, subst, append_assoc, append-nil, cond, ◌==◌, ◌||◌, arith, ◌⊎◌, inl, inr}
-use Rattle.deb_relation.specs.declared.fault.Reason.{Reason}
+use Rattle.std.proofs.Common.{◌≡◌, ℕ, zero, suc, ◌≤◌, ◌<◌, Bool, true, false, List, [], ◌∷◌, ◌++◌, length, drop, Option, Some, None, Ok, Err, refl, sym, ap, ◌∙◌, subst, append_assoc, append-nil, cond, ◌||◌, arith, ◌⊎◌, inl, inr}
 use Rattle.deb_relation.specs.declared.fault.Reason.TheVariants.{Trailing}
 use Rattle.deb_relation.specs.Grammar.{IsWhite, SpellBetween, SpellsAlternative, SpellsGroup, SpellsPiece, groups_of, SpellsRelation, set_with}
 use Rattle.deb_relation.specs.Meaning.{Alternative, Group, Relation}
-use Rattle.deb_relation.specs.Reading.{Stopped, Reading, Next, and_then, and_next, gathered, gather, begins, behind_white, is_at_end, is_white, run_of, read_name, read_qualifier, read_bound, read_architectures, read_formula, read_alternative, alternative_with, next_alternative, append, read_group, piece_behind, next_piece, put_piece, read_relation, placed, relation_in, some_next}
+use Rattle.deb_relation.specs.Reading.{Reading, Next, and_then, and_next, gathered, gather, begins, behind_white, is_at_end, is_white, run_of, read_name, read_qualifier, read_bound, read_architectures, read_formula, read_alternative, next_alternative, append, read_group, piece_behind, next_piece, put_piece, read_relation, placed, relation_in, some_next}
 use Rattle.deb_relation.specs.Texts.{group_text}
 use Rattle.std.proofs.lemmas.Bool.{false≢true}
 use Rattle.deb_version.proofs.PartsLemmas.{cons_not_nil}
 use Rattle.deb_relation.proofs.Bytes.{at_end-some}
 use Rattle.deb_relation.proofs.Lengths.{step-next_piece}
 use Rattle.deb_relation.proofs.ReadLists.{architectures_took, formula_took, none_some, some_none, some_same, err_some}
-use Rattle.deb_relation.proofs.ReadParts.{either, WentOn, went_on, stopped-no, ok-same, begins_is, Took, TookWhite, name_took, qualifier_took, bound_took}
+use Rattle.deb_relation.proofs.ReadParts.{either, went_on, stopped-no, ok-same, begins_is, Took, name_took, qualifier_took, bound_took}
 use Rattle.deb_relation.proofs.Runs.{run_of-split, run_of-passes}
 
 -- a text that is cut again and again is its pieces and what is left
@@ -80,9 +79,9 @@ unfolding next_alternative
 next_took rest q e =
     either (begins 124 rest) _ _ _ e
     (λ bar e1.
-      let s = went_on (read_alternative (behind_white (drop 1 rest))) some_next (Some q) e1 in
-      let t = alternative_took (drop 1 rest) s.first s.was in
-      subst (TookAlternative rest) (some_same _ _ s.then) (record { piece = t.piece; split = begins_is 124 rest bar ∙ ap (λ r. 124 ∷ r) t.split; spelled = t.spelled }))
+    let s = went_on (read_alternative (behind_white (drop 1 rest))) some_next (Some q) e1 in
+    let t = alternative_took (drop 1 rest) s.first s.was in
+    subst (TookAlternative rest) (some_same _ _ s.then) (record { piece = t.piece; split = begins_is 124 rest bar ∙ ap (λ r. 124 ∷ r) t.split; spelled = t.spelled }))
     (λ _ x. absurd (none_some _ x))
 
 more_are : (a : Alternative) (group : Group) (piece rest behind behind' : List ℕ) → rest ≡ 124 ∷ (piece ++ behind) → SpellsAlternative piece a → are_more group behind behind' → are_more (a ∷ group) rest behind'
@@ -212,10 +211,10 @@ pieces_took (suc n) text all q le e = from (pieces_took n) (next_piece text) ref
         elim t.split [
           | inl comma ↦ piece_and_more text all q p t.piece t.spelled comma (more p.1 (put_piece p.0 all) q (omega arith) x)
           | inr last ↦ record {
-              pieces = p.0 ∷ [];
-              spell = subst (λ s. SpellsPiece s p.0) (sym last.0) t.spelled;
-              set = nothing_left n (put_piece p.0 all) q (subst (λ r. gathered next_piece put_piece n (put_piece p.0 all) r ≡ Ok q) last.1 x) ∙ set_piece p.0 [] all;
-            }
+            pieces = p.0 ∷ [];
+            spell = subst (λ s. SpellsPiece s p.0) (sym last.0) t.spelled;
+            set = nothing_left n (put_piece p.0 all) q (subst (λ r. gathered next_piece put_piece n (put_piece p.0 all) r ≡ Ok q) last.1 x) ∙ set_piece p.0 [] all;
+          }
         ]
 
 -- what is read is spelled

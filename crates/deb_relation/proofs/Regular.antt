@@ -1,6 +1,6 @@
 -- What is spelled is regular: its names are names, its lists aren't empty, its sets ascend, its versions have a
 -- canonical text that spells them.
-use Rattle.std.proofs.Common.{◌≡◌, ◌≢◌, ℕ, Bool, List, [], ◌∷◌, ◌++◌, IsTrue, Option, Some, None, IfSome, refl, sym, ap, ◌∙◌, subst}
+use Rattle.std.proofs.Common.{◌≢◌, ℕ, Bool, List, [], ◌∷◌, IsTrue, Option, Some, None, IfSome, sym, subst}
 use Rattle.std.specs.List.{AllByRecursion}
 use Rattle.deb_base.specs.PackageNames.{is_package_name, is_arch_name, is_profile_name}
 use Rattle.deb_version.specs.Parts.{Meaning as Version}
@@ -8,9 +8,9 @@ use Rattle.deb_version.specs.Grammar.{SpellsVersion}
 use Rattle.deb_version.specs.Canonical.{version_text}
 use Rattle.deb_version.proofs.CanonicalVersion.{canonical_text_spells}
 use Rattle.deb_relation.specs.declared.operator.Op.{Op}
-use Rattle.deb_relation.specs.Grammar.{SpellBetween, SpellInTurn, SpellsQualifier, SpellsBound, SpellsArchitectures, SpellsRestrictions, SpellsAlternative, SpellsGroup, SpellsPiece, groups_of, SpellsRelation, set_with, set_of}
+use Rattle.deb_relation.specs.Grammar.{SpellBetween, SpellInTurn, SpellsQualifier, SpellsBound, SpellsArchitectures, SpellsRestrictions, SpellsAlternative, SpellsGroup, SpellsPiece, groups_of, SpellsRelation}
 use Rattle.deb_relation.specs.Laws.{Ascends}
-use Rattle.deb_relation.specs.Meaning.{Item, Restrictions, Alternative, Group, Relation}
+use Rattle.deb_relation.specs.Meaning.{Restrictions, Alternative, Group, Relation}
 use Rattle.deb_relation.specs.Sets.{itself}
 use Rattle.deb_relation.specs.Texts.{item_text, restrictions_text, group_text}
 use Rattle.deb_version.proofs.PartsLemmas.{cons_not_nil}

@@ -1,10 +1,10 @@
 -- A group and a relation that are spelled are read. So a text spells at most one relation.
-use Rattle.std.proofs.Common.{◌≡◌, ◌≢◌, ℕ, Bool, true, false, List, [], ◌∷◌, ◌++◌, length, drop, IsTrue, Option, Some, None, Ok, Err, Result, refl, sym, ap, ◌∙◌, subst, append_assoc, append-nil, cond, ◌||◌, ◌==◌, codes}
+use Rattle.std.proofs.Common.{◌≡◌, ◌≢◌, ℕ, Bool, true, false, List, [], ◌∷◌, ◌++◌, length, Option, Some, None, Ok, Err, Result, refl, sym, ap, ◌∙◌, subst, append_assoc, append-nil, cond, ◌||◌, ◌==◌}
 use Rattle.deb_relation.specs.Grammar.{IsWhite, SpellBetween, SpellsAlternative, SpellsGroup, SpellsPiece, groups_of, SpellsRelation, set_with}
 use Rattle.deb_relation.specs.Meaning.{Alternative, Group, Relation}
 use Rattle.deb_relation.specs.declared.fault.Reason.{Reason}
 use Rattle.deb_relation.specs.declared.fault.Reason.TheVariants.{Trailing}
-use Rattle.deb_relation.specs.Reading.{Reading, and_then, gather, begins, behind_white, is_at_end, is_white, read_alternative, next_alternative, append, read_group, next_piece, put_piece, read_relation, placed, relation_in}
+use Rattle.deb_relation.specs.Reading.{gather, begins, behind_white, is_at_end, next_alternative, append, read_group, next_piece, put_piece, read_relation, placed, relation_in}
 use Rattle.deb_relation.specs.Sets.{insert_by}
 use Rattle.deb_relation.specs.Texts.{group_text}
 use Rattle.deb_relation.proofs.Bytes.{other, package_bytes, package_some, at_end-some, signed_stops}

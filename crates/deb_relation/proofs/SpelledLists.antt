@@ -1,20 +1,20 @@
 -- An architecture list, a restriction list and a formula that are spelled are read, whatever stands behind them.
-use Rattle.std.proofs.Common.{◌≡◌, ◌≢◌, ℕ, Bool, true, false, not, List, [], ◌∷◌, ◌++◌, length, map, drop, IsTrue, Option, Some, None, Ok, Err, Result, refl, sym, ap, ◌∙◌, subst, append_assoc, cond, ◌||◌, ◌==◌, arith}
+use Rattle.std.proofs.Common.{◌≡◌, ◌≢◌, ℕ, Bool, true, false, not, List, [], ◌∷◌, ◌++◌, length, map, IsTrue, Option, Some, None, Ok, refl, sym, ap, ◌∙◌, append_assoc, ◌||◌, ◌==◌, arith}
 use Rattle.std.proofs.lemmas.Bool.{ne_eqb}
 use Rattle.std.proofs.lemmas.Bool.Decides.{Decides-eqb}
 use Rattle.std.specs.List.{AllByRecursion}
 use Rattle.std.specs.declared.cmp.Ordering.{Ordering}
 use Rattle.std.specs.declared.cmp.Ordering.TheVariants.{Less, Equal, Greater}
 use Rattle.deb_base.specs.PackageNames.{is_arch_name, is_profile_name, is_package_byte}
-use Rattle.deb_relation.specs.Grammar.{IsWhite, IsApart, SpellItems, SpellInTurn, set_with, IsArchitectures, SpellsArchitectures, SpellsRestrictions}
+use Rattle.deb_relation.specs.Grammar.{IsWhite, IsApart, SpellItems, SpellInTurn, set_with, SpellsArchitectures, SpellsRestrictions}
 use Rattle.deb_relation.specs.Meaning.{Item, Restrictions}
-use Rattle.deb_relation.specs.Reading.{Reading, Next, and_then, gather, begins, behind_run, behind_white, is_at_end, is_before, is_white, run_of, ends_list, name_of_item, next_architecture, next_restriction, read_list_end, with_behind, end_list, is_empty_list, read_names, read_architectures, read_restrictions, some_next, next_restrictions, read_formula}
+use Rattle.deb_relation.specs.Reading.{Next, and_then, gather, begins, behind_run, behind_white, is_before, is_white, run_of, ends_list, name_of_item, next_architecture, next_restriction, read_list_end, end_list, is_empty_list, read_names, read_architectures, read_restrictions, next_restrictions, read_formula}
 use Rattle.deb_relation.specs.Sets.{byte_cmp, by_order, insert_by, itself, same_bool}
 use Rattle.deb_relation.specs.Texts.{signed_text, item_text, restrictions_text}
 use Rattle.deb_relation.proofs.Bytes.{arch_bytes, profile_bytes, arch_some, profile_some, at_end-some, signed_run, signed_stops, begins-signed, white_stops_close}
 use Rattle.deb_relation.proofs.Gathering.{IsStep, gather-none, gather-some}
 use Rattle.deb_relation.proofs.Lengths.{step-next_architecture, step-next_restriction, step-next_restrictions}
-use Rattle.deb_relation.proofs.Runs.{Passes, Stops, run_of-whole, behind_run-whole, white-more, white-past, stops-append}
+use Rattle.deb_relation.proofs.Runs.{Passes, Stops, run_of-whole, behind_run-whole, white-past}
 use Rattle.deb_version.proofs.PartsLemmas.{cons_not_nil}
 
 insert-some : {A : Type 0} (text : A → List ℕ) (x : A) (ys : List A) → insert_by text x ys ≢ []

@@ -1,15 +1,15 @@
 -- A name, a qualifier and a bound that are spelled are read, whatever stands behind them.
-use Rattle.std.proofs.Common.{◌≡◌, ◌≢◌, ℕ, Bool, true, false, not, List, [], ◌∷◌, ◌++◌, length, IsTrue, Option, Some, None, Ok, Err, Result, refl, sym, ap, ◌∙◌, subst, append_assoc, codes}
-use Rattle.deb_base.specs.PackageNames.{is_package_name, is_arch_name}
+use Rattle.std.proofs.Common.{◌≡◌, ℕ, false, List, [], ◌∷◌, ◌++◌, IsTrue, Option, Some, None, Ok, refl, sym, ap, ◌∙◌, append_assoc}
+use Rattle.deb_base.specs.PackageNames.{is_package_name}
 use Rattle.deb_version.specs.Parts.{Meaning as Version}
 use Rattle.deb_version.specs.Grammar.{SpellsVersion}
 use Rattle.deb_relation.specs.declared.operator.Op.{Op}
 use Rattle.deb_relation.specs.declared.operator.Op.TheVariants.{Earlier, EarlierEqual, Equal, LaterEqual, Later}
-use Rattle.deb_relation.specs.Grammar.{IsWhite, SpellsQualifier, IsBound, SpellsBound}
-use Rattle.deb_relation.specs.Reading.{Reading, and_then, begins, behind_run, behind_white, is_at_end, is_before, is_in_name, is_in_operator, is_white, run_of, operator_of, or_stop, read_name, read_qualifier, read_operator, read_version, read_close, read_bound_behind, read_bound, some_read}
+use Rattle.deb_relation.specs.Grammar.{IsWhite, SpellsQualifier, SpellsBound}
+use Rattle.deb_relation.specs.Reading.{begins, behind_white, is_before, is_in_name, is_in_operator, is_white, operator_of, read_name, read_qualifier, read_operator, read_version, read_bound_behind, read_bound}
 use Rattle.deb_relation.specs.Texts.{operator_text}
-use Rattle.deb_relation.proofs.Bytes.{name_run, package_bytes, arch_bytes, package_some, at_end-some, is_version_byte, version_bytes, version_run, version_some, version_first, white_stops_close, version_stops_operator, white_stops_operator}
-use Rattle.deb_relation.proofs.Runs.{Passes, Stops, run_of-whole, behind_run-whole, white-more, white-past}
+use Rattle.deb_relation.proofs.Bytes.{name_run, package_bytes, arch_bytes, package_some, at_end-some, version_bytes, version_run, version_some, version_first, white_stops_close, version_stops_operator, white_stops_operator}
+use Rattle.deb_relation.proofs.Runs.{Passes, Stops, run_of-whole, behind_run-whole, white-past}
 use Rattle.deb_relation.proofs.Versions.{version_in}
 
 pub name_read : (name rest : List ℕ) → IsTrue (is_package_name name) → Stops is_in_name rest → read_name (name ++ rest) ≡ Ok (name, rest)

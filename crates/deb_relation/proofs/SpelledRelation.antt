@@ -1,20 +1,15 @@
 -- An alternative, a group and a relation that are spelled are read. So a text spells at most one relation.
-use Rattle.std.proofs.Common.{◌≡◌, ◌≢◌, ℕ, Bool, true, false, not, List, [], ◌∷◌, ◌++◌, length, map, drop, IsTrue, Option, Some, None, Ok, Err, Result, refl, sym, ap, ◌∙◌, subst, append_assoc, append-nil, codes, cond, ◌||◌, ◌==◌}
-use Rattle.deb_relation.specs.Grammar.{IsWhite, IsBound, SpellsBound, IsArchitectures, SpellsArchitectures, SpellsQualifier, SpellInTurn, SpellBetween, SpellsRestrictions, SpellsAlternative, SpellsGroup, SpellsPiece, groups_of, SpellsRelation, set_with, set_of}
-use Rattle.deb_relation.specs.Meaning.{Restrictions, Alternative, Group, Relation}
+use Rattle.std.proofs.Common.{◌≡◌, ℕ, Bool, true, false, not, List, [], ◌∷◌, ◌++◌, IsTrue, Option, Some, None, Ok, refl, sym, ap, ◌∙◌, subst, append_assoc, codes, ◌||◌, ◌==◌}
+use Rattle.deb_relation.specs.Grammar.{IsWhite, SpellsBound, SpellsArchitectures, SpellsQualifier, SpellInTurn, SpellsRestrictions, SpellsAlternative}
+use Rattle.deb_relation.specs.Meaning.{Restrictions, Alternative}
 use Rattle.deb_relation.specs.declared.operator.Op.{Op}
 use Rattle.deb_version.specs.Parts.{Meaning as Version}
-use Rattle.deb_relation.specs.declared.fault.Reason.{Reason}
-use Rattle.deb_relation.specs.Reading.{Reading, Next, and_then, gather, begins, behind_white, is_at_end, is_in_name, is_white, read_alternative, alternative_with, next_alternative, append, read_group, piece_behind, next_piece, put_piece, read_relation, placed, relation_in, some_next}
-use Rattle.deb_relation.specs.Sets.{insert_by}
-use Rattle.deb_relation.specs.Texts.{operator_text, restrictions_text, group_text}
-use Rattle.deb_relation.proofs.Bytes.{other, package_bytes, package_some, at_end-some, signed_stops}
-use Rattle.deb_relation.proofs.Gathering.{gather-none, gather-some}
-use Rattle.deb_relation.proofs.Lengths.{step-next_alternative, step-next_piece}
-use Rattle.deb_relation.proofs.Runs.{Passes, Stops, white-more, white-none, white-past}
+use Rattle.deb_relation.specs.Reading.{begins, behind_white, is_in_name, is_white, read_alternative, alternative_with}
+use Rattle.deb_relation.specs.Texts.{operator_text}
+use Rattle.deb_relation.proofs.Bytes.{other, package_bytes, package_some, signed_stops}
+use Rattle.deb_relation.proofs.Runs.{Stops, white-past}
 use Rattle.deb_relation.proofs.SpelledLists.{architectures_read, formula_read}
 use Rattle.deb_relation.proofs.SpelledParts.{name_read, qualifier_read, bound_read}
-use Rattle.deb_version.proofs.PartsLemmas.{cons_not_nil}
 
 -- the text ends, or goes on with such a byte
 abbrev pub Starts : (ℕ → Bool) → List ℕ → Type 0

@@ -1,6 +1,8 @@
--- What spells a relation, and which one: the grammar of relationship fields by cases, apart from any reading of them.
--- Debian Policy 7.1; restriction formulas are this project's own, after dpkg's build profiles.
-use Rattle.std.specs.Prelude.{◌≡◌, ◌≢◌, ℕ, ◌==◌, ◌||◌, Bool, List, [], ◌∷◌, ◌++◌, map, Option, Some, None, IsTrue, codes}
+-- What spells a relation, and which one: the grammar of relationship fields by cases, apart from
+-- any reading of them. Debian Policy 7.1; restriction formulas are this project's own, after dpkg's
+-- build profiles.
+use Rattle.std.specs.Prelude.{◌≡◌, ◌≢◌, ℕ, ◌==◌, ◌||◌, Bool, List, [], ◌∷◌, ◌++◌, map, Option, Some}
+use Rattle.std.specs.Prelude.{None, IsTrue, codes}
 use Rattle.std.specs.List.{AllByRecursion}
 use Rattle.deb_base.specs.PackageNames.{is_package_name, is_arch_name, is_profile_name}
 use Rattle.deb_version.specs.Parts.{Meaning as Version}
@@ -8,7 +10,8 @@ use Rattle.deb_version.specs.Grammar.{SpellsVersion}
 use Rattle.deb_relation.specs.declared.operator.Op.{Op}
 use Rattle.deb_relation.specs.Meaning.{Item, Restrictions, Alternative, Group, Relation}
 use Rattle.deb_relation.specs.Sets.{insert_by, itself}
-use Rattle.deb_relation.specs.Texts.{operator_text, signed_text, item_text, restrictions_text, group_text}
+use Rattle.deb_relation.specs.Texts.{operator_text, signed_text, item_text, restrictions_text}
+use Rattle.deb_relation.specs.Texts.{group_text}
 
 -- space, tab and newline
 abbrev pub is_white : ℕ → Bool
@@ -30,9 +33,11 @@ set_of text xs = set_with text xs []
 abbrev pub SpellInTurn : {A : Type 0} → (List ℕ → A → Type 0) → List ℕ → List A → Type 0
 SpellInTurn spells text [] = text ≡ []
 SpellInTurn spells text (a ∷ all) =
-    (piece : List ℕ) × (behind : List ℕ) × (text ≡ piece ++ behind) × spells piece a × SpellInTurn spells behind all
+    (piece : List ℕ) × (behind : List ℕ) × (text ≡ piece ++ behind) × spells piece a
+    × SpellInTurn spells behind all
 
--- A text in pieces with this byte between two of them, one piece at least, each of which spells its member.
+-- A text in pieces with this byte between two of them, one piece at least, each of which spells its
+-- member.
 abbrev pub SpellBetween : {A : Type 0} → ℕ → (List ℕ → A → Type 0) → List ℕ → List A → Type 0
 SpellBetween byte spells text [] = ⊥
 SpellBetween byte spells text (a ∷ []) = spells text a
@@ -45,15 +50,18 @@ abbrev pub SpellsQualifier : List ℕ → Option (List ℕ) → Type 0
 SpellsQualifier text None = text ≡ []
 SpellsQualifier text (Some qualifier) = (text ≡ codes ":" ++ qualifier) × IsTrue (is_arch_name qualifier)
 
--- A bound: white space, `(`, an operator, a version, `)`. White space may stand on both sides of the operator and of
--- the version.
+-- A bound: white space, `(`, an operator, a version, `)`. White space may stand on both sides of
+-- the operator and of the version.
 pub record IsBound (text : List ℕ) (bound : Op × Version) : Type 0 where
   pub before : List ℕ
   pub within : List ℕ
   pub between : List ℕ
   pub version : List ℕ
   pub behind : List ℕ
-  pub spelt : text ≡ before ++ (codes "(" ++ (within ++ (operator_text bound.0 ++ (between ++ (version ++ (behind ++ codes ")"))))))
+  pub spelt :
+      text
+      ≡ before
+      ++ (codes "(" ++ (within ++ (operator_text bound.0 ++ (between ++ (version ++ (behind ++ codes ")"))))))
   pub before_white : IsWhite before
   pub within_white : IsWhite within
   pub between_white : IsWhite between
@@ -73,11 +81,12 @@ IsApart (b ∷ bs) = IsTrue (is_white b)
 abbrev pub SpellItems : List ℕ → List (List ℕ) → Type 0
 SpellItems text [] = IsWhite text
 SpellItems text (item ∷ items) =
-    (white : List ℕ) × (behind : List ℕ) × (text ≡ white ++ (item ++ behind)) × IsWhite white × IsApart behind
-    × SpellItems behind items
+    (white : List ℕ) × (behind : List ℕ) × (text ≡ white ++ (item ++ behind)) × IsWhite white
+    × IsApart behind × SpellItems behind items
 
--- An architecture list: white space, `[`, one or more items, `]`. An item is the name of an architecture; `!` stands
--- directly before each or before none. The list means the set of its names.
+-- An architecture list: white space, `[`, one or more items, `]`. An item is the name of an
+-- architecture; `!` stands directly before each or before none. The list means the set of its
+-- names.
 pub record IsArchitectures (text : List ℕ) (list : Bool × List (List ℕ)) : Type 0 where
   pub before : List ℕ
   pub inner : List ℕ
@@ -93,8 +102,8 @@ abbrev pub SpellsArchitectures : List ℕ → Option (Bool × List (List ℕ)) �
 SpellsArchitectures text None = text ≡ []
 SpellsArchitectures text (Some list) = IsArchitectures text list
 
--- A restriction list: white space, `<`, one or more items, `>`. An item is the name of a profile, perhaps with `!`
--- directly before it. The list means the set of its items.
+-- A restriction list: white space, `<`, one or more items, `>`. An item is the name of a profile,
+-- perhaps with `!` directly before it. The list means the set of its items.
 pub record SpellsRestrictions (text : List ℕ) (list : Restrictions) : Type 0 where
   pub before : List ℕ
   pub inner : List ℕ
@@ -106,8 +115,9 @@ pub record SpellsRestrictions (text : List ℕ) (list : Restrictions) : Type 0 w
   pub are_profiles : AllByRecursion (λ item. IsTrue (is_profile_name item.1)) members
   pub set : list ≡ set_of item_text members
 
--- An alternative: white space, the name of a package, and what stands behind it, each thing or nothing: a qualifier,
--- a bound, an architecture list, restriction lists, white space. It means the set of its restriction lists.
+-- An alternative: white space, the name of a package, and what stands behind it, each thing or
+-- nothing: a qualifier, a bound, an architecture list, restriction lists, white space. It means the
+-- set of its restriction lists.
 pub record SpellsAlternative (text : List ℕ) (a : Alternative) : Type 0 where
   pub before : List ℕ
   pub qualifier : List ℕ
@@ -116,7 +126,8 @@ pub record SpellsAlternative (text : List ℕ) (a : Alternative) : Type 0 where
   pub formula : List ℕ
   pub lists : List Restrictions
   pub behind : List ℕ
-  pub spelt : text ≡ before ++ (a.name ++ (qualifier ++ (bound ++ (architectures ++ (formula ++ behind)))))
+  pub spelt :
+      text ≡ before ++ (a.name ++ (qualifier ++ (bound ++ (architectures ++ (formula ++ behind)))))
   pub before_white : IsWhite before
   pub is_name : IsTrue (is_package_name a.name)
   pub spells_qualifier : SpellsQualifier qualifier a.qualifier

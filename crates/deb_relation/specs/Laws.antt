@@ -1,4 +1,5 @@
--- The laws of relations: what the definitions of `Grammar`, `Faults` and `Texts` amount to. Debian Policy 7.1.
+-- The laws of relations: what the definitions of `Grammar`, `Faults` and `Texts` amount to. Debian
+-- Policy 7.1.
 use Rattle.std.specs.Prelude.{◌≡◌, ℕ, ◌*◌, ◌≤◌, ◌↔◌, List, [], ◌∷◌, length, Some, None, IfSome}
 use Rattle.std.specs.List.{AllByRecursion}
 use Rattle.std.specs.declared.cmp.Ordering.TheVariants.{Less}
@@ -12,7 +13,8 @@ use Rattle.deb_relation.specs.Texts.{group_text, item_text, relation_text, restr
 
 -- A text spells at most one relation.
 abbrev pub SpellsOneRelation : Type 0
-SpellsOneRelation = (text : List ℕ) (m n : Relation) → SpellsRelation text m → SpellsRelation text n → m ≡ n
+SpellsOneRelation =
+    (text : List ℕ) (m n : Relation) → SpellsRelation text m → SpellsRelation text n → m ≡ n
 
 -- A text spells a relation exactly where it has no fault.
 abbrev pub SpellsWhereFaultless : Type 0
@@ -20,7 +22,8 @@ SpellsWhereFaultless = (text : List ℕ) → ((m : Relation) × SpellsRelation t
 
 -- The canonical text of a relation that is spelled spells that relation.
 abbrev pub CanonicalTextSpells : Type 0
-CanonicalTextSpells = (text : List ℕ) (m : Relation) → SpellsRelation text m → SpellsRelation (relation_text m) m
+CanonicalTextSpells =
+    (text : List ℕ) (m : Relation) → SpellsRelation text m → SpellsRelation (relation_text m) m
 
 -- Two relations that are spelled have one canonical text exactly if they mean the same.
 abbrev pub CanonicalTextDecides : Type 0
@@ -36,7 +39,8 @@ CanonicalTextStays =
 
 -- Canonical text is at most twice as long as each text that spells the relation.
 abbrev pub CanonicalTextIsShort : Type 0
-CanonicalTextIsShort = (text : List ℕ) (m : Relation) → SpellsRelation text m → length (relation_text m) ≤ 2 * length text
+CanonicalTextIsShort =
+    (text : List ℕ) (m : Relation) → SpellsRelation text m → length (relation_text m) ≤ 2 * length text
 
 -- The canonical text of a relation that is spelled can be the body of a field.
 abbrev pub CanonicalTextIsBody : Type 0
@@ -54,10 +58,11 @@ GroupsAscend = (text : List ℕ) (m : Relation) → SpellsRelation text m → As
 
 -- The place of a fault is within the text, or at its end.
 abbrev pub FaultsStandInTheirText : Type 0
-FaultsStandInTheirText = (text : List ℕ) (reason : Reason) (at : ℕ) → first_fault text ≡ Some (reason, at) → at ≤ length text
+FaultsStandInTheirText =
+    (text : List ℕ) (reason : Reason) (at : ℕ) → first_fault text ≡ Some (reason, at) → at ≤ length text
 
--- The sets of an alternative ascend by their texts, each member once: the names of its architecture list, the lists of
--- its formula, and the items of each.
+-- The sets of an alternative ascend by their texts, each member once: the names of its architecture
+-- list, the lists of its formula, and the items of each.
 pub record HasAscendingSets (a : Alternative) : Type 0 where
   pub names : IfSome a.architectures (λ list. Ascends itself list.1)
   pub lists : Ascends restrictions_text a.formula
@@ -65,4 +70,6 @@ pub record HasAscendingSets (a : Alternative) : Type 0 where
 
 -- So do those of each alternative of what a text spells.
 abbrev pub SetsAscend : Type 0
-SetsAscend = (text : List ℕ) (m : Relation) → SpellsRelation text m → AllByRecursion (AllByRecursion HasAscendingSets) m
+SetsAscend =
+    (text : List ℕ) (m : Relation) → SpellsRelation text m
+    → AllByRecursion (AllByRecursion HasAscendingSets) m

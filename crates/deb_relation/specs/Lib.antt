@@ -9,6 +9,7 @@ pub mod Reading
 pub mod Relations
 pub mod Rows
 pub mod Sets
+pub mod Spelled
 pub mod Stops
 pub mod Targets
 pub mod Tests
