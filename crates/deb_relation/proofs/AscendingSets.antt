@@ -61,7 +61,7 @@ module _ {A S : Type 0} (step : List ℕ → Next A) (put : A → S → S) (Q : 
   unfolding gather
   reads-gather all rest p = reads-gathered (length rest) all rest p
 
-all-insert_by : {A : Type 0} (P : A → Type 0) (text : A → List ℕ) (x : A) (ys : List A) → P x → AllByRecursion P ys → AllByRecursion P (insert_by text x ys)
+pub all-insert_by : {A : Type 0} (P : A → Type 0) (text : A → List ℕ) (x : A) (ys : List A) → P x → AllByRecursion P ys → AllByRecursion P (insert_by text x ys)
 all-insert_by P text x [] p all = (p, tt)
 all-insert_by P text x (y ∷ ys) p all = by_cases (all-insert_by P text x ys p all.1) (byte_cmp (text x) (text y))
   where

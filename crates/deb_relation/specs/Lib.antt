@@ -1,5 +1,7 @@
 pub mod Applying
 pub mod Environments
+pub mod Faults
+pub mod Grammar
 pub mod Groups
 pub mod Laws
 pub mod Meaning
@@ -7,6 +9,7 @@ pub mod Reading
 pub mod Relations
 pub mod Rows
 pub mod Sets
+pub mod Spelled
 pub mod Stops
 pub mod Targets
 pub mod Tests

@@ -13,6 +13,7 @@ use Rattle.deb_relation.specs.declared.operator.Op.{Op}
 use Rattle.deb_relation.specs.declared.operator.Op.TheVariants.{Earlier, EarlierEqual, Equal, LaterEqual, Later}
 use Rattle.deb_relation.specs.declared.fault.Reason.{Reason}
 use Rattle.deb_relation.specs.declared.fault.Reason.TheVariants.{NameExpected, NameBad, QualifierBad, OperatorBad, Version as VersionBad, Unclosed, ItemBad, MixedSigns, ListEmpty, Trailing}
+pub use Rattle.deb_relation.specs.Grammar.{is_white}
 use Rattle.deb_relation.specs.Meaning.{Item, Restrictions, Alternative, Group, Relation}
 use Rattle.deb_relation.specs.Sets.{insert_by, itself, same_bool}
 use Rattle.deb_relation.specs.Texts.{item_text, restrictions_text, group_text}
@@ -48,10 +49,6 @@ gathered step put (suc n) all rest = and_next (step rest) (Ok (all, rest)) (λ a
 -- as often as it goes: each step takes a byte at least
 unfoldable pub gather : {A S : Type 0} → (List ℕ → Next A) → (A → S → S) → S → List ℕ → Reading S
 gather step put all rest = gathered step put (length rest) all rest
-
--- space, tab and newline
-abbrev pub is_white : ℕ → Bool
-is_white b = (b == 32) || (b == 9) || (b == 10)
 
 -- the longest run of bytes that pass the test, and the text behind it
 abbrev pub run_of : (ℕ → Bool) → List ℕ → List ℕ

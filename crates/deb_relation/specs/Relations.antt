@@ -1,5 +1,5 @@
 -- What relations of the code stand for, and what is asked of them.
-use Rattle.std.specs.Prelude.{◌≡◌, ℕ, map, Result, Err}
+use Rattle.std.specs.Prelude.{◌≡◌, ℕ, map, Option, Some, Result, Ok, Err}
 use Rattle.deb_relation.specs.declared.fault.Reason.{Reason}
 use Rattle.deb_relation.specs.declared.fault.RelationFault.{RelationFault}
 use Rattle.deb_relation.specs.declared.fault.RelationFault.TheVariants.{Bad, Memory}
@@ -11,7 +11,13 @@ use Rattle.deb_relation.specs.Groups.{group_of}
 abbrev pub relation_of : Groups → Relation
 relation_of relation = map group_of relation.groups.items
 
--- The fault is that of the reading; want of memory says nothing of it.
-abbrev pub Tells : Result Relation (Reason × ℕ) → RelationFault → Type 0
-Tells reading (Bad reason at) = reading ≡ Err (reason, at)
-Tells reading Memory = Unit {0}
+-- The fault is the first of the text; want of memory says nothing of it.
+abbrev pub Tells : Option (Reason × ℕ) → RelationFault → Type 0
+Tells fault (Bad reason at) = fault ≡ Some (reason, at)
+Tells fault Memory = Unit {0}
+
+-- A relation of this meaning is read, unless memory is wanting.
+abbrev pub IsRead : Result Groups RelationFault → Relation → Type 0
+IsRead (Ok relation) m = relation_of relation ≡ m
+IsRead (Err (Bad reason at)) m = ⊥
+IsRead (Err Memory) m = Unit {0}

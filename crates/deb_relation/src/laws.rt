@@ -2,9 +2,44 @@
 //!
 //! Each function here does nothing: its contract is a law, which holds of all texts.
 
-ghost use Rattle.deb_relation.specs.Laws.{FaultsStandInTheirText, GroupsAscend, SetsAscend};
+ghost use Rattle.deb_relation.specs.Laws.{CanonicalTextDecides, CanonicalTextIsBody, CanonicalTextIsShort, CanonicalTextSpells, CanonicalTextStays, FaultsStandInTheirText, GroupsAscend, SetsAscend, SpellsOneRelation, SpellsWhereFaultless};
 
-/// The groups of what a text means ascend by their canonical texts, each once.
+/// A text spells at most one relation.
+pub fn spells_one_relation()
+    ensures { SpellsOneRelation }
+{}
+
+/// A text spells a relation exactly where no step of its reading fails.
+pub fn spells_where_faultless()
+    ensures { SpellsWhereFaultless }
+{}
+
+/// The canonical text of a relation is accepted, and spells that relation.
+pub fn canonical_text_spells()
+    ensures { CanonicalTextSpells }
+{}
+
+/// Two relations have one canonical text exactly if they mean the same.
+pub fn canonical_text_decides()
+    ensures { CanonicalTextDecides }
+{}
+
+/// The canonical text of what canonical text spells is that text.
+pub fn canonical_text_stays()
+    ensures { CanonicalTextStays }
+{}
+
+/// Canonical text is at most twice as long as each spelling of the relation.
+pub fn canonical_text_is_short()
+    ensures { CanonicalTextIsShort }
+{}
+
+/// Canonical text can be the body of a field: one line without blanks at its ends, or nothing.
+pub fn canonical_text_is_body()
+    ensures { CanonicalTextIsBody }
+{}
+
+/// The groups of what a text spells ascend by their canonical texts, each once.
 pub fn groups_ascend()
     ensures { GroupsAscend }
 {}

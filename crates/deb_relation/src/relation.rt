@@ -140,8 +140,10 @@ fn each_has_only_equals(groups: &[Group<'_>]) -> bool
 }
 
 impl<'a> Relation<'a> {
-    ghost use Rattle.deb_relation.specs.Reading.{relation_in};
-    ghost use Rattle.deb_relation.specs.Relations.{Tells, relation_of};
+    ghost use Rattle.deb_relation.specs.Faults.{first_fault};
+    ghost use Rattle.deb_relation.specs.Grammar.{SpellsRelation};
+    ghost use Rattle.deb_relation.specs.Meaning.{Relation as Meaning};
+    ghost use Rattle.deb_relation.specs.Relations.{IsRead, Tells, relation_of};
     ghost use Rattle.deb_relation.specs.Tests.{has_alternatives, only_equals, some_wildcard};
 
     /// The relation that a text spells: groups with commas between, alternatives with bars between (Debian Policy 7.1).
@@ -154,8 +156,9 @@ impl<'a> Relation<'a> {
     /// The first step that fails, reading from the left, with its place; or want of memory.
     #[tactic(auto, unfolding(crate::specs::Reading::relation_in, crate::specs::Reading::read_relation))]
     pub fn parse(alloc: Global, text: &'a [u8]) -> Result<Relation<'a>, RelationFault>
-        ensures ok { IfOk result (λ relation. relation_in text.now ≡ Ok (relation_of relation)) }
-        ensures refused { IfErr result (Tells (relation_in text.now)) }
+        ensures ok { IfOk result (λ relation. SpellsRelation text.now (relation_of relation)) }
+        ensures accepted { (m : Meaning) → SpellsRelation text.now m → IsRead result m }
+        ensures refused { IfErr result (Tells (first_fault text.now)) }
     {
         match gather_groups(alloc, text) {
             Ok((groups, _)) => match text_of(alloc, &groups) {
@@ -169,6 +172,7 @@ impl<'a> Relation<'a> {
             }),
         }
     }
+
     /// The groups, ascending by their canonical texts, each once.
     pub fn groups(&self) -> &[Group<'a>]
         ensures { map group_of result.now ≡ relation_of self.now }

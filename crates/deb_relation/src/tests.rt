@@ -118,6 +118,203 @@ const ROWS: [Row; 25] = [
     Row("0ad, g++, lib-x.y+z", "0ad, g++, lib-x.y+z"),
 ];
 
+/// The longest row that is accepted.
+const LONGEST: &[u8] =
+    b"bb (>=1.0)|aa,, cc [i386 amd64 i386] <!x y> <z>,cc [amd64 i386] <z> <y !x> ,";
+
+/// The step that fails in the first `len` bytes of that row, worked out by hand.
+fn prefix_fault(len: usize) -> Option<(Reason, usize)> {
+    match len {
+        1 => Some((Reason::NameBad, 0)),
+        4 | 5 => Some((Reason::OperatorBad, 4)),
+        6 => Some((Reason::Version(BadVersion::Empty), 6)),
+        11 => Some((Reason::NameExpected, 11)),
+        12 => Some((Reason::NameBad, 11)),
+        17 => Some((Reason::NameBad, 16)),
+        39 => Some((Reason::ItemBad, 38)),
+        49 => Some((Reason::NameBad, 48)),
+        72 => Some((Reason::ItemBad, 71)),
+        7..=9 | 20..=35 | 38 | 40..=42 | 45 | 46 | 52..=62 | 65 | 66 | 69..=71 | 73 => {
+            Some((Reason::Unclosed, len))
+        }
+        _ => None,
+    }
+}
+
+/// The reason and the place of the step that fails, or None.
+fn fault_in(alloc: Global, text: &[u8]) -> Option<(Reason, usize)> {
+    match Relation::parse(alloc, text) {
+        Err(RelationFault::Bad { reason, at }) => Some((reason, at)),
+        _ => None,
+    }
+}
+
+#[test]
+fn prefixes_of_a_relation(rt: HostRuntime) -> Result<(), Fail> {
+    let mut text = Vec::new(rt.alloc());
+    assert_eq!(rt; fault_in(rt.alloc(), &text), None);
+    for byte in LONGEST {
+        text.push(*byte)?;
+        let len = text.len();
+        assert_eq!(rt;
+            fault_in(rt.alloc(), &text),
+            prefix_fault(len),
+            "{len} bytes"
+        );
+    }
+    Ok(())
+}
+
+fn is_white(byte: u8) -> bool {
+    matches!(byte, b' ' | b'\t' | b'\n')
+}
+
+fn is_small_or_digit(byte: u8) -> bool {
+    byte.is_ascii_lowercase() || byte.is_ascii_digit()
+}
+
+/// The steps of the grammar.
+#[derive(Clone, Copy, Debug)]
+enum Step {
+    Name,
+    NameGoesOn,
+    Qualifier,
+    Operator,
+    Version,
+    BoundEnds,
+    Architecture,
+    Restriction,
+    AlternativeEnds,
+}
+
+/// What a step says of a byte that stands there.
+fn fault_at(step: Step, byte: u8) -> Option<(Reason, usize)> {
+    match step {
+        Step::Name => at_a_name(byte),
+        Step::NameGoesOn => in_a_name(byte),
+        Step::Qualifier => at_a_qualifier(byte),
+        Step::Operator => at_an_operator(byte),
+        Step::Version => at_a_version(byte),
+        Step::BoundEnds => behind_a_version(byte),
+        Step::Architecture => at_an_architecture(byte),
+        Step::Restriction => at_a_restriction(byte),
+        Step::AlternativeEnds => behind_an_alternative(byte),
+    }
+}
+
+fn at_a_name(byte: u8) -> Option<(Reason, usize)> {
+    match byte {
+        b'|' | b'(' | b')' | b'[' | b']' | b'<' | b'>' | b':' => Some((Reason::NameExpected, 0)),
+        b',' | b' ' | b'\t' | b'\n' => Some((Reason::NameBad, 1)),
+        _ if is_small_or_digit(byte) => None,
+        _ => Some((Reason::NameBad, 0)),
+    }
+}
+
+fn in_a_name(byte: u8) -> Option<(Reason, usize)> {
+    match byte {
+        b'+' | b'-' | b'.' => None,
+        _ if is_small_or_digit(byte) => None,
+        _ => Some((Reason::NameBad, 0)),
+    }
+}
+
+fn at_a_qualifier(byte: u8) -> Option<(Reason, usize)> {
+    if is_small_or_digit(byte) {
+        None
+    } else {
+        Some((Reason::QualifierBad, 3))
+    }
+}
+
+fn at_an_operator(byte: u8) -> Option<(Reason, usize)> {
+    match byte {
+        b'=' => None,
+        _ if is_white(byte) => Some((Reason::OperatorBad, 5)),
+        _ => Some((Reason::OperatorBad, 4)),
+    }
+}
+
+fn at_a_version(byte: u8) -> Option<(Reason, usize)> {
+    match byte {
+        b'<' | b'=' | b'>' => Some((Reason::OperatorBad, 4)),
+        b')' => Some((Reason::Version(BadVersion::Empty), 5)),
+        b' ' | b'\t' | b'\n' => Some((Reason::Version(BadVersion::Empty), 6)),
+        b':' => Some((Reason::Version(BadVersion::EpochEmpty), 5)),
+        b'-' => Some((Reason::Version(BadVersion::RevisionEmpty), 5)),
+        b'+' | b'.' | b'~' => None,
+        _ if byte.is_ascii_alphanumeric() => None,
+        _ => Some((Reason::Version(BadVersion::UpstreamByte { at: 0 }), 5)),
+    }
+}
+
+fn behind_a_version(byte: u8) -> Option<(Reason, usize)> {
+    match byte {
+        b')' => None,
+        _ if is_white(byte) => Some((Reason::Unclosed, 9)),
+        _ => Some((Reason::Unclosed, 8)),
+    }
+}
+
+fn at_an_architecture(byte: u8) -> Option<(Reason, usize)> {
+    match byte {
+        b']' => Some((Reason::ListEmpty, 4)),
+        _ if is_white(byte) => Some((Reason::ListEmpty, 5)),
+        _ if is_small_or_digit(byte) => None,
+        _ => Some((Reason::ItemBad, 4)),
+    }
+}
+
+fn at_a_restriction(byte: u8) -> Option<(Reason, usize)> {
+    match byte {
+        b'>' => Some((Reason::ListEmpty, 4)),
+        _ if is_white(byte) => Some((Reason::ListEmpty, 5)),
+        _ if is_small_or_digit(byte) => None,
+        _ => Some((Reason::ItemBad, 4)),
+    }
+}
+
+fn behind_an_alternative(byte: u8) -> Option<(Reason, usize)> {
+    match byte {
+        b',' => None,
+        b'|' => Some((Reason::NameExpected, 4)),
+        b'(' => Some((Reason::OperatorBad, 4)),
+        b'[' | b'<' => Some((Reason::Unclosed, 4)),
+        _ if is_white(byte) => None,
+        _ => Some((Reason::Trailing, 3)),
+    }
+}
+
+/// A step, and the text before the byte and behind it.
+struct Place(Step, &'static [u8], &'static [u8]);
+
+const PLACES: [Place; 9] = [
+    Place(Step::Name, b"", b"a"),
+    Place(Step::NameGoesOn, b"a", b"a"),
+    Place(Step::Qualifier, b"aa:", b""),
+    Place(Step::Operator, b"aa (", b"1)"),
+    Place(Step::Version, b"aa (=", b")"),
+    Place(Step::BoundEnds, b"aa (= 1 ", b""),
+    Place(Step::Architecture, b"aa [", b"]"),
+    Place(Step::Restriction, b"aa <", b">"),
+    Place(Step::AlternativeEnds, b"aa ", b""),
+];
+
+#[test]
+fn each_byte_at_each_step(rt: HostRuntime) -> Result<(), Fail> {
+    for Place(step, before, behind) in &PLACES {
+        for byte in 0..=255u8 {
+            let mut text = Vec::new(rt.alloc());
+            text.extend_from_slice(before)?;
+            text.push(byte)?;
+            text.extend_from_slice(behind)?;
+            let fault = fault_in(rt.alloc(), &text);
+            assert_eq!(rt; fault, fault_at(*step, byte), "{step:?}: {byte}");
+        }
+    }
+    Ok(())
+}
+
 /// The canonical text that a text has.
 fn canonical(alloc: Global, text: &[u8]) -> Result<Vec<u8>, Fail> {
     let relation = Relation::parse(alloc, text)?;

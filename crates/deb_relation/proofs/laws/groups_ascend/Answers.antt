@@ -1,4 +1,4 @@
-use Rattle.deb_relation.proofs.Ascending.{groups_ascend as the_law}
+use Rattle.deb_relation.proofs.Faultless.{groups_ascend as the_law}
 use Rattle.deb_relation.proofs.laws.groups_ascend.Goals as goal
 
 pub returns : goal.returns

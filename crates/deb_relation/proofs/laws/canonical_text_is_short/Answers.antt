@@ -1,0 +1,5 @@
+use Rattle.deb_relation.proofs.CanonicalShort.{canonical_text_is_short as the_law}
+use Rattle.deb_relation.proofs.laws.canonical_text_is_short.Goals as goal
+
+pub returns : goal.returns
+returns c = the_law

@@ -1,0 +1,5 @@
+use Rattle.deb_relation.proofs.CanonicalRelation.{canonical_text_spells as the_law}
+use Rattle.deb_relation.proofs.laws.canonical_text_spells.Goals as goal
+
+pub returns : goal.returns
+returns c = the_law
