@@ -1,5 +1,5 @@
--- What the jobs on files answer. The line of `check` is this project's own; acceptance, refusals and canonical text are
--- those of documents of a kind (Debian Policy 5.1 and 5.3 to 5.6).
+-- What the jobs on files answer. The line of `check` is this project's own; acceptance, refusals
+-- and canonical text are those of documents of a kind (Debian Policy 5.1 and 5.3 to 5.6).
 use Rattle.std.specs.Prelude.{◌≡◌, ℕ, List, [], ◌∷◌, ◌++◌, Option, Some, Result, Ok, Err, IfOk, codes, refl}
 use Rattle.std.specs.Fmt.{decimal, digits}
 use Rattle.std.specs.Io.KnownBytes.{Appends}
@@ -25,7 +25,8 @@ IfNotWritten (Err fault) P = MatchFault fault (λ _. P) P P (Unit {0})
 
 -- ---- check
 
--- The file is accepted, and exactly the line that says so was written; or a prefix of it was, before a write failed.
+-- The file is accepted, and exactly the line that says so was written; or a prefix of it was,
+-- before a write failed.
 pub record WritesOk (doc : Doc) (text : List ℕ) (old new : Option (List ℕ)) : Type 0 where
   pub count : ℕ
   pub paragraphs : HasParagraphs doc text count
@@ -36,19 +37,24 @@ pub record WritesFrontOfOk (doc : Doc) (text : List ℕ) (old new : Option (List
   pub paragraphs : HasParagraphs doc text count
   pub written : AppendsFront old new (ok_line count)
 
--- The answer to `check`, and what it wrote: by the reader's text, its count of failed calls before and after, and the
--- writer before and after.
-pub record ChecksFile {T W : Type 0} (doc : Doc) (left : Option (List ℕ)) (count count_after : ℕ) (held : W → Option (List ℕ)) (failures : W → ℕ) (old new : W) (answer : Result T Fault) : Type 0 where
-  pub ok : (text : List ℕ) → left ≡ Some text → IfOk answer (λ _. WritesOk doc text (held old) (held new))
-  pub refused : (text : List ℕ) → left ≡ Some text → IfRefused answer (λ refusal. refusal_of doc text ≡ Some refusal)
-  pub write : (text : List ℕ) → left ≡ Some text → IfWriteFailed answer (WritesFrontOfOk doc text (held old) (held new))
+-- The answer to `check`, and what it wrote: by the reader's text, its count of failed calls before
+-- and after, and the writer before and after.
+pub record ChecksFile {T W : Type 0} (doc : Doc) (left : Option (List ℕ)) (count count_after : ℕ)
+    (held : W → Option (List ℕ)) (failures : W → ℕ) (old new : W) (answer : Result T Fault)
+    : Type 0 where
+  pub ok : (text : List ℕ) → left ≡ Some text →
+      IfOk answer (λ _. WritesOk doc text (held old) (held new))
+  pub refused : (text : List ℕ) → left ≡ Some text →
+      IfRefused answer (λ refusal. refusal_of doc text ≡ Some refusal)
+  pub write : (text : List ℕ) → left ≡ Some text →
+      IfWriteFailed answer (WritesFrontOfOk doc text (held old) (held new))
   pub refusal : IfRefused answer IsRefusalOfDocument
   pub unwritten : IfNotWritten answer (new ≡ old)
   pub reads : count_after ≡ read_failures_after count answer
   pub writes : failures new ≡ write_failures_after (failures old) answer
 
 -- The file is refused, nothing was written, and exactly the refusal's line was told.
-pub record TellsRefusal (doc : Doc) (left : Option (List ℕ)) (err err_after : Option (List ℕ)) : Type 0 where
+pub record TellsRefusal (doc : Doc) (left err err_after : Option (List ℕ)) : Type 0 where
   pub refusal : Refusal
   pub is_file_refusal : IsRefusalOfDocument refusal
   pub refused : (text : List ℕ) → left ≡ Some text → refusal_of doc text ≡ Some refusal
@@ -57,18 +63,25 @@ pub record TellsRefusal (doc : Doc) (left : Option (List ℕ)) (err err_after : 
 -- ---- normalise
 
 -- The answer to `normalise`, and what it wrote.
-pub record NormalisesFile {W : Type 0} (doc : Doc) (left : Option (List ℕ)) (count count_after : ℕ) (held : W → Option (List ℕ)) (failures : W → ℕ) (old new : W) (answer : Result ℕ Fault) : Type 0 where
-  pub ok : (text : List ℕ) → left ≡ Some text → IfOk answer (λ n. WritesCanonical doc text n (held old) (held new))
-  pub refused : (text : List ℕ) → left ≡ Some text → IfRefused answer (λ refusal. WritesRefused doc text refusal (held old) (held new))
-  pub cut_off : (text : List ℕ) → left ≡ Some text → IfCutOff answer (WritesRead doc text (held old) (held new))
-  pub write : (text : List ℕ) → left ≡ Some text → IfWriteFailed answer (AppendsFront (held old) (held new) (out_of doc text))
+pub record NormalisesFile {W : Type 0} (doc : Doc) (left : Option (List ℕ)) (count count_after : ℕ)
+    (held : W → Option (List ℕ)) (failures : W → ℕ) (old new : W) (answer : Result ℕ Fault)
+    : Type 0 where
+  pub ok : (text : List ℕ) → left ≡ Some text →
+      IfOk answer (λ n. WritesCanonical doc text n (held old) (held new))
+  pub refused : (text : List ℕ) → left ≡ Some text →
+      IfRefused answer (λ refusal. WritesRefused doc text refusal (held old) (held new))
+  pub cut_off : (text : List ℕ) → left ≡ Some text →
+      IfCutOff answer (WritesRead doc text (held old) (held new))
+  pub write : (text : List ℕ) → left ≡ Some text →
+      IfWriteFailed answer (AppendsFront (held old) (held new) (out_of doc text))
   pub refusal : IfRefused answer IsRefusalOfDocument
   pub reads : count_after ≡ read_failures_after count answer
   pub writes : failures new ≡ write_failures_after (failures old) answer
 
--- The file is refused, exactly the canonical text of the paragraphs before the first that fails was written, and exactly
--- the refusal's line was told.
-pub record TellsRefusalBehind (doc : Doc) (left : Option (List ℕ)) (out out_after err err_after : Option (List ℕ)) : Type 0 where
+-- The file is refused, exactly the canonical text of the paragraphs before the first that fails was
+-- written, and exactly the refusal's line was told.
+pub record TellsRefusalBehind (doc : Doc) (left out out_after err err_after : Option (List ℕ))
+    : Type 0 where
   pub refusal : Refusal
   pub is_file_refusal : IsRefusalOfDocument refusal
   pub refused : (text : List ℕ) → left ≡ Some text → WritesRefused doc text refusal out out_after

@@ -1,4 +1,5 @@
--- How a command ends: its status, and the line of a fault on standard error. Both are this project's own.
+-- How a command ends: its status, and the line of a fault on standard error. Both are this
+-- project's own.
 use Rattle.std.specs.Prelude.{◌≡◌, ◌⊎◌, ℕ, List, Option, Result, Ok, Err, codes, refl}
 use Rattle.std.specs.Io.KnownBytes.{Appends}
 use Rattle.std.specs.Fmt.{digits}
@@ -16,13 +17,15 @@ status_of Read = 3
 status_of Write = 3
 
 -- The line was written whole, and the status is the one that is wanted.
-pub record TellsWhole {E : Type 0} (held : E → Option (List ℕ)) (failures : E → ℕ) (old new : E) (line : List ℕ) (wanted ended : ℕ) : Type 0 where
+pub record TellsWhole {E : Type 0} (held : E → Option (List ℕ)) (failures : E → ℕ) (old new : E)
+    (line : List ℕ) (wanted ended : ℕ) : Type 0 where
   pub written : Appends (held old) (held new) line
   pub counted : failures new ≡ failures old
   pub status : ended ≡ wanted
 
 -- A write failed: a prefix of the line was written, and the status is that of a fault.
-pub record TellsFront {E : Type 0} (held : E → Option (List ℕ)) (failures : E → ℕ) (old new : E) (line : List ℕ) (ended : ℕ) : Type 0 where
+pub record TellsFront {E : Type 0} (held : E → Option (List ℕ)) (failures : E → ℕ) (old new : E)
+    (line : List ℕ) (ended : ℕ) : Type 0 where
   pub written : AppendsFront (held old) (held new) line
   pub counted : failures new ≡ one_more (failures old)
   pub status : ended ≡ 3
@@ -30,16 +33,19 @@ pub record TellsFront {E : Type 0} (held : E → Option (List ℕ)) (failures : 
 -- A fault is told by its line, and by its status unless a write of the line fails.
 abbrev pub TellsFault : {E : Type 0} → (E → Option (List ℕ)) → (E → ℕ) → E → E → Fault → ℕ → Type 0
 TellsFault held failures old new fault status =
-    TellsWhole held failures old new (fault_line fault) (status_of fault) status ⊎ TellsFront held failures old new (fault_line fault) status
+    TellsWhole held failures old new (fault_line fault) (status_of fault) status
+    ⊎ TellsFront held failures old new (fault_line fault) status
 
 -- the status of an answer that is there, where each is success
 abbrev pub done_status : {T : Type 0} → T → ℕ
 done_status _ = 0
 
 -- An answer is told: one that is there by its status and nothing else, a fault as above.
-abbrev pub Tells : {T E : Type 0} → (T → ℕ) → (E → Option (List ℕ)) → (E → ℕ) → E → E → Result T Fault → ℕ → Type 0
-Tells status_of_answer held failures old new (Ok answer) status = (status ≡ status_of_answer answer) × (new ≡ old)
-Tells status_of_answer held failures old new (Err fault) status = TellsFault held failures old new fault status
+abbrev pub Tells : {T E : Type 0} → (T → ℕ) → (E → Option (List ℕ)) → (E → ℕ) → E → E →
+    Result T Fault → ℕ → Type 0
+Tells wanted held failures old new (Ok answer) status = (status ≡ wanted answer) × (new ≡ old)
+Tells wanted held failures old new (Err fault) status =
+    TellsFault held failures old new fault status
 
 status_of_refusal : status_of (Refused (record { code = NoColon; line = 1 })) ≡ 2
 status_of_refusal = refl
@@ -47,6 +53,7 @@ status_of_refusal = refl
 status_of_failed_read : status_of Read ≡ 3
 status_of_failed_read = refl
 
-line_of_refusal : fault_line (Refused (record { code = NoColon; line = 1 })) ≡ codes "line 1: 6 NoColon\n"
+line_of_refusal :
+    fault_line (Refused (record { code = NoColon; line = 1 })) ≡ codes "line 1: 6 NoColon\n"
 unfolding digits
 line_of_refusal = refl

@@ -14,8 +14,8 @@ use std::alloc::{AllocError, Global};
 
 /// Writes on `out` that a file is accepted as a document of a kind, and answers the status.
 ///
-/// - 0: the file is accepted. `ok N` with a newline was written, for its N paragraphs, and nothing on
-///   `err`.
+/// - 0: the file is accepted. `ok N` with a newline was written, for its N paragraphs, and nothing
+///   on `err`.
 /// - 2: the file is refused. Nothing was written on `out`, and the refusal's line on `err`.
 /// - 3: memory was wanting, a read failed, or a write failed. `err` has the fault's line; where a
 ///   write on `err` failed, a prefix of its line.
@@ -43,7 +43,7 @@ pub(crate) fn run_check<R: Source, W: Sink, E: Sink>(
     }
 }
 
-/// Writes the canonical text of a file that is a document of a kind on `out`, and answers the status.
+/// Writes the canonical text of a file as a document of a kind on `out`, and answers the status.
 ///
 /// - 0: the file is accepted. Its canonical text was written, and nothing on `err`.
 /// - 2: the file is refused. The canonical text of the paragraphs before the first that fails was

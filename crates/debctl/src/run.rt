@@ -19,8 +19,8 @@ use std::alloc::Global;
 /// - 2: the file or a version is refused. `err` has the refusal's line, and `out` nothing but, by
 ///   `normalise`, the canonical text of the paragraphs before the first that fails.
 /// - 3: memory was wanting, a read of `first` failed, or a write failed. `err` has `fault: memory`,
-///   `fault: read` or `fault: write`; where a write on `err` failed, a prefix of the line that was to
-///   be written there.
+///   `fault: read` or `fault: write`; where a write on `err` failed, a prefix of the line that was
+///   to be written there.
 pub fn run<R: Source, S: Source, W: Sink, E: Sink>(
     alloc: Global,
     job: &Job,

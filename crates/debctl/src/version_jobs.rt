@@ -14,12 +14,12 @@ use deb_version::{Version, compare};
 use std::alloc::Global;
 use std::cmp::Ordering;
 
-/// Compares two versions, and answers the status. It writes nothing but the line of a fault on `err`.
+/// Compares two versions, and answers the status. It writes nothing but a fault's line on `err`.
 ///
 /// - 0 and 1: they compare as the operator asks, and they don't.
 /// - 2: one of them is no version. `err` has `line 0: 18 BadVersion`.
-/// - 3: memory was wanting, and `err` has `fault: memory`; or a write on `err` failed, and `err` has
-///   a prefix of its line.
+/// - 3: memory was wanting, and `err` has `fault: memory`; or a write on `err` failed, and `err`
+///   has a prefix of its line.
 pub(crate) fn run_compare<E: Sink>(
     alloc: Global,
     left: &str,
