@@ -1,4 +1,5 @@
--- Which alternatives apply to an architecture and a set of build profiles, and what operators hold of. Debian Policy 7.1.
+-- Which alternatives apply to an architecture and a set of build profiles, and what operators hold
+-- of. Debian Policy 7.1.
 use Rattle.std.specs.Prelude.{◌≡◌, ℕ, ◌==◌, length, Bool, true, false, not, if◌then◌else◌, ◌&&◌, ◌||◌, List, [], ◌∷◌, Option, Some, None, map, refl, codes}
 use Rattle.std.specs.List.{list_all, list_any}
 use Rattle.std.specs.Ordering.{is_eq, is_lt, is_le, is_gt, is_ge}
@@ -17,13 +18,18 @@ holds Equal order = is_eq order
 holds LaterEqual order = is_ge order
 holds Later order = is_gt order
 
-worked-holds : map (λ op. holds op Less) (Earlier ∷ EarlierEqual ∷ Equal ∷ LaterEqual ∷ Later ∷ []) ≡ true ∷ true ∷ false ∷ false ∷ false ∷ []
+worked-holds : map (λ op. holds op Less) (Earlier ∷ EarlierEqual ∷ Equal ∷ LaterEqual ∷ Later ∷ [])
+    ≡ true ∷ true ∷ false ∷ false ∷ false ∷ []
 worked-holds = refl
 
-worked-holds_equal : map (λ op. holds op Same) (Earlier ∷ EarlierEqual ∷ Equal ∷ LaterEqual ∷ Later ∷ []) ≡ false ∷ true ∷ true ∷ true ∷ false ∷ []
+worked-holds_equal : map (λ op. holds op Same)
+    (Earlier ∷ EarlierEqual ∷ Equal ∷ LaterEqual ∷ Later ∷ []) ≡ false ∷ true ∷ true ∷ true ∷ false
+    ∷ []
 worked-holds_equal = refl
 
-worked-holds_later : map (λ op. holds op Greater) (Earlier ∷ EarlierEqual ∷ Equal ∷ LaterEqual ∷ Later ∷ []) ≡ false ∷ false ∷ false ∷ true ∷ true ∷ []
+worked-holds_later : map (λ op. holds op Greater)
+    (Earlier ∷ EarlierEqual ∷ Equal ∷ LaterEqual ∷ Later ∷ []) ≡ false ∷ false ∷ false ∷ true ∷ true
+    ∷ []
 worked-holds_later = refl
 
 -- a target architecture and the build profiles that are active
@@ -35,14 +41,17 @@ pub record Environment : Type 0 where
 abbrev pub is_among : List ℕ → List (List ℕ) → Bool
 is_among name names = list_any (λ other. bytes_eq other name) names
 
--- a list without `!` applies if it holds the target, one with `!` if it doesn't; without a list an alternative applies
+-- a list without `!` applies if it holds the target, one with `!` if it doesn't; without a list an
+-- alternative applies
 abbrev pub list_applies : Option (Bool × List (List ℕ)) → List ℕ → Bool
 list_applies None target = true
-list_applies (Some list) target = if list.0 then not (is_among target list.1) else is_among target list.1
+list_applies (Some list) target =
+    if list.0 then not (is_among target list.1) else is_among target list.1
 
 -- an item holds if its profile is active, one with `!` if it isn't
 abbrev pub item_holds : List (List ℕ) → Item → Bool
-item_holds profiles item = if item.0 then not (is_among item.1 profiles) else is_among item.1 profiles
+item_holds profiles item =
+    if item.0 then not (is_among item.1 profiles) else is_among item.1 profiles
 
 -- all items of a list hold
 abbrev pub all_hold : List (List ℕ) → Restrictions → Bool
@@ -54,13 +63,18 @@ formula_applies lists profiles = (length lists == 0) || list_any (all_hold profi
 
 -- whether an alternative applies: its list and its formula do
 abbrev pub applies : Alternative → Environment → Bool
-applies a environment = list_applies a.architectures environment.target && formula_applies a.formula environment.profiles
+applies a environment =
+    list_applies a.architectures environment.target &&
+    formula_applies a.formula environment.profiles
 
 -- Lists and formulas, for the target amd64 with the profile nocheck.
 abbrev with_list : Option (Bool × List (List ℕ)) → Bool
 with_list list = list_applies list (codes "amd64")
 
-worked-lists : map with_list (None ∷ Some (false, codes "i386" ∷ codes "amd64" ∷ []) ∷ Some (false, codes "i386" ∷ []) ∷ Some (true, codes "amd64" ∷ []) ∷ Some (true, codes "i386" ∷ []) ∷ Some (false, codes "linux-any" ∷ []) ∷ []) ≡ true ∷ true ∷ false ∷ false ∷ true ∷ false ∷ []
+worked-lists : map with_list
+    (None ∷ Some (false, codes "i386" ∷ codes "amd64" ∷ []) ∷ Some (false, codes "i386" ∷ [])
+    ∷ Some (true, codes "amd64" ∷ []) ∷ Some (true, codes "i386" ∷ [])
+    ∷ Some (false, codes "linux-any" ∷ []) ∷ []) ≡ true ∷ true ∷ false ∷ false ∷ true ∷ false ∷ []
 worked-lists = refl
 
 abbrev with_formula : List Restrictions → Bool
@@ -72,15 +86,27 @@ worked-none = refl
 worked-inactive : with_formula (((true, codes "nocheck") ∷ []) ∷ []) ≡ false
 worked-inactive = refl
 
-worked-one_of_two : with_formula (((true, codes "nocheck") ∷ []) ∷ ((false, codes "nocheck") ∷ []) ∷ []) ≡ true
+worked-one_of_two : with_formula
+    (((true, codes "nocheck") ∷ []) ∷ ((false, codes "nocheck") ∷ []) ∷ []) ≡ true
 worked-one_of_two = refl
 
-worked-all_items : with_formula (((false, codes "nocheck") ∷ (false, codes "nodoc") ∷ []) ∷ []) ≡ false
+worked-all_items : with_formula (((false, codes "nocheck") ∷ (false, codes "nodoc") ∷ []) ∷ [])
+    ≡ false
 worked-all_items = refl
 
-worked-not_active : with_formula (((false, codes "nocheck") ∷ (true, codes "nodoc") ∷ []) ∷ []) ≡ true
+worked-not_active : with_formula (((false, codes "nocheck") ∷ (true, codes "nodoc") ∷ []) ∷ [])
+    ≡ true
 worked-not_active = refl
 
 -- both the list and the formula have to apply
-worked-list_alone : applies (record { name = codes "aa"; qualifier = None; bound = None; architectures = Some (false, codes "amd64" ∷ []); formula = ((true, codes "nocheck") ∷ []) ∷ [] }) (record { target = codes "amd64"; profiles = codes "nocheck" ∷ [] }) ≡ false
+worked-list_alone : applies
+    (record {
+      name = codes "aa";
+      qualifier = None;
+      bound = None;
+      architectures = Some
+          (false, codes "amd64" ∷ []);
+      formula = ((true, codes "nocheck") ∷ []) ∷ [];
+    })
+    (record { target = codes "amd64"; profiles = codes "nocheck" ∷ [] }) ≡ false
 worked-list_alone = refl

@@ -8,4 +8,5 @@ abbrev pub environment_with : List ℕ → List (List ℕ) → Environment
 environment_with target profiles = record { target = target; profiles = profiles }
 
 abbrev pub environment_of : Env → Environment
-environment_of environment = environment_with environment.target.items (map bytes_of environment.profiles.items)
+environment_of environment =
+    environment_with environment.target.items (map bytes_of environment.profiles.items)

@@ -48,7 +48,8 @@ SpellBetween byte spells text (a ∷ next ∷ all) =
 -- a qualifier, where there is one: `:` and the name of an architecture
 abbrev pub SpellsQualifier : List ℕ → Option (List ℕ) → Type 0
 SpellsQualifier text None = text ≡ []
-SpellsQualifier text (Some qualifier) = (text ≡ codes ":" ++ qualifier) × IsTrue (is_arch_name qualifier)
+SpellsQualifier text (Some qualifier) =
+    (text ≡ codes ":" ++ qualifier) × IsTrue (is_arch_name qualifier)
 
 -- A bound: white space, `(`, an operator, a version, `)`. White space may stand on both sides of
 -- the operator and of the version.
@@ -61,7 +62,8 @@ pub record IsBound (text : List ℕ) (bound : Op × Version) : Type 0 where
   pub spelt :
       text
       ≡ before
-      ++ (codes "(" ++ (within ++ (operator_text bound.0 ++ (between ++ (version ++ (behind ++ codes ")"))))))
+      ++ (codes "(" ++ (within ++
+      (operator_text bound.0 ++ (between ++ (version ++ (behind ++ codes ")"))))))
   pub before_white : IsWhite before
   pub within_white : IsWhite within
   pub between_white : IsWhite between

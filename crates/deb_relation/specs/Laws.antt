@@ -18,7 +18,8 @@ SpellsOneRelation =
 
 -- A text spells a relation exactly where it has no fault.
 abbrev pub SpellsWhereFaultless : Type 0
-SpellsWhereFaultless = (text : List ℕ) → ((m : Relation) × SpellsRelation text m) ↔ (first_fault text ≡ None)
+SpellsWhereFaultless =
+    (text : List ℕ) → ((m : Relation) × SpellsRelation text m) ↔ (first_fault text ≡ None)
 
 -- The canonical text of a relation that is spelled spells that relation.
 abbrev pub CanonicalTextSpells : Type 0
@@ -40,11 +41,13 @@ CanonicalTextStays =
 -- Canonical text is at most twice as long as each text that spells the relation.
 abbrev pub CanonicalTextIsShort : Type 0
 CanonicalTextIsShort =
-    (text : List ℕ) (m : Relation) → SpellsRelation text m → length (relation_text m) ≤ 2 * length text
+    (text : List ℕ) (m : Relation) → SpellsRelation text m
+    → length (relation_text m) ≤ 2 * length text
 
 -- The canonical text of a relation that is spelled can be the body of a field.
 abbrev pub CanonicalTextIsBody : Type 0
-CanonicalTextIsBody = (text : List ℕ) (m : Relation) → SpellsRelation text m → IsBody (relation_text m)
+CanonicalTextIsBody =
+    (text : List ℕ) (m : Relation) → SpellsRelation text m → IsBody (relation_text m)
 
 -- strictly ascending by their texts, so each once
 abbrev pub Ascends : {A : Type 0} → (A → List ℕ) → List A → Type 0
@@ -59,7 +62,8 @@ GroupsAscend = (text : List ℕ) (m : Relation) → SpellsRelation text m → As
 -- The place of a fault is within the text, or at its end.
 abbrev pub FaultsStandInTheirText : Type 0
 FaultsStandInTheirText =
-    (text : List ℕ) (reason : Reason) (at : ℕ) → first_fault text ≡ Some (reason, at) → at ≤ length text
+    (text : List ℕ) (reason : Reason) (at : ℕ) → first_fault text ≡ Some (reason, at)
+    → at ≤ length text
 
 -- The sets of an alternative ascend by their texts, each member once: the names of its architecture
 -- list, the lists of its formula, and the items of each.

@@ -1,5 +1,6 @@
--- How a relation is read from the left: each step of the grammar with what it takes, and where the first step that fails
--- stands. Debian Policy 7.1; the order of the steps and the places of faults are this project's.
+-- How a relation is read from the left: each step of the grammar with what it takes, and where the
+-- first step that fails stands. Debian Policy 7.1; the order of the steps and the places of faults
+-- are this project's.
 use Rattle.std.specs.Prelude.{ℕ, zero, suc, ◌-◌, ◌==◌, ◌||◌, not, Bool, false, if◌then◌else◌, List, [], ◌∷◌, ◌++◌, length, take, drop, Option, Some, None, Result, Ok, Err, codes}
 use Rattle.std.specs.List.{prefix_len}
 use Rattle.std.specs.Str.{bytes_eq}
@@ -26,17 +27,20 @@ Stopped = Reason × ℕ
 abbrev pub Reading : Type 0 → Type 0
 Reading A = Result (A × List ℕ) Stopped
 
--- One of several things read and the text behind it, or none if there is no further one, or the step that fails.
+-- One of several things read and the text behind it, or none if there is no further one, or the
+-- step that fails.
 abbrev pub Next : Type 0 → Type 0
 Next A = Result (Option (A × List ℕ)) Stopped
 
 -- one step and then another, on what was read and the text behind it
-abbrev pub and_then : {A B : Type 0} → Reading A → (A → List ℕ → Result B Stopped) → Result B Stopped
+abbrev pub and_then : {A B : Type 0} → Reading A → (A → List ℕ → Result B Stopped)
+    → Result B Stopped
 and_then (Ok p) next = next p.0 p.1
 and_then (Err stopped) next = Err stopped
 
 -- a step again and again
-abbrev pub and_next : {A B : Type 0} → Next A → Result B Stopped → (A → List ℕ → Result B Stopped) → Result B Stopped
+abbrev pub and_next : {A B : Type 0} → Next A → Result B Stopped → (A → List ℕ → Result B Stopped)
+    → Result B Stopped
 and_next (Ok (Some p)) last next = next p.0 p.1
 and_next (Ok None) last next = last
 and_next (Err stopped) last next = Err stopped
@@ -44,7 +48,8 @@ and_next (Err stopped) last next = Err stopped
 -- at most so many times, each thing read put to those before it
 abbrev pub gathered : {A S : Type 0} → (List ℕ → Next A) → (A → S → S) → ℕ → S → List ℕ → Reading S
 gathered step put zero all rest = Ok (all, rest)
-gathered step put (suc n) all rest = and_next (step rest) (Ok (all, rest)) (λ a behind. gathered step put n (put a all) behind)
+gathered step put (suc n) all rest =
+    and_next (step rest) (Ok (all, rest)) (λ a behind. gathered step put n (put a all) behind)
 
 -- as often as it goes: each step takes a byte at least
 unfoldable pub gather : {A S : Type 0} → (List ℕ → Next A) → (A → S → S) → S → List ℕ → Reading S
@@ -71,7 +76,9 @@ is_at_end text = length text == 0
 
 -- a name's run: all bytes but white space and `,` `|` `(` `)` `[` `]` `<` `>` `:`
 abbrev pub ends_name : ℕ → Bool
-ends_name b = is_white b || (b == 44) || (b == 124) || (b == 40) || (b == 41) || (b == 91) || (b == 93) || (b == 60) || (b == 62) || (b == 58)
+ends_name b =
+    is_white b || (b == 44) || (b == 124) || (b == 40) || (b == 41) || (b == 91) || (b == 93) ||
+    (b == 60) || (b == 62) || (b == 58)
 
 abbrev pub is_in_name : ℕ → Bool
 is_in_name b = not (ends_name b)
@@ -80,7 +87,8 @@ is_in_name b = not (ends_name b)
 abbrev pub is_in_operator : ℕ → Bool
 is_in_operator b = (b == 60) || (b == 61) || (b == 62)
 
--- a run that ends at white space and at a closing byte: that of a version ends at `)`, of an item at `]` or `>`
+-- a run that ends at white space and at a closing byte: that of a version ends at `)`, of an item
+-- at `]` or `>`
 abbrev pub is_before : ℕ → ℕ → Bool
 is_before close b = not (is_white b || (b == close))
 
@@ -88,14 +96,16 @@ is_before close b = not (is_white b || (b == close))
 unfoldable pub read_name : List ℕ → Reading (List ℕ)
 read_name text =
     if is_at_end (run_of is_in_name text) then Err (NameExpected, length text)
-    else if is_package_name (run_of is_in_name text) then Ok (run_of is_in_name text, behind_run is_in_name text)
+    else if is_package_name (run_of is_in_name text) then Ok
+    (run_of is_in_name text, behind_run is_in_name text)
     else Err (NameBad, length text)
 
 -- `:` and a qualifier, or nothing
 unfoldable pub read_qualifier : List ℕ → Reading (Option (List ℕ))
 read_qualifier text =
     if not (begins 58 text) then Ok (None, text)
-    else if is_arch_name (run_of is_in_name (drop 1 text)) then Ok (Some (run_of is_in_name (drop 1 text)), behind_run is_in_name (drop 1 text))
+    else if is_arch_name (run_of is_in_name (drop 1 text)) then Ok
+    (Some (run_of is_in_name (drop 1 text)), behind_run is_in_name (drop 1 text))
     else Err (QualifierBad, length (drop 1 text))
 
 -- the operator that a run is
@@ -114,7 +124,9 @@ or_stop None behind stopped = Err stopped
 
 -- an operator, and white space behind it
 unfoldable pub read_operator : List ℕ → Reading Op
-read_operator text = or_stop (operator_of (run_of is_in_operator text)) (behind_white (behind_run is_in_operator text)) (OperatorBad, length text)
+read_operator text =
+    or_stop (operator_of (run_of is_in_operator text))
+    (behind_white (behind_run is_in_operator text)) (OperatorBad, length text)
 
 -- a version without fault means what its components mean
 abbrev pub or_fault : Option BadVersion → Version → List ℕ → ℕ → Reading Version
@@ -123,21 +135,31 @@ or_fault (Some fault) version behind left = Err (VersionBad fault, left)
 
 -- a version, and white space behind it
 unfoldable pub read_version : List ℕ → Reading Version
-read_version text = or_fault (first_fault (run_of (is_before 41) text)) (meaning_of_components (components_in (run_of (is_before 41) text))) (behind_white (behind_run (is_before 41) text)) (length text)
+read_version text =
+    or_fault (first_fault (run_of (is_before 41) text))
+    (meaning_of_components (components_in (run_of (is_before 41) text)))
+    (behind_white (behind_run (is_before 41) text)) (length text)
 
--- what stands behind a bound's `(` and white space: an operator, a version and `)`, and white space behind it
+-- what stands behind a bound's `(` and white space: an operator, a version and `)`, and white space
+-- behind it
 abbrev pub read_close : {A : Type 0} → A → List ℕ → Reading A
-read_close bound text = if begins 41 text then Ok (bound, behind_white (drop 1 text)) else Err (Unclosed, length text)
+read_close bound text =
+    if begins 41 text then Ok (bound, behind_white (drop 1 text)) else Err (Unclosed, length text)
 
 unfoldable pub read_bound_behind : List ℕ → Reading (Op × Version)
-read_bound_behind text = and_then (read_operator text) (λ operator rest. and_then (read_version rest) (λ version behind. read_close (operator, version) behind))
+read_bound_behind text =
+    and_then (read_operator text)
+    (λ operator rest. and_then (read_version rest)
+    (λ version behind. read_close (operator, version) behind))
 
 -- a bound, or nothing
 abbrev pub some_read : {A : Type 0} → A → List ℕ → Reading (Option A)
 some_read a behind = Ok (Some a, behind)
 
 unfoldable pub read_bound : List ℕ → Reading (Option (Op × Version))
-read_bound text = if begins 40 text then and_then (read_bound_behind (behind_white (drop 1 text))) some_read else Ok (None, text)
+read_bound text =
+    if begins 40 text then and_then
+    (read_bound_behind (behind_white (drop 1 text))) some_read else Ok (None, text)
 
 -- whether a list ends here: at its closing byte or with the text
 abbrev pub ends_list : ℕ → List ℕ → Bool
@@ -169,7 +191,8 @@ next_restriction text =
 abbrev pub is_empty_list : {A : Type 0} → List A → Bool
 is_empty_list items = length items == 0
 
--- the end of a list, empty or not, and white space behind it; a text that ends first has no byte left
+-- the end of a list, empty or not, and white space behind it; a text that ends first has no byte
+-- left
 unfoldable pub read_list_end : Bool → List ℕ → Result (List ℕ) Stopped
 read_list_end empty text =
     if is_at_end (behind_white text) then Err (Unclosed, 0)
@@ -187,13 +210,15 @@ end_list items text = with_behind items (read_list_end (is_empty_list items) tex
 
 -- what stands behind `[`: the names, a set
 unfoldable pub read_names : Bool → List ℕ → Reading (List (List ℕ))
-read_names negated text = and_then (gather (next_architecture negated) (insert_by itself) [] text) end_list
+read_names negated text =
+    and_then (gather (next_architecture negated) (insert_by itself) [] text) end_list
 
 -- an architecture list, or nothing
 unfoldable pub read_architectures : List ℕ → Reading (Option (Bool × List (List ℕ)))
 read_architectures text =
     let negated = begins 33 (behind_white (drop 1 text)) in
-    if begins 91 text then and_then (read_names negated (drop 1 text)) (λ names rest. Ok (Some (negated, names), rest)) else Ok (None, text)
+    if begins 91 text then and_then (read_names negated (drop 1 text))
+    (λ names rest. Ok (Some (negated, names), rest)) else Ok (None, text)
 
 -- what stands behind `<`: the items, a set
 unfoldable pub read_restrictions : List ℕ → Reading Restrictions
@@ -204,14 +229,23 @@ some_next a behind = Ok (Some (a, behind))
 
 -- the next restriction list of a formula
 unfoldable pub next_restrictions : List ℕ → Next Restrictions
-next_restrictions text = if begins 60 text then and_then (read_restrictions (drop 1 text)) some_next else Ok None
+next_restrictions text =
+    if begins 60 text then and_then (read_restrictions (drop 1 text)) some_next else Ok None
 
 -- a formula: the restriction lists, a set
 unfoldable pub read_formula : List ℕ → Reading (List Restrictions)
 read_formula text = gather next_restrictions (insert_by restrictions_text) [] text
 
-abbrev pub alternative_with : List ℕ → Option (List ℕ) → Option (Op × Version) → Option (Bool × List (List ℕ)) → List Restrictions → Alternative
-alternative_with name qualifier bound architectures formula = record { name = name; qualifier = qualifier; bound = bound; architectures = architectures; formula = formula }
+abbrev pub alternative_with : List ℕ → Option (List ℕ) → Option (Op × Version)
+    → Option (Bool × List (List ℕ)) → List Restrictions → Alternative
+alternative_with name qualifier bound architectures formula =
+    record {
+      name = name;
+      qualifier = qualifier;
+      bound = bound;
+      architectures = architectures;
+      formula = formula;
+    }
 
 -- an alternative, and white space behind it
 unfoldable pub read_alternative : List ℕ → Reading Alternative
@@ -225,7 +259,9 @@ read_alternative text =
 
 -- the next alternative of a group, behind `|`
 unfoldable pub next_alternative : List ℕ → Next Alternative
-next_alternative text = if begins 124 text then and_then (read_alternative (behind_white (drop 1 text))) some_next else Ok None
+next_alternative text =
+    if begins 124 text then and_then
+    (read_alternative (behind_white (drop 1 text))) some_next else Ok None
 
 -- alternatives stand in their order, repeats kept
 abbrev pub append : {A : Type 0} → A → List A → List A
@@ -233,11 +269,15 @@ append a all = all ++ a ∷ []
 
 -- a group, and white space behind it
 unfoldable pub read_group : List ℕ → Reading Group
-read_group text = and_then (read_alternative text) (λ a rest. gather next_alternative append (a ∷ []) rest)
+read_group text =
+    and_then (read_alternative text) (λ a rest. gather next_alternative append (a ∷ []) rest)
 
--- a piece between commas: a group, or none where it is white space alone; and the text behind its comma
+-- a piece between commas: a group, or none where it is white space alone; and the text behind its
+-- comma
 abbrev pub piece_behind : Group → List ℕ → Next (Option Group)
-piece_behind group text = if is_at_end text || begins 44 text then Ok (Some (Some group, drop 1 text)) else Err (Trailing, length text)
+piece_behind group text =
+    if is_at_end text || begins 44 text then Ok (Some (Some group, drop 1 text)) else Err
+    (Trailing, length text)
 
 unfoldable pub next_piece : List ℕ → Next (Option Group)
 next_piece text =

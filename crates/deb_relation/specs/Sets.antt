@@ -18,7 +18,8 @@ by_order Greater less equal greater = greater
 -- a member put into a set: at its place, or nowhere if a member of its text is there
 abbrev pub insert_by : {A : Type 0} → (A → List ℕ) → A → List A → List A
 insert_by text x [] = x ∷ []
-insert_by text x (y ∷ ys) = by_order (byte_cmp (text x) (text y)) (x ∷ y ∷ ys) (y ∷ ys) (y ∷ insert_by text x ys)
+insert_by text x (y ∷ ys) =
+    by_order (byte_cmp (text x) (text y)) (x ∷ y ∷ ys) (y ∷ ys) (y ∷ insert_by text x ys)
 
 -- Where a member belongs in a set, or that it is there.
 abbrev pub IsPlace : {A : Type 0} → (A → List ℕ) → A → List A → Option ℕ → Type 0
@@ -34,14 +35,18 @@ abbrev pub same_bool : Bool → Bool → Bool
 same_bool true b = b
 same_bool false b = not b
 
-worked-less : insert_by itself (codes "a") (codes "ab" ∷ codes "b" ∷ []) ≡ codes "a" ∷ codes "ab" ∷ codes "b" ∷ []
+worked-less : insert_by itself (codes "a") (codes "ab" ∷ codes "b" ∷ []) ≡ codes "a" ∷ codes "ab"
+    ∷ codes "b" ∷ []
 worked-less = refl
 
-worked-between : insert_by itself (codes "ab") (codes "a" ∷ codes "b" ∷ []) ≡ codes "a" ∷ codes "ab" ∷ codes "b" ∷ []
+worked-between : insert_by itself (codes "ab") (codes "a" ∷ codes "b" ∷ []) ≡ codes "a" ∷ codes "ab"
+    ∷ codes "b" ∷ []
 worked-between = refl
 
-worked-last : insert_by itself (codes "c") (codes "a" ∷ codes "b" ∷ []) ≡ codes "a" ∷ codes "b" ∷ codes "c" ∷ []
+worked-last : insert_by itself (codes "c") (codes "a" ∷ codes "b" ∷ []) ≡ codes "a" ∷ codes "b"
+    ∷ codes "c" ∷ []
 worked-last = refl
 
-worked-again : insert_by itself (codes "b") (codes "a" ∷ codes "b" ∷ []) ≡ codes "a" ∷ codes "b" ∷ []
+worked-again : insert_by itself (codes "b") (codes "a" ∷ codes "b" ∷ []) ≡ codes "a" ∷ codes "b"
+    ∷ []
 worked-again = refl

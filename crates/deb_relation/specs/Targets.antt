@@ -19,7 +19,8 @@ is_environment target profiles = is_target target && list_all is_profile_name pr
 worked-environment : is_environment (codes "amd64") [] ≡ true
 worked-environment = refl
 
-worked-profiles : is_environment (codes "kfreebsd-i386") (codes "nocheck" ∷ codes "pkg.x+y-z" ∷ []) ≡ true
+worked-profiles : is_environment (codes "kfreebsd-i386") (codes "nocheck" ∷ codes "pkg.x+y-z" ∷ [])
+    ≡ true
 worked-profiles = refl
 
 worked-any : is_environment (codes "any") [] ≡ false

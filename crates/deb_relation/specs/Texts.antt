@@ -43,19 +43,23 @@ qualifier_text (Some qualifier) = codes ":" ++ qualifier
 -- nothing, or a space and the bound in parentheses
 abbrev pub bound_text : Option (Op × Version) → List ℕ
 bound_text None = []
-bound_text (Some bound) = codes " (" ++ (operator_text bound.0 ++ (codes " " ++ (version_text bound.1 ++ codes ")")))
+bound_text (Some bound) =
+    codes " (" ++ (operator_text bound.0 ++ (codes " " ++ (version_text bound.1 ++ codes ")")))
 
 -- nothing, or a space and the names in brackets, each with `!` or none with it
 abbrev pub architectures_text : Option (Bool × List (List ℕ)) → List ℕ
 architectures_text None = []
-architectures_text (Some list) = codes " [" ++ (joined (codes " ") (map (signed_text list.0) list.1) ++ codes "]")
+architectures_text (Some list) =
+    codes " [" ++ (joined (codes " ") (map (signed_text list.0) list.1) ++ codes "]")
 
 -- each restriction list with a space before it
 abbrev pub formula_text : List Restrictions → List ℕ
 formula_text lists = separated (codes " ") (map restrictions_text lists)
 
 abbrev pub alternative_text : Alternative → List ℕ
-alternative_text a = a.name ++ (qualifier_text a.qualifier ++ (bound_text a.bound ++ (architectures_text a.architectures ++ formula_text a.formula)))
+alternative_text a =
+    a.name ++ (qualifier_text a.qualifier ++
+    (bound_text a.bound ++ (architectures_text a.architectures ++ formula_text a.formula)))
 
 unfoldable pub group_text : Group → List ℕ
 group_text alternatives = joined (codes " | ") (map alternative_text alternatives)

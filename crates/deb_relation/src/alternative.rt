@@ -74,17 +74,17 @@ impl<'a> Alternative<'a> {
         }
     }
 
-    /// The restriction formula: its lists, each of items that are profiles with `!` (true) or without. Items and lists
-    /// ascend by their texts, each once.
+    /// The restriction formula: its lists, each of items that are profiles with `!` (true) or
+    /// without. Items and lists ascend by their texts, each once.
     pub fn formula(&self) -> &[Vec<(bool, &'a [u8])>]
         ensures { map restrictions_of result.now ≡ (alternative_of self.now).formula }
     {
         &self.formula
     }
 
-    /// Whether this applies to an environment: its architecture list holds the target, or with `!` doesn't; and all
-    /// items of one list of its formula hold, an item if its profile is active, or with `!` if it isn't. Without a list
-    /// and without a formula it applies.
+    /// Whether this applies to an environment: its architecture list holds the target, or with `!`
+    /// doesn't; and all items of one list of its formula hold, an item if its profile is active, or
+    /// with `!` if it isn't. Without a list and without a formula it applies.
     pub fn applies(&self, environment: &Env) -> bool
         ensures { result ≡ applies (alternative_of self.now) (environment_of environment.now) }
     {
@@ -134,7 +134,8 @@ impl<'a> Alternative<'a> {
 
     /// Appends the canonical text.
     pub(crate) fn append_to(&self, out: &mut Vec<u8>) -> Result<(), AllocError>
-        ensures { OnOk result (out.new.items ≡ out.old.items ++ alternative_text (alternative_of self.now)) }
+        ensures { OnOk result
+            (out.new.items ≡ out.old.items ++ alternative_text (alternative_of self.now)) }
     {
         out.extend_from_slice(self.name)?;
         append_qualifier(out, self.qualifier)?;
@@ -146,7 +147,8 @@ impl<'a> Alternative<'a> {
 
 /// Appends a colon and the qualifier, or nothing.
 fn append_qualifier(out: &mut Vec<u8>, qualifier: Option<&[u8]>) -> Result<(), AllocError>
-    ensures { OnOk result (out.new.items ≡ out.old.items ++ qualifier_text (option_copied qualifier.entry)) }
+    ensures { OnOk result
+        (out.new.items ≡ out.old.items ++ qualifier_text (option_copied qualifier.entry)) }
 {
     if let Some(qualifier) = qualifier {
         out.push(b':')?;
@@ -157,7 +159,8 @@ fn append_qualifier(out: &mut Vec<u8>, qualifier: Option<&[u8]>) -> Result<(), A
 
 /// Whether an architecture list applies.
 fn list_applies(list: &Option<(bool, Vec<&[u8]>)>, environment: &Env) -> bool
-    ensures { result ≡ list_applies (option_map list_of list.now) (environment_of environment.now).target }
+    ensures { result ≡ list_applies (option_map list_of list.now)
+        (environment_of environment.now).target }
 {
     match list {
         None => true,
@@ -188,14 +191,16 @@ fn all_hold(items: &[(bool, &[u8])], environment: &Env) -> bool
 
 /// Whether a formula applies: it has no list, or all items of one hold.
 fn formula_applies(lists: &[Vec<(bool, &[u8])>], environment: &Env) -> bool
-    ensures { result ≡ formula_applies (map restrictions_of lists.now) (environment_of environment.now).profiles }
+    ensures { result ≡ formula_applies (map restrictions_of lists.now)
+        (environment_of environment.now).profiles }
 {
     lists.is_empty() || some_holds(lists, environment)
 }
 
 /// Whether all items of some list hold.
 fn some_holds(lists: &[Vec<(bool, &[u8])>], environment: &Env) -> bool
-    ensures { result ≡ list_any (all_hold (environment_of environment.now).profiles) (map restrictions_of lists.now) }
+    ensures { result ≡ list_any (all_hold (environment_of environment.now).profiles)
+        (map restrictions_of lists.now) }
 {
     some_list_holds(lists, environment)
 }
@@ -213,13 +218,16 @@ fn some_is_wildcard(names: &[&[u8]]) -> bool
 }
 
 fn each_holds(items: &[(bool, &[u8])], environment: &Env) -> bool
-    ensures { result ≡ list_all (λ item. item_holds (environment_of environment.now).profiles (item_of item)) items.now }
+    ensures { result ≡ list_all
+        (λ item. item_holds (environment_of environment.now).profiles (item_of item)) items.now }
 {
     items.iter().all(|item| item_holds(*item, environment))
 }
 
 fn some_list_holds(lists: &[Vec<(bool, &[u8])>], environment: &Env) -> bool
-    ensures { result ≡ list_any (λ list. all_hold (environment_of environment.now).profiles (restrictions_of list)) lists.now }
+    ensures { result ≡ list_any
+        (λ list. all_hold (environment_of environment.now).profiles (restrictions_of list))
+        lists.now }
 {
     lists.iter().any(|list| all_hold(list, environment))
 }

@@ -37,7 +37,8 @@ pub(crate) fn read_list_end(text: &[u8], is_empty: bool) -> Result<&[u8], Stop>
 
 /// The names of a list, up to its end.
 fn gather_names(alloc: Global, text: &[u8], negated: bool) -> Result<(Vec<&[u8]>, &[u8]), Stop>
-    ensures { Gives result (λ p. (names_of p.0.items, p.1.now)) (gather (next_architecture negated) (insert_by itself) [] text.now) }
+    ensures { Gives result (λ p. (names_of p.0.items, p.1.now))
+        (gather (next_architecture negated) (insert_by itself) [] text.now) }
 {
     let mut names = Vec::new(alloc);
     let mut rest = text;
@@ -77,7 +78,9 @@ pub(crate) fn read_architectures(
 
 /// Appends the texts of names, each with a space before it, and with `!` or not.
 fn append_more_names(out: &mut Vec<u8>, negated: bool, names: &[&[u8]]) -> Result<(), AllocError>
-    ensures { OnOk result (out.new.items ≡ out.old.items ++ separated (codes " ") (map (signed_text negated) (names_of names.now))) }
+    ensures { OnOk result
+        (out.new.items ≡ out.old.items ++ separated (codes " ")
+        (map (signed_text negated) (names_of names.now))) }
 {
     for name in names {
         out.push(b' ')?;
@@ -88,7 +91,9 @@ fn append_more_names(out: &mut Vec<u8>, negated: bool, names: &[&[u8]]) -> Resul
 
 /// Appends the texts of names with one space between, each with `!` or not.
 fn append_names(out: &mut Vec<u8>, negated: bool, names: &[&[u8]]) -> Result<(), AllocError>
-    ensures { OnOk result (out.new.items ≡ out.old.items ++ joined (codes " ") (map (signed_text negated) (names_of names.now))) }
+    ensures { OnOk result
+        (out.new.items ≡ out.old.items ++ joined (codes " ")
+        (map (signed_text negated) (names_of names.now))) }
 {
     if let [first, rest @ ..] = names {
         append_item(out, (negated, *first))?;
@@ -102,7 +107,8 @@ pub(crate) fn append_architectures(
     out: &mut Vec<u8>,
     list: &Option<(bool, Vec<&[u8]>)>,
 ) -> Result<(), AllocError>
-    ensures { OnOk result (out.new.items ≡ out.old.items ++ architectures_text (option_map list_of list.now)) }
+    ensures { OnOk result
+        (out.new.items ≡ out.old.items ++ architectures_text (option_map list_of list.now)) }
 {
     if let Some((negated, names)) = list {
         out.extend_from_slice(b" [")?;

@@ -63,7 +63,8 @@ fn read_version(text: &[u8]) -> Result<(Version<'_>, &[u8]), Stop>
     }
 }
 
-/// What stands behind a bound's opening parenthesis and white space, and what is left behind it and white space.
+/// What stands behind a bound's opening parenthesis and white space, and what is left behind it and
+/// white space.
 #[tactic(auto, unfolding(crate::specs::Reading::read_bound_behind))]
 fn read_bound_behind(text: &[u8]) -> Result<((Op, Version<'_>), &[u8]), Stop>
     ensures { Gives result (λ p. (bound_of p.0, p.1.now)) (read_bound_behind text.now) }
@@ -108,7 +109,8 @@ pub(crate) fn append_bound(
     out: &mut Vec<u8>,
     bound: &Option<(Op, Version<'_>)>,
 ) -> Result<(), AllocError>
-    ensures { OnOk result (out.new.items ≡ out.old.items ++ bound_text (option_map bound_of bound.now)) }
+    ensures { OnOk result
+        (out.new.items ≡ out.old.items ++ bound_text (option_map bound_of bound.now)) }
 {
     if let Some((operator, version)) = bound {
         out.extend_from_slice(b" (")?;

@@ -97,7 +97,8 @@ fn len_before(text: &[u8], close: u8) -> usize
         .count()
 }
 
-/// The run of a version or of an item, which ends at white space and at a closing byte, and what is left behind it.
+/// The run of a version or of an item, which ends at white space and at a closing byte, and what is
+/// left behind it.
 pub(crate) fn cut_before(text: &[u8], close: u8) -> (&[u8], &[u8])
     ensures run { result.0.now ≡ run_of (is_before close) text.now }
     ensures behind { result.1.now ≡ behind_run (is_before close) text.now }

@@ -20,7 +20,8 @@ pub struct Env {
 /// Why there is no environment.
 #[derive(Clone, Copy, Debug, PartialEq, Eq)]
 pub enum EnvFault {
-    /// The target is no name of an architecture, or a wildcard, or `all`; or a profile is no name of a build profile.
+    /// The target is no name of an architecture, or a wildcard, or `all`; or a profile is no name
+    /// of a build profile.
     BadEnvironment,
     /// Memory is wanting.
     Memory,
@@ -54,13 +55,19 @@ impl Env {
     ///
     /// # Errors
     ///
-    /// `BadEnvironment` exactly where the target is no name of an architecture, or a wildcard, or `all`, or where a
-    /// profile is no name of a build profile; else want of memory.
+    /// `BadEnvironment` exactly where the target is no name of an architecture, or a wildcard, or
+    /// `all`, or where a profile is no name of a build profile; else want of memory.
     pub fn new(alloc: Global, target: &[u8], profiles: &[&[u8]]) -> Result<Env, EnvFault>
-        ensures ok { IfOk result (λ environment. environment_of environment ≡ environment_with target.now (names_of profiles.now)) }
-        ensures accepted { IfOk result (λ _. IsTrue (is_environment target.now (names_of profiles.now))) }
-        ensures refused { IfErr result (λ fault. fault ≡ EnvFault.BadEnvironment → IsFalse (is_environment target.now (names_of profiles.now))) }
-        ensures told { IsFalse (is_environment target.now (names_of profiles.now)) → result ≡ Err EnvFault.BadEnvironment }
+        ensures ok { IfOk result
+            (λ environment. environment_of environment
+            ≡ environment_with target.now (names_of profiles.now)) }
+        ensures accepted { IfOk result
+            (λ _. IsTrue (is_environment target.now (names_of profiles.now))) }
+        ensures refused { IfErr result
+            (λ fault. fault ≡ EnvFault.BadEnvironment
+            → IsFalse (is_environment target.now (names_of profiles.now))) }
+        ensures told { IsFalse (is_environment target.now (names_of profiles.now))
+            → result ≡ Err EnvFault.BadEnvironment }
     {
         if !is_environment(target, profiles) {
             return Err(EnvFault::BadEnvironment);

@@ -12,13 +12,16 @@ pub enum Reason {
     NameBad,
     /// What stands behind a colon is no name of an architecture.
     QualifierBad,
-    /// What stands behind an opening parenthesis is none of `<<`, `<=`, `=`, `>=` and `>>` (Debian Policy 7.1).
+    /// What stands behind an opening parenthesis is none of `<<`, `<=`, `=`, `>=` and `>>` (Debian
+    /// Policy 7.1).
     OperatorBad,
-    /// What stands behind an operator is no version, by this fault, whose own place counts from the version's start.
+    /// What stands behind an operator is no version, by this fault, whose own place counts from the
+    /// version's start.
     Version(BadVersion),
     /// A bound lacks its closing parenthesis; or the text ends within a list.
     Unclosed,
-    /// An item of a list is no name of an architecture, or of a build profile, with at most one `!` before it.
+    /// An item of a list is no name of an architecture, or of a build profile, with at most one `!`
+    /// before it.
     ItemBad,
     /// An architecture list has items with `!` and items without.
     MixedSigns,

@@ -16,7 +16,8 @@ use std::cmp::Ordering;
 
 /// The items of a list, up to its end.
 fn gather_items(alloc: Global, text: &[u8]) -> Result<(Vec<(bool, &[u8])>, &[u8]), Stop>
-    ensures { Gives result (λ p. (items_of p.0.items, p.1.now)) (gather next_restriction (insert_by item_text) [] text.now) }
+    ensures { Gives result (λ p. (items_of p.0.items, p.1.now))
+        (gather next_restriction (insert_by item_text) [] text.now) }
 {
     let mut items = Vec::new(alloc);
     let mut rest = text;
@@ -43,7 +44,8 @@ fn next_restrictions(
     alloc: Global,
     text: &[u8],
 ) -> Result<Option<(Vec<(bool, &[u8])>, &[u8])>, Stop>
-    ensures value { Gives result (next_of (λ p. (items_of p.0.items, p.1.now))) (next_restrictions text.now) }
+    ensures value { Gives result (next_of (λ p. (items_of p.0.items, p.1.now)))
+        (next_restrictions text.now) }
 {
     if !begins(text, b'<') {
         return Ok(None);
@@ -64,7 +66,9 @@ pub(crate) fn append_item(out: &mut Vec<u8>, item: (bool, &[u8])) -> Result<(), 
 
 /// Appends the texts of items, each with a space before it.
 fn append_more_items(out: &mut Vec<u8>, items: &[(bool, &[u8])]) -> Result<(), AllocError>
-    ensures { OnOk result (out.new.items ≡ out.old.items ++ separated (codes " ") (map item_text (items_of items.now))) }
+    ensures { OnOk result
+        (out.new.items ≡ out.old.items ++ separated (codes " ")
+        (map item_text (items_of items.now))) }
 {
     for item in items {
         out.push(b' ')?;
@@ -75,7 +79,8 @@ fn append_more_items(out: &mut Vec<u8>, items: &[(bool, &[u8])]) -> Result<(), A
 
 /// Appends the texts of items, with one space between.
 fn append_items(out: &mut Vec<u8>, items: &[(bool, &[u8])]) -> Result<(), AllocError>
-    ensures { OnOk result (out.new.items ≡ out.old.items ++ joined (codes " ") (map item_text (items_of items.now))) }
+    ensures { OnOk result
+        (out.new.items ≡ out.old.items ++ joined (codes " ") (map item_text (items_of items.now))) }
 {
     if let [first, rest @ ..] = items {
         append_item(out, *first)?;
@@ -86,7 +91,8 @@ fn append_items(out: &mut Vec<u8>, items: &[(bool, &[u8])]) -> Result<(), AllocE
 
 /// Appends the text of a restriction list: its items in angle brackets.
 fn append_restrictions(out: &mut Vec<u8>, items: &[(bool, &[u8])]) -> Result<(), AllocError>
-    ensures { OnOk result (out.new.items ≡ out.old.items ++ restrictions_text (items_of items.now)) }
+    ensures { OnOk result
+        (out.new.items ≡ out.old.items ++ restrictions_text (items_of items.now)) }
 {
     out.push(b'<')?;
     append_items(out, items)?;
@@ -99,7 +105,8 @@ pub(crate) fn append_formula(
     out: &mut Vec<u8>,
     lists: &[Vec<(bool, &[u8])>],
 ) -> Result<(), AllocError>
-    ensures { OnOk result (out.new.items ≡ out.old.items ++ formula_text (map restrictions_of lists.now)) }
+    ensures { OnOk result
+        (out.new.items ≡ out.old.items ++ formula_text (map restrictions_of lists.now)) }
 {
     for list in lists {
         out.push(b' ')?;
@@ -117,7 +124,8 @@ fn text_of(alloc: Global, items: &[(bool, &[u8])]) -> Result<Vec<u8>, AllocError
     Ok(text)
 }
 
-/// Where a list belongs in a formula, or None if it is there. The texts of lists are made only where there are two.
+/// Where a list belongs in a formula, or None if it is there. The texts of lists are made only
+/// where there are two.
 fn place_of_list(
     alloc: Global,
     lists: &[Vec<(bool, &[u8])>],
@@ -145,7 +153,8 @@ fn insert_list<'a>(
     lists: &mut Vec<Vec<(bool, &'a [u8])>>,
     list: Vec<(bool, &'a [u8])>,
 ) -> Result<(), Stop>
-    ensures ok { OnOk result (lists.new.items ≡ insert_by restrictions_key list.entry lists.old.items) }
+    ensures ok { OnOk result
+        (lists.new.items ≡ insert_by restrictions_key list.entry lists.old.items) }
     ensures memory { IfErr result (λ stop. stop ≡ Stop.Memory) }
 {
     if let Some(place) = place_of_list(alloc, lists, &list)? {

@@ -89,7 +89,8 @@ impl<'a> Group<'a> {
 /// The next alternative, and what is left behind it and white space.
 #[tactic(auto, unfolding(crate::specs::Reading::next_alternative))]
 fn next_alternative(alloc: Global, text: &[u8]) -> Result<Option<(Alternative<'_>, &[u8])>, Stop>
-    ensures value { Gives result (next_of (λ p. (alternative_of p.0, p.1.now))) (next_alternative text.now) }
+    ensures value { Gives result (next_of (λ p. (alternative_of p.0, p.1.now)))
+        (next_alternative text.now) }
 {
     if !begins(text, b'|') {
         return Ok(None);
@@ -104,7 +105,8 @@ fn gather_alternatives<'a>(
     mut alternatives: Vec<Alternative<'a>>,
     text: &'a [u8],
 ) -> Result<(Vec<Alternative<'a>>, &'a [u8]), Stop>
-    ensures { Gives result (λ p. (map alternative_of p.0.items, p.1.now)) (gather next_alternative append (map alternative_of alternatives.entry.items) text.now) }
+    ensures { Gives result (λ p. (map alternative_of p.0.items, p.1.now))
+        (gather next_alternative append (map alternative_of alternatives.entry.items) text.now) }
 {
     let mut rest = text;
     while let Some((alternative, behind)) = next_alternative(alloc, rest)? {
@@ -119,7 +121,9 @@ fn append_more_alternatives(
     out: &mut Vec<u8>,
     alternatives: &[Alternative<'_>],
 ) -> Result<(), AllocError>
-    ensures { OnOk result (out.new.items ≡ out.old.items ++ separated (codes " | ") (map alternative_text (map alternative_of alternatives.now))) }
+    ensures { OnOk result
+        (out.new.items ≡ out.old.items ++ separated (codes " | ")
+        (map alternative_text (map alternative_of alternatives.now))) }
 {
     for alternative in alternatives {
         out.extend_from_slice(b" | ")?;
@@ -142,7 +146,8 @@ fn text_of(alloc: Global, alternatives: &[Alternative<'_>]) -> Result<Vec<u8>, A
 }
 
 fn some_has_wildcard(alternatives: &[Alternative<'_>]) -> bool
-    ensures { result ≡ list_any (λ alternative. has_wildcard (alternative_of alternative)) alternatives.now }
+    ensures { result ≡ list_any
+        (λ alternative. has_wildcard (alternative_of alternative)) alternatives.now }
 {
     alternatives
         .iter()
@@ -150,7 +155,8 @@ fn some_has_wildcard(alternatives: &[Alternative<'_>]) -> bool
 }
 
 fn each_has_equal_bound(alternatives: &[Alternative<'_>]) -> bool
-    ensures { result ≡ list_all (λ alternative. has_equal_bound (alternative_of alternative)) alternatives.now }
+    ensures { result ≡ list_all
+        (λ alternative. has_equal_bound (alternative_of alternative)) alternatives.now }
 {
     alternatives
         .iter()

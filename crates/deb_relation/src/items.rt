@@ -26,7 +26,8 @@ fn name_of_item(item: &[u8]) -> &[u8]
     if begins(item, b'!') { &item[1..] } else { item }
 }
 
-/// The name of the next item of an architecture list of which each item has `!` or none has, and what is left behind it.
+/// The name of the next item of an architecture list of which each item has `!` or none has, and
+/// what is left behind it.
 #[tactic(auto, unfolding(crate::specs::Reading::next_architecture))]
 pub(crate) fn next_architecture(text: &[u8], negated: bool) -> Result<Option<(&[u8], &[u8])>, Stop>
     ensures value { Gives result (next_of text_behind) (next_architecture negated text.now) }

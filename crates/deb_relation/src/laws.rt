@@ -44,8 +44,8 @@ pub fn groups_ascend()
     ensures { GroupsAscend }
 {}
 
-/// The names of each architecture list, the lists of each formula and the items of each list ascend by their texts, each
-/// once.
+/// The names of each architecture list, the lists of each formula and the items of each list ascend
+/// by their texts, each once.
 pub fn sets_ascend()
     ensures { SetsAscend }
 {}

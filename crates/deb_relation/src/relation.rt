@@ -24,7 +24,8 @@ pub struct Relation<'a> {
     ghost written: { text.items ≡ relation_text (map group_of groups.items) },
 }
 
-/// The next piece between commas, a group or white space alone, and what is left behind it and its comma.
+/// The next piece between commas, a group or white space alone, and what is left behind it and its
+/// comma.
 #[tactic(auto, unfolding(crate::specs::Reading::next_piece))]
 fn next_piece(alloc: Global, text: &[u8]) -> Result<Option<(Option<Group<'_>>, &[u8])>, Stop>
     ensures value { Gives result (next_of piece_behind) (next_piece text.now) }
@@ -76,7 +77,9 @@ fn insert_group<'a>(groups: &mut Vec<Group<'a>>, group: Group<'a>) -> Result<(),
 
 /// Puts a piece's group into a set of groups, if it has one.
 fn put_piece<'a>(groups: &mut Vec<Group<'a>>, piece: Option<Group<'a>>) -> Result<(), Stop>
-    ensures ok { OnOk result (map group_of groups.new.items ≡ put_piece (option_map group_of piece.entry) (map group_of groups.old.items)) }
+    ensures ok { OnOk result
+        (map group_of groups.new.items
+        ≡ put_piece (option_map group_of piece.entry) (map group_of groups.old.items)) }
     ensures memory { IfErr result (λ stop. stop ≡ Stop.Memory) }
 {
     if let Some(group) = piece {
@@ -87,7 +90,8 @@ fn put_piece<'a>(groups: &mut Vec<Group<'a>>, piece: Option<Group<'a>>) -> Resul
 
 /// The groups of a whole text.
 fn gather_groups(alloc: Global, text: &[u8]) -> Result<(Vec<Group<'_>>, &[u8]), Stop>
-    ensures { Gives result (λ p. (map group_of p.0.items, p.1.now)) (gather next_piece put_piece [] text.now) }
+    ensures { Gives result (λ p. (map group_of p.0.items, p.1.now))
+        (gather next_piece put_piece [] text.now) }
 {
     let mut groups = Vec::new(alloc);
     let mut rest = text;
@@ -100,7 +104,9 @@ fn gather_groups(alloc: Global, text: &[u8]) -> Result<(Vec<Group<'_>>, &[u8]), 
 
 /// Appends the texts of groups, each with a comma before it.
 fn append_more_groups(out: &mut Vec<u8>, groups: &[Group<'_>]) -> Result<(), AllocError>
-    ensures { OnOk result (out.new.items ≡ out.old.items ++ separated (codes ", ") (map group_text (map group_of groups.now))) }
+    ensures { OnOk result
+        (out.new.items ≡ out.old.items ++ separated (codes ", ")
+        (map group_text (map group_of groups.now))) }
 {
     for group in groups {
         out.extend_from_slice(b", ")?;
@@ -146,10 +152,11 @@ impl<'a> Relation<'a> {
     ghost use Rattle.deb_relation.specs.Relations.{IsRead, Tells, relation_of};
     ghost use Rattle.deb_relation.specs.Tests.{has_alternatives, only_equals, some_wildcard};
 
-    /// The relation that a text spells: groups with commas between, alternatives with bars between (Debian Policy 7.1).
+    /// The relation that a text spells: groups with commas between, alternatives with bars between
+    /// (Debian Policy 7.1).
     ///
-    /// It borrows names and versions from the text. A group that stands twice is one; empty pieces between commas are
-    /// ignored.
+    /// It borrows names and versions from the text. A group that stands twice is one; empty pieces
+    /// between commas are ignored.
     ///
     /// # Errors
     ///
@@ -208,13 +215,15 @@ impl<'a> Relation<'a> {
         self.text.len() as u64
     }
 
-    /// Appends the canonical text: the groups in the byte order of their texts, each once, with `, ` between.
+    /// Appends the canonical text: the groups in the byte order of their texts, each once, with `,
+    /// ` between.
     ///
     /// # Errors
     ///
     /// Want of memory, and `out` is then unchanged.
     pub fn canon_into(&self, out: &mut Vec<u8>) -> Result<(), AllocError>
-        ensures ok { OnOk result (out.new.items ≡ out.old.items ++ relation_text (relation_of self.now)) }
+        ensures ok { OnOk result
+            (out.new.items ≡ out.old.items ++ relation_text (relation_of self.now)) }
         ensures unchanged { OnErr result (out.new.items ≡ out.old.items) }
     {
         out.extend_from_slice(&self.text)

@@ -1,4 +1,5 @@
-//! Relations with their canonical text or the first step that fails, environments, and memory that is refused.
+//! Relations with their canonical text or the first step that fails, environments, and memory that
+//! is refused.
 
 use crate::{Alternative, Env, EnvFault, Op, Reason, Relation, RelationFault};
 use deb_version::BadVersion;
@@ -519,8 +520,8 @@ fn large_relations(rt: HostRuntime) -> Result<(), Fail> {
     Ok(())
 }
 
-/// `rt try --test --fail-alloc N -- want_of_memory` refuses the Nth growth of a run and no other: exactly one of the
-/// calls below then wants memory, and where N passes their growths none does.
+/// `rt try --test --fail-alloc N -- want_of_memory` refuses the Nth growth of a run and no other:
+/// exactly one of the calls below then wants memory, and where N passes their growths none does.
 #[test]
 fn want_of_memory(rt: HostRuntime) -> Result<(), Fail> {
     let text = b"bb (>= 01)|aa, cc [i386 amd64] <!x y> <z>, aa, cc [amd64] <z>";

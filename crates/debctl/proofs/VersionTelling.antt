@@ -1,11 +1,10 @@
 -- What status 2 says of a job on versions.
-use Rattle.std.proofs.Common.{◌≡◌, ℕ, inl, inr, List, Option, Err, arith, refl, subst}
+use Rattle.std.proofs.Common.{◌≡◌, ℕ, List, Option, Err, subst}
 use Rattle.std.specs.Prelude.{⊤}
 use Rattle.std.specs.Io.KnownBytes.{Appends}
 use Rattle.deb_base.specs.Lines.{refusal_line}
 use Rattle.deb_base.specs.declared.fault.Fault.{Fault}
-use Rattle.deb_base.specs.declared.fault.Fault.TheVariants.{Refused, Memory, Read, Write}
-use Rattle.deb_base.specs.declared.refusal.Refusal.{Refusal}
+use Rattle.deb_base.specs.declared.fault.Fault.TheVariants.{Refused}
 use Rattle.debctl.specs.Telling.{TellsFault}
 use Rattle.debctl.proofs.Telling.{told_as_two}
 use Rattle.debctl.specs.VersionJobs.{bad_version, Canonicalises, IsNoVersion}

@@ -40,22 +40,21 @@ pub record WritesFrontOfOk (doc : Doc) (text : List ℕ) (old new : Option (List
 -- The answer to `check`, and what it wrote: by the reader's text, its count of failed calls before
 -- and after, and the writer before and after.
 pub record ChecksFile {T W : Type 0} (doc : Doc) (left : Option (List ℕ)) (count count_after : ℕ)
-    (held : W → Option (List ℕ)) (failures : W → ℕ) (old new : W)
-    (answer : Result T Fault) : Type 0 where
-  pub ok : (text : List ℕ) → left ≡ Some text
-      → IfOk answer (λ _. WritesOk doc text (held old) (held new))
-  pub refused : (text : List ℕ) → left ≡ Some text
-      → IfRefused answer (λ refusal. refusal_of doc text ≡ Some refusal)
-  pub write : (text : List ℕ) → left ≡ Some text
-      → IfWriteFailed answer (WritesFrontOfOk doc text (held old) (held new))
+    (held : W → Option (List ℕ)) (failures : W → ℕ) (old new : W) (answer : Result T Fault)
+    : Type 0 where
+  pub ok : (text : List ℕ) → left ≡ Some text →
+      IfOk answer (λ _. WritesOk doc text (held old) (held new))
+  pub refused : (text : List ℕ) → left ≡ Some text →
+      IfRefused answer (λ refusal. refusal_of doc text ≡ Some refusal)
+  pub write : (text : List ℕ) → left ≡ Some text →
+      IfWriteFailed answer (WritesFrontOfOk doc text (held old) (held new))
   pub refusal : IfRefused answer IsRefusalOfDocument
   pub unwritten : IfNotWritten answer (new ≡ old)
   pub reads : count_after ≡ read_failures_after count answer
   pub writes : failures new ≡ write_failures_after (failures old) answer
 
 -- The file is refused, nothing was written, and exactly the refusal's line was told.
-pub record TellsRefusal (doc : Doc) (left : Option (List ℕ))
-    (err err_after : Option (List ℕ)) : Type 0 where
+pub record TellsRefusal (doc : Doc) (left err err_after : Option (List ℕ)) : Type 0 where
   pub refusal : Refusal
   pub is_file_refusal : IsRefusalOfDocument refusal
   pub refused : (text : List ℕ) → left ≡ Some text → refusal_of doc text ≡ Some refusal
@@ -65,24 +64,24 @@ pub record TellsRefusal (doc : Doc) (left : Option (List ℕ))
 
 -- The answer to `normalise`, and what it wrote.
 pub record NormalisesFile {W : Type 0} (doc : Doc) (left : Option (List ℕ)) (count count_after : ℕ)
-    (held : W → Option (List ℕ)) (failures : W → ℕ) (old new : W)
-    (answer : Result ℕ Fault) : Type 0 where
-  pub ok : (text : List ℕ) → left ≡ Some text
-      → IfOk answer (λ n. WritesCanonical doc text n (held old) (held new))
-  pub refused : (text : List ℕ) → left ≡ Some text
-      → IfRefused answer (λ refusal. WritesRefused doc text refusal (held old) (held new))
-  pub cut_off : (text : List ℕ) → left ≡ Some text
-      → IfCutOff answer (WritesRead doc text (held old) (held new))
-  pub write : (text : List ℕ) → left ≡ Some text
-      → IfWriteFailed answer (AppendsFront (held old) (held new) (out_of doc text))
+    (held : W → Option (List ℕ)) (failures : W → ℕ) (old new : W) (answer : Result ℕ Fault)
+    : Type 0 where
+  pub ok : (text : List ℕ) → left ≡ Some text →
+      IfOk answer (λ n. WritesCanonical doc text n (held old) (held new))
+  pub refused : (text : List ℕ) → left ≡ Some text →
+      IfRefused answer (λ refusal. WritesRefused doc text refusal (held old) (held new))
+  pub cut_off : (text : List ℕ) → left ≡ Some text →
+      IfCutOff answer (WritesRead doc text (held old) (held new))
+  pub write : (text : List ℕ) → left ≡ Some text →
+      IfWriteFailed answer (AppendsFront (held old) (held new) (out_of doc text))
   pub refusal : IfRefused answer IsRefusalOfDocument
   pub reads : count_after ≡ read_failures_after count answer
   pub writes : failures new ≡ write_failures_after (failures old) answer
 
 -- The file is refused, exactly the canonical text of the paragraphs before the first that fails was
 -- written, and exactly the refusal's line was told.
-pub record TellsRefusalBehind (doc : Doc) (left : Option (List ℕ))
-    (out out_after err err_after : Option (List ℕ)) : Type 0 where
+pub record TellsRefusalBehind (doc : Doc) (left out out_after err err_after : Option (List ℕ))
+    : Type 0 where
   pub refusal : Refusal
   pub is_file_refusal : IsRefusalOfDocument refusal
   pub refused : (text : List ℕ) → left ≡ Some text → WritesRefused doc text refusal out out_after

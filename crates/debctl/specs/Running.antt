@@ -1,7 +1,6 @@
 -- What a whole command answers and writes, by its job. The jobs and their statuses are this
 -- project's own.
-use Rattle.std.specs.Prelude.{◌≡◌, ◌⊎◌, ℕ, Bool, true, false, List, Option, Some, Result, string_bytes}
-use Rattle.std.specs.Prelude.{⊤}
+use Rattle.std.specs.Prelude.{◌≡◌, ◌⊎◌, ℕ, ⊤, Bool, true, false, List, Option, Some, Result, string_bytes}
 use Rattle.std.specs.Io.KnownBytes.{Appends}
 use Rattle.deb_base.specs.Lines.{refusal_line}
 use Rattle.deb_base.specs.declared.fault.Fault.{Fault}
@@ -14,62 +13,60 @@ use Rattle.debctl.specs.declared.jobs.Job.TheVariants.{Check, Normalise, Compare
 
 -- Status 0: `ok N` for an accepted file, its canonical text, yes, and a version's canonical text
 -- with a newline.
-abbrev pub Done : {W : Type 0} → Job → Option (List ℕ) → (W → Option (List ℕ)) → (W → ℕ) → W → W
-    → Type 0
-Done (Check doc) left held failures out out_after =
-    (text : List ℕ) → left ≡ Some text → WritesOk doc text (held out) (held out_after)
-Done (Normalise doc) left held failures out out_after =
-    (text : List ℕ) → left ≡ Some text → (n : ℕ)
-    × WritesCanonical doc text n (held out) (held out_after)
-Done (Compare former operator latter) left held failures out out_after =
-    (out_after ≡ out) × Compared (string_bytes former) operator (string_bytes latter) true
-Done (CanonVersion version) left held failures out out_after =
-    WritesLine (string_bytes version) held failures out out_after
+abbrev pub Done : {W : Type 0} → Job → Option (List ℕ) →
+    (W → Option (List ℕ)) → (W → ℕ) → W → W → Type 0
+Done (Check doc) left held failures out new =
+    (text : List ℕ) → left ≡ Some text → WritesOk doc text (held out) (held new)
+Done (Normalise doc) left held failures out new =
+    (text : List ℕ) → left ≡ Some text → (n : ℕ) × WritesCanonical doc text n (held out) (held new)
+Done (Compare former operator latter) left held failures out new =
+    (new ≡ out) × Compared (string_bytes former) operator (string_bytes latter) true
+Done (CanonVersion version) left held failures out new =
+    WritesLine (string_bytes version) held failures out new
 
 -- Status 1: no, and nothing was written.
 abbrev pub SaysNo : {W : Type 0} → Job → W → W → Type 0
-SaysNo (Check doc) out out_after = ⊥
-SaysNo (Normalise doc) out out_after = ⊥
-SaysNo (Compare former operator latter) out out_after =
-    (out_after ≡ out) × Compared (string_bytes former) operator (string_bytes latter) false
-SaysNo (CanonVersion version) out out_after = ⊥
+SaysNo (Check doc) out new = ⊥
+SaysNo (Normalise doc) out new = ⊥
+SaysNo (Compare former operator latter) out new =
+    (new ≡ out) × Compared (string_bytes former) operator (string_bytes latter) false
+SaysNo (CanonVersion version) out new = ⊥
 
 -- Status 2: the file or a version is refused, exactly the refusal's line was written on `err`, and
 -- nothing on `out` but the canonical text of the paragraphs before the first that fails, by
 -- `normalise`.
-abbrev pub IsRefused : {W : Type 0} → Job → Option (List ℕ) → (W → Option (List ℕ)) → W → W
-    → Option (List ℕ) → Option (List ℕ) → Type 0
-IsRefused (Check doc) left held out out_after err err_after =
-    (out_after ≡ out) × TellsRefusal doc left err err_after
-IsRefused (Normalise doc) left held out out_after err err_after =
-    TellsRefusalBehind doc left (held out) (held out_after) err err_after
-IsRefused (Compare former operator latter) left held out out_after err err_after =
-    (out_after ≡ out) × (IsNoVersion (string_bytes former) ⊎ IsNoVersion (string_bytes latter))
+abbrev pub IsRefused : {W : Type 0} → Job → Option (List ℕ) →
+    (W → Option (List ℕ)) → W → W → Option (List ℕ) → Option (List ℕ) → Type 0
+IsRefused (Check doc) left held out new err err_after =
+    (new ≡ out) × TellsRefusal doc left err err_after
+IsRefused (Normalise doc) left held out new err err_after =
+    TellsRefusalBehind doc left (held out) (held new) err err_after
+IsRefused (Compare former operator latter) left held out new err err_after =
+    (new ≡ out) × (IsNoVersion (string_bytes former) ⊎ IsNoVersion (string_bytes latter))
     × Appends err err_after (refusal_line bad_version)
-IsRefused (CanonVersion version) left held out out_after err err_after =
-    (out_after ≡ out) × IsNoVersion (string_bytes version)
+IsRefused (CanonVersion version) left held out new err err_after =
+    (new ≡ out) × IsNoVersion (string_bytes version)
     × Appends err err_after (refusal_line bad_version)
 
--- Whatever the status: there is an answer to the job, and it is told.
-abbrev pub Told : {W E : Type 0} → Job → Option (List ℕ) → ℕ → ℕ → (W → Option (List ℕ)) → (W → ℕ)
-    → W → W → (E → Option (List ℕ)) → (E → ℕ) → E → E → ℕ → Type 0
-Told (Check doc) left reads reads_after held writes out out_after held_err tells err err_after status =
+-- Whatever the status: there is an answer to the job, and it is told. (n and m are the reader's
+-- counts of failed calls before and after.)
+abbrev pub Told : {W E : Type 0} → Job → Option (List ℕ) → ℕ → ℕ →
+    (W → Option (List ℕ)) → (W → ℕ) → W → W → (E → Option (List ℕ)) → (E → ℕ) → E → E → ℕ → Type 0
+Told (Check doc) left n m held writes out new held_err tells err err_after status =
     (answer : Result ⊤ Fault)
-    × ChecksFile doc left reads reads_after held writes out out_after answer
+    × ChecksFile doc left n m held writes out new answer
     × Tells done_status held_err tells err err_after answer status
-Told (Normalise doc) left reads reads_after held writes out out_after held_err tells err err_after status =
+Told (Normalise doc) left n m held writes out new held_err tells err err_after status =
     (answer : Result ℕ Fault)
-    × NormalisesFile doc left reads reads_after held writes out out_after answer
+    × NormalisesFile doc left n m held writes out new answer
     × Tells done_status held_err tells err err_after answer status
-Told (Compare former operator latter)
-    left reads reads_after held writes out out_after held_err tells err err_after status =
+Told (Compare a operator b) left n m held writes out new held_err tells err err_after status =
     (answer : Result Bool Fault)
-    × Compares (string_bytes former) operator (string_bytes latter) answer × (out_after ≡ out)
+    × Compares (string_bytes a) operator (string_bytes b) answer × (new ≡ out)
     × Tells verdict_status held_err tells err err_after answer status
-Told (CanonVersion version)
-    left reads reads_after held writes out out_after held_err tells err err_after status =
+Told (CanonVersion version) left n m held writes out new held_err tells err err_after status =
     (answer : Result ⊤ Fault)
-    × Canonicalises (string_bytes version) held writes out out_after answer
+    × Canonicalises (string_bytes version) held writes out new answer
     × Tells done_status held_err tells err err_after answer status
 
 -- A job that reads no file leaves its reader as it was.

@@ -41,11 +41,10 @@ abbrev pub done_status : {T : Type 0} → T → ℕ
 done_status _ = 0
 
 -- An answer is told: one that is there by its status and nothing else, a fault as above.
-abbrev pub Tells : {T E : Type 0} → (T → ℕ) → (E → Option (List ℕ)) → (E → ℕ) → E → E
-    → Result T Fault → ℕ → Type 0
-Tells status_of_answer held failures old new (Ok answer) status =
-    (status ≡ status_of_answer answer) × (new ≡ old)
-Tells status_of_answer held failures old new (Err fault) status =
+abbrev pub Tells : {T E : Type 0} → (T → ℕ) → (E → Option (List ℕ)) → (E → ℕ) → E → E →
+    Result T Fault → ℕ → Type 0
+Tells wanted held failures old new (Ok answer) status = (status ≡ wanted answer) × (new ≡ old)
+Tells wanted held failures old new (Err fault) status =
     TellsFault held failures old new fault status
 
 status_of_refusal : status_of (Refused (record { code = NoColon; line = 1 })) ≡ 2
@@ -54,7 +53,7 @@ status_of_refusal = refl
 status_of_failed_read : status_of Read ≡ 3
 status_of_failed_read = refl
 
-line_of_refusal : fault_line (Refused (record { code = NoColon; line = 1 }))
-    ≡ codes "line 1: 6 NoColon\n"
+line_of_refusal :
+    fault_line (Refused (record { code = NoColon; line = 1 })) ≡ codes "line 1: 6 NoColon\n"
 unfolding digits
 line_of_refusal = refl

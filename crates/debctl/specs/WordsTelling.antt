@@ -12,25 +12,24 @@ abbrev pub line_of : List ℕ → List ℕ
 line_of text = text ++ newline ∷ []
 
 -- A write of the help failed: a prefix of it was written, and that is told.
-pub record TellsNoHelp {W E : Type 0} (held : W → Option (List ℕ)) (failures : W → ℕ)
-    (out out_after : W) (held_err : E → Option (List ℕ)) (failures_err : E → ℕ) (err err_after : E)
+pub record TellsNoHelp {W E : Type 0} (held : W → Option (List ℕ)) (writes : W → ℕ) (out new : W)
+    (held_err : E → Option (List ℕ)) (tells : E → ℕ) (err err_after : E)
     (line : List ℕ) (status : ℕ) : Type 0 where
-  pub written : AppendsFront (held out) (held out_after) line
-  pub counted : failures out_after ≡ one_more (failures out)
-  pub told : TellsFault held_err failures_err err err_after fault.Write status
+  pub written : AppendsFront (held out) (held new) line
+  pub counted : writes new ≡ one_more (writes out)
+  pub told : TellsFault held_err tells err err_after fault.Write status
 
--- A mistake by its text on `err`, with status 3; a call for help by the help on `out`, with status
--- 0.
-abbrev pub TellsWords : {W E : Type 0} → (W → Option (List ℕ)) → (W → ℕ) → W → W
-    → (E → Option (List ℕ)) → (E → ℕ) → E → E → UsageFault → ℕ → Type 0
-TellsWords held failures out out_after held_err failures_err err err_after (Usage text) status =
-    (out_after ≡ out)
-    × (TellsWhole held_err failures_err err err_after (line_of (string_bytes text)) 3 status
-    ⊎ TellsFront held_err failures_err err err_after (line_of (string_bytes text)) status)
-TellsWords held failures out out_after held_err failures_err err err_after (Help text) status =
-    (TellsWhole held failures out out_after (line_of (string_bytes text)) 0 status
-    × (err_after ≡ err))
-    ⊎ TellsNoHelp held failures out out_after held_err failures_err err err_after
+-- A mistake by its text on `err`, with status 3; a call for help by the help on `out`, with
+-- status 0.
+abbrev pub TellsWords : {W E : Type 0} → (W → Option (List ℕ)) → (W → ℕ) → W → W →
+    (E → Option (List ℕ)) → (E → ℕ) → E → E → UsageFault → ℕ → Type 0
+TellsWords held writes out new held_err tells err err_after (Usage text) status =
+    (new ≡ out)
+    × (TellsWhole held_err tells err err_after (line_of (string_bytes text)) 3 status
+    ⊎ TellsFront held_err tells err err_after (line_of (string_bytes text)) status)
+TellsWords held writes out new held_err tells err err_after (Help text) status =
+    (TellsWhole held writes out new (line_of (string_bytes text)) 0 status × (err_after ≡ err))
+    ⊎ TellsNoHelp held writes out new held_err tells err err_after
     (line_of (string_bytes text)) status
-TellsWords held failures out out_after held_err failures_err err err_after Memory status =
-    (out_after ≡ out) × TellsFault held_err failures_err err err_after fault.Memory status
+TellsWords held writes out new held_err tells err err_after Memory status =
+    (new ≡ out) × TellsFault held_err tells err err_after fault.Memory status

@@ -37,9 +37,8 @@ fn status_of(fault: &Fault) -> u8
 ///
 /// - 0: the help was written on `out`.
 /// - 3: the words are wrong, and `err` has the text that says so; or memory was wanting, or the
-///   help
-/// couldn't be written, and `err` has the line of that fault. Where a write on `err` failed, it has
-///   a prefix of that.
+///   help couldn't be written, and `err` has the line of that fault. Where a write on `err` failed,
+///   it has a prefix of that.
 pub(crate) fn tell_words<W: Sink, E: Sink>(fault: &UsageFault, out: &mut W, err: &mut E) -> u8
     ensures { TellsWords W.held W.failures out.old out.new E.held E.failures err.old err.new fault.now result }
 {
