@@ -26,8 +26,11 @@ pub(crate) fn run_check<R: Source, W: Sink, E: Sink>(
     out: &mut W,
     err: &mut E,
 ) -> u8
-    ensures done { result ≡ 0 → (err.new ≡ err.old) × ((text : List ℕ) → R.left first.old ≡ Some text → WritesOk doc text (W.held out.old) (W.held out.new)) }
-    ensures refused { result ≡ 2 → (out.new ≡ out.old) × TellsRefusal doc (R.left first.old) (E.held err.old) (E.held err.new) }
+    ensures done { result ≡ 0 → (err.new ≡ err.old)
+        × ((text : List ℕ) → R.left first.old ≡ Some text
+        → WritesOk doc text (W.held out.old) (W.held out.new)) }
+    ensures refused { result ≡ 2 → (out.new ≡ out.old)
+        × TellsRefusal doc (R.left first.old) (E.held err.old) (E.held err.new) }
 
     // Where a call of a device failed, the status is 3.
     ensures read_failed { R.failures first.old < R.failures first.new → result ≡ 3 }
@@ -35,7 +38,10 @@ pub(crate) fn run_check<R: Source, W: Sink, E: Sink>(
     ensures telling_failed { E.failures err.old < E.failures err.new → result ≡ 3 }
 
     // Whatever the status: there is an answer, and that is told.
-    ensures told { (answer : Result ⊤ Fault) × ChecksFile doc (R.left first.old) (R.failures first.old) (R.failures first.new) W.held W.failures out.old out.new answer × Tells done_status E.held E.failures err.old err.new answer result }
+    ensures told { (answer : Result ⊤ Fault)
+        × ChecksFile doc (R.left first.old) (R.failures first.old)
+        (R.failures first.new) W.held W.failures out.old out.new answer
+        × Tells done_status E.held E.failures err.old err.new answer result }
 {
     match write_verdict(alloc, doc, first, out) {
         Ok(()) => 0,
@@ -57,8 +63,12 @@ pub(crate) fn run_normalise<R: Source, W: Sink, E: Sink>(
     out: &mut W,
     err: &mut E,
 ) -> u8
-    ensures done { result ≡ 0 → (err.new ≡ err.old) × ((text : List ℕ) → R.left first.old ≡ Some text → (n : ℕ) × WritesCanonical doc text n (W.held out.old) (W.held out.new)) }
-    ensures refused { result ≡ 2 → TellsRefusalBehind doc (R.left first.old) (W.held out.old) (W.held out.new) (E.held err.old) (E.held err.new) }
+    ensures done { result ≡ 0 → (err.new ≡ err.old)
+        × ((text : List ℕ) → R.left first.old ≡ Some text → (n : ℕ)
+        × WritesCanonical doc text n (W.held out.old) (W.held out.new)) }
+    ensures refused { result ≡ 2
+        → TellsRefusalBehind doc (R.left first.old) (W.held out.old) (W.held out.new)
+        (E.held err.old) (E.held err.new) }
 
     // Where a call of a device failed, the status is 3.
     ensures read_failed { R.failures first.old < R.failures first.new → result ≡ 3 }
@@ -66,7 +76,10 @@ pub(crate) fn run_normalise<R: Source, W: Sink, E: Sink>(
     ensures telling_failed { E.failures err.old < E.failures err.new → result ≡ 3 }
 
     // Whatever the status: there is an answer, and that is told.
-    ensures told { (answer : Result ℕ Fault) × NormalisesFile doc (R.left first.old) (R.failures first.old) (R.failures first.new) W.held W.failures out.old out.new answer × Tells done_status E.held E.failures err.old err.new answer result }
+    ensures told { (answer : Result ℕ Fault)
+        × NormalisesFile doc (R.left first.old) (R.failures first.old)
+        (R.failures first.new) W.held W.failures out.old out.new answer
+        × Tells done_status E.held E.failures err.old err.new answer result }
 {
     match normalise(alloc, doc, first, out) {
         Ok(_) => 0,
@@ -81,7 +94,8 @@ fn write_verdict<R: Source, W: Sink>(
     first: &mut R,
     out: &mut W,
 ) -> Result<(), Fault>
-    ensures { ChecksFile doc (R.left first.old) (R.failures first.old) (R.failures first.new) W.held W.failures out.old out.new result }
+    ensures { ChecksFile doc (R.left first.old) (R.failures first.old)
+        (R.failures first.new) W.held W.failures out.old out.new result }
 {
     let paragraphs = check(alloc, doc, first)?;
     let line = ok_line(alloc, paragraphs)?;

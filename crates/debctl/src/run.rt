@@ -29,9 +29,12 @@ pub fn run<R: Source, S: Source, W: Sink, E: Sink>(
     out: &mut W,
     err: &mut E,
 ) -> u8
-    ensures done { result ≡ 0 → (err.new ≡ err.old) × Done job.now (R.left first.old) W.held W.failures out.old out.new }
+    ensures done { result ≡ 0 → (err.new ≡ err.old)
+        × Done job.now (R.left first.old) W.held W.failures out.old out.new }
     ensures no { result ≡ 1 → (err.new ≡ err.old) × SaysNo job.now out.old out.new }
-    ensures refused { result ≡ 2 → IsRefused job.now (R.left first.old) W.held out.old out.new (E.held err.old) (E.held err.new) }
+    ensures refused { result ≡ 2
+        → IsRefused job.now (R.left first.old) W.held out.old out.new (E.held err.old)
+        (E.held err.new) }
 
     // Where a call of a device failed, the status is 3.
     ensures read_failed { R.failures first.old < R.failures first.new → result ≡ 3 }
@@ -43,7 +46,9 @@ pub fn run<R: Source, S: Source, W: Sink, E: Sink>(
     ensures second { _second.new ≡ _second.old }
 
     // Whatever the status: there is an answer to the job, and that is told.
-    ensures told { Told job.now (R.left first.old) (R.failures first.old) (R.failures first.new) W.held W.failures out.old out.new E.held E.failures err.old err.new result }
+    ensures told { Told job.now (R.left first.old) (R.failures first.old)
+        (R.failures first.new)
+        W.held W.failures out.old out.new E.held E.failures err.old err.new result }
 {
     match job {
         Job::Check(doc) => run_check(alloc, *doc, first, out, err),

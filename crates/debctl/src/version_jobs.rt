@@ -29,13 +29,15 @@ pub(crate) fn run_compare<E: Sink>(
 ) -> u8
     ensures yes { result ≡ 0 → (err.new ≡ err.old) × Compared left.now operator right.now true }
     ensures no { result ≡ 1 → (err.new ≡ err.old) × Compared left.now operator right.now false }
-    ensures refused { result ≡ 2 → (IsNoVersion left.now ⊎ IsNoVersion right.now) × Appends (E.held err.old) (E.held err.new) (refusal_line bad_version) }
+    ensures refused { result ≡ 2 → (IsNoVersion left.now ⊎ IsNoVersion right.now)
+        × Appends (E.held err.old) (E.held err.new) (refusal_line bad_version) }
 
     // Where a write failed, the status is 3.
     ensures telling_failed { E.failures err.old < E.failures err.new → result ≡ 3 }
 
     // Whatever the status: there is an answer, and that is told.
-    ensures told { (answer : Result Bool Fault) × Compares left.now operator right.now answer × Tells verdict_status E.held E.failures err.old err.new answer result }
+    ensures told { (answer : Result Bool Fault) × Compares left.now operator right.now answer
+        × Tells verdict_status E.held E.failures err.old err.new answer result }
 {
     match compare_words(alloc, left, operator, right) {
         Ok(true) => 0,
@@ -56,15 +58,19 @@ pub(crate) fn run_canon_version<W: Sink, E: Sink>(
     out: &mut W,
     err: &mut E,
 ) -> u8
-    ensures done { result ≡ 0 → (err.new ≡ err.old) × WritesLine version.now W.held W.failures out.old out.new }
-    ensures refused { result ≡ 2 → (out.new ≡ out.old) × IsNoVersion version.now × Appends (E.held err.old) (E.held err.new) (refusal_line bad_version) }
+    ensures done { result ≡ 0 → (err.new ≡ err.old)
+        × WritesLine version.now W.held W.failures out.old out.new }
+    ensures refused { result ≡ 2 → (out.new ≡ out.old) × IsNoVersion version.now
+        × Appends (E.held err.old) (E.held err.new) (refusal_line bad_version) }
 
     // Where a write failed, the status is 3.
     ensures write_failed { W.failures out.old < W.failures out.new → result ≡ 3 }
     ensures telling_failed { E.failures err.old < E.failures err.new → result ≡ 3 }
 
     // Whatever the status: there is an answer, and that is told.
-    ensures told { (answer : Result ⊤ Fault) × Canonicalises version.now W.held W.failures out.old out.new answer × Tells done_status E.held E.failures err.old err.new answer result }
+    ensures told { (answer : Result ⊤ Fault)
+        × Canonicalises version.now W.held W.failures out.old out.new answer
+        × Tells done_status E.held E.failures err.old err.new answer result }
 {
     match write_canonical(alloc, version, out) {
         Ok(()) => 0,
