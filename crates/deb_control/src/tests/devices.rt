@@ -47,56 +47,6 @@ impl Read for Pieces<'_> {
     }
 }
 
-/// A reader that gives a text so many times, then another one, and then one byte for ever, if there
-/// is one.
-#[derive(Drop)]
-pub(super) struct Repeated<'a> {
-    text: &'a [u8],
-    times: u64,
-    last: &'a [u8],
-    byte: Option<u8>,
-    /// What is left of the text that is given.
-    rest: &'a [u8],
-}
-
-impl<'a> Repeated<'a> {
-    pub(super) fn new(
-        text: &'a [u8],
-        times: u64,
-        last: &'a [u8],
-        byte: Option<u8>,
-    ) -> Repeated<'a> {
-        Repeated {
-            text,
-            times,
-            last,
-            byte,
-            rest: b"",
-        }
-    }
-}
-
-impl Read for Repeated<'_> {
-    fn read(&mut self, buffer: &mut [u8]) -> io::Result<usize> {
-        if self.rest.is_empty() {
-            if self.times > 0 {
-                self.times -= 1;
-                self.rest = self.text;
-            } else {
-                self.rest = self.last;
-                self.last = b"";
-            }
-        }
-        if self.rest.is_empty()
-            && let Some(byte) = self.byte
-        {
-            buffer.fill(byte);
-            return Ok(buffer.len());
-        }
-        self.rest.read(buffer)
-    }
-}
-
 /// What a writer answers once its good calls are used up.
 #[derive(Clone, Copy)]
 pub(super) enum Then {
@@ -140,23 +90,6 @@ impl Write for Slow {
         let taken = bytes.len().min(self.most);
         self.held.extend_from_slice(&bytes[..taken])?;
         Ok(taken)
-    }
-
-    fn flush(&mut self) -> io::Result<()> {
-        Ok(())
-    }
-}
-
-/// A writer that counts what it is given.
-#[derive(Drop)]
-pub(super) struct Counted {
-    pub(super) bytes: u64,
-}
-
-impl Write for Counted {
-    fn write(&mut self, bytes: &[u8]) -> io::Result<usize> {
-        self.bytes = self.bytes.saturating_add(bytes.len() as u64);
-        Ok(bytes.len())
     }
 
     fn flush(&mut self) -> io::Result<()> {

@@ -1,9 +1,8 @@
-//! Paragraphs and files near the most bytes that they and their canonical text may have.
+//! Paragraphs near the most bytes that they and their canonical text may have.
 
 use super::*;
 use crate::Paragraph;
 use deb_syntax::Paragraphs;
-use devices::{Counted, Repeated};
 
 /// The most bytes of a paragraph.
 const LIMIT: usize = 16_777_216;
@@ -223,60 +222,6 @@ fn typed_paragraphs_have_a_limit(rt: HostRuntime) -> Result<(), Fail> {
         let built = Paragraph::build(rt.alloc(), Doc::Packages, &raw);
         let len = built.map(|paragraph| paragraph.canon_len());
         assert_eq!(rt; len, answer_of(*wanted), "row {index}");
-    }
-    Ok(())
-}
-
-/// 255 paragraphs whose canonical text has the most bytes, and another one: that of the file has
-/// the most bytes with it, or one more. The file itself has the most bytes at most.
-#[test]
-fn canonical_text_of_files_has_a_limit(rt: HostRuntime) -> Result<(), Fail> {
-    let text = file_of(rt.alloc(), &[(SHORT, b'x', REST), (b"\n\n", 0, 0)])?;
-    let rows: [(usize, Result<u64, (Code, u64)>, u64); 2] = [
-        (256, Ok(256), 4_294_967_295),
-        (255, Err((Code::FileTooLong, 1_276)), 4_278_190_334),
-    ];
-    for (missing, wanted, written) in rows {
-        let count = REST.saturating_sub(missing);
-        let last = file_of(rt.alloc(), &[(SHORT, b'x', count), (b"\n", 0, 0)])?;
-        let mut reader = Repeated::new(text.as_slice(), 255, last.as_slice(), None);
-        let mut counted = Counted { bytes: 0 };
-        let answer = normalise(
-            rt.alloc(),
-            Doc::Packages,
-            &mut Input::new(&mut reader),
-            &mut Output::new(&mut counted),
-        );
-        assert_eq!(rt; answer, answer_of(wanted), "{missing} bytes less");
-        assert_eq!(rt; counted.bytes, written, "{missing} bytes less");
-    }
-    Ok(())
-}
-
-/// A byte that comes for ever.
-#[test]
-fn files_without_end_are_refused(rt: HostRuntime) -> Result<(), Fail> {
-    let front = b"Package: aa\nVersion: 1\nArchitecture: all\n\n".as_slice();
-    let rows: [(Doc, &[u8], u8, u64, u64); 3] = [
-        (Doc::Source, b"", b'\n', 4_294_967_296, 0),
-        (Doc::Packages, front, b'x', 5, 41),
-        (Doc::Binary, front, b'\n', 4_294_967_258, 41),
-    ];
-    for (doc, front, byte, line, written) in rows {
-        let mut reader = Repeated::new(b"", 0, front, Some(byte));
-        let mut counted = Counted { bytes: 0 };
-        let answer = normalise(
-            rt.alloc(),
-            doc,
-            &mut Input::new(&mut reader),
-            &mut Output::new(&mut counted),
-        );
-        assert_eq!(rt;
-            answer,
-            Err(refusal_at(Code::FileTooLong, line)),
-            "{byte} for ever"
-        );
-        assert_eq!(rt; counted.bytes, written, "{byte} for ever");
     }
     Ok(())
 }
