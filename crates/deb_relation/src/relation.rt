@@ -215,8 +215,8 @@ impl<'a> Relation<'a> {
         self.text.len() as u64
     }
 
-    /// Appends the canonical text: the groups in the byte order of their texts, each once, with `,
-    /// ` between.
+    /// Appends the canonical text: the groups in the byte order of their texts, each once, and a
+    /// comma and a space between two of them.
     ///
     /// # Errors
     ///
