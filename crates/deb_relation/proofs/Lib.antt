@@ -2,12 +2,14 @@ pub mod Ascending
 pub mod AscendingSets
 pub mod Bytes
 pub mod Faultless
+pub mod GatheredSets
 pub mod Gathering
 pub mod Inserting
 pub mod Joining
 pub mod Lengths
 pub mod Mapped
 pub mod Runs
+pub mod Sorting
 pub mod SpelledParts
 pub mod CanonicalBody
 pub mod CanonicalRelation

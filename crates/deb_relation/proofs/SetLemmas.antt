@@ -20,7 +20,7 @@ module _ {A : Type 0} (text : A → List ℕ) where
   ascends-set_with (x ∷ xs) set a = ascends-set_with xs (insert_by text x set) (ascends-insert_by text x set a)
 
   -- the first member comes before all others
-  first_less : (x : A) (zs : List A) → Ascends text (x ∷ zs) → AllByRecursion (λ z. byte_cmp (text x) (text z) ≡ Less) zs
+  pub first_less : (x : A) (zs : List A) → Ascends text (x ∷ zs) → AllByRecursion (λ z. byte_cmp (text x) (text z) ≡ Less) zs
   first_less x [] a = tt
   first_less x (y ∷ ys) a = (a.0, weaker ys (first_less y ys a.1))
     where
@@ -32,7 +32,7 @@ module _ {A : Type 0} (text : A → List ℕ) where
   middle P [] y ys all = all.0
   middle P (x ∷ xs) y ys all = middle P xs y ys all.1
 
-  tail-ascends : (x : A) (zs : List A) → Ascends text (x ∷ zs) → Ascends text zs
+  pub tail-ascends : (x : A) (zs : List A) → Ascends text (x ∷ zs) → Ascends text zs
   tail-ascends x [] a = tt
   tail-ascends x (z ∷ zs) a = a.1
 

@@ -1,6 +1,7 @@
 pub mod Applying
 pub mod Environments
 pub mod Faults
+pub mod Formulas
 pub mod Grammar
 pub mod Groups
 pub mod Laws

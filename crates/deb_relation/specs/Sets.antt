@@ -1,5 +1,5 @@
 -- Sets as lists: ascending by the texts of their members, each once.
-use Rattle.std.specs.Prelude.{◌≡◌, ℕ, Bool, true, false, not, List, [], ◌∷◌, length, ◌≤◌, insert, Option, Some, None, codes, refl}
+use Rattle.std.specs.Prelude.{◌≡◌, ℕ, Bool, true, false, not, List, [], ◌∷◌, codes, refl}
 use Rattle.std.specs.Cmp.Lexicographic.{slice_cmp}
 use Rattle.std.specs.Ordering.{nat_cmp}
 use Rattle.std.specs.declared.cmp.Ordering.{Ordering}
@@ -20,11 +20,6 @@ abbrev pub insert_by : {A : Type 0} → (A → List ℕ) → A → List A → Li
 insert_by text x [] = x ∷ []
 insert_by text x (y ∷ ys) =
     by_order (byte_cmp (text x) (text y)) (x ∷ y ∷ ys) (y ∷ ys) (y ∷ insert_by text x ys)
-
--- Where a member belongs in a set, or that it is there.
-abbrev pub IsPlace : {A : Type 0} → (A → List ℕ) → A → List A → Option ℕ → Type 0
-IsPlace text x xs None = insert_by text x xs ≡ xs
-IsPlace text x xs (Some i) = (i ≤ length xs) × (insert_by text x xs ≡ insert xs i x)
 
 -- the set's own texts
 abbrev pub itself : List ℕ → List ℕ

@@ -4,14 +4,14 @@ ghost use Rattle.std.specs.Prelude.{◌≡◌, ◌++◌, [], OnOk, map, codes};
 ghost use Rattle.deb_relation.specs.Texts.{architectures_text, joined, separated, signed_text};
 ghost use Rattle.deb_relation.specs.Sets.{insert_by, itself};
 ghost use Rattle.std.specs.Option.{option_map};
-ghost use Rattle.deb_relation.specs.Reading.{gather, next_architecture, read_list_end, read_names, read_architectures};
+ghost use Rattle.deb_relation.specs.Reading.{append, gather, next_architecture, read_list_end, read_names, read_architectures};
 ghost use Rattle.deb_relation.specs.Stops.{Gives};
 ghost use Rattle.deb_relation.specs.Views.{names_of, list_of};
 
 use crate::cursor::{begins, skip_white};
 use crate::fault::{Reason, Stop};
 use crate::formula::append_item;
-use crate::items::{insert_name, next_architecture};
+use crate::items::{next_architecture, sort_names};
 use std::alloc::{AllocError, Global};
 
 /// What is left behind the end of a list and white space; a list has an item at least.
@@ -35,17 +35,27 @@ pub(crate) fn read_list_end(text: &[u8], is_empty: bool) -> Result<&[u8], Stop>
     Ok(skip_white(&text[1..]))
 }
 
-/// The names of a list, up to its end.
+/// The names of a list in their order, up to its end, repeats kept.
 fn gather_names(alloc: Global, text: &[u8], negated: bool) -> Result<(Vec<&[u8]>, &[u8]), Stop>
     ensures { Gives result (λ p. (names_of p.0.items, p.1.now))
-        (gather (next_architecture negated) (insert_by itself) [] text.now) }
+        (gather (next_architecture negated) append [] text.now) }
 {
     let mut names = Vec::new(alloc);
     let mut rest = text;
     while let Some((name, behind)) = next_architecture(rest, negated)? {
-        insert_name(&mut names, name)?;
+        names.push(name)?;
         rest = behind;
     }
+    Ok((names, rest))
+}
+
+/// The set of the names of a list, up to its end.
+fn read_set(alloc: Global, text: &[u8], negated: bool) -> Result<(Vec<&[u8]>, &[u8]), Stop>
+    ensures { Gives result (λ p. (names_of p.0.items, p.1.now))
+        (gather (next_architecture negated) (insert_by itself) [] text.now) }
+{
+    let (mut names, rest) = gather_names(alloc, text, negated)?;
+    sort_names(&mut names)?;
     Ok((names, rest))
 }
 
@@ -54,7 +64,7 @@ fn gather_names(alloc: Global, text: &[u8], negated: bool) -> Result<(Vec<&[u8]>
 fn read_names(alloc: Global, text: &[u8], negated: bool) -> Result<(Vec<&[u8]>, &[u8]), Stop>
     ensures { Gives result (λ p. (names_of p.0.items, p.1.now)) (read_names negated text.now) }
 {
-    let (names, rest) = gather_names(alloc, text, negated)?;
+    let (names, rest) = read_set(alloc, text, negated)?;
     let rest = read_list_end(rest, names.is_empty())?;
     Ok((names, rest))
 }

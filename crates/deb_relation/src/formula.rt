@@ -1,30 +1,43 @@
 //! Restriction formulas: lists of build profiles.
 
 ghost use Rattle.std.specs.Prelude.{◌≡◌, ◌++◌, [], IfOk, OnOk, IfErr, map, codes};
-ghost use Rattle.deb_relation.specs.Reading.{gather, next_restriction, next_restrictions, read_formula, read_restrictions};
-ghost use Rattle.deb_relation.specs.Sets.{insert_by, IsPlace};
+ghost use Rattle.deb_relation.specs.Formulas.{spelled_key, spelled_of};
+ghost use Rattle.deb_relation.specs.Grammar.{set_of};
+ghost use Rattle.deb_relation.specs.Reading.{append, gather, next_restriction, next_restrictions, read_formula, read_restrictions};
+ghost use Rattle.deb_relation.specs.Sets.{byte_cmp, insert_by};
 ghost use Rattle.deb_relation.specs.Stops.{Gives, next_of};
 ghost use Rattle.deb_relation.specs.Texts.{formula_text, item_text, joined, restrictions_text, separated};
-ghost use Rattle.deb_relation.specs.Views.{item_of, items_of, restrictions_key, restrictions_of};
+ghost use Rattle.deb_relation.specs.Views.{item_of, items_of, restrictions_of};
 
 use crate::architectures::read_list_end;
 use crate::cursor::begins;
 use crate::fault::Stop;
-use crate::items::{insert_item, next_restriction};
+use crate::items::{next_restriction, sort_items};
+use crate::spelled_list::SpelledList;
 use std::alloc::{AllocError, Global};
 use std::cmp::Ordering;
 
-/// The items of a list, up to its end.
+/// The items of a list in their order, up to its end, repeats kept.
 fn gather_items(alloc: Global, text: &[u8]) -> Result<(Vec<(bool, &[u8])>, &[u8]), Stop>
     ensures { Gives result (λ p. (items_of p.0.items, p.1.now))
-        (gather next_restriction (insert_by item_text) [] text.now) }
+        (gather next_restriction append [] text.now) }
 {
     let mut items = Vec::new(alloc);
     let mut rest = text;
     while let Some((item, behind)) = next_restriction(rest)? {
-        insert_item(&mut items, item)?;
+        items.push(item)?;
         rest = behind;
     }
+    Ok((items, rest))
+}
+
+/// The set of the items of a list, up to its end.
+fn read_items(alloc: Global, text: &[u8]) -> Result<(Vec<(bool, &[u8])>, &[u8]), Stop>
+    ensures { Gives result (λ p. (items_of p.0.items, p.1.now))
+        (gather next_restriction (insert_by item_text) [] text.now) }
+{
+    let (mut items, rest) = gather_items(alloc, text)?;
+    sort_items(&mut items)?;
     Ok((items, rest))
 }
 
@@ -33,7 +46,7 @@ fn gather_items(alloc: Global, text: &[u8]) -> Result<(Vec<(bool, &[u8])>, &[u8]
 fn read_restrictions(alloc: Global, text: &[u8]) -> Result<(Vec<(bool, &[u8])>, &[u8]), Stop>
     ensures { Gives result (λ p. (items_of p.0.items, p.1.now)) (read_restrictions text.now) }
 {
-    let (items, rest) = gather_items(alloc, text)?;
+    let (items, rest) = read_items(alloc, text)?;
     let rest = read_list_end(rest, items.is_empty())?;
     Ok((items, rest))
 }
@@ -124,43 +137,80 @@ fn text_of(alloc: Global, items: &[(bool, &[u8])]) -> Result<Vec<u8>, AllocError
     Ok(text)
 }
 
-/// Where a list belongs in a formula, or None if it is there. The texts of lists are made only
-/// where there are two.
-fn place_of_list(
-    alloc: Global,
-    lists: &[Vec<(bool, &[u8])>],
-    list: &Vec<(bool, &[u8])>,
-) -> Result<Option<usize>, AllocError>
-    ensures { IfOk result (IsPlace restrictions_key list.now lists.now) }
+/// Two lists, in the byte order of their texts.
+fn compare_lists(a: &SpelledList<'_>, b: &SpelledList<'_>) -> Ordering
+    ensures { result ≡ byte_cmp (spelled_key a.now) (spelled_key b.now) }
 {
-    if lists.is_empty() {
-        return Ok(Some(0));
-    }
-    let text = text_of(alloc, list)?;
-    for (i, other) in lists.iter().enumerate() {
-        match text.as_slice().cmp(text_of(alloc, other)?.as_slice()) {
-            Ordering::Less => return Ok(Some(i)),
-            Ordering::Equal => return Ok(None),
-            Ordering::Greater => {}
-        }
-    }
-    Ok(Some(lists.len()))
+    a.text.as_slice().cmp(b.text.as_slice())
 }
 
-/// Puts a list into a formula.
-fn insert_list<'a>(
-    alloc: Global,
-    lists: &mut Vec<Vec<(bool, &'a [u8])>>,
-    list: Vec<(bool, &'a [u8])>,
-) -> Result<(), Stop>
-    ensures ok { OnOk result
-        (lists.new.items ≡ insert_by restrictions_key list.entry lists.old.items) }
-    ensures memory { IfErr result (λ stop. stop ≡ Stop.Memory) }
+/// Makes lists a set: ascending by their texts, each once.
+fn sort_lists(lists: &mut Vec<SpelledList<'_>>) -> Result<(), AllocError>
+    ensures { OnOk result (map spelled_of lists.new.items
+        ≡ set_of restrictions_text (map spelled_of lists.old.items)) }
 {
-    if let Some(place) = place_of_list(alloc, lists, &list)? {
-        lists.insert(place, list)?;
-    }
+    lists.sort_by(|a, b| compare_lists(a, b))?;
+    lists.dedup_by(|a, b| compare_lists(a, b).is_eq());
     Ok(())
+}
+
+/// Lists with their texts.
+fn spell_lists<'a>(
+    alloc: Global,
+    lists: Vec<Vec<(bool, &'a [u8])>>,
+) -> Result<Vec<SpelledList<'a>>, AllocError>
+    ensures { IfOk result (λ all. map spelled_of all.items ≡ map restrictions_of lists.entry.items) }
+{
+    let mut all = Vec::with_capacity(alloc, lists.len())?;
+    for items in lists {
+        let text = text_of(alloc, &items)?;
+        all.push(SpelledList { items, text })?;
+    }
+    Ok(all)
+}
+
+/// Lists without their texts.
+fn lists_of<'a>(
+    alloc: Global,
+    all: Vec<SpelledList<'a>>,
+) -> Result<Vec<Vec<(bool, &'a [u8])>>, AllocError>
+    ensures { IfOk result (λ lists. map restrictions_of lists.items ≡ map spelled_of all.entry.items) }
+{
+    let mut lists = Vec::with_capacity(alloc, all.len())?;
+    for list in all {
+        lists.push(list.items)?;
+    }
+    Ok(lists)
+}
+
+/// The set of lists: ascending by their texts, each once. Texts are made only where there are two.
+fn set_of_lists<'a>(
+    alloc: Global,
+    lists: Vec<Vec<(bool, &'a [u8])>>,
+) -> Result<Vec<Vec<(bool, &'a [u8])>>, AllocError>
+    ensures { IfOk result (λ set. map restrictions_of set.items
+        ≡ set_of restrictions_text (map restrictions_of lists.entry.items)) }
+{
+    if lists.len() < 2 {
+        return Ok(lists);
+    }
+    let mut all = spell_lists(alloc, lists)?;
+    sort_lists(&mut all)?;
+    lists_of(alloc, all)
+}
+
+/// The lists of a formula in their order, repeats kept.
+fn gather_lists(alloc: Global, text: &[u8]) -> Result<(Vec<Vec<(bool, &[u8])>>, &[u8]), Stop>
+    ensures { Gives result (λ p. (map restrictions_of p.0.items, p.1.now))
+        (gather next_restrictions append [] text.now) }
+{
+    let mut lists = Vec::new(alloc);
+    let mut rest = text;
+    while let Some((list, behind)) = next_restrictions(alloc, rest)? {
+        lists.push(list)?;
+        rest = behind;
+    }
+    Ok((lists, rest))
 }
 
 /// The formula, perhaps of no list, and what is left behind it and white space.
@@ -171,11 +221,7 @@ pub(crate) fn read_formula(
 ) -> Result<(Vec<Vec<(bool, &[u8])>>, &[u8]), Stop>
     ensures { Gives result (λ p. (map restrictions_of p.0.items, p.1.now)) (read_formula text.now) }
 {
-    let mut lists = Vec::new(alloc);
-    let mut rest = text;
-    while let Some((list, behind)) = next_restrictions(alloc, rest)? {
-        insert_list(alloc, &mut lists, list)?;
-        rest = behind;
-    }
+    let (lists, rest) = gather_lists(alloc, text)?;
+    let lists = set_of_lists(alloc, lists)?;
     Ok((lists, rest))
 }

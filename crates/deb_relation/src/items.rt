@@ -1,15 +1,17 @@
 //! The items of lists: names, with `!` before them or not.
 
-ghost use Rattle.std.specs.Prelude.{◌≡◌, ◌∷◌, ◌<◌, OnOk, IfOk, IfSome, IfErr, length, map};
+ghost use Rattle.std.specs.Prelude.{◌≡◌, ◌∷◌, OnOk};
+ghost use Rattle.deb_relation.specs.Grammar.{set_of};
 ghost use Rattle.deb_relation.specs.Reading.{ends_list, name_of_item, next_architecture, next_restriction};
-ghost use Rattle.deb_relation.specs.Sets.{byte_cmp, insert_by, itself, IsPlace};
+ghost use Rattle.deb_relation.specs.Sets.{byte_cmp, itself};
 ghost use Rattle.deb_relation.specs.Stops.{Gives, next_of};
 ghost use Rattle.deb_relation.specs.Texts.{item_text};
-ghost use Rattle.deb_relation.specs.Views.{item_of, items_of, names_of, text_behind, item_behind, item_key, name_key};
+ghost use Rattle.deb_relation.specs.Views.{item_of, items_of, names_of, text_behind, item_behind};
 
 use crate::cursor::{begins, cut_before, skip_white};
 use crate::fault::{Reason, Stop};
 use deb_base::{is_arch_name, is_profile_name};
+use std::alloc::AllocError;
 use std::cmp::Ordering;
 
 /// Whether a list ends here: at its closing byte, or with the text.
@@ -104,55 +106,28 @@ fn compare_items(a: (bool, &[u8]), b: (bool, &[u8])) -> Ordering
     }
 }
 
-/// Where an item belongs in a set of items, or None if it is there.
-fn place_of_item(items: &[(bool, &[u8])], item: (bool, &[u8])) -> Option<usize>
-    ensures { IsPlace item_key item.entry items.now result }
+/// Makes items a set: ascending by their texts, each once.
+pub(crate) fn sort_items(items: &mut Vec<(bool, &[u8])>) -> Result<(), AllocError>
+    ensures { OnOk result
+        (items_of items.new.items ≡ set_of item_text (items_of items.old.items)) }
 {
-    for (i, other) in items.iter().enumerate() {
-        match compare_items(item, *other) {
-            Ordering::Less => return Some(i),
-            Ordering::Equal => return None,
-            Ordering::Greater => {}
-        }
-    }
-    Some(items.len())
-}
-
-/// Puts an item into a set of items.
-pub(crate) fn insert_item<'a>(
-    items: &mut Vec<(bool, &'a [u8])>,
-    item: (bool, &'a [u8]),
-) -> Result<(), Stop>
-    ensures ok { OnOk result (items.new.items ≡ insert_by item_key item.entry items.old.items) }
-    ensures memory { IfErr result (λ stop. stop ≡ Stop.Memory) }
-{
-    if let Some(place) = place_of_item(items, item) {
-        items.insert(place, item)?;
-    }
+    items.sort_by(|a, b| compare_items(*a, *b))?;
+    items.dedup_by(|a, b| compare_items(*a, *b).is_eq());
     Ok(())
 }
 
-/// Where a name belongs in a set of names, or None if it is there.
-fn place_of_name(names: &[&[u8]], name: &&[u8]) -> Option<usize>
-    ensures { IsPlace name_key name.now names.now result }
+/// Two names, in their byte order.
+fn compare_names(a: &[u8], b: &[u8]) -> Ordering
+    ensures { result ≡ byte_cmp a.now b.now }
 {
-    for (i, other) in names.iter().enumerate() {
-        match (*name).cmp(*other) {
-            Ordering::Less => return Some(i),
-            Ordering::Equal => return None,
-            Ordering::Greater => {}
-        }
-    }
-    Some(names.len())
+    a.cmp(b)
 }
 
-/// Puts a name into a set of names.
-pub(crate) fn insert_name<'a>(names: &mut Vec<&'a [u8]>, name: &'a [u8]) -> Result<(), Stop>
-    ensures ok { OnOk result (names.new.items ≡ insert_by name_key name.entry names.old.items) }
-    ensures memory { IfErr result (λ stop. stop ≡ Stop.Memory) }
+/// Makes names a set: ascending, each once.
+pub(crate) fn sort_names(names: &mut Vec<&[u8]>) -> Result<(), AllocError>
+    ensures { OnOk result (names_of names.new.items ≡ set_of itself (names_of names.old.items)) }
 {
-    if let Some(place) = place_of_name(names, &name) {
-        names.insert(place, name)?;
-    }
+    names.sort_by(|a, b| compare_names(*a, *b))?;
+    names.dedup_by(|a, b| compare_names(*a, *b).is_eq());
     Ok(())
 }

@@ -29,6 +29,7 @@ pub mod laws;
 mod name;
 mod operator;
 mod relation;
+mod spelled_list;
 
 pub use alternative::Alternative;
 pub use environment::{Env, EnvFault};

@@ -3,9 +3,10 @@
 ghost use Rattle.std.specs.Prelude.{◌≡◌, ◌++◌, [], Ok, IfOk, IfErr, OnErr, OnOk, codes, length, map};
 ghost use Rattle.std.specs.List.{list_all, list_any};
 ghost use Rattle.std.specs.Option.{option_map};
-ghost use Rattle.deb_relation.specs.Groups.{group_key, group_of, piece_behind};
+ghost use Rattle.deb_relation.specs.Grammar.{set_of};
+ghost use Rattle.deb_relation.specs.Groups.{append_piece, group_key, group_of, piece_behind};
 ghost use Rattle.deb_relation.specs.Reading.{gather, next_piece, put_piece};
-ghost use Rattle.deb_relation.specs.Sets.{insert_by, IsPlace};
+ghost use Rattle.deb_relation.specs.Sets.{byte_cmp};
 ghost use Rattle.deb_relation.specs.Stops.{Gives, next_of};
 ghost use Rattle.deb_relation.specs.Tests.{has_equal_bound, has_two, has_wildcard};
 ghost use Rattle.deb_relation.specs.Texts.{group_text, relation_text, separated};
@@ -50,55 +51,55 @@ fn next_piece(alloc: Global, text: &[u8]) -> Result<Option<(Option<Group<'_>>, &
     Ok(Some((Some(group), &rest[1..])))
 }
 
-/// Where a group belongs in a set of groups, or None if it is there.
-fn place_of_group(groups: &[Group<'_>], group: &Group<'_>) -> Option<usize>
-    ensures { IsPlace group_key group.now groups.now result }
-{
-    for (i, other) in groups.iter().enumerate() {
-        match group.text.as_slice().cmp(other.text.as_slice()) {
-            Ordering::Less => return Some(i),
-            Ordering::Equal => return None,
-            Ordering::Greater => {}
-        }
-    }
-    Some(groups.len())
-}
-
-/// Puts a group into a set of groups.
-fn insert_group<'a>(groups: &mut Vec<Group<'a>>, group: Group<'a>) -> Result<(), Stop>
-    ensures ok { OnOk result (groups.new.items ≡ insert_by group_key group.entry groups.old.items) }
-    ensures memory { IfErr result (λ stop. stop ≡ Stop.Memory) }
-{
-    if let Some(place) = place_of_group(groups, &group) {
-        groups.insert(place, group)?;
-    }
-    Ok(())
-}
-
-/// Puts a piece's group into a set of groups, if it has one.
-fn put_piece<'a>(groups: &mut Vec<Group<'a>>, piece: Option<Group<'a>>) -> Result<(), Stop>
-    ensures ok { OnOk result
-        (map group_of groups.new.items
-        ≡ put_piece (option_map group_of piece.entry) (map group_of groups.old.items)) }
-    ensures memory { IfErr result (λ stop. stop ≡ Stop.Memory) }
+/// Appends a piece's group to groups, if it has one.
+fn push_piece<'a>(groups: &mut Vec<Group<'a>>, piece: Option<Group<'a>>) -> Result<(), AllocError>
+    ensures { OnOk result (map group_of groups.new.items
+        ≡ append_piece (option_map group_of piece.entry) (map group_of groups.old.items)) }
 {
     if let Some(group) = piece {
-        insert_group(groups, group)?;
+        groups.push(group)?;
     }
     Ok(())
 }
 
-/// The groups of a whole text.
+/// The groups of a whole text in their order, repeats kept.
 fn gather_groups(alloc: Global, text: &[u8]) -> Result<(Vec<Group<'_>>, &[u8]), Stop>
     ensures { Gives result (λ p. (map group_of p.0.items, p.1.now))
-        (gather next_piece put_piece [] text.now) }
+        (gather next_piece append_piece [] text.now) }
 {
     let mut groups = Vec::new(alloc);
     let mut rest = text;
     while let Some((piece, behind)) = next_piece(alloc, rest)? {
-        put_piece(&mut groups, piece)?;
+        push_piece(&mut groups, piece)?;
         rest = behind;
     }
+    Ok((groups, rest))
+}
+
+/// Two groups, in the byte order of their texts.
+fn compare_groups(a: &Group<'_>, b: &Group<'_>) -> Ordering
+    ensures { result ≡ byte_cmp (group_key a.now) (group_key b.now) }
+{
+    a.text.as_slice().cmp(b.text.as_slice())
+}
+
+/// Makes groups a set: ascending by their texts, each once.
+fn sort_groups(groups: &mut Vec<Group<'_>>) -> Result<(), AllocError>
+    ensures { OnOk result
+        (map group_of groups.new.items ≡ set_of group_text (map group_of groups.old.items)) }
+{
+    groups.sort_by(|a, b| compare_groups(a, b))?;
+    groups.dedup_by(|a, b| compare_groups(a, b).is_eq());
+    Ok(())
+}
+
+/// The set of the groups of a whole text.
+fn read_groups(alloc: Global, text: &[u8]) -> Result<(Vec<Group<'_>>, &[u8]), Stop>
+    ensures { Gives result (λ p. (map group_of p.0.items, p.1.now))
+        (gather next_piece put_piece [] text.now) }
+{
+    let (mut groups, rest) = gather_groups(alloc, text)?;
+    sort_groups(&mut groups)?;
     Ok((groups, rest))
 }
 
@@ -167,7 +168,7 @@ impl<'a> Relation<'a> {
         ensures accepted { (m : Meaning) → SpellsRelation text.now m → IsRead result m }
         ensures refused { IfErr result (Tells (first_fault text.now)) }
     {
-        match gather_groups(alloc, text) {
+        match read_groups(alloc, text) {
             Ok((groups, _)) => match text_of(alloc, &groups) {
                 Ok(text) => Ok(Relation { groups, text }),
                 Err(_) => Err(RelationFault::Memory),

@@ -1,28 +1,19 @@
-use Rattle.std.proofs.Common.{rules, map, [], Ok, ap, ◌∙◌}
+use Rattle.std.proofs.Common.{[], map}
 use Rattle.std.proofs.lemmas.Result.{err_from_is_err_and}
-use Rattle.deb_relation.specs.Reading.{next_restrictions, read_formula}
+use Rattle.deb_relation.specs.Grammar.{set_of}
+use Rattle.deb_relation.specs.Reading.{append, next_restrictions, read_formula}
 use Rattle.deb_relation.specs.Sets.{insert_by}
 use Rattle.deb_relation.specs.Texts.{restrictions_text}
-use Rattle.deb_relation.specs.Stops.{next_of}
-use Rattle.deb_relation.specs.Views.{items_of, restrictions_of}
-use Rattle.deb_relation.proofs.Gathering.{read-more, read-last, loop-stop}
-use Rattle.deb_relation.proofs.Inserting.{map-insert_by}
-use Rattle.deb_relation.proofs.Lengths.{step-next_restrictions}
+use Rattle.deb_relation.specs.Views.{restrictions_of}
+use Rattle.deb_relation.proofs.GatheredSets.{mapped-ok, mapped-stop, put_member}
 use Rattle.deb_relation.proofs.formula.read_formula.Goals as goal
 
-pub returns-in_err-list : goal.returns-in_err-list
+pub returns-in_err-lists : goal.returns-in_err-lists
 unfolding read_formula
-returns-in_err-list c =
+returns-in_err-lists c =
     let p = err_from_is_err_and c.from_residual.result c.from_residual.ensures.1 in
-    loop-stop next_restrictions (insert_by restrictions_text) step-next_restrictions [] c.args.text.now (map restrictions_of c.loop-lists.lists.items) c.loop-lists.rest.now c.loop-lists.invariant (next_of (λ p. (items_of p.0.items, p.1.now))) _ c.from_residual.result p.0 _ p.1 p.2 c.in_err-list.ensures.value
-
-pub loop-lists-smaller : goal.loop-lists-smaller
-loop-lists-smaller c = step-next_restrictions.shrinks c.loop-lists.rest.now (restrictions_of c.in-Some.list) c.in-Some.behind.now (c.in_ok-list.ensures.value ∙ ap (λ o. Ok (next_of (λ p. (items_of p.0.items, p.1.now)) o)) c.in-Some.is)
-
-pub loop-lists-preserved : goal.loop-lists-preserved
-loop-lists-preserved c =
-    read-more next_restrictions (insert_by restrictions_text) step-next_restrictions [] c.args.text.now (map restrictions_of c.loop-lists.lists.items) c.loop-lists.rest.now c.loop-lists.invariant (restrictions_of c.in-Some.list) (map restrictions_of c.insert_list.new.lists.items) c.in-Some.behind.now (c.in_ok-list.ensures.value ∙ ap (λ o. Ok (next_of (λ p. (items_of p.0.items, p.1.now)) o)) c.in-Some.is) (ap (map restrictions_of) c.in_ok-insert_list.ensures.ok ∙ map-insert_by restrictions_of restrictions_text c.in-Some.list c.loop-lists.lists.items)
+    mapped-stop next_restrictions append (insert_by restrictions_text) (set_of restrictions_text) (put_member restrictions_text) [] c.args.text.now (λ p. (map restrictions_of p.0.items, p.1.now)) (λ p. (map restrictions_of p.0.items, p.1.now)) c.from_residual.result p.0 _ p.1 p.2 c.in_err-lists.ensures
 
 pub returns : goal.returns
 unfolding read_formula
-returns c = read-last next_restrictions (insert_by restrictions_text) step-next_restrictions [] c.args.text.now (map restrictions_of c.loop-lists.lists.items) c.loop-lists.rest.now c.loop-lists.invariant (search rules)
+returns c = mapped-ok next_restrictions append (insert_by restrictions_text) (set_of restrictions_text) (put_member restrictions_text) [] c.args.text.now (map restrictions_of c.in_ok-lists.lists.items) (map restrictions_of c.in_ok-lists-2.lists.items) c.in_ok-lists.rest.now c.in_ok-lists.ensures c.in_ok-lists-2.ensures
