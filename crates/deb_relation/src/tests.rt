@@ -5,6 +5,7 @@ use crate::{Alternative, Env, EnvFault, Op, Reason, Relation, RelationFault};
 use deb_version::BadVersion;
 use std::alloc::Global;
 use std::cmp::Ordering;
+use std::process::Abort;
 use std::test::Fail;
 
 /// A text, and the reason and the place of the step that fails.
@@ -488,12 +489,13 @@ fn operators(rt: HostRuntime) {
 
 #[test]
 fn large_relations(rt: HostRuntime) -> Result<(), Fail> {
-    // ten thousand groups in reverse order, and one group ten thousand times
+    // ten thousand groups in reverse order, and mixed with repeats; one group ten thousand times
     let mut text = Vec::new(rt.alloc());
+    let mut mixed = Vec::new(rt.alloc());
     let mut expected = Vec::new(rt.alloc());
     let mut repeated = Vec::new(rt.alloc());
     let mut alternatives = Vec::new(rt.alloc());
-    for n in 0..10_000 {
+    for n in 0..10_000u32 {
         if n > 0 {
             text.push(b',')?;
             expected.extend_from_slice(b", ")?;
@@ -501,15 +503,21 @@ fn large_relations(rt: HostRuntime) -> Result<(), Fail> {
             alternatives.extend_from_slice(b" | ")?;
         }
         text.extend_from_slice(format!(in rt.alloc(); "p{:04}", 9_999u32.abs_diff(n))?.as_bytes())?;
+        for m in [n, n.abs_diff(5_000)] {
+            let group = format!(in rt.alloc(); "p{:04},", m * 7_919 % 10_000)?;
+            mixed.extend_from_slice(group.as_bytes())?;
+        }
         expected.extend_from_slice(format!(in rt.alloc(); "p{:04}", n)?.as_bytes())?;
         repeated.extend_from_slice(b"aa")?;
         alternatives.extend_from_slice(b"aa")?;
     }
-    let out = canonical(rt.alloc(), &text)?;
-    assert!(rt;
-        out.as_slice() == expected.as_slice(),
-        "ten thousand groups"
-    );
+    for text in [text, mixed] {
+        let out = canonical(rt.alloc(), &text)?;
+        assert!(rt;
+            out.as_slice() == expected.as_slice(),
+            "ten thousand groups"
+        );
+    }
     let out = canonical(rt.alloc(), &repeated)?;
     assert_eq!(rt; out.as_slice(), b"aa".as_slice());
     let out = canonical(rt.alloc(), &alternatives)?;
@@ -524,42 +532,54 @@ fn large_relations(rt: HostRuntime) -> Result<(), Fail> {
 /// exactly one of the calls below then wants memory, and where N passes their growths none does.
 #[test]
 fn want_of_memory(rt: HostRuntime) -> Result<(), Fail> {
-    let text = b"bb (>= 01)|aa, cc [i386 amd64] <!x y> <z>, aa, cc [amd64] <z>";
     let mut refusals = 0;
-    match Relation::parse(rt.alloc(), text) {
-        Err(fault) => {
-            assert_eq!(rt; fault, RelationFault::Memory);
-            refusals = refusals.max(1);
-        }
-        Ok(relation) => {
-            let mut out = Vec::new(rt.alloc());
-            for group in relation.groups() {
-                out.clear();
-                if group.canon_into(&mut out).is_err() {
-                    assert!(rt; out.is_empty() && refusals == 0, "unchanged, and the first");
-                    refusals = 1;
-                }
+    for text in [
+        b"bb (>= 01)|aa, cc [i386 amd64] <!x y> <z>, aa, cc [amd64] <z>".as_slice(),
+        // so many names that sorting them takes memory
+        b"aa [b a d c f e h g j i l k n m p o r q t s v u x w]".as_slice(),
+    ] {
+        match Relation::parse(rt.alloc(), text) {
+            Err(fault) => {
+                assert_eq!(rt; fault, RelationFault::Memory);
+                refusals += 1;
             }
-            let held = out.len();
-            if relation.canon_into(&mut out).is_err() {
-                assert!(rt;
-                    out.len() == held && refusals == 0,
-                    "unchanged, and the first"
-                );
-                refusals = 1;
-            }
+            Ok(relation) => refusals += refusals_of_writing(&rt, rt.alloc(), &relation)?,
         }
     }
     match Env::new(rt.alloc(), b"amd64", &[b"nocheck", b"nodoc"]) {
         Err(fault) => {
             assert_eq!(rt; fault, EnvFault::Memory);
-            assert_eq!(rt; refusals, 0, "one growth at most is refused in a run");
+            refusals += 1;
         }
         Ok(environment) => assert!(rt; environment.active(b"nodoc")),
     }
+    assert!(rt; refusals <= 1, "one growth at most is refused in a run");
 
     // what is refused is refused first, and takes no memory where nothing stands before it
     let fault = Env::new(rt.alloc(), b"all", &[]).err();
     assert_eq!(rt; fault, Some(EnvFault::BadEnvironment));
     Ok(())
+}
+
+/// How many calls that write canonical text want memory. Each leaves what was written before.
+fn refusals_of_writing(
+    rt: &impl Abort,
+    alloc: Global,
+    relation: &Relation<'_>,
+) -> Result<u32, Fail> {
+    let mut refusals = 0;
+    let mut out = Vec::new(alloc);
+    for group in relation.groups() {
+        out.clear();
+        if group.canon_into(&mut out).is_err() {
+            assert!(rt; out.is_empty(), "unchanged");
+            refusals += 1;
+        }
+    }
+    let held = out.len();
+    if relation.canon_into(&mut out).is_err() {
+        assert_eq!(rt; out.len(), held, "unchanged");
+        refusals += 1;
+    }
+    Ok(refusals)
 }
