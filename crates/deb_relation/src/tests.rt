@@ -504,7 +504,7 @@ fn large_relations(rt: HostRuntime) -> Result<(), Fail> {
         }
         text.extend_from_slice(format!(in rt.alloc(); "p{:04}", 9_999u32.abs_diff(n))?.as_bytes())?;
         for m in [n, n.abs_diff(5_000)] {
-            let group = format!(in rt.alloc(); "p{:04},", m * 7_919 % 10_000)?;
+            let group = format!(in rt.alloc(); "p{:04},", m.wrapping_mul(7_919) % 10_000)?;
             mixed.extend_from_slice(group.as_bytes())?;
         }
         expected.extend_from_slice(format!(in rt.alloc(); "p{:04}", n)?.as_bytes())?;
@@ -532,7 +532,7 @@ fn large_relations(rt: HostRuntime) -> Result<(), Fail> {
 /// exactly one of the calls below then wants memory, and where N passes their growths none does.
 #[test]
 fn want_of_memory(rt: HostRuntime) -> Result<(), Fail> {
-    let mut refusals = 0;
+    let mut refusals = 0u32;
     for text in [
         b"bb (>= 01)|aa, cc [i386 amd64] <!x y> <z>, aa, cc [amd64] <z>".as_slice(),
         // so many names that sorting them takes memory
@@ -541,15 +541,18 @@ fn want_of_memory(rt: HostRuntime) -> Result<(), Fail> {
         match Relation::parse(rt.alloc(), text) {
             Err(fault) => {
                 assert_eq!(rt; fault, RelationFault::Memory);
-                refusals += 1;
+                refusals = refusals.saturating_add(1);
             }
-            Ok(relation) => refusals += refusals_of_writing(&rt, rt.alloc(), &relation)?,
+            Ok(relation) => {
+                let written = refusals_of_writing(&rt, rt.alloc(), &relation)?;
+                refusals = refusals.saturating_add(written);
+            }
         }
     }
     match Env::new(rt.alloc(), b"amd64", &[b"nocheck", b"nodoc"]) {
         Err(fault) => {
             assert_eq!(rt; fault, EnvFault::Memory);
-            refusals += 1;
+            refusals = refusals.saturating_add(1);
         }
         Ok(environment) => assert!(rt; environment.active(b"nodoc")),
     }
@@ -567,19 +570,19 @@ fn refusals_of_writing(
     alloc: Global,
     relation: &Relation<'_>,
 ) -> Result<u32, Fail> {
-    let mut refusals = 0;
+    let mut refusals = 0u32;
     let mut out = Vec::new(alloc);
     for group in relation.groups() {
         out.clear();
         if group.canon_into(&mut out).is_err() {
             assert!(rt; out.is_empty(), "unchanged");
-            refusals += 1;
+            refusals = refusals.saturating_add(1);
         }
     }
     let held = out.len();
     if relation.canon_into(&mut out).is_err() {
         assert_eq!(rt; out.len(), held, "unchanged");
-        refusals += 1;
+        refusals = refusals.saturating_add(1);
     }
     Ok(refusals)
 }
