@@ -9,7 +9,6 @@ use Rattle.deb_relation.specs.declared.alternative.Alternative.{Alternative as P
 use Rattle.deb_version.specs.declared.version.Version.{Version as Spelled}
 use Rattle.deb_version.specs.Parts.{Meaning as Version}
 use Rattle.deb_version.specs.Version.{meaning_of}
-use Rattle.deb_relation.specs.Texts.{item_text, restrictions_text}
 use Rattle.deb_relation.specs.Meaning.{Item, Restrictions, Alternative}
 
 -- the operator and the version's meaning
@@ -29,19 +28,13 @@ item_of item = (item.0, item.1.now)
 abbrev pub items_of : List (Bool × Bor (List ℕ)) → Restrictions
 items_of items = map item_of items
 
--- the texts by which sets of items and of names are ordered
-abbrev pub item_key : Bool × Bor (List ℕ) → List ℕ
-item_key item = item_text (item_of item)
-
+-- the name that a slice holds
 abbrev pub name_key : Bor (List ℕ) → List ℕ
 name_key name = name.now
 
--- a restriction list's meaning, and the text by which a formula is ordered
+-- a restriction list's meaning
 abbrev pub restrictions_of : Vec (Bool × Bor (List ℕ)) Global → Restrictions
 restrictions_of list = items_of list.items
-
-abbrev pub restrictions_key : Vec (Bool × Bor (List ℕ)) Global → List ℕ
-restrictions_key list = restrictions_text (restrictions_of list)
 
 -- what was read, and the text behind it
 abbrev pub text_behind : Bor (List ℕ) × Bor (List ℕ) → List ℕ × List ℕ

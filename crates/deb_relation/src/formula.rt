@@ -1,6 +1,6 @@
 //! Restriction formulas: lists of build profiles.
 
-ghost use Rattle.std.specs.Prelude.{◌≡◌, ◌++◌, [], IfOk, OnOk, IfErr, map, codes};
+ghost use Rattle.std.specs.Prelude.{◌≡◌, ◌++◌, [], IfOk, OnOk, map, codes};
 ghost use Rattle.deb_relation.specs.Formulas.{spelled_key, spelled_of};
 ghost use Rattle.deb_relation.specs.Grammar.{set_of};
 ghost use Rattle.deb_relation.specs.Reading.{append, gather, next_restriction, next_restrictions, read_formula, read_restrictions};
@@ -159,7 +159,8 @@ fn spell_lists<'a>(
     alloc: Global,
     lists: Vec<Vec<(bool, &'a [u8])>>,
 ) -> Result<Vec<SpelledList<'a>>, AllocError>
-    ensures { IfOk result (λ all. map spelled_of all.items ≡ map restrictions_of lists.entry.items) }
+    ensures { IfOk result
+        (λ all. map spelled_of all.items ≡ map restrictions_of lists.entry.items) }
 {
     let mut all = Vec::with_capacity(alloc, lists.len())?;
     for items in lists {
@@ -174,7 +175,8 @@ fn lists_of<'a>(
     alloc: Global,
     all: Vec<SpelledList<'a>>,
 ) -> Result<Vec<Vec<(bool, &'a [u8])>>, AllocError>
-    ensures { IfOk result (λ lists. map restrictions_of lists.items ≡ map spelled_of all.entry.items) }
+    ensures { IfOk result
+        (λ lists. map restrictions_of lists.items ≡ map spelled_of all.entry.items) }
 {
     let mut lists = Vec::with_capacity(alloc, all.len())?;
     for list in all {
