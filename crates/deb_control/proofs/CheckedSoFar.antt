@@ -1,5 +1,5 @@
 -- What the loops that check and normalise a file know of it, and what they answer by that.
-use Rattle.std.proofs.Common.{◌≡◌, ℕ, ◌+◌, ◌<◌, ◌≤◌, List, [], ◌∷◌, ◌++◌, length, map, Option, None, Some, Result, Ok, Err, IfNone, refl, sym, ap, ◌∙◌, subst, arith, append_assoc, append-nil}
+use Rattle.std.proofs.Common.{◌≡◌, ℕ, ◌+◌, ◌<◌, ◌≤◌, List, [], ◌∷◌, ◌++◌, length, map, Option, None, Some, Result, Ok, Err, IfOk, IfNone, refl, sym, ap, ◌∙◌, subst, arith, append_assoc, append-nil}
 use Rattle.std.proofs.KnownBytes.{Appends-nil, Appends-trans}
 use Rattle.std.proofs.lemmas.List.{length-map}
 use Rattle.std.specs.Io.KnownBytes.{Appends}
@@ -15,7 +15,7 @@ use Rattle.deb_field.specs.Values.{value_text, ValueMeaning, SpellsValue}
 use Rattle.deb_field.specs.ValueLaws.{value_law}
 use Rattle.deb_control.specs.Calls.{IfRefused, IfCutOff, HasParagraphs, WritesCanonical, WritesRefused, WritesRead}
 use Rattle.deb_control.specs.Canonical.{paragraph_text, file_text}
-use Rattle.deb_control.specs.Checking.{Follow, Passing, CheckedState, CheckedMoment, FitsChecked, GivesPassing, GivesEnd, AnswersChecked, Checks, ChecksOn}
+use Rattle.deb_control.specs.Checking.{Follow, Passing, CheckedState, CheckedMoment, FitsChecked, HasChecked, GivesPassing, GivesEnd, AnswersChecked, Checks, ChecksOn}
 use Rattle.deb_control.specs.Documents.{rules_of, canonical_text, refusal_of, out_of}
 use Rattle.deb_control.specs.Refusals.{outcome}
 use Rattle.deb_control.specs.ValueFiles.{body_under, bodies_of}
@@ -65,15 +65,20 @@ has_paragraphs doc text before n is counted =
       count = sym (length-map found.0 (map (body_under value_text))) ∙ ap length same ∙ counted;
     }
 
--- The first paragraphs of the file were given.
-pub record HasChecked (doc : Doc) (text : List ℕ) (state : CheckedState) (left : Option (List ℕ)) : Type 0 where
-  pub before : List Entries
-  pub fits : FitsChecked doc text before state left
+-- They are so many.
+pub record HasCounted (doc : Doc) (text : List ℕ) (n : ℕ) (state : CheckedState) (left : Option (List ℕ)) : Type 0 where
+  pub checked : HasChecked doc text state left
+  pub count : length checked.before ≡ n
 
--- and are all
+-- The paragraphs that were given are all.
 pub all_checked : (doc : Doc) (text : List ℕ) (state new : CheckedState) (left left_after : Option (List ℕ)) (count : ℕ) (checked : HasChecked doc text state left) → state.count ≡ count → GivesEnd doc text checked.before new left_after → HasParagraphs doc text count
 all_checked doc text state new left left_after count checked counted end =
     has_paragraphs doc text checked.before count (outcome-from_end (rules_of doc) text checked.before checked.fits.given end.answer) (sym checked.fits.counted ∙ counted)
+
+-- where none was given before, those that are counted are all
+pub counted_all : (doc : Doc) (text : List ℕ) (r : Result ℕ Fault) → IfOk r (λ n. HasParagraphs doc text (0 + n)) → IfOk r (HasParagraphs doc text)
+counted_all doc text (Ok n) has = subst (HasParagraphs doc text) (omega arith) has
+counted_all doc text (Err fault) has = tt
 
 -- nothing, at the start
 pub start_checked : (doc : Doc) (text : List ℕ) (state : CheckedState) → FitsChecked doc text [] state (Some text) → HasChecked doc text state (Some text)
@@ -191,3 +196,8 @@ pub record HasWritten (doc : Doc) (text : List ℕ) (state : CheckedState) (left
 pub start_written : (doc : Doc) (text : List ℕ) (state : CheckedState) (held : Option (List ℕ)) → FitsChecked doc text [] state (Some text) → HasWritten doc text state (Some text) held held
 unfolding start_checked
 start_written doc text state held fits = record { checked = start_checked doc text state fits; written = Appends-nil held }
+
+-- an answer that is no error leaves the first paragraphs given
+pub checked_on : (doc : Doc) (text : List ℕ) (before : List Entries) (given : Option Passing) (new : CheckedState) (left : Option (List ℕ)) → AnswersChecked doc text before (Ok given) new left → HasChecked doc text new left
+checked_on doc text before None new left ends = record { before = before; fits = ends.again }
+checked_on doc text before (Some given) new left gives = record { before = before ++ gives.entries ∷ []; fits = gives.again }

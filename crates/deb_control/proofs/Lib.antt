@@ -20,6 +20,7 @@ pub mod Building
 pub mod ValueLookups
 pub mod FollowedParagraphs
 pub mod CheckedSoFar
+pub mod ComparedSoFar
 pub mod ReadCounts
 pub mod PartsWithin
 pub mod ReadAlone

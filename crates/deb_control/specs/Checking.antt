@@ -53,6 +53,12 @@ pub record FitsChecked (doc : Doc) (text : List ℕ) (before : List Entries) (st
   pub counted : state.count ≡ length before
   pub bytes : state.bytes ≡ length (file_text before)
 
+-- The first paragraphs of the file were given.
+pub record HasChecked (doc : Doc) (text : List ℕ) (state : CheckedState)
+    (left : Option (List ℕ)) : Type 0 where
+  pub before : List Entries
+  pub fits : FitsChecked doc text before state left
+
 -- The next paragraph of a file passes behind these, and was given: no further one has been.
 pub record GivesPassing (doc : Doc) (text : List ℕ) (before : List Entries) (given : Passing)
     (new : CheckedState) (left : Option (List ℕ)) : Type 0 where

@@ -1,10 +1,11 @@
 -- Laws of documents: acceptance, refusals and canonical text.
-use Rattle.std.specs.Prelude.{◌≡◌, ◌⊎◌, ◌↔◌, ◌≤◌, ℕ, List, length, None, Some}
+use Rattle.std.specs.Prelude.{◌≡◌, ◌⊎◌, ◌↔◌, ◌≤◌, ℕ, List, ◌++◌, length, None, Some}
 use Rattle.deb_base.specs.Codes.{number_of}
 use Rattle.deb_base.specs.declared.code.Code.TheVariants.{NoParagraph}
 use Rattle.deb_base.specs.declared.refusal.Refusal.{Refusal}
 use Rattle.deb_syntax.specs.Lines.{lines_of}
 use Rattle.deb_field.specs.declared.kind.Doc.{Doc}
+use Rattle.deb_control.specs.Calls.{WritesCanonical}
 use Rattle.deb_control.specs.Documents.{Meaning, canonical_text, Accepted, refusal_of, out_of}
 use Rattle.deb_control.specs.Refusals.{line_behind}
 
@@ -46,6 +47,20 @@ CanonicalTextIsItsOwn =
     (doc : Doc) (text : List ℕ) (meaning : Meaning) → Accepted doc text meaning →
     (refusal_of doc (canonical_text meaning) ≡ None)
     × (out_of doc (canonical_text meaning) ≡ canonical_text meaning)
+
+-- The file is accepted, and these bytes are accepted with its meaning and are written of themselves.
+pub record IsNormal (doc : Doc) (text written : List ℕ) : Type 0 where
+  pub meaning : Meaning
+  pub accepted : Accepted doc text meaning
+  pub again : Accepted doc written meaning
+  pub itself : out_of doc written ≡ written
+
+-- Where the canonical text of a file was written behind other bytes, which is what `normalise`
+-- answers Ok for, the bytes that came are these.
+abbrev pub WhatIsWrittenIsNormal : Type 0
+WhatIsWrittenIsNormal =
+    (doc : Doc) (text : List ℕ) (n : ℕ) (held written : List ℕ)
+    → WritesCanonical doc text n (Some held) (Some (held ++ written)) → IsNormal doc text written
 
 -- A refusal of a file as a document: its code is from 1 to 21, and its line one of the file's; or a
 -- paragraph is missing at the line behind the last one.

@@ -10,6 +10,8 @@ pub mod Documents
 pub mod Laws
 pub mod Checking
 pub mod Calls
+pub mod Sides
+pub mod Comparing
 pub mod Tallies
 pub mod Finding
 pub mod PassingValues

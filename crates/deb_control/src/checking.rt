@@ -1,10 +1,12 @@
 //! Whether a file is accepted.
 
-ghost use Rattle.std.specs.Prelude.{◌≡◌, ℕ, List, Some, IfOk, IfErr};
+ghost use Rattle.std.specs.Prelude.{◌≡◌, ◌+◌, ℕ, List, None, Some, IfOk, IfErr, length};
 ghost use Rattle.deb_base.specs.Devices.{read_failures_after, TellsReads};
 ghost use Rattle.deb_base.specs.Faults.{IsReadersFault};
+ghost use Rattle.deb_syntax.specs.Meaning.{Entries};
 ghost use Rattle.deb_control.specs.Calls.{IfRefused, HasParagraphs};
-ghost use Rattle.deb_control.specs.Checking.{IsRefusalOfDocument};
+ghost use Rattle.deb_control.specs.Checking.{FitsChecked, IsRefusalOfDocument};
+ghost use Rattle.deb_control.specs.CheckedStates.{checked_state};
 ghost use Rattle.deb_control.specs.Documents.{refusal_of};
 
 use crate::checked::Checked;
@@ -35,7 +37,22 @@ pub fn check<R: Source>(alloc: Global, doc: Doc, reader: &mut R) -> Result<u64, 
     ensures reads { R.failures reader.new ≡ read_failures_after (R.failures reader.old) result }
     ensures tells_reads { TellsReads (R.failures reader.old) (R.failures reader.new) result }
 {
-    let mut checked = Checked::new(alloc, doc);
+    count_rest(&mut Checked::new(alloc, doc), reader)
+}
+
+/// Reads a file to its end, of which some paragraphs were given, and answers how many more it has.
+/// The errors are those of `check`.
+pub(crate) fn count_rest<R: Source>(checked: &mut Checked, reader: &mut R) -> Result<u64, Fault>
+    requires sound { (checked_state checked.now).fault ≡ None }
+    ensures ok { (text : List ℕ) (before : List Entries)
+        → FitsChecked checked.old.doc text before (checked_state checked.old) (R.left reader.old)
+        → IfOk result (λ n. HasParagraphs checked.old.doc text (length before + n)) }
+    ensures refused { (text : List ℕ) (before : List Entries)
+        → FitsChecked checked.old.doc text before (checked_state checked.old) (R.left reader.old)
+        → IfRefused result (λ refusal. refusal_of checked.old.doc text ≡ Some refusal) }
+    ensures fault { IfErr result (λ fault. IsReadersFault fault IsRefusalOfDocument) }
+    ensures reads { R.failures reader.new ≡ read_failures_after (R.failures reader.old) result }
+{
     for count in 0..u64::MAX {
         let Some(_) = checked.next(reader)? else {
             return Ok(count);

@@ -1,6 +1,6 @@
 //! Laws of documents. Each function does nothing, and its contract is the law.
 
-ghost use Rattle.deb_control.specs.Laws.{RefusedOrAccepted, AcceptedMeansOneThing, AcceptedIsWritten, CanonicalTextIsAccepted, CanonicalTextTellsMeanings, CanonicalTextIsItsOwn, RefusalsAreOfTheFile};
+ghost use Rattle.deb_control.specs.Laws.{RefusedOrAccepted, AcceptedMeansOneThing, AcceptedIsWritten, CanonicalTextIsAccepted, CanonicalTextTellsMeanings, CanonicalTextIsItsOwn, WhatIsWrittenIsNormal, RefusalsAreOfTheFile};
 
 /// A file has no refusal exactly where it is accepted with some meaning.
 pub fn a_file_is_refused_or_accepted()
@@ -32,6 +32,12 @@ pub fn canonical_text_tells_meanings()
 /// The canonical text of an accepted file has no refusal, and what is written of it is itself.
 pub fn canonical_text_is_its_own()
     ensures { CanonicalTextIsItsOwn }
+{}
+
+/// What `normalise` writes where it answers Ok is accepted with the file's meaning, and what is
+/// written of it is itself.
+pub fn normalised_text_is_normal()
+    ensures { WhatIsWrittenIsNormal }
 {}
 
 /// The refusal of a file has a code from 1 to 21, and is at one of the file's lines, which are

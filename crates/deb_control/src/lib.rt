@@ -15,12 +15,14 @@
 mod accepted;
 mod checked;
 mod checking;
+mod comparing;
 mod field;
 mod find;
 pub mod laws;
 mod name;
 mod normalising;
 mod paragraph;
+mod side;
 mod tally;
 mod typed_field;
 pub mod value_laws;
@@ -28,8 +30,10 @@ pub mod value_laws;
 pub use accepted::Accepted;
 pub use checked::Checked;
 pub use checking::check;
+pub use comparing::same;
 pub use normalising::normalise;
 pub use paragraph::Paragraph;
+pub use side::{Side, SideFault};
 pub use typed_field::TypedField;
 
 #[cfg(test)]

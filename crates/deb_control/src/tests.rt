@@ -2,6 +2,7 @@
 //! several sizes.
 
 mod accepted;
+mod comparing;
 mod devices;
 mod failing;
 mod memory;

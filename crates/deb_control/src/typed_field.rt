@@ -12,7 +12,7 @@ use deb_syntax::RawField;
 use std::alloc::AllocError;
 
 /// A field of a paragraph, with its value.
-#[derive(Clone, Copy, Debug)]
+#[derive(Debug, Drop)]
 pub struct TypedField<'a> {
     /// The field as it stands in the file.
     pub raw: RawField<'a>,

@@ -1,4 +1,5 @@
 pub mod NumberLemmas
 pub mod SourceLemmas
 pub mod KindLemmas
+pub mod RelationLemmas
 pub mod ValueLemmas

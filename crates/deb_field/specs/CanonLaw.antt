@@ -1,6 +1,6 @@
 -- What the canonical text of a kind of values promises, and what its refusals do (this project's
 -- own form of values; Debian Policy 5.1).
-use Rattle.std.specs.Prelude.{◌≡◌, ℕ, ◌*◌, ◌≤◌, ◌↔◌, List, length, Option, None, Result, IsOkAnd}
+use Rattle.std.specs.Prelude.{◌≡◌, ℕ, ◌*◌, ◌≤◌, ◌↔◌, List, length, Option, None}
 use Rattle.deb_base.specs.Bodies.{IsBody}
 use Rattle.deb_base.specs.declared.code.Code.{Code}
 
@@ -25,9 +25,3 @@ pub record RefusalLaw (Meaning : Type 0) (spells : List ℕ → Meaning → Type
     (refusal : List ℕ → Option Code) : Type 0 where
   pub spelled : (body : List ℕ) → refusal body ≡ None → (m : Meaning) × spells body m
   pub unrefused : (body : List ℕ) (m : Meaning) → spells body m → refusal body ≡ None
-
--- What a body spells is read: whatever meaning it spells, the answer is a value of that meaning.
-abbrev pub Accepts : {V Meaning E : Type 0} → (Meaning → Type 0) → (V → Meaning) → Result V E
-    → Type 0
-Accepts {Meaning = Meaning} spells meaning result =
-    (m : Meaning) → spells m → IsOkAnd result (λ v. meaning v ≡ m)

@@ -1,10 +1,41 @@
 -- The faults of a value.
-use Rattle.std.specs.Prelude.{◌≡◌, Option, Some}
+use Rattle.std.specs.Prelude.{◌≡◌, Bool, true, false, IsTrue, List, ℕ, Option, Some, Result, Ok, Err}
 use Rattle.deb_base.specs.declared.code.Code.{Code}
+use Rattle.deb_field.specs.Values.{ValueMeaning, kind_refusal}
+use Rattle.deb_field.specs.ValueMeanings.{value_meaning}
+use Rattle.deb_field.specs.declared.kind.Kind.{Kind}
+use Rattle.deb_field.specs.declared.kind.Kind.TheVariants as kinds
+use Rattle.deb_field.specs.declared.value.Value.{Value}
 use Rattle.deb_field.specs.declared.value.ValueFault.{ValueFault}
 use Rattle.deb_field.specs.declared.value.ValueFault.TheVariants.{Refused, Memory}
 
--- the fault tells this refusal
-abbrev pub IsFaultOf : Option Code → ValueFault → Type 0
-IsFaultOf refusal (Refused code) = refusal ≡ Some code
-IsFaultOf refusal Memory = ⊥
+-- values of relationship fields take memory, and no others do
+abbrev pub takes_memory : Kind → Bool
+takes_memory kinds.Name = false
+takes_memory kinds.Source = false
+takes_memory kinds.Version = false
+takes_memory kinds.Architecture = false
+takes_memory kinds.ArchitectureWords = false
+takes_memory kinds.Flag = false
+takes_memory kinds.MultiArch = false
+takes_memory kinds.Number = false
+takes_memory kinds.Line = false
+takes_memory kinds.Folded = false
+takes_memory (kinds.Relation sort) = true
+takes_memory kinds.Text = false
+
+-- The fault tells this refusal; want of memory says nothing of it.
+abbrev pub IsFaultOrMemory : Option Code → ValueFault → Type 0
+IsFaultOrMemory refusal (Refused code) = refusal ≡ Some code
+IsFaultOrMemory refusal Memory = Unit {0}
+
+-- The fault tells the refusal of the body; memory is wanting only where the kind takes some.
+abbrev pub IsFaultOf : Kind → List ℕ → ValueFault → Type 0
+IsFaultOf kind body (Refused code) = kind_refusal kind body ≡ Some code
+IsFaultOf kind body Memory = IsTrue (takes_memory kind)
+
+-- A value of this meaning is read; or memory is wanting, where the kind takes some.
+abbrev pub IsRead : Kind → Result Value ValueFault → ValueMeaning → Type 0
+IsRead kind (Ok v) m = value_meaning v ≡ m
+IsRead kind (Err (Refused code)) m = ⊥
+IsRead kind (Err Memory) m = IsTrue (takes_memory kind)

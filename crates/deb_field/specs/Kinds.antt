@@ -1,14 +1,16 @@
 -- The kinds of documents, and which field has which kind of value. Debian Policy 5.1 (names are
--- found without case), 5.3 (binary packages), 5.4 (source packages), 5.6 (the fields); that unknown
--- fields are text is this project's own.
-use Rattle.std.specs.Prelude.{◌≡◌, ℕ, Bool, true, false, cond, List, [], ◌∷◌, codes, refl}
+-- found without case), 5.3 (binary packages), 5.4 (source packages), 5.6 (the fields), 7.1 to 7.8
+-- (relationship fields); that unknown fields are text is this project's own.
+use Rattle.std.specs.Prelude.{◌≡◌, ℕ, Bool, true, false, cond, List, [], ◌∷◌, map, codes, refl}
 use Rattle.std.specs.List.{list_any}
 use Rattle.std.specs.Str.{bytes_eq}
 use Rattle.deb_base.specs.Names.{folded, canonical_name}
 use Rattle.deb_field.specs.declared.kind.Doc.{Doc}
 use Rattle.deb_field.specs.declared.kind.Doc.TheVariants as docs
 use Rattle.deb_field.specs.declared.kind.Kind.{Kind}
-use Rattle.deb_field.specs.declared.kind.Kind.TheVariants.{Name, Source, Version, Architecture, ArchitectureWords, Flag, MultiArch, Number, Line, Folded, Text}
+use Rattle.deb_field.specs.declared.kind.Kind.TheVariants.{Name, Source, Version, Architecture, ArchitectureWords, Flag, MultiArch, Number, Line, Folded, Relation, Text}
+use Rattle.deb_field.specs.declared.kind.Relationship.{Relationship}
+use Rattle.deb_field.specs.declared.kind.Relationship.TheVariants.{Depends, Conflicts, Provides}
 
 -- whether a document of the kind has exactly one paragraph
 abbrev pub is_single : Doc → Bool
@@ -39,9 +41,43 @@ line_names =
     ∷ codes "Format"
     ∷ codes "Standards-Version" ∷ []
 
+-- the fields that declare dependencies (7.2, 7.7)
+abbrev pub dependency_names : List (List ℕ)
+dependency_names =
+    codes "Depends" ∷ codes "Pre-Depends" ∷ codes "Recommends" ∷ codes "Suggests"
+    ∷ codes "Enhances" ∷ codes "Build-Depends" ∷ codes "Build-Depends-Indep"
+    ∷ codes "Build-Depends-Arch" ∷ []
+
+-- the other relationship fields, but for Provides (7.3, 7.4, 7.6 to 7.8)
+abbrev pub conflict_names : List (List ℕ)
+conflict_names =
+    codes "Breaks" ∷ codes "Conflicts" ∷ codes "Replaces" ∷ codes "Built-Using"
+    ∷ codes "Build-Conflicts" ∷ codes "Build-Conflicts-Indep" ∷ codes "Build-Conflicts-Arch" ∷ []
+
+-- where a group may have two or more alternatives (7.1; that other fields take none is this
+-- project's own)
+abbrev pub takes_alternatives : Relationship → Bool
+takes_alternatives Depends = true
+takes_alternatives Conflicts = false
+takes_alternatives Provides = false
+
+-- where a bound may have an operator other than `=` (7.1, 7.5)
+abbrev pub takes_all_operators : Relationship → Bool
+takes_all_operators Depends = true
+takes_all_operators Conflicts = true
+takes_all_operators Provides = false
+
 -- a row of the table: a kind, and the names of its fields
 abbrev pub Row : Type 0
 Row = Kind × List (List ℕ)
+
+-- the rows of relationship fields
+abbrev pub relation_rows : List Row
+relation_rows =
+    (Relation Depends, dependency_names)
+    ∷ (Relation Conflicts, conflict_names)
+    ∷ (Relation Provides, codes "Provides" ∷ [])
+    ∷ []
 
 abbrev pub table : Doc → List Row
 table doc =
@@ -54,15 +90,14 @@ table doc =
     ∷ (Number, codes "Installed-Size" ∷ codes "Size" ∷ [])
     ∷ (Line, line_names)
     ∷ (Folded, codes "Binary" ∷ codes "Uploaders" ∷ [])
-    ∷ []
+    ∷ relation_rows
 
 -- the kind of the first row that has the name; of no row: text
 abbrev pub kind_among : List Row → List ℕ → Kind
 kind_among [] name = Text
 kind_among (row ∷ rows) name = cond (is_one_of name row.1) row.0 (kind_among rows name)
 
--- the kind of a field, by its name without case. Relationship fields are text until their kind is
--- brought
+-- the kind of a field, by its name without case
 abbrev pub kind_of : Doc → List ℕ → Kind
 kind_of doc name = kind_among (table doc) (folded name)
 
@@ -97,10 +132,36 @@ other_kinds : (kind_of docs.Source (codes "Source") ≡ Source)
 unfolding is_one_of
 other_kinds = (refl, refl, refl, refl, refl, refl, refl)
 
+-- under each kind of document, the fields that declare dependencies and the other ones
+dependencies : (map (kind_of docs.Binary) dependency_names
+    ≡ map (λ name. Relation Depends) dependency_names)
+    × (map (kind_of docs.Packages) dependency_names
+    ≡ map (λ name. Relation Depends) dependency_names)
+    × (map (kind_of docs.Source) dependency_names
+    ≡ map (λ name. Relation Depends) dependency_names)
+unfolding is_one_of
+dependencies = (refl, refl, refl)
+
+conflicts : (map (kind_of docs.Binary) conflict_names
+    ≡ map (λ name. Relation Conflicts) conflict_names)
+    × (map (kind_of docs.Packages) conflict_names
+    ≡ map (λ name. Relation Conflicts) conflict_names)
+    × (map (kind_of docs.Source) conflict_names
+    ≡ map (λ name. Relation Conflicts) conflict_names)
+unfolding is_one_of
+conflicts = (refl, refl, refl)
+
+relations_without_case : (kind_of docs.Packages (codes "PROVIDES") ≡ Relation Provides)
+    × (kind_of docs.Packages (codes "pre-dEPENDS") ≡ Relation Depends)
+    × (kind_of docs.Source (codes "BUILD-CONFLICTS-ARCH") ≡ Relation Conflicts)
+unfolding is_one_of
+relations_without_case = (refl, refl, refl)
+
 texts : (kind_of docs.Packages (codes "MD5sum") ≡ Text)
     × (kind_of docs.Packages (codes "Description") ≡ Text)
     × (kind_of docs.Source (codes "Files") ≡ Text)
-    × (kind_of docs.Packages (codes "Depends") ≡ Text)
+    × (kind_of docs.Packages (codes "Build-Provides") ≡ Text)
+    × (kind_of docs.Packages (codes "Depend") ≡ Text)
     × (kind_of docs.Packages (codes "Packages") ≡ Text) × (kind_of docs.Packages [] ≡ Text)
 unfolding is_one_of
-texts = (refl, refl, refl, refl, refl, refl)
+texts = (refl, refl, refl, refl, refl, refl, refl)

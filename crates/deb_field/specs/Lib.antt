@@ -19,7 +19,12 @@ pub mod Sources
 pub mod SourceLaws
 pub mod SourceNames
 pub mod SourceSpelled
+pub mod RelationFields
+pub mod RelationFieldCases
+pub mod RelationLaw
+pub mod RelationSpelled
 pub mod Values
-pub mod Faults
 pub mod ValueLaws
 pub mod ValueMeanings
+pub mod Faults
+pub mod ValueCodes

@@ -5,6 +5,8 @@ use Rattle.deb_base.proofs.CanonicalNames.{folded-canonical_name}
 use Rattle.deb_version.specs.Parts.{Meaning as VersionMeaning}
 use Rattle.deb_version.specs.Grammar.{SpellsVersion}
 use Rattle.deb_version.specs.Canonical.{version_text, digits_of}
+use Rattle.deb_relation.specs.Meaning.{Relation as RelationMeaning}
+use Rattle.deb_relation.specs.Texts.{relation_text}
 use Rattle.deb_field.specs.CanonLaw.{CanonLaw, RefusalLaw}
 use Rattle.deb_field.specs.CanonLaws.{law-through, refusals-through}
 use Rattle.deb_field.specs.FlagLaws.{flag_law, flag_refusals, multi_arch_law, multi_arch_refusals}
@@ -12,12 +14,14 @@ use Rattle.deb_field.specs.Flags.{flag_text, SpellsFlag, flag_refusal, multi_arc
 use Rattle.deb_field.specs.Kinds.{table, kind_among, kind_of, KindGoesByName, KindOfCanonicalName}
 use Rattle.deb_field.specs.NumberLaw.{number_law, number_refusals}
 use Rattle.deb_field.specs.Numbers.{SpellsNumber, number_refusal}
+use Rattle.deb_field.specs.RelationFields.{SpellsRelationship, relationship_refusal}
+use Rattle.deb_field.specs.RelationLaw.{relation_law, relation_refusals}
 use Rattle.deb_field.specs.SourceLaws.{source_law, source_refusals}
 use Rattle.deb_field.specs.Sources.{SourceMeaning, SpellsSource, source_text, source_refusal}
 use Rattle.deb_field.specs.TextLaws.{itself_law, text_refusals, line_refusals, name_refusals, architecture_refusals}
 use Rattle.deb_field.specs.Texts.{text_itself, is_any_text, is_one_line, SpellsText, text_refusal, SpellsLine, one_line_refusal, SpellsName, name_refusal, SpellsArchitecture, architecture_refusal}
 use Rattle.deb_base.specs.PackageNames.{is_package_name, is_arch_name}
-use Rattle.deb_field.specs.Values.{ValueMeaning, NameMeans, SourceMeans, VersionMeans, ArchitectureMeans, ArchitecturesMean, FlagMeans, MultiArchMeans, NumberMeans, LineMeans, FoldedMeans, TextMeans, value_text, SpellsKind, kind_refusal, SpellsValue, value_refusal}
+use Rattle.deb_field.specs.Values.{ValueMeaning, NameMeans, SourceMeans, VersionMeans, ArchitectureMeans, ArchitecturesMean, FlagMeans, MultiArchMeans, NumberMeans, LineMeans, FoldedMeans, RelationMeans, TextMeans, value_text, SpellsKind, kind_refusal, SpellsValue, value_refusal}
 use Rattle.deb_field.specs.VersionLaw.{version_law, version_refusals}
 use Rattle.deb_field.specs.Versions.{version_refusal}
 use Rattle.deb_field.specs.WordLaws.{folded_law, folded_refusals, architectures_law, architectures_refusals}
@@ -57,9 +61,9 @@ kind_law Line =
 kind_law Folded =
     law-through (List (List ℕ)) ValueMeaning FoldedMeans SpellsFolded words_text value_text
     (λ m. refl) folded_law
-kind_law Relation =
-    law-through (List ℕ) ValueMeaning TextMeans SpellsText text_itself value_text (λ m. refl)
-    (itself_law is_any_text)
+kind_law (Relation sort) =
+    law-through RelationMeaning ValueMeaning RelationMeans (SpellsRelationship sort) relation_text
+    value_text (λ m. refl) (relation_law sort)
 kind_law Text =
     law-through (List ℕ) ValueMeaning TextMeans SpellsText text_itself value_text (λ m. refl)
     (itself_law is_any_text)
@@ -92,8 +96,9 @@ kind_refusals Line =
 kind_refusals Folded =
     refusals-through (List (List ℕ)) ValueMeaning FoldedMeans SpellsFolded folded_refusal
     folded_refusals
-kind_refusals Relation =
-    refusals-through (List ℕ) ValueMeaning TextMeans SpellsText text_refusal text_refusals
+kind_refusals (Relation sort) =
+    refusals-through RelationMeaning ValueMeaning RelationMeans (SpellsRelationship sort)
+    (relationship_refusal sort) (relation_refusals sort)
 kind_refusals Text =
     refusals-through (List ℕ) ValueMeaning TextMeans SpellsText text_refusal text_refusals
 

@@ -5,15 +5,17 @@ use Rattle.deb_version.specs.Version.{meaning_of, components_of}
 use Rattle.deb_version.specs.Grammar.{spelling}
 use Rattle.deb_field.specs.Flags.{flag_text, multi_arch_text}
 use Rattle.deb_field.specs.NumberLaw.{number_spelled}
+use Rattle.deb_relation.specs.Texts.{relation_text}
+use Rattle.deb_field.specs.RelationSpelled.{relation_meaning, relation_spelled}
 use Rattle.deb_field.specs.SourceNames.{source_meaning}
 use Rattle.deb_field.specs.SourceSpelled.{source_spelled}
 use Rattle.deb_field.specs.VersionLaw.{version_spelled}
 use Rattle.deb_field.specs.Words.{words_of}
-use Rattle.deb_field.specs.Values.{ValueMeaning, NameMeans, SourceMeans, VersionMeans, ArchitectureMeans, ArchitecturesMean, FlagMeans, MultiArchMeans, NumberMeans, LineMeans, FoldedMeans, TextMeans, SpellsKind}
+use Rattle.deb_field.specs.Values.{ValueMeaning, NameMeans, SourceMeans, VersionMeans, ArchitectureMeans, ArchitecturesMean, FlagMeans, MultiArchMeans, NumberMeans, LineMeans, FoldedMeans, RelationMeans, TextMeans, SpellsKind}
 use Rattle.deb_field.specs.declared.kind.Kind.{Kind}
 use Rattle.deb_field.specs.declared.kind.Kind.TheVariants as kinds
 use Rattle.deb_field.specs.declared.value.Value.{Value}
-use Rattle.deb_field.specs.declared.value.Value.TheVariants.{Name, Source, Version, Architecture, ArchitectureWords, Flag, MultiArch, Number, Line, Folded, Text}
+use Rattle.deb_field.specs.declared.value.Value.TheVariants.{Name, Source, Version, Architecture, ArchitectureWords, Flag, MultiArch, Number, Line, Folded, Relation, Text}
 
 -- the kind of a value
 abbrev pub kind_of_value : Value → Kind
@@ -27,6 +29,7 @@ kind_of_value (MultiArch word) = kinds.MultiArch
 kind_of_value (Number number) = kinds.Number
 kind_of_value (Line line) = kinds.Line
 kind_of_value (Folded folded) = kinds.Folded
+kind_of_value (Relation field) = kinds.Relation field.relationship
 kind_of_value (Text text) = kinds.Text
 
 -- what it means
@@ -41,6 +44,7 @@ value_meaning (MultiArch word) = MultiArchMeans word
 value_meaning (Number number) = NumberMeans (value_of number.digits.now)
 value_meaning (Line line) = LineMeans line.bytes.now
 value_meaning (Folded folded) = FoldedMeans (words_of folded.body.now)
+value_meaning (Relation field) = RelationMeans (relation_meaning field)
 value_meaning (Text text) = TextMeans text.bytes.now
 
 -- each value is spelled by a body
@@ -67,4 +71,12 @@ value_spelled (Number number) = (
 )
 value_spelled (Line line) = (line.bytes.now, (line.bytes.now, refl, (refl, line.one_line)))
 value_spelled (Folded folded) = (folded.body.now, (words_of folded.body.now, refl, refl))
+value_spelled (Relation field) = (
+  relation_text (relation_meaning field),
+  (
+    relation_meaning field,
+    refl,
+    relation_spelled field,
+  ),
+)
 value_spelled (Text text) = (text.bytes.now, (text.bytes.now, refl, (refl, refl)))

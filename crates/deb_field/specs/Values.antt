@@ -1,13 +1,17 @@
--- What values of all kinds mean, which bodies spell them, and what is refused. Debian Policy 5.6.
+-- What values of all kinds mean, which bodies spell them, and what is refused. Debian Policy 5.6 and
+-- 7.
 use Rattle.std.specs.Prelude.{ℕ, List, Option}
 use Rattle.deb_base.specs.declared.code.Code.{Code}
 use Rattle.deb_version.specs.Parts.{Meaning as VersionMeaning}
 use Rattle.deb_version.specs.Grammar.{SpellsVersion}
 use Rattle.deb_version.specs.Canonical.{version_text, digits_of}
+use Rattle.deb_relation.specs.Meaning.{Relation as RelationMeaning}
+use Rattle.deb_relation.specs.Texts.{relation_text}
 use Rattle.deb_field.specs.CanonLaws.{Through}
 use Rattle.deb_field.specs.Flags.{flag_text, SpellsFlag, flag_refusal, multi_arch_text, SpellsMultiArch, multi_arch_refusal}
 use Rattle.deb_field.specs.Kinds.{kind_of}
 use Rattle.deb_field.specs.Numbers.{SpellsNumber, number_refusal}
+use Rattle.deb_field.specs.RelationFields.{SpellsRelationship, relationship_refusal}
 use Rattle.deb_field.specs.Sources.{SourceMeaning, SpellsSource, source_text, source_refusal}
 use Rattle.deb_field.specs.Texts.{SpellsText, text_refusal, SpellsLine, one_line_refusal, SpellsName, name_refusal, SpellsArchitecture, architecture_refusal}
 use Rattle.deb_field.specs.Versions.{version_refusal}
@@ -30,6 +34,7 @@ pub data ValueMeaning : Type 0 where
   NumberMeans : ℕ → ValueMeaning
   LineMeans : List ℕ → ValueMeaning
   FoldedMeans : List (List ℕ) → ValueMeaning
+  RelationMeans : RelationMeaning → ValueMeaning
   TextMeans : List ℕ → ValueMeaning
 
 -- the canonical text of a value
@@ -44,9 +49,10 @@ value_text (MultiArchMeans word) = multi_arch_text word
 value_text (NumberMeans n) = digits_of n
 value_text (LineMeans line) = line
 value_text (FoldedMeans words) = words_text words
+value_text (RelationMeans relation) = relation_text relation
 value_text (TextMeans text) = text
 
--- The body spells the value, as one of the kind. A relationship is text until its kind is brought.
+-- The body spells the value, as one of the kind.
 abbrev pub SpellsKind : FieldKind → List ℕ → ValueMeaning → Type 0
 SpellsKind Name = Through NameMeans SpellsName
 SpellsKind Source = Through SourceMeans SpellsSource
@@ -58,7 +64,7 @@ SpellsKind MultiArch = Through MultiArchMeans SpellsMultiArch
 SpellsKind Number = Through NumberMeans SpellsNumber
 SpellsKind Line = Through LineMeans SpellsLine
 SpellsKind Folded = Through FoldedMeans SpellsFolded
-SpellsKind Relation = Through TextMeans SpellsText
+SpellsKind (Relation sort) = Through RelationMeans (SpellsRelationship sort)
 SpellsKind Text = Through TextMeans SpellsText
 
 -- why a body is refused as one of the kind, or none
@@ -73,7 +79,7 @@ kind_refusal MultiArch = multi_arch_refusal
 kind_refusal Number = number_refusal
 kind_refusal Line = one_line_refusal
 kind_refusal Folded = folded_refusal
-kind_refusal Relation = text_refusal
+kind_refusal (Relation sort) = relationship_refusal sort
 kind_refusal Text = text_refusal
 
 -- The body spells the value in the field of this name, in a document of this kind.

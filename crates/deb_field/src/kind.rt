@@ -3,7 +3,7 @@
 ghost use Rattle.std.specs.Prelude.{◌≡◌, map};
 ghost use Rattle.std.specs.Str.{bytes_eq};
 ghost use Rattle.deb_base.specs.Names.{folded};
-ghost use Rattle.deb_field.specs.Kinds.{architecture_kind, is_one_of, is_single, kind_of, line_names, required};
+ghost use Rattle.deb_field.specs.Kinds.{architecture_kind, conflict_names, dependency_names, is_one_of, is_single, kind_among, kind_of, line_names, relation_rows, required};
 
 use deb_base::same_name;
 
@@ -41,10 +41,48 @@ pub enum Kind {
     Line,
     /// Words.
     Folded,
-    /// A relationship between packages. No field is of this kind yet: relationship fields are text.
-    Relation,
+    /// A relationship between packages, in a field of this sort.
+    Relation(Relationship),
     /// A body as it stands.
     Text,
+}
+
+/// A sort of relationship fields, named for the best known of them: whether a group may have
+/// alternatives, and which operators a bound may have (Debian Policy 7.1).
+#[derive(Clone, Copy, Debug, PartialEq, Eq)]
+pub enum Relationship {
+    /// The fields that declare dependencies (Debian Policy 7.2 and 7.7): alternatives, and every
+    /// operator.
+    Depends,
+    /// Breaks, Conflicts, Replaces, Built-Using, and the Build-Conflicts fields (Debian Policy 7.3,
+    /// 7.4 and 7.6 to 7.8): no alternatives, and every operator.
+    Conflicts,
+    /// Provides (Debian Policy 7.5): no alternatives, and `=` alone.
+    Provides,
+}
+
+impl Relationship {
+    ghost use Rattle.deb_field.specs.Kinds.{takes_alternatives, takes_all_operators};
+
+    /// Whether a group may have two or more alternatives.
+    pub fn takes_alternatives(self) -> bool
+        ensures { result ≡ takes_alternatives self }
+    {
+        match self {
+            Relationship::Depends => true,
+            Relationship::Conflicts | Relationship::Provides => false,
+        }
+    }
+
+    /// Whether a bound may have an operator other than `=`.
+    pub fn takes_all_operators(self) -> bool
+        ensures { result ≡ takes_all_operators self }
+    {
+        match self {
+            Relationship::Depends | Relationship::Conflicts => true,
+            Relationship::Provides => false,
+        }
+    }
 }
 
 /// Whether a document of this kind has exactly one paragraph.
@@ -67,8 +105,8 @@ pub fn required(doc: Doc) -> &'static [&'static [u8]]
     }
 }
 
-/// The kind of value that the field of this name has (Debian Policy 5.6). Names are found without
-/// ASCII case (5.1). Each field that has no row here is text; relationship fields are among those.
+/// The kind of value that the field of this name has (Debian Policy 5.6 and 7). Names are found
+/// without ASCII case (5.1). Each field that has no row here is text.
 pub fn kind_of(doc: Doc, name: &[u8]) -> Kind
     ensures { result ≡ kind_of doc name.now }
 {
@@ -90,6 +128,21 @@ pub fn kind_of(doc: Doc, name: &[u8]) -> Kind
         Kind::Line
     } else if is_one_of(name, &[b"Binary", b"Uploaders"]) {
         Kind::Folded
+    } else {
+        relation_kind(name)
+    }
+}
+
+/// The kind of a field that is a relationship field or text.
+fn relation_kind(name: &[u8]) -> Kind
+    ensures { result ≡ kind_among relation_rows (folded name.now) }
+{
+    if is_dependency(name) {
+        Kind::Relation(Relationship::Depends)
+    } else if is_conflict(name) {
+        Kind::Relation(Relationship::Conflicts)
+    } else if is_one_of(name, &[b"Provides"]) {
+        Kind::Relation(Relationship::Provides)
     } else {
         Kind::Text
     }
@@ -119,6 +172,43 @@ fn is_line(name: &[u8]) -> bool
             b"Filename",
             b"Format",
             b"Standards-Version",
+        ],
+    )
+}
+
+/// Whether the field of this name declares dependencies.
+fn is_dependency(name: &[u8]) -> bool
+    ensures { result ≡ is_one_of (folded name.now) dependency_names }
+{
+    is_one_of(
+        name,
+        &[
+            b"Depends",
+            b"Pre-Depends",
+            b"Recommends",
+            b"Suggests",
+            b"Enhances",
+            b"Build-Depends",
+            b"Build-Depends-Indep",
+            b"Build-Depends-Arch",
+        ],
+    )
+}
+
+/// Whether the field of this name is a relationship field without alternatives, but for Provides.
+fn is_conflict(name: &[u8]) -> bool
+    ensures { result ≡ is_one_of (folded name.now) conflict_names }
+{
+    is_one_of(
+        name,
+        &[
+            b"Breaks",
+            b"Conflicts",
+            b"Replaces",
+            b"Built-Using",
+            b"Build-Conflicts",
+            b"Build-Conflicts-Indep",
+            b"Build-Conflicts-Arch",
         ],
     )
 }

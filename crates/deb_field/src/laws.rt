@@ -4,18 +4,23 @@ ghost use Rattle.std.specs.Prelude.{ℕ, List};
 ghost use Rattle.deb_version.specs.Canonical.{digits_of, version_text};
 ghost use Rattle.deb_version.specs.Grammar.{SpellsVersion};
 ghost use Rattle.deb_version.specs.Parts.{Meaning as VersionMeaning};
+ghost use Rattle.deb_relation.specs.Meaning.{Relation as RelationMeaning};
+ghost use Rattle.deb_relation.specs.Texts.{relation_text};
 ghost use Rattle.deb_field.specs.CanonLaw.{CanonLaw, OneText, RefusalLaw};
 ghost use Rattle.deb_field.specs.Flags.{flag_text, SpellsFlag, multi_arch_text, SpellsMultiArch};
 ghost use Rattle.deb_field.specs.Kinds.{KindGoesByName, KindOfCanonicalName};
 ghost use Rattle.deb_field.specs.Numbers.{SpellsNumber};
+ghost use Rattle.deb_field.specs.RelationFields.{SpellsRelationship};
 ghost use Rattle.deb_field.specs.Sources.{SourceMeaning, SpellsSource, source_text};
 ghost use Rattle.deb_field.specs.Texts.{text_itself, SpellsArchitecture, SpellsLine, SpellsName, SpellsText};
+ghost use Rattle.deb_field.specs.ValueCodes.{RefusalsAreOfValues};
 ghost use Rattle.deb_field.specs.Values.{ValueMeaning, SpellsKind, SpellsValue, kind_refusal, value_refusal, value_text};
 ghost use Rattle.deb_field.specs.Words.{words_text, SpellsArchitectures, SpellsFolded};
 ghost use Rattle.deb_field.specs.declared.flag.Flag.{Flag as FlagWord};
 ghost use Rattle.deb_field.specs.declared.flag.MultiArch.{MultiArch as MultiArchWord};
 ghost use Rattle.deb_field.specs.declared.kind.Doc.{Doc};
 ghost use Rattle.deb_field.specs.declared.kind.Kind.{Kind as FieldKind};
+ghost use Rattle.deb_field.specs.declared.kind.Relationship.{Relationship};
 
 /// In a field, and as one of a kind, a body spells at most one value; and the canonical text of a
 /// value that is spelled is a body that spells it, at most twice as long as each other one.
@@ -37,6 +42,8 @@ pub fn kinds_have_canonical_text()
     ensures numbers { CanonLaw ℕ SpellsNumber digits_of }
     ensures lines { CanonLaw (List ℕ) SpellsLine text_itself }
     ensures folded { CanonLaw (List (List ℕ)) SpellsFolded words_text }
+    ensures relations { (sort : Relationship)
+        → CanonLaw RelationMeaning (SpellsRelationship sort) relation_text }
     ensures texts { CanonLaw (List ℕ) SpellsText text_itself }
 {}
 
@@ -53,6 +60,11 @@ pub fn bodies_are_spelled_or_refused()
         → RefusalLaw ValueMeaning (SpellsValue doc name) (value_refusal doc name) }
     ensures of_kinds { (kind : FieldKind)
         → RefusalLaw ValueMeaning (SpellsKind kind) (kind_refusal kind) }
+{}
+
+/// The code of a refusal is one of values: from `NotOneLine` (13) to `ProvidesBound` (21).
+pub fn refusals_are_of_values()
+    ensures { RefusalsAreOfValues }
 {}
 
 /// The kind of a field goes by its name without case alone, so that it is the kind of the name's

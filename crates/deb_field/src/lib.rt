@@ -4,16 +4,14 @@
 //! - [`kind_of`] finds the kind of a field by its name, without ASCII case (Debian Policy 5.1,
 //!   5.6).
 //! - [`Value::parse`] reads a body as a value of that kind; [`Value`] has one variant for each
-//!   kind, with a type of its own. Values borrow the body and take no memory.
+//!   kind, with a type of its own. Values borrow the body, and only relations take memory.
 //! - [`Canon`] gives canonical text: two bodies of a field have equal canonical text exactly if
 //!   they mean the same, and canonical text is a body that spells the same value.
 //!
 //! ```text
-//! let value = Value::parse(alloc, Doc::Packages, b"Source", b"aa(1.)")?;
-//! value.canon_into(&mut out)?; // aa (1.0)
+//! let value = Value::parse(alloc, Doc::Packages, b"Depends", b"bb, aa (>=1.)")?;
+//! value.canon_into(&mut out)?; // aa (>= 1.0), bb
 //! ```
-//!
-//! Relationship fields are text here, until their kind is brought.
 #![tactic(auto)]
 
 mod canon;
@@ -24,6 +22,7 @@ pub mod laws;
 mod names;
 mod number;
 mod one_line;
+mod relation;
 mod source;
 mod source_canon;
 mod text;
@@ -35,9 +34,10 @@ mod words;
 pub use canon::Canon;
 pub use flag::{Flag, MultiArch};
 pub use folded::{ArchitectureWords, Folded};
-pub use kind::{Doc, Kind, is_single, kind_of, required};
+pub use kind::{Doc, Kind, Relationship, is_single, kind_of, required};
 pub use names::{ArchitectureName, PackageName};
 pub use number::Number;
+pub use relation::RelationField;
 pub use source::SourceName;
 pub use text::{Line, Text};
 pub use value::{Value, ValueFault};

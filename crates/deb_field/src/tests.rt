@@ -3,13 +3,14 @@
 use crate::*;
 use deb_base::{Code, is_body};
 use std::alloc::{AllocError, Global};
+use std::process::Abort;
 use std::test::Fail;
 
 /// A kind of document, the name and the body of a field, and the canonical text of its value or the
 /// code of its refusal.
 struct Row(Doc, &'static str, &'static str, Result<&'static str, Code>);
 
-const ROWS: [Row; 70] = [
+const ROWS: [Row; 68] = [
     // names of packages
     Row(Doc::Packages, "Package", "aa", Ok("aa")),
     Row(Doc::Packages, "pACKAGE", "libstdc++6", Ok("libstdc++6")),
@@ -130,11 +131,148 @@ const ROWS: [Row; 70] = [
     ),
     Row(Doc::Source, "Files", "\n a 1 b", Ok("\n a 1 b")),
     Row(Doc::Packages, "Unknown", "", Ok("")),
-    // relationships are text
-    Row(Doc::Packages, "Depends", "bb,  aa (", Ok("bb,  aa (")),
-    Row(Doc::Source, "Build-Depends", "", Ok("")),
     Row(Doc::Packages, "Packages", "A\n b", Ok("A\n b")),
-    Row(Doc::Packages, "Provides", "vv (= 1)", Ok("vv (= 1)")),
+    Row(Doc::Source, "Build-Provides", "aa (", Ok("aa (")),
+];
+
+const RELATION_ROWS: [Row; 29] = [
+    // relations with alternatives and every operator
+    Row(Doc::Packages, "Depends", ",", Ok("")),
+    Row(
+        Doc::Packages,
+        "Depends",
+        "aa,\n  bb (>=1)",
+        Ok("aa, bb (>= 1)"),
+    ),
+    Row(
+        Doc::Packages,
+        "DEPENDS",
+        "bb|aa, aa,bb|aa",
+        Ok("aa, bb | aa"),
+    ),
+    Row(
+        Doc::Binary,
+        "Pre-Depends",
+        "aa:any(>=1.)[x]<y>",
+        Ok("aa:any (>= 1.0) [x] <y>"),
+    ),
+    Row(Doc::Packages, "Recommends", "aa | aa", Ok("aa | aa")),
+    Row(
+        Doc::Packages,
+        "Suggests",
+        "aa (<< 1) | bb",
+        Ok("aa (<< 1) | bb"),
+    ),
+    Row(Doc::Packages, "Enhances", "aa | bb", Ok("aa | bb")),
+    Row(
+        Doc::Source,
+        "Build-Depends",
+        "debhelper-compat (= 13),\n texinfo <!nodoc>",
+        Ok("debhelper-compat (= 13), texinfo <!nodoc>"),
+    ),
+    Row(Doc::Source, "Build-Depends-Indep", "aa | bb", Ok("aa | bb")),
+    Row(Doc::Source, "Build-Depends-Arch", "aa | bb", Ok("aa | bb")),
+    Row(
+        Doc::Packages,
+        "Depends",
+        "${misc:Depends}",
+        Err(Code::BadRelation),
+    ),
+    Row(Doc::Source, "Build-Depends", "aa (", Err(Code::BadRelation)),
+    // relations without alternatives
+    Row(Doc::Packages, "Breaks", "bb (>> 1)", Ok("bb (>> 1)")),
+    Row(Doc::Source, "Build-Conflicts", "", Ok("")),
+    Row(
+        Doc::Packages,
+        "Conflicts",
+        "bb | cc",
+        Err(Code::AlternativesNotAllowed),
+    ),
+    Row(
+        Doc::Packages,
+        "Breaks",
+        "aa, bb | cc",
+        Err(Code::AlternativesNotAllowed),
+    ),
+    Row(
+        Doc::Packages,
+        "Replaces",
+        "bb | bb",
+        Err(Code::AlternativesNotAllowed),
+    ),
+    Row(
+        Doc::Packages,
+        "Built-Using",
+        "bb | cc",
+        Err(Code::AlternativesNotAllowed),
+    ),
+    Row(
+        Doc::Source,
+        "Build-Conflicts",
+        "bb | cc",
+        Err(Code::AlternativesNotAllowed),
+    ),
+    Row(
+        Doc::Source,
+        "Build-Conflicts-Indep",
+        "bb | cc",
+        Err(Code::AlternativesNotAllowed),
+    ),
+    Row(
+        Doc::Source,
+        "BUILD-CONFLICTS-ARCH",
+        "bb | cc",
+        Err(Code::AlternativesNotAllowed),
+    ),
+    Row(
+        Doc::Packages,
+        "Conflicts",
+        "bb | cc, a",
+        Err(Code::BadRelation),
+    ),
+    // what is provided
+    Row(
+        Doc::Packages,
+        "Provides",
+        "vv (= 01), ww",
+        Ok("vv (= 1), ww"),
+    ),
+    Row(
+        Doc::Packages,
+        "Provides",
+        "vv (>= 1)",
+        Err(Code::ProvidesBound),
+    ),
+    Row(
+        Doc::Packages,
+        "pROVIDES",
+        "ww, vv (<< 1)",
+        Err(Code::ProvidesBound),
+    ),
+    Row(
+        Doc::Packages,
+        "Provides",
+        "vv | ww",
+        Err(Code::AlternativesNotAllowed),
+    ),
+    Row(
+        Doc::Packages,
+        "Provides",
+        "vv (>= 1) | ww",
+        Err(Code::AlternativesNotAllowed),
+    ),
+    Row(
+        Doc::Packages,
+        "Provides",
+        "vv (>= 1), a",
+        Err(Code::BadRelation),
+    ),
+    Row(
+        Doc::Packages,
+        "Provides",
+        "vv (< 1)",
+        Err(Code::BadRelation),
+    ),
 ];
 
 /// The refusal of a row's body, or none where the canonical text of its value was appended. No row
@@ -156,9 +294,18 @@ fn told(alloc: Global, row: &Row, out: &mut Vec<u8>) -> Result<Option<Code>, All
 
 #[test]
 fn values_of_rows(rt: HostRuntime) -> Result<(), Fail> {
-    for row in &ROWS {
-        let mut out = Vec::new(rt.alloc());
-        let refusal = told(rt.alloc(), row, &mut out)?;
+    assert_rows(&rt, rt.alloc(), &ROWS)
+}
+
+#[test]
+fn values_of_relations(rt: HostRuntime) -> Result<(), Fail> {
+    assert_rows(&rt, rt.alloc(), &RELATION_ROWS)
+}
+
+fn assert_rows(rt: &impl Abort, alloc: Global, rows: &[Row]) -> Result<(), Fail> {
+    for row in rows {
+        let mut out = Vec::new(alloc);
+        let refusal = told(alloc, row, &mut out)?;
         match &row.3 {
             Ok(canonical) => {
                 assert_eq!(rt; refusal, None, "{}: {}", row.1, row.2);
@@ -184,7 +331,10 @@ fn what_callers_see(rt: HostRuntime) -> Result<(), Fail> {
         kind_of(Doc::Source, b"architecture"),
         Kind::ArchitectureWords
     );
-    assert_eq!(rt; kind_of(Doc::Binary, b"Depends"), Kind::Text);
+    assert_eq!(rt;
+        kind_of(Doc::Binary, b"Provides"),
+        Kind::Relation(Relationship::Provides)
+    );
     assert_eq!(rt; Number::parse(b" 1").err(), Some(Code::BadNumber));
     assert_eq!(rt;
         Number::parse(b"0070").map(|number| number.digits()).ok(),
@@ -223,5 +373,43 @@ fn words_in_order(rt: HostRuntime) -> Result<(), Fail> {
     assert_eq!(rt; words.next(), Some(b"bb".as_slice()));
     assert_eq!(rt; words.next(), None);
     assert_eq!(rt; words.next(), None);
+    Ok(())
+}
+
+#[test]
+fn what_callers_see_of_a_relation(rt: HostRuntime) -> Result<(), Fail> {
+    let body = b"vv (= 1), ww";
+    let parsed = RelationField::parse(rt.alloc(), Relationship::Provides, body);
+    let Ok(field) = parsed else {
+        return Err(Fail::new("a relation that may stand in Provides is refused"));
+    };
+    assert_eq!(rt; field.relationship(), Relationship::Provides);
+    assert_eq!(rt; field.relation().groups().len(), 2);
+    assert_eq!(rt; field.canon_len(), 12);
+    Ok(())
+}
+
+/// `rt try --test --fail-alloc N -- want_of_memory` refuses the Nth growth of a run and no other:
+/// exactly one of the calls below then wants memory, and where N passes their growths none does.
+#[test]
+fn want_of_memory(rt: HostRuntime) -> Result<(), Fail> {
+    let body = b"bb (>= 01)|aa, cc [i386 amd64] <!x y> <z>";
+    let mut out = Vec::new(rt.alloc());
+    match Value::parse(rt.alloc(), Doc::Packages, b"Depends", body) {
+        Err(fault) => assert_eq!(rt; fault, ValueFault::Memory),
+        Ok(value) => match value.canon_into(&mut out) {
+            Err(_) => assert!(rt; out.is_empty(), "unchanged"),
+            Ok(()) => assert_eq!(rt;
+                out.as_slice(),
+                b"bb (>= 1) | aa, cc [amd64 i386] <!x y> <z>".as_slice()
+            ),
+        },
+    }
+
+    // a body is refused in spite of it where reading takes no memory
+    match Value::parse(rt.alloc(), Doc::Packages, b"Provides", b"a") {
+        Err(fault) => assert_eq!(rt; fault, ValueFault::Refused(Code::BadRelation)),
+        Ok(_) => return Err(Fail::new("a relation of a short name")),
+    }
     Ok(())
 }

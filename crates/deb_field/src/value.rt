@@ -5,6 +5,7 @@ use crate::folded::{ArchitectureWords, Folded};
 use crate::kind::{Doc, Kind, kind_of};
 use crate::names::{ArchitectureName, PackageName};
 use crate::number::Number;
+use crate::relation::RelationField;
 use crate::source::SourceName;
 use crate::text::{Line, Text};
 use crate::version::parse_version;
@@ -13,7 +14,7 @@ use deb_version::Version;
 use std::alloc::Global;
 
 /// The value of a field: one variant for each kind that fields have.
-#[derive(Clone, Copy, Debug)]
+#[derive(Debug, Drop)]
 pub enum Value<'a> {
     /// Of the field Package.
     Name(PackageName<'a>),
@@ -35,6 +36,8 @@ pub enum Value<'a> {
     Line(Line<'a>),
     /// Of the fields Binary and Uploaders.
     Folded(Folded<'a>),
+    /// Of the relationship fields.
+    Relation(RelationField<'a>),
     /// Of each other field.
     Text(Text<'a>),
 }
@@ -44,27 +47,39 @@ pub enum Value<'a> {
 pub enum ValueFault {
     /// The body is refused, by a code from `NotOneLine` (13) on.
     Refused(Code),
-    /// A growth of memory was refused. No kind of value of today takes memory.
+    /// A growth of memory was refused. Relations alone take memory.
     Memory,
 }
 
+impl From<Code> for ValueFault {
+    ghost use Rattle.std.specs.Prelude.{◌≡◌};
+    ghost use Rattle.deb_field.specs.declared.value.ValueFault.TheVariants.{Refused};
+
+    ghost from_gives = { λ code fault. fault ≡ Refused code };
+
+    fn from(code: Code) -> ValueFault {
+        ValueFault::Refused(code)
+    }
+}
+
 impl<'a> Value<'a> {
-    ghost use Rattle.std.specs.Prelude.{◌≡◌, Some, IfOk, IfErr};
-    ghost use Rattle.deb_field.specs.CanonLaw.{Accepts};
+    ghost use Rattle.std.specs.Prelude.{IfOk, IfErr};
     ghost use Rattle.deb_base.specs.Bodies.{IsBody};
-    ghost use Rattle.deb_field.specs.Faults.{IsFaultOf};
+    ghost use Rattle.deb_field.specs.Faults.{IsFaultOf, IsRead};
     ghost use Rattle.deb_field.specs.Kinds.{kind_of};
     ghost use Rattle.deb_field.specs.ValueMeanings.{value_meaning};
-    ghost use Rattle.deb_field.specs.Values.{SpellsKind, SpellsValue, kind_refusal, value_refusal};
+    ghost use Rattle.deb_field.specs.Values.{ValueMeaning, SpellsKind, SpellsValue};
 
     /// The value that a body spells in the field of this name, in a document of this kind.
     ///
-    /// It borrows the body, and no memory is taken.
+    /// It borrows the body. Memory is taken for a relation alone.
     ///
     /// # Errors
     ///
     /// The refusal of the body: `NotOneLine` for a body of more than one line where one is asked,
-    /// else the code of the kind. In Source a bad name goes before a bad version.
+    /// else the code of the kind. In Source a bad name goes before a bad version, in relationship
+    /// fields a bad relation before alternatives and these before operators. Or want of memory, in
+    /// relationship fields.
     pub fn parse(
         alloc: Global,
         doc: Doc,
@@ -73,37 +88,33 @@ impl<'a> Value<'a> {
     ) -> Result<Value<'a>, ValueFault>
         requires { IsBody body.now }
         ensures ok { IfOk result (λ v. SpellsValue doc name.now body.now (value_meaning v)) }
-        ensures accepted { Accepts (SpellsValue doc name.now body.now) value_meaning result }
-        ensures refused { IfErr result (IsFaultOf (value_refusal doc name.now body.now)) }
+        ensures accepted { (m : ValueMeaning) → SpellsValue doc name.now body.now m
+            → IsRead (kind_of doc name.now) result m }
+        ensures refused { IfErr result (IsFaultOf (kind_of doc name.now) body.now) }
     {
-        let _ = alloc;
-        match Value::of_kind(kind_of(doc, name), body) {
-            Ok(value) => Ok(value),
-            Err(code) => Err(ValueFault::Refused(code)),
-        }
+        Value::of_kind(alloc, kind_of(doc, name), body)
     }
 
     /// The value that a body spells as one of a kind.
-    fn of_kind(kind: Kind, body: &'a [u8]) -> Result<Value<'a>, Code>
+    fn of_kind(alloc: Global, kind: Kind, body: &'a [u8]) -> Result<Value<'a>, ValueFault>
         ensures ok { IfOk result (λ value. SpellsKind kind body.now (value_meaning value)) }
-        ensures refused { IfErr result (λ code. kind_refusal kind body.now ≡ Some code) }
+        ensures refused { IfErr result (IsFaultOf kind body.now) }
     {
         match kind {
-            Kind::Name => PackageName::parse(body).map(|name| Value::Name(name)),
-            Kind::Source => SourceName::parse(body).map(|source| Value::Source(source)),
-            Kind::Version => parse_version(body).map(|version| Value::Version(version)),
-            Kind::Architecture => ArchitectureName::parse(body).map(|name| Value::Architecture(
-                name,
-            )),
-            Kind::ArchitectureWords => ArchitectureWords::parse(body).map(
-                |names| Value::ArchitectureWords(names),
-            ),
-            Kind::Flag => Flag::parse(body).map(|flag| Value::Flag(flag)),
-            Kind::MultiArch => MultiArch::parse(body).map(|word| Value::MultiArch(word)),
-            Kind::Number => Number::parse(body).map(|number| Value::Number(number)),
-            Kind::Line => Line::parse(body).map(|line| Value::Line(line)),
+            Kind::Name => Ok(Value::Name(PackageName::parse(body)?)),
+            Kind::Source => Ok(Value::Source(SourceName::parse(body)?)),
+            Kind::Version => Ok(Value::Version(parse_version(body)?)),
+            Kind::Architecture => Ok(Value::Architecture(ArchitectureName::parse(body)?)),
+            Kind::ArchitectureWords => Ok(Value::ArchitectureWords(ArchitectureWords::parse(
+                body,
+            )?)),
+            Kind::Flag => Ok(Value::Flag(Flag::parse(body)?)),
+            Kind::MultiArch => Ok(Value::MultiArch(MultiArch::parse(body)?)),
+            Kind::Number => Ok(Value::Number(Number::parse(body)?)),
+            Kind::Line => Ok(Value::Line(Line::parse(body)?)),
             Kind::Folded => Ok(Value::Folded(Folded::new(body))),
-            Kind::Relation | Kind::Text => Ok(Value::Text(Text::new(body))),
+            Kind::Relation(sort) => Ok(Value::Relation(RelationField::parse(alloc, sort, body)?)),
+            Kind::Text => Ok(Value::Text(Text::new(body))),
         }
     }
 }

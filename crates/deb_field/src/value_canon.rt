@@ -38,6 +38,7 @@ impl Canon for Value<'_> {
             Value::Number(number) => number.canon_len(),
             Value::Line(line) => line.canon_len(),
             Value::Folded(folded) => folded.canon_len(),
+            Value::Relation(field) => field.canon_len(),
             Value::Text(text) => text.canon_len(),
         }
     }
@@ -54,6 +55,7 @@ impl Canon for Value<'_> {
             Value::Number(number) => number.canon_into(out),
             Value::Line(line) => line.canon_into(out),
             Value::Folded(folded) => folded.canon_into(out),
+            Value::Relation(field) => field.canon_into(out),
             Value::Text(text) => text.canon_into(out),
         }
     }

@@ -27,8 +27,10 @@ const ACCEPTED: [Accepted; 8] = [
     ),
     Accepted(
         Doc::Packages,
-        b"Package: aa\nVersion: 1\nArchitecture: all\nSIZE: 007\nInstalled-Size: 000\nMULTI-ARCH: same\nMD5sum: x",
-        b"Architecture: all\nInstalled-Size: 0\nMd5sum: x\nMulti-Arch: same\nPackage: aa\nSize: 7\nVersion: 1\n",
+        b"Package: aa\nVersion: 1\nArchitecture: all\nSIZE: 007\nInstalled-Size: 000\n\
+        MULTI-ARCH: same\nMD5sum: x",
+        b"Architecture: all\nInstalled-Size: 0\nMd5sum: x\nMulti-Arch: same\nPackage: aa\n\
+        Size: 7\nVersion: 1\n",
     ),
     Accepted(
         Doc::Binary,

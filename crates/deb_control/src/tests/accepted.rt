@@ -4,7 +4,7 @@ use super::*;
 use crate::Accepted;
 use deb_field::{Canon, Value};
 
-const ROWS: [Row; 20] = [
+const ROWS: [Row; 24] = [
     // no paragraph
     Row(Doc::Packages, b"", Ok(0), b""),
     Row(Doc::Packages, b"\n\n", Ok(0), b""),
@@ -67,6 +67,39 @@ const ROWS: [Row; 20] = [
         Ok(1),
         b"Architecture: all\nPackage: aa\nSource: aa (1.0)\nVersion: 1\n",
     ),
+    // relations: none, in a body of two lines, and as a set of groups
+    Row(
+        Doc::Packages,
+        b"Package: aa\nVersion: 1\nArchitecture: all\nDepends: ,\n",
+        Ok(1),
+        b"Architecture: all\nDepends:\nPackage: aa\nVersion: 1\n",
+    ),
+    Row(
+        Doc::Packages,
+        b"Package: aa\nVersion: 1\nArchitecture: all\nDepends: aa,\n  bb (>=1)\n",
+        Ok(1),
+        b"Architecture: all\nDepends: aa, bb (>= 1)\nPackage: aa\nVersion: 1\n",
+    ),
+    Row(
+        Doc::Binary,
+        b"Package: aa\nVersion: 1\nArchitecture: all\nPROVIDES: ww (=01), vv,ww (= 1)\n\
+        Breaks: bb (<<2), aa (<< 2)\nDepends: zz | bb:any, aa, zz|bb:any\n",
+        Ok(1),
+        b"Architecture: all\nBreaks: aa (<< 2), bb (<< 2)\nDepends: aa, zz | bb:any\n\
+        Package: aa\nProvides: vv, ww (= 1)\nVersion: 1\n",
+    ),
+    // a source package
+    Row(
+        Doc::Source,
+        b"Format: 3.0 (quilt)\nSource: hello\nBinary: hello,\n hello-doc\nArchitecture: any all\n\
+        Version: 2.10-3\nBuild-Depends: debhelper-compat (= 13),\n texinfo <!nodoc>\n\
+        Files:\n 0123456789abcdef0123456789abcdef 10 hello_2.10.orig.tar.gz\n",
+        Ok(1),
+        b"Architecture: any all\nBinary: hello, hello-doc\n\
+        Build-Depends: debhelper-compat (= 13), texinfo <!nodoc>\n\
+        Files:\n 0123456789abcdef0123456789abcdef 10 hello_2.10.orig.tar.gz\n\
+        Format: 3.0 (quilt)\nSource: hello\nVersion: 2.10-3\n",
+    ),
     // versions keep what tells them from others
     Row(
         Doc::Packages,
@@ -109,7 +142,8 @@ const ROWS: [Row; 20] = [
         Doc::Packages,
         b"Package: aa\nVersion: 1\nArchitecture: all\n\nVersion: 1\nArchitecture: all\nPackage: aa",
         Ok(2),
-        b"Architecture: all\nPackage: aa\nVersion: 1\n\nArchitecture: all\nPackage: aa\nVersion: 1\n",
+        b"Architecture: all\nPackage: aa\nVersion: 1\n\n\
+        Architecture: all\nPackage: aa\nVersion: 1\n",
     ),
     // blank lines of any kind before, between and behind paragraphs
     Row(

@@ -3,7 +3,7 @@
 //! passes their growths none does.
 
 use super::*;
-use crate::Paragraph;
+use crate::{Paragraph, Side, SideFault, same};
 use deb_syntax::Paragraphs;
 
 /// Two paragraphs, of which the second is longer, and a third that lacks fields.
@@ -57,6 +57,7 @@ fn want_of_memory(rt: HostRuntime) -> Result<(), Fail> {
     }
     give_all(&rt, rt.alloc(), &mut refusals);
     build_all(&rt, rt.alloc(), &mut refusals);
+    compare_all(&rt, rt.alloc(), &mut refusals);
     assert!(rt; refusals.0 <= 1, "one growth at most is refused in a run");
     Ok(())
 }
@@ -178,6 +179,38 @@ fn append_all(rt: &impl Abort, alloc: Global, typed: &Paragraph<'_>, refusals: &
             refusals.count();
         } else {
             assert_eq!(rt; out.get(1..), TEXT.get(..41), "room for {room}");
+        }
+    }
+}
+
+/// Pairs of files: each answer that isn't want of memory at one of them is right.
+fn compare_all(rt: &impl Abort, alloc: Global, refusals: &mut Refusals) {
+    let fault = refusal_at(Code::MissingField, 14);
+    let (first, second) = (Side::First, Side::Second);
+    let pairs: [(&[u8], &[u8], Result<bool, SideFault>); 4] = [
+        (TEXT, TEXT, Ok(true)),
+        (TEXT, b"", Ok(false)),
+        (
+            TEXT,
+            FILE,
+            Err(SideFault {
+                side: second,
+                fault,
+            }),
+        ),
+        (FILE, b"Package", Err(SideFault { side: first, fault })),
+    ];
+    for (file, other, wanted) in pairs {
+        let (mut file, mut other) = (Input::new(file), Input::new(other));
+        let answer = same(alloc, Doc::Packages, &mut file, &mut other);
+        match answer {
+            Err(
+                SideFault {
+                    fault: Fault::Memory,
+                    ..
+                },
+            ) => refusals.count(),
+            _ => assert_eq!(rt; answer, wanted),
         }
     }
 }

@@ -6,7 +6,7 @@ use super::*;
 /// paragraph.
 struct Refused(Doc, &'static [u8], Code, u64);
 
-const REFUSED: [Refused; 34] = [
+const REFUSED: [Refused; 42] = [
     // a line, whatever stands before it in the paragraph
     Refused(Doc::Packages, b"#\xff", Code::NotUtf8, 1),
     Refused(
@@ -142,6 +142,43 @@ const REFUSED: [Refused; 34] = [
         Code::BadVersion,
         4,
     ),
+    // a relation, then alternatives, then operators
+    Refused(
+        Doc::Packages,
+        b"Package: aa\nVersion: 1\nArchitecture: all\nDepends: ${misc:Depends}",
+        Code::BadRelation,
+        4,
+    ),
+    Refused(
+        Doc::Packages,
+        b"Package: aa\nVersion: 1\nArchitecture: all\nConflicts: bb | cc",
+        Code::AlternativesNotAllowed,
+        4,
+    ),
+    Refused(
+        Doc::Packages,
+        b"Package: aa\nVersion: 1\nArchitecture: all\nProvides: vv (>= 1)",
+        Code::ProvidesBound,
+        4,
+    ),
+    Refused(
+        Doc::Packages,
+        b"Package: aa\nVersion: 1\nArchitecture: all\nProvides: vv (>= 1) | ww",
+        Code::AlternativesNotAllowed,
+        4,
+    ),
+    Refused(
+        Doc::Binary,
+        b"Package: aa\nVersion: 1\nArchitecture: all\nProvides: vv (>= 1) | ww,\n vv (",
+        Code::BadRelation,
+        4,
+    ),
+    Refused(
+        Doc::Source,
+        b"Format: 1.0\nSource: aa\nVersion: 1\nBuild-Conflicts: bb | cc",
+        Code::AlternativesNotAllowed,
+        4,
+    ),
     // a line goes before a value above it, and before a field that is missing
     Refused(Doc::Packages, b"Size: 1k\nVersion 1", Code::NoColon, 2),
     Refused(
@@ -157,6 +194,18 @@ const REFUSED: [Refused; 34] = [
         b"Version: 1\nEssential: maybe\nSize: 1k\nPackage: A",
         Code::BadWord,
         2,
+    ),
+    Refused(
+        Doc::Packages,
+        b"Package: aa\nProvides: vv (>= 1)\nBreaks: bb | cc\nDepends: aa (",
+        Code::ProvidesBound,
+        2,
+    ),
+    Refused(
+        Doc::Binary,
+        b"Depends: aa [\n amd64\nConflicts: bb | cc",
+        Code::BadRelation,
+        1,
     ),
     // a value goes before a field that is missing
     Refused(Doc::Packages, b"Package: aa\nSize: 1k", Code::BadNumber, 2),

@@ -27,4 +27,4 @@ returns-else-is_one_of-8 c =
       sym c.is_one_of-else-is_one_of-6.ensures ∙ c.if-is_one_of-7.false,
       sym c.is_line.ensures ∙ c.if-is_line.false,
       sym c.is_one_of-else-is_line.ensures ∙ c.if-is_one_of-8.false,
-    ) refl
+    ) c.relation_kind.ensures

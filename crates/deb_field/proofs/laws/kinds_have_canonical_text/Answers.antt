@@ -1,6 +1,7 @@
 use Rattle.deb_base.specs.PackageNames.{is_arch_name, is_package_name}
 use Rattle.deb_field.specs.FlagLaws.{flag_law, multi_arch_law}
 use Rattle.deb_field.specs.NumberLaw.{number_law}
+use Rattle.deb_field.specs.RelationLaw.{relation_law}
 use Rattle.deb_field.specs.SourceLaws.{source_law}
 use Rattle.deb_field.specs.TextLaws.{itself_law}
 use Rattle.deb_field.specs.Texts.{is_any_text, is_one_line}
@@ -20,5 +21,6 @@ returns c = record {
   numbers = number_law;
   lines = itself_law is_one_line;
   folded = folded_law;
+  relations = relation_law;
   texts = itself_law is_any_text;
 }

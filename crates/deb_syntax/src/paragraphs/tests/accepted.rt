@@ -35,7 +35,8 @@ const ROWS: [Row; 24] = [
     // spaces and tabs are cut at the ends of a body alone
     Row(
         b"Package: aa\nVersion: 1\nArchitecture: all\nDescription:  short  \n one\t\n .\n\ttwo  ",
-        "@1\n1 Package: aa\n2 Version: 1\n3 Architecture: all\n4 Description: short  \\n one\\t\\n .\\n\\ttwo\n",
+        "@1\n1 Package: aa\n2 Version: 1\n3 Architecture: all\n\
+        4 Description: short  \\n one\\t\\n .\\n\\ttwo\n",
         7,
     ),
     Row(

@@ -101,8 +101,8 @@ fn assert_wanted(rt: &impl Abort, paragraphs: &mut Paragraphs, reader: &mut Piec
     assert_eq!(rt; paragraphs.lines(), 0, "lines after want of memory");
 }
 
-/// The file is read with `begins` and without it. One growth at most is refused in a run, so at most
-/// one reading wants memory, and the other answers all.
+/// The file is read with `begins` and without it. One growth at most is refused in a run, so at
+/// most one reading wants memory, and the other answers all.
 #[test]
 fn want_of_memory(rt: HostRuntime) {
     let Some(file) = file(rt.alloc()) else {

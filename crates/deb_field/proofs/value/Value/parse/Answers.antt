@@ -1,9 +1,5 @@
-use Rattle.deb_field.specs.ValueMeanings.{value_meaning}
-use Rattle.deb_field.proofs.ValueLemmas.{read-one, read-none}
+use Rattle.deb_field.proofs.ValueLemmas.{is_read}
 use Rattle.deb_field.proofs.value.Value.parse.Goals as goal
 
-pub returns-in-Ok-clause-accepted : goal.returns-in-Ok-clause-accepted
-returns-in-Ok-clause-accepted c = λ m s. read-one c.args.doc c.args.name.now c.args.body.now c.kind_of.result c.kind_of.ensures m s (value_meaning c.in-Ok.value) c.in-Ok.ensures.ok
-
-pub returns-in-Err-clause-accepted : goal.returns-in-Err-clause-accepted
-returns-in-Err-clause-accepted c = λ m s. read-none c.args.doc c.args.name.now c.args.body.now c.kind_of.result c.kind_of.ensures m s c.in-Err.code c.in-Err.ensures.refused
+pub returns-clause-accepted : goal.returns-clause-accepted
+returns-clause-accepted c = λ m s. is_read c.args.doc c.args.name.now c.args.body.now c.kind_of.result c.kind_of.ensures m s c.of_kind.result c.of_kind.ensures.ok c.of_kind.ensures.refused

@@ -1,0 +1,175 @@
+//! Whether two files mean the same.
+
+ghost use Rattle.std.specs.Prelude.{◌≡◌, ℕ, List, [], None, Some, IfOk, IfErr};
+ghost use Rattle.deb_base.specs.Devices.{read_failures_after, TellsReads};
+ghost use Rattle.deb_base.specs.Faults.{IsReadersFault};
+ghost use Rattle.deb_control.specs.Calls.{IfRefused};
+ghost use Rattle.deb_control.specs.Checking.{FitsChecked, HasChecked, IsRefusalOfDocument};
+ghost use Rattle.deb_control.specs.CheckedStates.{checked_state};
+ghost use Rattle.deb_control.specs.Comparing.{Agrees, RefusesSecond, TellsSame};
+ghost use Rattle.deb_control.specs.Documents.{refusal_of};
+ghost use Rattle.deb_control.specs.Sides.{of_first, of_second};
+
+use crate::checked::Checked;
+use crate::checking::count_rest;
+use crate::side::{Side, SideFault};
+use deb_base::{Fault, Source};
+use deb_field::Doc;
+use std::alloc::Global;
+
+/// Reads two files as documents of a kind, and answers whether they mean the same: the same
+/// paragraphs in the same order, each with equal values under equal names, whatever the order and
+/// the case of these (Debian Policy 5.1 and 5.3 to 5.6). They do exactly where their canonical
+/// texts are equal, and by these it decides.
+///
+/// It takes one paragraph of each file at a time, and keeps nothing of earlier ones. After a
+/// difference it reads both files to their ends before it answers, and where the second one is
+/// refused the first one.
+///
+/// What is said of a file's text holds for a reader that tells its bytes.
+///
+/// # Errors
+///
+/// - `Fault::Refused` with `Side::First`: the first file isn't accepted; with `Side::Second`: the
+///   first file is accepted, and the second one isn't. This is the first refusal of that file.
+/// - `Fault::Memory`: a growth of memory was refused, at the file of that side.
+/// - `Fault::Read`: a read of the reader of that side failed in this call, and was the last one.
+pub fn same<R: Source, S: Source>(
+    alloc: Global,
+    doc: Doc,
+    first: &mut R,
+    second: &mut S,
+) -> Result<bool, SideFault>
+    ensures ok { (text other : List ℕ) → R.left first.old ≡ Some text
+        → S.left second.old ≡ Some other → IfOk result (TellsSame doc text other) }
+    ensures first { (text : List ℕ) → R.left first.old ≡ Some text
+        → IfRefused (of_first result) (λ refusal. refusal_of doc text ≡ Some refusal) }
+    ensures second { (text other : List ℕ) → R.left first.old ≡ Some text
+        → S.left second.old ≡ Some other
+        → IfRefused (of_second result) (RefusesSecond doc text other) }
+
+    // Whether or not the readers tell their bytes.
+    ensures fault { IfErr result (λ told. IsReadersFault told.fault IsRefusalOfDocument) }
+    ensures reads_first { R.failures first.new
+        ≡ read_failures_after (R.failures first.old) (of_first result) }
+    ensures reads_second { S.failures second.new
+        ≡ read_failures_after (S.failures second.old) (of_second result) }
+    ensures tells_first { TellsReads (R.failures first.old) (R.failures first.new)
+        (of_first result) }
+    ensures tells_second { TellsReads (S.failures second.old) (S.failures second.new)
+        (of_second result) }
+{
+    let mut one = Checked::new(alloc, doc);
+    let mut other = Checked::new(alloc, doc);
+    match agree(&mut one, first, &mut other, second) {
+        Ok(true) => Ok(true),
+        Ok(false) => {
+            if let Err(fault) = count_rest(&mut one, first) {
+                return Err(at_first(fault));
+            }
+            if let Err(fault) = count_rest(&mut other, second) {
+                return Err(at_second(fault));
+            }
+            Ok(false)
+        }
+        Err(told) => match told.side {
+            Side::First => Err(at_first(told.fault)),
+            Side::Second => match told.fault {
+                Fault::Refused(refusal) => {
+                    if let Err(fault) = count_rest(&mut one, first) {
+                        return Err(at_first(fault));
+                    }
+                    Err(at_second(Fault::Refused(refusal)))
+                }
+                Fault::Memory | Fault::Read | Fault::Write => Err(at_second(told.fault)),
+            },
+        },
+    }
+}
+
+/// Whether the paragraphs of two files of which nothing was read have the same canonical texts, one
+/// after another. Reads on to the first difference, or to a fault.
+fn agree<R: Source, S: Source>(
+    one: &mut Checked,
+    first: &mut R,
+    other: &mut Checked,
+    second: &mut S,
+) -> Result<bool, SideFault>
+    requires sound { (checked_state one.now).fault ≡ None }
+    requires other_sound { (checked_state other.now).fault ≡ None }
+    requires doc { other.now.doc ≡ one.now.doc }
+    requires none { (checked_state one.now).count ≡ 0 }
+    ensures agrees { (text text_too : List ℕ)
+        → FitsChecked one.old.doc text [] (checked_state one.old) (R.left first.old)
+        → FitsChecked one.old.doc text_too [] (checked_state other.old) (S.left second.old)
+        → IfOk result (Agrees one.old.doc text text_too) }
+
+    // What is left to read of the first file, which has no fault.
+    ensures first { (text : List ℕ)
+        → FitsChecked one.old.doc text [] (checked_state one.old) (R.left first.old)
+        → IfOk (of_first result)
+        (λ _. HasChecked one.old.doc text (checked_state one.new) (R.left first.new)) }
+    ensures first_sound { IfOk (of_first result) (λ _. (checked_state one.new).fault ≡ None) }
+    ensures first_doc { IfOk (of_first result) (λ _. one.new.doc ≡ one.old.doc) }
+
+    // And of the second one, where no fault is told.
+    ensures second { (text : List ℕ)
+        → FitsChecked one.old.doc text [] (checked_state other.old) (S.left second.old)
+        → IfOk result
+        (λ _. HasChecked one.old.doc text (checked_state other.new) (S.left second.new)) }
+    ensures second_sound { IfOk result (λ _. (checked_state other.new).fault ≡ None) }
+    ensures second_doc { IfOk result (λ _. other.new.doc ≡ one.old.doc) }
+
+    // The faults.
+    ensures first_refused { (text : List ℕ)
+        → FitsChecked one.old.doc text [] (checked_state one.old) (R.left first.old)
+        → IfRefused (of_first result) (λ refusal. refusal_of one.old.doc text ≡ Some refusal) }
+    ensures second_refused { (text : List ℕ)
+        → FitsChecked one.old.doc text [] (checked_state other.old) (S.left second.old)
+        → IfRefused (of_second result) (λ refusal. refusal_of one.old.doc text ≡ Some refusal) }
+    ensures fault { IfErr result (λ told. IsReadersFault told.fault IsRefusalOfDocument) }
+    ensures reads_first { R.failures first.new
+        ≡ read_failures_after (R.failures first.old) (of_first result) }
+    ensures reads_second { S.failures second.new
+        ≡ read_failures_after (S.failures second.old) (of_second result) }
+{
+    for _ in 0..u64::MAX {
+        let left = match one.next(first) {
+            Ok(left) => left,
+            Err(fault) => return Err(at_first(fault)),
+        };
+        let right = match other.next(second) {
+            Ok(right) => right,
+            Err(fault) => return Err(at_second(fault)),
+        };
+        let Some(left) = left else {
+            return Ok(right.is_none());
+        };
+        let Some(right) = right else {
+            return Ok(false);
+        };
+        if left.canonical_text() != right.canonical_text() {
+            return Ok(false);
+        }
+    }
+    // No file has so many paragraphs.
+    unreachable!()
+}
+
+fn at_first(fault: Fault) -> SideFault
+    ensures { result ≡ record { side = Side.First; fault = fault } }
+{
+    SideFault {
+        side: Side::First,
+        fault,
+    }
+}
+
+fn at_second(fault: Fault) -> SideFault
+    ensures { result ≡ record { side = Side.Second; fault = fault } }
+{
+    SideFault {
+        side: Side::Second,
+        fault,
+    }
+}

@@ -1,0 +1,118 @@
+//! Relationship fields.
+
+ghost use Rattle.std.specs.Prelude.{◌≡◌, None, Ok, IfOk, IfErr};
+ghost use Rattle.deb_relation.specs.Meaning.{Relation as RelationMeaning};
+ghost use Rattle.deb_relation.specs.Reading.{relation_in};
+ghost use Rattle.deb_relation.specs.Relations.{relation_of};
+ghost use Rattle.deb_relation.specs.Texts.{relation_text};
+ghost use Rattle.deb_field.specs.RelationFields.{SpellsRelationship, relation_refusal, relationship_refusal};
+
+use crate::canon::Canon;
+use crate::kind::Relationship;
+use crate::value::ValueFault;
+use deb_base::Code;
+use deb_relation::{Relation, RelationFault};
+use std::alloc::{AllocError, Global};
+
+/// What a relationship field holds: a set of groups of alternatives (Debian Policy 7.1).
+#[derive(Debug, Drop)]
+pub struct RelationField<'a> {
+    relationship: Relationship,
+    relation: Relation<'a>,
+    ghost read_back: { relation_in (relation_text (relation_of relation))
+        ≡ Ok (relation_of relation) },
+    ghost allowed: { relation_refusal relationship (relation_of relation) ≡ None },
+}
+
+impl<'a> RelationField<'a> {
+    ghost use Rattle.deb_field.specs.Faults.{IsFaultOrMemory};
+    ghost use Rattle.deb_field.specs.RelationSpelled.{relation_meaning};
+
+    /// The relation that a body spells in a field of this sort.
+    ///
+    /// # Errors
+    ///
+    /// `BadRelation` where the body spells no relation; else `AlternativesNotAllowed` where a group
+    /// has two or more alternatives and the field takes none; else `ProvidesBound` where a bound
+    /// has an operator other than `=` and the field takes that alone. Or want of memory.
+    pub fn parse(
+        alloc: Global,
+        relationship: Relationship,
+        body: &'a [u8],
+    ) -> Result<RelationField<'a>, ValueFault>
+        ensures ok { IfOk result
+            (λ field. SpellsRelationship relationship body.now (relation_meaning field)) }
+        ensures sort { IfOk result (λ field. field.relationship ≡ relationship) }
+        ensures refused { IfErr result
+            (IsFaultOrMemory (relationship_refusal relationship body.now)) }
+    {
+        match Relation::parse(alloc, body) {
+            Ok(relation) => match refusal_in(relationship, &relation) {
+                None => Ok(RelationField {
+                    relationship,
+                    relation,
+                }),
+                Some(code) => Err(ValueFault::Refused(code)),
+            },
+            Err(RelationFault::Bad { .. }) => Err(ValueFault::Refused(Code::BadRelation)),
+            Err(RelationFault::Memory) => Err(ValueFault::Memory),
+        }
+    }
+
+    /// The sort of the field.
+    pub fn relationship(&self) -> Relationship
+        ensures { result ≡ self.now.relationship }
+    {
+        self.relationship
+    }
+
+    /// The relation.
+    pub fn relation(&self) -> &Relation<'a>
+        ensures { relation_of result.now ≡ relation_meaning self.now }
+    {
+        &self.relation
+    }
+}
+
+impl Canon for RelationField<'_> {
+    ghost use Rattle.deb_field.specs.declared.kind.Relationship.{Relationship as Sort};
+    ghost use Rattle.deb_field.specs.RelationLaw.{relation_law};
+    ghost use Rattle.deb_field.specs.RelationSpelled.{relation_meaning, relation_spelled};
+
+    ghost Kinds = { Sort };
+
+    ghost Meaning = { RelationMeaning };
+
+    ghost kind = { λ field. field.relationship };
+
+    ghost meaning = { relation_meaning };
+
+    ghost Spells = { SpellsRelationship };
+
+    ghost text_of = { relation_text };
+
+    ghost law = { relation_law };
+
+    ghost spelled = { λ field. (relation_text (relation_meaning field), relation_spelled field) };
+
+    fn canon_len(&self) -> u64 {
+        self.relation.canon_len()
+    }
+
+    fn canon_into(&self, out: &mut Vec<u8>) -> Result<(), AllocError> {
+        self.relation.canon_into(out)
+    }
+}
+
+/// Why a relation can't stand in a field of this sort, or None: alternatives come before operators.
+fn refusal_in(relationship: Relationship, relation: &Relation<'_>) -> Option<Code>
+    ensures { result ≡ relation_refusal relationship (relation_of relation.now) }
+{
+    if relation.has_alternatives() && !relationship.takes_alternatives() {
+        Some(Code::AlternativesNotAllowed)
+    } else if !relation.only_equals() && !relationship.takes_all_operators() {
+        Some(Code::ProvidesBound)
+    } else {
+        None
+    }
+}
