@@ -6,3 +6,4 @@ pub mod UnmixedKinds
 pub mod Telling
 pub mod DocumentTelling
 pub mod JobRefusals
+pub mod SameTelling

@@ -8,7 +8,7 @@ use Rattle.clap.specs.Simple.{subcommand_of}
 use Rattle.clap.specs.Walk.{Row, Text, first_of}
 use Rattle.clap.specs.declared.error.kind.ErrorKind.{ErrorKind}
 use Rattle.clap.specs.declared.error.kind.ErrorKind.TheVariants.{DisplayHelp, DisplayVersion, OutOfMemory}
-use Rattle.debctl.specs.Commands.{debctl_app, check_word, normalise_word, compare_word, canon_version_word, help_word}
+use Rattle.debctl.specs.Commands.{debctl_app, check_word, normalise_word, same_word, compare_word, canon_version_word, help_word}
 use Rattle.deb_field.specs.declared.kind.Doc.{Doc}
 use Rattle.deb_field.specs.declared.kind.Doc.TheVariants.{Binary, Packages, Source}
 use Rattle.debctl.specs.declared.jobs.Call.{Call}
@@ -50,6 +50,7 @@ abbrev pub is_command : Text → Bool
 is_command word =
     if bytes_eq word check_word then true
     else if bytes_eq word normalise_word then true
+    else if bytes_eq word same_word then true
     else if bytes_eq word compare_word then true
     else if bytes_eq word canon_version_word then true
     else bytes_eq word help_word
@@ -60,6 +61,7 @@ is_command word =
 pub data Wanted : Type 0 where
   checks : Doc → Wanted
   normalises : Doc → Wanted
+  tells_same : Doc → Wanted
   compares : Text → Cmp → Text → Wanted
   canonicalises : Text → Wanted
 
@@ -72,6 +74,7 @@ pub record Request : Type 0 where
 abbrev pub wanted_of : Job → Wanted
 wanted_of (job.Check kind) = checks kind
 wanted_of (job.Normalise kind) = normalises kind
+wanted_of (job.Same kind) = tells_same kind
 wanted_of (job.Compare left operator right) =
     compares (string_bytes left) operator (string_bytes right)
 wanted_of (job.CanonVersion version) = canonicalises (string_bytes version)
@@ -105,6 +108,16 @@ document_asked wanted rows = option_map_or
     { wanted = wanted kind; first = first_of (codes "path") rows; second = None }))
     (kind_asked (first_of (codes "kind") rows)) unknown_kind
 
+-- `same`, which has two paths
+abbrev pub same_asked : List Row → Asked
+same_asked rows = option_map_or
+    (λ kind. asks (record {
+      wanted = tells_same kind;
+      first = Some (word_in (codes "first") rows);
+      second = Some (word_in (codes "second") rows);
+    }))
+    (kind_asked (first_of (codes "kind") rows)) unknown_kind
+
 abbrev pub compare_asked : List Row → Asked
 compare_asked rows = option_map_or
     (λ operator. asks (record {
@@ -131,6 +144,7 @@ abbrev pub asked_by : Text → List Row → Asked
 asked_by name rows =
     if bytes_eq name check_word then document_asked checks rows
     else if bytes_eq name normalise_word then document_asked normalises rows
+    else if bytes_eq name same_word then same_asked rows
     else if bytes_eq name compare_word then compare_asked rows
     else if bytes_eq name canon_version_word then canon_version_asked rows
     else help_asked (first_of (codes "command") rows)

@@ -5,9 +5,9 @@ use Rattle.clap.specs.Faults.{fault_of}
 use Rattle.clap.specs.Takes.{takes}
 use Rattle.clap.specs.Walk.{Text}
 use Rattle.clap.specs.declared.error.kind.ErrorKind.TheVariants as kind
-use Rattle.debctl.specs.Asked.{asked_of, asks, asks_help, canonicalises, checks, compares, normalises, unknown_command, unknown_kind, unknown_operator}
+use Rattle.debctl.specs.Asked.{asked_of, asks, asks_help, canonicalises, checks, compares, normalises, tells_same, unknown_command, unknown_kind, unknown_operator}
 use Rattle.debctl.specs.Commands.{debctl_app}
-use Rattle.deb_field.specs.declared.kind.Doc.TheVariants.{Packages, Source}
+use Rattle.deb_field.specs.declared.kind.Doc.TheVariants.{Binary, Packages, Source}
 use Rattle.debctl.specs.declared.jobs.Cmp.TheVariants as cmp
 
 -- words behind the program's name
@@ -28,6 +28,16 @@ unknown_kind_word : asked_of (line (codes "check" ∷ codes "--kind" ∷ codes "
     ≡ Some unknown_kind
 unfolding clap_on_literals
 unknown_kind_word = refl
+
+two_paths : asked_of
+    (line (codes "same" ∷ codes "--kind" ∷ codes "binary" ∷ codes "x" ∷ codes "y" ∷ []))
+    ≡ Some (asks (record {
+      wanted = tells_same Binary;
+      first = Some (codes "x");
+      second = Some (codes "y");
+    }))
+unfolding clap_on_literals
+two_paths = refl
 
 comparison : asked_of (line (codes "compare" ∷ codes "1" ∷ codes "lt" ∷ codes "2" ∷ []))
     ≡ Some (asks (record {
@@ -74,6 +84,11 @@ missing_word : fault_of debctl_app (line (codes "compare" ∷ codes "1" ∷ code
     ≡ kind.MissingRequiredArgument ∷ []
 unfolding clap_on_literals
 missing_word = refl
+
+missing_path : fault_of debctl_app (line (codes "same" ∷ codes "x" ∷ []))
+    ≡ kind.MissingRequiredArgument ∷ []
+unfolding clap_on_literals
+missing_path = refl
 
 kind_twice : fault_of debctl_app
     (line (codes "check" ∷ codes "--kind" ∷ codes "source" ∷ codes "--kind" ∷ codes "source" ∷ []))

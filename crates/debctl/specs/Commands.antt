@@ -23,6 +23,9 @@ check_word = codes "check"
 abbrev pub normalise_word : Text
 normalise_word = codes "normalise"
 
+abbrev pub same_word : Text
+same_word = codes "same"
+
 abbrev pub compare_word : Text
 compare_word = codes "compare"
 
@@ -35,6 +38,12 @@ help_word = codes "help"
 -- `check` and `normalise`: `[--kind K] [PATH]`
 abbrev pub document_app : Text → App
 document_app name = with_rule (with_rule (new_app name) kind_rule) (optional_rule (codes "path"))
+
+-- `same [--kind K] PATH PATH`
+abbrev pub same_app : App
+same_app =
+    with_rule (with_rule (with_rule (new_app same_word) kind_rule)
+    (required_rule (codes "first"))) (required_rule (codes "second"))
 
 -- `compare V OP V`
 abbrev pub compare_app : App
@@ -60,9 +69,9 @@ bare_app =
 -- the program with its commands
 abbrev pub debctl_app : App
 debctl_app =
-    with_subcommand (with_subcommand (with_subcommand (with_subcommand (with_subcommand bare_app
-    (document_app check_word).top) (document_app normalise_word).top) compare_app.top)
-    canon_version_app.top) help_app.top
+    with_subcommand (with_subcommand (with_subcommand (with_subcommand (with_subcommand
+    (with_subcommand bare_app (document_app check_word).top) (document_app normalise_word).top)
+    same_app.top) compare_app.top) canon_version_app.top) help_app.top
 
 -- the command is what `clap` reads so, and none of its arguments is global
 pub record IsShaped (app : App) (command : Command) : Type 0 where

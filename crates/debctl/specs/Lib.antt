@@ -3,6 +3,7 @@ pub mod AskedCases
 pub mod Commands
 pub mod DocumentJobs
 pub mod Running
+pub mod SameJob
 pub mod Telling
 pub mod VersionJobs
 pub mod WordsTelling

@@ -36,6 +36,14 @@ TellsFault held failures old new fault status =
     TellsWhole held failures old new (fault_line fault) (status_of fault) status
     ⊎ TellsFront held failures old new (fault_line fault) status
 
+-- A write of a line on `out` failed: a prefix of it was written, and that is told.
+pub record TellsUnwritten {W E : Type 0} (held : W → Option (List ℕ)) (writes : W → ℕ) (out new : W)
+    (held_err : E → Option (List ℕ)) (tells : E → ℕ) (err err_after : E)
+    (line : List ℕ) (status : ℕ) : Type 0 where
+  pub written : AppendsFront (held out) (held new) line
+  pub counted : writes new ≡ one_more (writes out)
+  pub told : TellsFault held_err tells err err_after Write status
+
 -- the status of an answer that is there, where each is success
 abbrev pub done_status : {T : Type 0} → T → ℕ
 done_status _ = 0

@@ -1,23 +1,14 @@
 -- What is told of words that ask for no job. The texts and the statuses are this project's own.
 use Rattle.std.specs.Prelude.{◌≡◌, ◌⊎◌, ℕ, List, [], ◌∷◌, ◌++◌, Option, string_bytes}
 use Rattle.deb_base.specs.Bodies.{newline}
-use Rattle.deb_base.specs.Devices.{AppendsFront, one_more}
 use Rattle.deb_base.specs.declared.fault.Fault.TheVariants as fault
-use Rattle.debctl.specs.Telling.{TellsFault, TellsFront, TellsWhole}
+use Rattle.debctl.specs.Telling.{TellsFault, TellsFront, TellsUnwritten, TellsWhole}
 use Rattle.debctl.specs.declared.words.UsageFault.{UsageFault}
 use Rattle.debctl.specs.declared.words.UsageFault.TheVariants.{Usage, Help, Memory}
 
 -- a text with its newline
 abbrev pub line_of : List ℕ → List ℕ
 line_of text = text ++ newline ∷ []
-
--- A write of the help failed: a prefix of it was written, and that is told.
-pub record TellsNoHelp {W E : Type 0} (held : W → Option (List ℕ)) (writes : W → ℕ) (out new : W)
-    (held_err : E → Option (List ℕ)) (tells : E → ℕ) (err err_after : E)
-    (line : List ℕ) (status : ℕ) : Type 0 where
-  pub written : AppendsFront (held out) (held new) line
-  pub counted : writes new ≡ one_more (writes out)
-  pub told : TellsFault held_err tells err err_after fault.Write status
 
 -- A mistake by its text on `err`, with status 3; a call for help by the help on `out`, with
 -- status 0.
@@ -29,7 +20,7 @@ TellsWords held writes out new held_err tells err err_after (Usage text) status 
     ⊎ TellsFront held_err tells err err_after (line_of (string_bytes text)) status)
 TellsWords held writes out new held_err tells err err_after (Help text) status =
     (TellsWhole held writes out new (line_of (string_bytes text)) 0 status × (err_after ≡ err))
-    ⊎ TellsNoHelp held writes out new held_err tells err err_after
+    ⊎ TellsUnwritten held writes out new held_err tells err err_after
     (line_of (string_bytes text)) status
 TellsWords held writes out new held_err tells err err_after Memory status =
     (new ≡ out) × TellsFault held_err tells err err_after fault.Memory status

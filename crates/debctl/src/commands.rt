@@ -2,7 +2,7 @@
 
 ghost use Rattle.std.specs.Prelude.{◌≡◌, IfOk, false};
 ghost use Rattle.clap.specs.Words.{rule_of};
-ghost use Rattle.debctl.specs.Commands.{bare_app, canon_version_app, check_word, normalise_word, compare_app, debctl_app, document_app, help_app, kind_rule, optional_rule, required_rule, IsShaped};
+ghost use Rattle.debctl.specs.Commands.{bare_app, canon_version_app, check_word, normalise_word, compare_app, debctl_app, document_app, help_app, kind_rule, optional_rule, required_rule, same_app, IsShaped};
 
 use clap::{Arg, Command};
 use std::alloc::{AllocError, Global};
@@ -12,7 +12,8 @@ Statuses:
   0  done, or the answer is yes
   1  the answer is no
   2  a file or a version is refused: standard error has `line N: CODE NAME`,
-     with line 0 for a word of the command line
+     with line 0 for a word of the command line, and by `same` with `first: `
+     or `second: ` before it
   3  a word is wrong, memory is wanting, or a read or a write failed
 
 A version or a path that begins with a hyphen comes after `--`:
@@ -48,6 +49,25 @@ Example:
   Architecture: all
   Package: aa
   Version: 1.0";
+
+const SAME_HELP: &str = "\
+Files mean the same if they have the same paragraphs in the same order, each
+with equal values, whatever the order of its fields and the case of their names.
+
+Statuses:
+  0  they mean the same: `same` is printed
+  1  they don't: `different` is printed
+  2  a file is refused: standard error has `first: line N: CODE NAME` or
+     `second: line N: CODE NAME`, for its first fault; a refusal of the first
+     file goes before one of the second
+  3  a word is wrong, memory is wanting, or a read or a write failed
+
+Example:
+  $ printf 'Package: aa\\nVersion: 1.0-0\\nArchitecture: all\\n' > one
+  $ printf 'architecture:all\\nVERSION:0:1.00\\npackage:aa\\n' > other
+  $ debctl same one other; echo $?
+  same
+  0";
 
 const KIND_HELP: &str =
     "The kind of file: packages (a list of packages; the default), binary or source";
@@ -96,6 +116,7 @@ pub(crate) fn debctl_command<'a>(alloc: Global) -> Result<Command<'a>, AllocErro
     bare_command(alloc)
         .subcommand(check_command(alloc)?)?
         .subcommand(normalise_command(alloc)?)?
+        .subcommand(same_command(alloc)?)?
         .subcommand(compare_command(alloc)?)?
         .subcommand(canon_version_command(alloc)?)?
         .subcommand(help_command(alloc)?)
@@ -107,7 +128,7 @@ fn bare_command<'a>(alloc: Global) -> Command<'a>
 {
     Command::new(alloc, "debctl")
         .version("0.1.0")
-        .about("Checks and normalises Debian control data, and compares versions")
+        .about("Checks, normalises and compares Debian control data, and compares versions")
         .after_help(DEBCTL_HELP)
         .subcommand_required(true)
         .disable_help_subcommand(true)
@@ -156,6 +177,18 @@ fn document_command<'a>(
             "PATH",
             "The file; without it standard input is read",
         ))
+}
+
+/// `same [--kind K] PATH PATH`
+pub(crate) fn same_command<'a>(alloc: Global) -> Result<Command<'a>, AllocError>
+    ensures { IfOk result (IsShaped same_app) }
+{
+    Command::new(alloc, "same")
+        .about("Says whether two files mean the same")
+        .after_help(SAME_HELP)
+        .arg(kind_option(alloc))?
+        .arg(required_word(alloc, "first", "PATH", "The first file"))?
+        .arg(required_word(alloc, "second", "PATH", "The second file"))
 }
 
 /// `compare V OP V`

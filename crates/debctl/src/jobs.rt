@@ -26,6 +26,8 @@ pub enum Job {
     Check(Doc),
     /// `normalise`: write the canonical text of a file of this kind.
     Normalise(Doc),
+    /// `same`: say whether two files of this kind mean the same.
+    Same(Doc),
     /// `compare`: say whether two versions compare so.
     Compare(String, Cmp, String),
     /// `canon-version`: write the canonical text of a version.
@@ -34,8 +36,8 @@ pub enum Job {
 
 /// A command and the paths of the files that it reads.
 ///
-/// Where a job that reads a file has no path, the file is standard input. No job reads a second
-/// file yet.
+/// Where `check` or `normalise` has no path, the file is standard input. `same` has both paths, and
+/// no other job has a second one.
 #[derive(Debug, PartialEq, Eq, Drop)]
 pub struct Call {
     pub job: Job,

@@ -1,4 +1,5 @@
-//! A program that checks and normalises files of Debian control data, and compares versions.
+//! A program that checks and normalises files of Debian control data, tells whether two mean the
+//! same, and compares versions.
 //!
 //! - [`words::job_of`] says what the program's words ask for, or why they ask for nothing.
 //! - [`run`] does a job over readers and writers, tells on one of them why it wasn't done, and
@@ -21,6 +22,7 @@ mod document_jobs;
 pub mod jobs;
 mod kind_word;
 mod run;
+mod same_job;
 mod streams;
 mod tell;
 mod version_jobs;

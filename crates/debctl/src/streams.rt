@@ -71,7 +71,7 @@ pub(crate) fn answer(rt: &HostRuntime, call: &Call) -> u8 {
 /// `Fault::Write` is to be told in its place, so that there is one line in every case.
 fn run_on_streams(rt: &HostRuntime, call: &Call) -> Result<u8, Fault> {
     let mut first = Input::new(first_reader(rt, call)?);
-    let mut second = Input::new(second_reader(rt, call)?);
+    let mut second = Input::new(reader_of(rt, &call.second)?);
     let mut out = buffered(rt.alloc(), rt.stdout())?;
     let mut err = buffered(rt.alloc(), rt.stderr())?;
     let status = run(
@@ -94,20 +94,22 @@ fn run_on_streams(rt: &HostRuntime, call: &Call) -> Result<u8, Fault> {
     Ok(if is_told { status } else { FAULT_STATUS })
 }
 
-/// The file that the job reads first: that of the path, or else standard input.
+/// The file that the job reads first: that of the path, or else standard input, which `same` never
+/// reads.
 fn first_reader(rt: &HostRuntime, call: &Call) -> Result<Reader, Fault> {
     match &call.job {
         Job::Check(_) | Job::Normalise(_) => match &call.first {
             Some(path) => opened(rt, path.as_str()),
             None => Ok(Reader::Standard(rt.stdin())),
         },
+        Job::Same(_) => reader_of(rt, &call.first),
         Job::Compare(..) | Job::CanonVersion(_) => Ok(Reader::Nothing),
     }
 }
 
-/// The file that the job reads second.
-fn second_reader(rt: &HostRuntime, call: &Call) -> Result<Reader, Fault> {
-    match &call.second {
+/// The file of a path, or nothing to read without one.
+fn reader_of(rt: &HostRuntime, path: &Option<String>) -> Result<Reader, Fault> {
+    match path {
         Some(path) => opened(rt, path.as_str()),
         None => Ok(Reader::Nothing),
     }

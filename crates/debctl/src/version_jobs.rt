@@ -133,6 +133,3 @@ fn holds(operator: Cmp, order: Ordering) -> bool
         Cmp::Greater => order == Ordering::Greater,
     }
 }
-
-#[cfg(test)]
-mod tests;

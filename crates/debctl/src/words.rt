@@ -2,12 +2,12 @@
 
 ghost use Rattle.std.specs.Prelude.{◌≡◌, [], Some, None, map, true, codes, string_bytes, option_map, IfOk, IfErr, option_copied};
 ghost use Rattle.clap.specs.Words.{fault_of, first_of, found_of, has_subcommand, kind_of, rows_of, subcommand_rows_of, takes};
-ghost use Rattle.debctl.specs.Asked.{asked_by, asked_in, asked_of, asks, canon_version_asked, checks, compare_asked, document_asked, help_asked, kind_asked, normalises, request_of, word_in, Answers, AnswersError, AnswersMet, IsHelp, MeansError, MeansKind, Request, TellsKind, UsesText};
+ghost use Rattle.debctl.specs.Asked.{asked_by, asked_in, asked_of, asks, canon_version_asked, checks, compare_asked, document_asked, help_asked, kind_asked, normalises, request_of, same_asked, word_in, Answers, AnswersError, AnswersMet, IsHelp, MeansError, MeansKind, Request, TellsKind, UsesText};
 ghost use Rattle.debctl.specs.Commands.{debctl_app};
 
 use crate::commands::{
     canon_version_command, check_command, compare_command, debctl_command, help_command,
-    normalise_command,
+    normalise_command, same_command,
 };
 use crate::jobs::{Call, Job};
 use crate::kind_word::{kind_named, operator_named};
@@ -42,11 +42,12 @@ impl From<AllocError> for UsageFault {
 
 /// The call that the program's words ask for; the first word is the program's name.
 ///
-/// `check [--kind K] [PATH]`, `normalise [--kind K] [PATH]`, `compare V OP V` and `canon-version V`
-/// ask for a call. `help [COMMAND]` asks for help, and so do `--help` and `--version`.
+/// `check [--kind K] [PATH]`, `normalise [--kind K] [PATH]`, `same [--kind K] PATH PATH`,
+/// `compare V OP V` and `canon-version V` ask for a call. `help [COMMAND]` asks for help, and so do
+/// `--help` and `--version`.
 ///
 /// - `UsageFault::Usage`: a word is wrong, or one is missing. Of a K, an OP or a COMMAND that isn't
-/// known the text is `usage: unknown kind`, `usage: unknown operator` or `usage: unknown command`,
+///   known the text is `usage: unknown kind`, `usage: unknown operator` or `usage: unknown command`,
 ///   of all else `clap`'s.
 /// - `UsageFault::Help`: the words ask for help or for the version.
 /// - `UsageFault::Memory`: a growth of memory was refused.
@@ -115,6 +116,7 @@ fn call_by(alloc: Global, name: &str, found: &ArgMatches<'_>) -> Result<Call, Us
     match name {
         "check" => check_call(alloc, found),
         "normalise" => normalise_call(alloc, found),
+        "same" => same_call(alloc, found),
         "compare" => compare_call(alloc, found),
         "canon-version" => canon_version_call(alloc, found),
         _ => Err(help_on(alloc, given(found, "command"))),
@@ -140,6 +142,19 @@ fn normalise_call(alloc: Global, found: &ArgMatches<'_>) -> Result<Call, UsageFa
         job: Job::Normalise(kind),
         first: path_in(alloc, found)?,
         second: None,
+    })
+}
+
+fn same_call(alloc: Global, found: &ArgMatches<'_>) -> Result<Call, UsageFault>
+    ensures { Answers (same_asked (rows_of (found_of found.now))) result }
+{
+    let kind = kind_in(alloc, found)?;
+    let first = String::from_str(alloc, word_in(found, "first"))?;
+    let second = String::from_str(alloc, word_in(found, "second"))?;
+    Ok(Call {
+        job: Job::Same(kind),
+        first: Some(first),
+        second: Some(second),
     })
 }
 
@@ -220,6 +235,7 @@ fn help_on(alloc: Global, word: Option<&str>) -> UsageFault
         None => help_of(alloc, debctl_command(alloc), "debctl"),
         Some("check") => help_of(alloc, check_command(alloc), "debctl check"),
         Some("normalise") => help_of(alloc, normalise_command(alloc), "debctl normalise"),
+        Some("same") => help_of(alloc, same_command(alloc), "debctl same"),
         Some("compare") => help_of(alloc, compare_command(alloc), "debctl compare"),
         Some("canon-version") => help_of(
             alloc,

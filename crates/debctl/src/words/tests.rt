@@ -1,5 +1,6 @@
 use super::*;
 use crate::jobs::Cmp;
+use crate::tests::Asks;
 use std::test::Fail;
 
 /// The words of a command line, the program's name first.
@@ -17,120 +18,128 @@ fn answer_to(alloc: Global, line: &[&str]) -> Result<Call, UsageFault> {
     job_of(alloc, words.as_slice())
 }
 
-fn on_a_file(job: Job, alloc: Global, path: Option<&str>) -> Result<Call, AllocError> {
-    let first = match path {
-        Some(path) => Some(String::from_str(alloc, path)?),
-        None => None,
-    };
-    Ok(Call {
-        job,
-        first,
-        second: None,
-    })
-}
-
-fn comparison(alloc: Global, left: &str, operator: Cmp, right: &str) -> Result<Call, AllocError> {
-    let left = String::from_str(alloc, left)?;
-    let right = String::from_str(alloc, right)?;
-    on_a_file(Job::Compare(left, operator, right), alloc, None)
-}
-
-fn canonical(alloc: Global, version: &str) -> Result<Call, AllocError> {
-    on_a_file(
-        Job::CanonVersion(String::from_str(alloc, version)?),
-        alloc,
-        None,
-    )
+fn path_at(alloc: Global, paths: &[&str], index: usize) -> Result<Option<String>, AllocError> {
+    match paths.get(index) {
+        Some(path) => Ok(Some(String::from_str(alloc, path)?)),
+        None => Ok(None),
+    }
 }
 
 #[test]
 fn words_that_ask_for_a_call(rt: HostRuntime) -> Result<(), Fail> {
     let alloc = rt.alloc();
-    let rows: [(&[&str], Call); 22] = [
-        (
-            &["check"],
-            on_a_file(Job::Check(Doc::Packages), alloc, None)?,
-        ),
-        (
-            &["check", "x"],
-            on_a_file(Job::Check(Doc::Packages), alloc, Some("x"))?,
-        ),
+    // The words, the job and the paths.
+    let rows: [(&[&str], Asks, &[&str]); 27] = [
+        (&["check"], Asks::Check(Doc::Packages), &[]),
+        (&["check", "x"], Asks::Check(Doc::Packages), &["x"]),
         (
             &["check", "--kind", "binary"],
-            on_a_file(Job::Check(Doc::Binary), alloc, None)?,
+            Asks::Check(Doc::Binary),
+            &[],
         ),
         (
             &["check", "--kind=source", "a b"],
-            on_a_file(Job::Check(Doc::Source), alloc, Some("a b"))?,
+            Asks::Check(Doc::Source),
+            &["a b"],
         ),
         (
             &["check", "x", "--kind", "packages"],
-            on_a_file(Job::Check(Doc::Packages), alloc, Some("x"))?,
+            Asks::Check(Doc::Packages),
+            &["x"],
         ),
         (
             &["check", "--", "--kind"],
-            on_a_file(Job::Check(Doc::Packages), alloc, Some("--kind"))?,
+            Asks::Check(Doc::Packages),
+            &["--kind"],
         ),
-        (
-            &["check", ""],
-            on_a_file(Job::Check(Doc::Packages), alloc, Some(""))?,
-        ),
-        (
-            &["check", "-"],
-            on_a_file(Job::Check(Doc::Packages), alloc, Some("-"))?,
-        ),
-        (
-            &["normalise"],
-            on_a_file(Job::Normalise(Doc::Packages), alloc, None)?,
-        ),
+        (&["check", ""], Asks::Check(Doc::Packages), &[""]),
+        (&["check", "-"], Asks::Check(Doc::Packages), &["-"]),
+        (&["normalise"], Asks::Normalise(Doc::Packages), &[]),
         (
             &["normalise", "--kind", "source", "x"],
-            on_a_file(Job::Normalise(Doc::Source), alloc, Some("x"))?,
+            Asks::Normalise(Doc::Source),
+            &["x"],
+        ),
+        (&["same", "x", "y"], Asks::Same(Doc::Packages), &["x", "y"]),
+        (
+            &["same", "--kind", "binary", "x", "y"],
+            Asks::Same(Doc::Binary),
+            &["x", "y"],
+        ),
+        (
+            &["same", "y", "--kind=source", "x"],
+            Asks::Same(Doc::Source),
+            &["y", "x"],
+        ),
+        (&["same", "", "-"], Asks::Same(Doc::Packages), &["", "-"]),
+        (
+            &["same", "--", "--kind", "--"],
+            Asks::Same(Doc::Packages),
+            &["--kind", "--"],
         ),
         (
             &["compare", "1", "lt", "2"],
-            comparison(alloc, "1", Cmp::Less, "2")?,
+            Asks::Compare("1", Cmp::Less, "2"),
+            &[],
         ),
         (
             &["compare", "1", "le", "2"],
-            comparison(alloc, "1", Cmp::LessOrEqual, "2")?,
+            Asks::Compare("1", Cmp::LessOrEqual, "2"),
+            &[],
         ),
         (
             &["compare", "1", "eq", "2"],
-            comparison(alloc, "1", Cmp::Equal, "2")?,
+            Asks::Compare("1", Cmp::Equal, "2"),
+            &[],
         ),
         (
             &["compare", "1", "ne", "2"],
-            comparison(alloc, "1", Cmp::NotEqual, "2")?,
+            Asks::Compare("1", Cmp::NotEqual, "2"),
+            &[],
         ),
         (
             &["compare", "1", "ge", "2"],
-            comparison(alloc, "1", Cmp::GreaterOrEqual, "2")?,
+            Asks::Compare("1", Cmp::GreaterOrEqual, "2"),
+            &[],
         ),
         (
             &["compare", "1", "gt", "2"],
-            comparison(alloc, "1", Cmp::Greater, "2")?,
+            Asks::Compare("1", Cmp::Greater, "2"),
+            &[],
         ),
         (
             &["compare", "1_", "lt", ""],
-            comparison(alloc, "1_", Cmp::Less, "")?,
+            Asks::Compare("1_", Cmp::Less, ""),
+            &[],
         ),
         (
             &["compare", "--", "-1", "lt", "-2"],
-            comparison(alloc, "-1", Cmp::Less, "-2")?,
+            Asks::Compare("-1", Cmp::Less, "-2"),
+            &[],
         ),
         (
             &["compare", "1", "lt", "--", "--2"],
-            comparison(alloc, "1", Cmp::Less, "--2")?,
+            Asks::Compare("1", Cmp::Less, "--2"),
+            &[],
         ),
         (
             &["canon-version", "00:1:02-0"],
-            canonical(alloc, "00:1:02-0")?,
+            Asks::CanonVersion("00:1:02-0"),
+            &[],
         ),
-        (&["canon-version", "help"], canonical(alloc, "help")?),
-        (&["canon-version", "--", "-0-0"], canonical(alloc, "-0-0")?),
+        (&["canon-version", "help"], Asks::CanonVersion("help"), &[]),
+        (
+            &["canon-version", "--", "-0-0"],
+            Asks::CanonVersion("-0-0"),
+            &[],
+        ),
     ];
-    for (line, call) in rows {
+    for (line, asks, paths) in rows {
+        let call = Call {
+            job: asks.job(alloc)?,
+            first: path_at(alloc, paths, 0)?,
+            second: path_at(alloc, paths, 1)?,
+        };
         assert_eq!(rt; answer_to(alloc, line), Ok(call), "{line:?}");
     }
     Ok(())
@@ -138,7 +147,7 @@ fn words_that_ask_for_a_call(rt: HostRuntime) -> Result<(), Fail> {
 
 #[test]
 fn words_that_are_not_known(rt: HostRuntime) -> Result<(), Fail> {
-    let rows: [(&[&str], &str); 10] = [
+    let rows: [(&[&str], &str); 11] = [
         (&["check", "--kind", "foo"], "usage: unknown kind"),
         (&["check", "--kind", "Binary"], "usage: unknown kind"),
         (&["normalise", "--kind=", "x"], "usage: unknown kind"),
@@ -147,7 +156,8 @@ fn words_that_are_not_known(rt: HostRuntime) -> Result<(), Fail> {
         (&["compare", "1", "<", "2"], "usage: unknown operator"),
         (&["compare", "1", "", "2"], "usage: unknown operator"),
         (&["compare", "1_", "LT", "2"], "usage: unknown operator"),
-        (&["help", "same"], "usage: unknown command"),
+        (&["same", "--kind", "foo", "x", "y"], "usage: unknown kind"),
+        (&["help", "query"], "usage: unknown command"),
         (&["help", ""], "usage: unknown command"),
     ];
     for (line, text) in rows {
@@ -161,7 +171,7 @@ fn words_that_are_not_known(rt: HostRuntime) -> Result<(), Fail> {
 
 #[test]
 fn words_that_are_refused(rt: HostRuntime) -> Result<(), Fail> {
-    let rows: [(&[&str], &str); 14] = [
+    let rows: [(&[&str], &str); 18] = [
         (&[], "requires a subcommand"),
         (&["frob"], "unrecognized subcommand 'frob'"),
         (
@@ -176,6 +186,10 @@ fn words_that_are_refused(rt: HostRuntime) -> Result<(), Fail> {
             "cannot be used multiple times",
         ),
         (&["check", "-x"], "unexpected argument '-x'"),
+        (&["same"], "required arguments were not provided"),
+        (&["same", "x"], "required arguments were not provided"),
+        (&["same", "x", "y", "z"], "unexpected argument 'z'"),
+        (&["same", "x", "--", "-y", "z"], "unexpected argument 'z'"),
         (
             &["compare", "1", "lt"],
             "required arguments were not provided",
@@ -212,7 +226,7 @@ fn words_that_ask_for_help(rt: HostRuntime) -> Result<(), Fail> {
     assert_eq!(rt; version.as_str(), "debctl 0.1.0");
     let whole = help_text_of(alloc, &["--help"])?;
     assert_eq!(rt; help_text_of(alloc, &["help"])?, whole);
-    let commands = ["check", "normalise", "compare", "canon-version"];
+    let commands = ["check", "normalise", "same", "compare", "canon-version"];
     for command in commands {
         assert!(rt; whole.as_str().contains(command), "{command}");
         let help = help_text_of(alloc, &["help", command])?;

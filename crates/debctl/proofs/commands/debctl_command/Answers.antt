@@ -6,6 +6,7 @@ pub returns : goal.returns
 returns c =
     let one = shaped_with _ _ _ _ _ c.bare_command.ensures c.in_ok-check_command.ensures c.in_ok-subcommand.ensures in
     let two = shaped_with _ _ _ _ _ one c.in_ok-normalise_command.ensures c.in_ok-subcommand-2.ensures in
-    let three = shaped_with _ _ _ _ _ two c.in_ok-compare_command.ensures c.in_ok-subcommand-3.ensures in
-    let four = shaped_with _ _ _ _ _ three c.in_ok-canon_version_command.ensures c.in_ok-subcommand-4.ensures in
-    IfOk-weaker c.subcommand-5.result _ _ (λ m adds. shaped_with _ _ _ _ _ four c.in_ok-help_command.ensures adds) c.subcommand-5.ensures
+    let three = shaped_with _ _ _ _ _ two c.in_ok-same_command.ensures c.in_ok-subcommand-3.ensures in
+    let four = shaped_with _ _ _ _ _ three c.in_ok-compare_command.ensures c.in_ok-subcommand-4.ensures in
+    let five = shaped_with _ _ _ _ _ four c.in_ok-canon_version_command.ensures c.in_ok-subcommand-5.ensures in
+    IfOk-weaker c.subcommand-6.result _ _ (λ m adds. shaped_with _ _ _ _ _ five c.in_ok-help_command.ensures adds) c.subcommand-6.ensures
