@@ -18,7 +18,7 @@ use std::alloc::Global;
 /// - 0: done, or the answer is yes. `out` has `ok N` and a newline, the canonical text of the file,
 ///   `same` and a newline, nothing, or the canonical version and a newline. Nothing was written on
 ///   `err`.
-/// - 1: the answer of `same` or `compare` is no. By `same`, `out` has `different` and a newline, and
+/// - 1: the answer of `same` or `compare` is no. By `same`, `out` has `different` and a newline;
 ///   nothing else was written.
 /// - 2: a file or a version is refused. `err` has the refusal's line, by `same` with `first: ` or
 ///   `second: ` before it, and `out` nothing but, by `normalise`, the canonical text of the

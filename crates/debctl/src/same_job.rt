@@ -57,8 +57,8 @@ pub(crate) fn run_same<R: Source, S: Source, W: Sink, E: Sink>(
 
 /// Writes the line of an answer on `out`, and answers the status.
 fn tell_answer<W: Sink, E: Sink>(is_same: bool, out: &mut W, err: &mut E) -> u8
-    ensures { TellsAnswer W.held W.failures out.old out.new E.held E.failures err.old err.new is_same
-        result }
+    ensures { TellsAnswer W.held W.failures out.old out.new E.held E.failures err.old err.new
+        is_same result }
 {
     let (line, status): (&[u8], u8) = if is_same {
         (b"same\n", 0)

@@ -166,8 +166,8 @@ const REFUSED: Row = Row {
     ..DONE
 };
 
-/// Runs a job on the bytes of a row: the first file's come in pieces of so many, the second one's of
-/// five. A write takes one.
+/// Runs a job on the bytes of a row: the first file's come in pieces of so many, the second one's
+/// in pieces of five. A write takes one.
 fn run_row<T: Abort + AllocGlobal>(rt: &T, row: &Row, most: usize) -> Result<(), Fail> {
     let name = row.name;
     let mut second = Pieces::new(row.second, 5, row.second_reads);

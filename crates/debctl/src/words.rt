@@ -47,8 +47,8 @@ impl From<AllocError> for UsageFault {
 /// `--help` and `--version`.
 ///
 /// - `UsageFault::Usage`: a word is wrong, or one is missing. Of a K, an OP or a COMMAND that isn't
-///   known the text is `usage: unknown kind`, `usage: unknown operator` or `usage: unknown command`,
-///   of all else `clap`'s.
+///   known the text is `usage: unknown kind`, `usage: unknown operator` or
+///   `usage: unknown command`, of all else `clap`'s.
 /// - `UsageFault::Help`: the words ask for help or for the version.
 /// - `UsageFault::Memory`: a growth of memory was refused.
 pub fn job_of(alloc: Global, words: &[String]) -> Result<Call, UsageFault>

@@ -25,11 +25,19 @@ fn path_at(alloc: Global, paths: &[&str], index: usize) -> Result<Option<String>
     }
 }
 
+fn call_on(alloc: Global, asks: Asks, paths: &[&str]) -> Result<Call, AllocError> {
+    Ok(Call {
+        job: asks.job(alloc)?,
+        first: path_at(alloc, paths, 0)?,
+        second: path_at(alloc, paths, 1)?,
+    })
+}
+
 #[test]
 fn words_that_ask_for_a_call(rt: HostRuntime) -> Result<(), Fail> {
     let alloc = rt.alloc();
     // The words, the job and the paths.
-    let rows: [(&[&str], Asks, &[&str]); 27] = [
+    let rows: [(&'static [&'static str], Asks, &'static [&'static str]); 27] = [
         (&["check"], Asks::Check(Doc::Packages), &[]),
         (&["check", "x"], Asks::Check(Doc::Packages), &["x"]),
         (
@@ -135,11 +143,7 @@ fn words_that_ask_for_a_call(rt: HostRuntime) -> Result<(), Fail> {
         ),
     ];
     for (line, asks, paths) in rows {
-        let call = Call {
-            job: asks.job(alloc)?,
-            first: path_at(alloc, paths, 0)?,
-            second: path_at(alloc, paths, 1)?,
-        };
+        let call = call_on(alloc, asks, paths)?;
         assert_eq!(rt; answer_to(alloc, line), Ok(call), "{line:?}");
     }
     Ok(())
