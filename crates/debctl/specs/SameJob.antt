@@ -1,6 +1,6 @@
 -- What the job of `same` answers and tells. Its lines are this project's own; acceptance, refusals
 -- and what files mean are those of documents of a kind (Debian Policy 5.1 and 5.3 to 5.6).
-use Rattle.std.specs.Prelude.{◌≡◌, ◌⊎◌, ℕ, Bool, true, false, if◌then◌else◌, List, [], ◌++◌, Option, Some, Result, Ok, Err, IfOk, IfErr, codes, refl}
+use Rattle.std.specs.Prelude.{◌≡◌, ◌⊎◌, ℕ, Bool, if◌then◌else◌, List, [], ◌++◌, Option, Some, Result, Ok, Err, IfOk, IfErr, codes, refl}
 use Rattle.std.specs.Fmt.{digits}
 use Rattle.std.specs.Io.KnownBytes.{Appends}
 use Rattle.deb_base.specs.Devices.{read_failures_after}
