@@ -1,0 +1,2 @@
+pub mod KeptVersions
+pub mod Scans

@@ -1,0 +1,6 @@
+pub mod Versions
+pub mod Alternatives
+pub mod Listed
+pub mod Meeting
+pub mod Reports
+pub mod Kept
