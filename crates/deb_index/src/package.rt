@@ -1,9 +1,10 @@
 //! Listed packages.
 
-ghost use Rattle.std.specs.Prelude.{◌≡◌, IfOk, map};
+ghost use Rattle.std.specs.Prelude.{◌≡◌, ◌&&◌, IfOk, map};
 ghost use Rattle.std.specs.List.{list_any};
 ghost use Rattle.std.specs.Option.{option_copied};
 ghost use Rattle.std.specs.Str.{bytes_eq};
+ghost use Rattle.deb_relation.specs.Applying.{applies};
 ghost use Rattle.deb_relation.specs.Environments.{environment_of};
 ghost use Rattle.deb_relation.specs.Views.{alternative_of};
 ghost use Rattle.deb_version.specs.Canonical.{version_text};
@@ -62,11 +63,26 @@ impl Package {
             (listed_of self.now)) }
     {
         for alternative in group {
-            if alternative.applies(environment) && self.meets(alloc, alternative, environment)? {
+            if self.meets_applying(alloc, alternative, environment)? {
                 return Ok(true);
             }
         }
         Ok(false)
+    }
+
+    /// Whether an alternative applies and this meets it.
+    fn meets_applying(
+        &self,
+        alloc: Global,
+        alternative: &Alternative<'_>,
+        environment: &Env,
+    ) -> Result<bool, AllocError>
+        ensures { IfOk result (λ met. met
+            ≡ (applies (alternative_of alternative.now) (environment_of environment.now)
+            && meets (environment_of environment.now) (alternative_of alternative.now)
+            (listed_of self.now))) }
+    {
+        Ok(alternative.applies(environment) && self.meets(alloc, alternative, environment)?)
     }
 
     /// Whether this meets an alternative, by name and by qualifier (Debian Policy 7.1).

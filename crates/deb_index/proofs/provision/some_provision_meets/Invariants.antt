@@ -6,4 +6,4 @@ use Rattle.deb_index.specs.Meeting.{provision_meets}
 use Rattle.deb_index.proofs.provision.some_provision_meets.Given as goal
 
 abbrev pub invariant-loop-provision : goal.invariant-loop-provision
-invariant-loop-provision l = list_any (λ p. provision_meets (alternative_of l.fn.alternative.now) (provision_of p)) (take l.provision-index l.provisions) ≡ false
+invariant-loop-provision l = list_any (λ p. provision_meets (alternative_of l.alternative) (provision_of p)) (take l.provision-index l.provisions) ≡ false
