@@ -1,2 +1,5 @@
 pub mod KeptVersions
 pub mod Scans
+pub mod ListedValues
+pub mod Copies
+pub mod Indexed

@@ -4,3 +4,5 @@ pub mod Listed
 pub mod Meeting
 pub mod Reports
 pub mod Kept
+pub mod Listing
+pub mod Indexes
