@@ -3,3 +3,4 @@ pub mod Scans
 pub mod ListedValues
 pub mod Copies
 pub mod Indexed
+pub mod Numbers

@@ -6,3 +6,4 @@ pub mod Reports
 pub mod Kept
 pub mod Listing
 pub mod Indexes
+pub mod Told

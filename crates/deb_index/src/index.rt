@@ -1,18 +1,26 @@
 //! Indexes of packages.
 
-ghost use Rattle.std.specs.Prelude.{◌≡◌, ℕ, List, Some, IfOk, IfErr, length};
+ghost use Rattle.std.specs.Prelude.{◌≡◌, ℕ, List, Some, Err, IfOk, IfErr, IsTrue, length};
 ghost use Rattle.deb_base.specs.Devices.{read_failures_after, TellsReads};
 ghost use Rattle.deb_base.specs.Faults.{IsReadersFault};
 ghost use Rattle.deb_control.specs.Calls.{IfRefused};
 ghost use Rattle.deb_control.specs.Checking.{IsRefusalOfDocument};
 ghost use Rattle.deb_control.specs.Documents.{refusal_of};
+ghost use Rattle.deb_relation.specs.Environments.{environment_of};
+ghost use Rattle.deb_relation.specs.Relations.{relation_of};
+ghost use Rattle.deb_relation.specs.Tests.{some_wildcard};
 ghost use Rattle.deb_index.specs.Listing.{ListsAll};
+ghost use Rattle.deb_index.specs.Reports.{report};
+ghost use Rattle.deb_index.specs.Told.{report_of};
 
+use crate::fault::QueryFault;
 use crate::package::Package;
 use crate::paragraph::package_of;
+use crate::report::Report;
 use deb_base::{Fault, Source};
 use deb_control::Checked;
 use deb_field::Doc;
+use deb_relation::{Env, Relation};
 use std::alloc::Global;
 
 /// The packages that a file lists, in its order.
@@ -59,6 +67,36 @@ impl Index {
         }
         // No file has so many paragraphs.
         unreachable!()
+    }
+
+    /// What is told of a relation in an environment: of each group, in the order of the groups'
+    /// canonical texts, whether it is ignored, since none of its alternatives applies; met, since a
+    /// package meets one that applies, and by which packages; or unmet (Debian Policy 7.1).
+    ///
+    /// # Errors
+    ///
+    /// `Wildcard` exactly where an architecture list of the relation holds a wildcard, whatever
+    /// memory there is; else want of memory.
+    pub fn query<'a>(
+        &'a self,
+        alloc: Global,
+        relation: &'a Relation<'a>,
+        environment: &Env,
+    ) -> Result<Report<'a>, QueryFault>
+        ensures ok { IfOk result
+            (λ told. report_of told ≡ report (packages_of self.now) (relation_of relation.now)
+            (environment_of environment.now)) }
+        ensures wildcard { IsTrue (some_wildcard (relation_of relation.now))
+            → result ≡ Err QueryFault.Wildcard }
+        ensures refused { IfErr result
+            (λ fault. fault ≡ QueryFault.Wildcard
+            → IsTrue (some_wildcard (relation_of relation.now))) }
+    {
+        if relation.has_wildcard() {
+            return Err(QueryFault::Wildcard);
+        }
+        let report = Report::of(alloc, &self.packages, relation.groups(), environment)?;
+        Ok(report)
     }
 
     /// How many packages there are.

@@ -2,12 +2,16 @@
 #![tactic(auto)]
 
 mod canonical_version;
+mod fault;
 mod index;
 mod package;
 mod paragraph;
 mod provision;
+mod report;
 mod verdict;
 
+pub use fault::QueryFault;
 pub use index::Index;
 pub use package::Package;
+pub use report::{Answer, Found, Report};
 pub use verdict::Verdict;
