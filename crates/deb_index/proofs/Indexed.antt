@@ -1,5 +1,5 @@
 -- What is known of an index while its file is read, and at its end.
-use Rattle.std.proofs.Common.{◌≡◌, ℕ, List, [], ◌∷◌, ◌++◌, map, length, Option, None, Some, Ok, refl, sym, ap, ◌∙◌, subst}
+use Rattle.std.proofs.Common.{◌≡◌, ℕ, List, [], ◌∷◌, ◌++◌, map, Option, Ok, sym, ap, ◌∙◌, subst}
 use Rattle.deb_syntax.specs.Answers.{Seen}
 use Rattle.deb_syntax.specs.Meaning.{Entries, entries_of}
 use Rattle.deb_field.specs.ValueLaws.{value_law}
@@ -8,7 +8,7 @@ use Rattle.deb_field.specs.declared.kind.Doc.TheVariants.{Packages}
 use Rattle.deb_control.specs.Checking.{CheckedState, FitsChecked, HasChecked, GivesPassing, GivesEnd, Passing}
 use Rattle.deb_control.specs.Documents.{rules_of, Meaning}
 use Rattle.deb_control.specs.Pairs.{Pairwise}
-use Rattle.deb_control.specs.Refusals.{built, outcome}
+use Rattle.deb_control.specs.Refusals.{built}
 use Rattle.deb_control.specs.ValueFiles.{ValueEntries, SpellsEntry, SpellsEntries, body_under, bodies_of}
 use Rattle.deb_control.proofs.Accepting.{accepted-from_none, outcome-accepted}
 use Rattle.deb_control.proofs.DocumentRules.{document_rules}

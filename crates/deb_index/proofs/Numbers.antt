@@ -5,7 +5,7 @@ use Rattle.deb_relation.specs.Applying.{Environment, applies}
 use Rattle.deb_relation.specs.Meaning.{Group}
 use Rattle.deb_index.specs.Kept.{listed_of}
 use Rattle.deb_index.specs.Listed.{Listed}
-use Rattle.deb_index.specs.Reports.{Numbered, Answer, answer_with, passing_from, meets_group, some_applies, verdict_of}
+use Rattle.deb_index.specs.Reports.{Numbered, answer_with, passing_from, meets_group, some_applies, verdict_of}
 use Rattle.deb_index.specs.declared.verdict.Verdict.{Verdict}
 use Rattle.deb_index.specs.declared.package.Package.{Package}
 

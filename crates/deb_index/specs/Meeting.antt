@@ -156,10 +156,10 @@ abbrev qualified : List ℕ → Option MultiArch → List Bool
 qualified architecture multi_arch =
     meets target (alone (codes "aa")) (listed (codes "aa") architecture multi_arch [])
     ∷ map
-        (λ qualifier. meets target (with_qualifier (codes "aa") qualifier)
-        (listed (codes "aa") architecture multi_arch []))
-        (codes "any" ∷ codes "native" ∷ codes "amd64" ∷ codes "i386" ∷ codes "all"
-        ∷ codes "linux-any" ∷ [])
+    (λ qualifier. meets target (with_qualifier (codes "aa") qualifier)
+    (listed (codes "aa") architecture multi_arch []))
+    (codes "any" ∷ codes "native" ∷ codes "amd64" ∷ codes "i386" ∷ codes "all"
+    ∷ codes "linux-any" ∷ [])
 
 abbrev words : List (Option MultiArch)
 words = None ∷ Some No ∷ Some Same ∷ Some Foreign ∷ Some Allowed ∷ []

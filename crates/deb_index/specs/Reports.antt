@@ -4,7 +4,7 @@
 use Rattle.std.specs.Prelude.{◌≡◌, ℕ, ◌+◌, ◌&&◌, Bool, true, false, cond, not, List, [], ◌∷◌, map, Option, Some, None, codes, refl}
 use Rattle.std.specs.List.{list_all, list_any}
 use Rattle.deb_relation.specs.Applying.{Environment, applies}
-use Rattle.deb_relation.specs.Meaning.{Alternative, Group, Relation}
+use Rattle.deb_relation.specs.Meaning.{Group, Relation}
 use Rattle.deb_field.specs.declared.flag.MultiArch.{MultiArch}
 use Rattle.deb_field.specs.declared.flag.MultiArch.TheVariants.{Allowed}
 use Rattle.deb_index.specs.Alternatives.{alone, with_qualifier, with_list, with_formula}
@@ -100,11 +100,10 @@ abbrev numbers_of : List Numbered → List ℕ
 numbers_of found = map (λ p. p.0) found
 
 abbrev told : Group → Verdict × List ℕ
-told group =
-    (
-      (answer environment packages group).verdict,
-      numbers_of (answer environment packages group).packages,
-    )
+told group = (
+  (answer environment packages group).verdict,
+  numbers_of (answer environment packages group).packages,
+)
 
 -- one package, two of them in ascending order, and one by two alternatives
 worked-met : map told

@@ -96,8 +96,10 @@ impl Package {
             ≡ meets (environment_of environment.now) (alternative_of alternative.now)
             (listed_of self.now)) }
     {
-        Ok(self.meets_by_name(alloc, alternative)?
-            && self.meets_qualifier(alternative.qualifier(), environment.target()))
+        Ok(
+            self.meets_by_name(alloc, alternative)?
+                && self.meets_qualifier(alternative.qualifier(), environment.target()),
+        )
     }
 
     /// Whether this has the name in a version that meets the bound, or provides it so (7.5).

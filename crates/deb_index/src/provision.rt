@@ -41,8 +41,10 @@ impl Provision {
         ensures { IfOk result (λ meets. meets
             ≡ provision_meets (alternative_of alternative.now) (provision_of self.now)) }
     {
-        Ok(self.name.as_slice() == alternative.name()
-            && provided_meets_bound(alloc, alternative.bound(), &self.version)?)
+        Ok(
+            self.name.as_slice() == alternative.name()
+                && provided_meets_bound(alloc, alternative.bound(), &self.version)?,
+        )
     }
 }
 

@@ -1,8 +1,7 @@
-use Rattle.std.proofs.Common.{◌≡◌, Err, None, Some, codes, refl, sym, ap, ◌∙◌}
+use Rattle.std.proofs.Common.{◌≡◌, None, Some, codes, sym, ◌∙◌}
 use Rattle.deb_syntax.specs.Paragraphs.{seen_of}
 use Rattle.deb_syntax.specs.Raw.{field_of}
 use Rattle.deb_field.specs.FlagLaws.{multi_arch_law, multi_arch_refusals}
-use Rattle.deb_field.specs.declared.kind.Doc.TheVariants.{Packages}
 use Rattle.deb_index.proofs.ListedValues.{none-read, multi_arch-read}
 use Rattle.deb_index.proofs.paragraph.multi_arch_of.Goals as goal
 

@@ -1,4 +1,4 @@
-use Rattle.std.proofs.Common.{◌≡◌, Ok, Err, Some, codes, sym, ap, ◌∙◌}
+use Rattle.std.proofs.Common.{◌≡◌, Some, codes, sym}
 use Rattle.deb_syntax.specs.Paragraphs.{seen_of}
 use Rattle.deb_syntax.specs.Raw.{field_of}
 use Rattle.deb_version.specs.Version.{meaning_of}

@@ -1,4 +1,4 @@
-use Rattle.std.proofs.Common.{◌∙◌, sym, ap}
+use Rattle.std.proofs.Common.{sym}
 use Rattle.deb_version.specs.Version.{meaning_of}
 use Rattle.deb_index.proofs.KeptVersions.{version_in-spelled}
 use Rattle.deb_index.proofs.canonical_version.CanonicalVersion.version.Goals as goal

@@ -1,9 +1,8 @@
-use Rattle.std.proofs.Common.{◌∷◌, [], ℕ, map, refl, ap, ◌∙◌, arith}
+use Rattle.std.proofs.Common.{◌∷◌, [], map, refl, ap, ◌∙◌, arith}
 use Rattle.std.proofs.lemmas.List.{map-append}
 use Rattle.std.proofs.lemmas.Result.{err_from_is_err_and}
 use Rattle.deb_control.specs.CheckedStates.{passing_of}
 use Rattle.deb_control.proofs.CheckedSoFar.{goes_on, sound_on, refusal_behind}
-use Rattle.deb_index.specs.Indexes.{packages_of}
 use Rattle.deb_index.specs.Kept.{listed_of}
 use Rattle.deb_index.specs.declared.index.Index.{Index}
 use Rattle.deb_index.proofs.Indexed.{none_listed, one_listed, lists_all}
