@@ -3,6 +3,7 @@ use Rattle.std.proofs.Common.{◌≡◌, ℕ, ◌+◌, Bool, false, List, [], �
 use Rattle.std.proofs.lemmas.Bool.{or_parts}
 use Rattle.deb_relation.specs.Applying.{Environment, applies}
 use Rattle.deb_relation.specs.Meaning.{Group}
+use Rattle.deb_relation.specs.Texts.{group_text}
 use Rattle.deb_index.specs.Kept.{listed_of}
 use Rattle.deb_index.specs.Listed.{Listed}
 use Rattle.deb_index.specs.Reports.{Numbered, answer_with, passing_from, meets_group, some_applies, verdict_of}
@@ -26,6 +27,6 @@ none-found n environment group [] none = refl
 none-found n environment group (p ∷ packages) none = rw (none-meets environment group p none) (none-found (n + 1) environment group packages none)
 
 -- what is told of a group of which these packages are found
-pub answered : (environment : Environment) (group : Group) (found packages : List Numbered) (applies : Bool) (verdict : Verdict) → packages ≡ found → applies ≡ some_applies environment group → verdict ≡ verdict_of applies packages
-    → record { group = group; verdict = verdict; packages = packages } ≡ answer_with environment group found
-answered environment group found packages applies verdict are is told = rw (told, is, are) refl
+pub answered : (environment : Environment) (group : Group) (found packages : List Numbered) (text : List ℕ) (asked : Bool) (verdict : Verdict) → packages ≡ found → text ≡ group_text group → asked ≡ some_applies environment group → verdict ≡ verdict_of asked packages
+    → record { text = text; verdict = verdict; packages = packages } ≡ answer_with environment group found
+answered environment group found packages text asked verdict are written is told = rw (told, is, written, are) refl

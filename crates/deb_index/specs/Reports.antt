@@ -5,6 +5,7 @@ use Rattle.std.specs.Prelude.{◌≡◌, ℕ, ◌+◌, ◌&&◌, Bool, true, fal
 use Rattle.std.specs.List.{list_all, list_any}
 use Rattle.deb_relation.specs.Applying.{Environment, applies}
 use Rattle.deb_relation.specs.Meaning.{Group, Relation}
+use Rattle.deb_relation.specs.Texts.{group_text}
 use Rattle.deb_field.specs.declared.flag.MultiArch.{MultiArch}
 use Rattle.deb_field.specs.declared.flag.MultiArch.TheVariants.{Allowed}
 use Rattle.deb_index.specs.Alternatives.{alone, with_qualifier, with_list, with_formula}
@@ -41,17 +42,17 @@ met_unless_none (p ∷ found) = Met
 abbrev pub verdict_of : Bool → List Numbered → Verdict
 verdict_of applies found = cond applies (met_unless_none found) Ignored
 
--- what is told of a group: whether it is met, and the packages that meet it, in ascending order of
--- their numbers
+-- what is told of a group: its canonical text, whether it is met, and the packages that meet it, in
+-- ascending order of their numbers
 pub record Answer : Type 0 where
-  pub group : Group
+  pub text : List ℕ
   pub verdict : Verdict
   pub packages : List Numbered
 
 abbrev pub answer_with : Environment → Group → List Numbered → Answer
 answer_with environment group found =
     record {
-      group = group;
+      text = group_text group;
       verdict = verdict_of (some_applies environment group) found;
       packages = found;
     }

@@ -1,6 +1,5 @@
 -- What a report and its parts stand for.
 use Rattle.std.specs.Prelude.{List, map}
-use Rattle.deb_relation.specs.Groups.{group_of}
 use Rattle.deb_index.specs.Kept.{listed_of}
 use Rattle.deb_index.specs.Reports.{Numbered, Answer}
 use Rattle.deb_index.specs.declared.report.Found.{Found}
@@ -13,7 +12,7 @@ found_of found = (found.number, listed_of found.package.now)
 abbrev pub answer_of : Told → Answer
 answer_of told =
     record {
-      group = group_of told.group.now;
+      text = told.text.items;
       verdict = told.verdict;
       packages = map found_of told.packages.items;
     }

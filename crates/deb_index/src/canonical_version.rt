@@ -24,7 +24,7 @@ impl CanonicalVersion {
     pub(crate) fn of(alloc: Global, version: &Version<'_>) -> Result<CanonicalVersion, AllocError>
         ensures { IfOk result (λ kept. kept_version kept ≡ meaning_of version.now) }
     {
-        let mut text = Vec::new(alloc);
+        let mut text = Vec::with_capacity(alloc, version.canon_len() as usize)?;
         version.canon_into(&mut text)?;
         Ok(CanonicalVersion { text })
     }

@@ -77,12 +77,12 @@ impl Index {
     ///
     /// `Wildcard` exactly where an architecture list of the relation holds a wildcard, whatever
     /// memory there is; else want of memory.
-    pub fn query<'a>(
-        &'a self,
+    pub fn query(
+        &self,
         alloc: Global,
-        relation: &'a Relation<'a>,
+        relation: &Relation<'_>,
         environment: &Env,
-    ) -> Result<Report<'a>, QueryFault>
+    ) -> Result<Report<'_>, QueryFault>
         ensures ok { IfOk result
             (λ told. report_of told ≡ report (packages_of self.now) (relation_of relation.now)
             (environment_of environment.now)) }

@@ -15,3 +15,6 @@ pub use index::Index;
 pub use package::Package;
 pub use report::{Answer, Found, Report};
 pub use verdict::Verdict;
+
+#[cfg(test)]
+mod tests;

@@ -38,20 +38,20 @@ impl<'a> Found<'a> {
     }
 }
 
-/// What is told of a group: the verdict, and the packages that meet it.
+/// What is told of a group: its canonical text, the verdict, and the packages that meet it.
 #[derive(Debug, Drop)]
 pub struct Answer<'a> {
-    pub(crate) group: &'a Group<'a>,
+    pub(crate) text: Vec<u8>,
     pub(crate) verdict: Verdict,
     pub(crate) packages: Vec<Found<'a>>,
 }
 
 impl<'a> Answer<'a> {
-    /// The group.
-    pub fn group(&self) -> &'a Group<'a>
-        ensures { group_of result.now ≡ (answer_of self.now).group }
+    /// The canonical text of the group.
+    pub fn text(&self) -> &[u8]
+        ensures { result.now ≡ (answer_of self.now).text }
     {
-        self.group
+        &self.text
     }
 
     /// Whether the group is ignored, met or unmet.
@@ -73,13 +73,15 @@ impl<'a> Answer<'a> {
     fn of(
         alloc: Global,
         packages: &'a [Package],
-        group: &'a Group<'a>,
+        group: &Group<'_>,
         environment: &Env,
     ) -> Result<Answer<'a>, AllocError>
         ensures { IfOk result
             (λ told. answer_of told ≡ answer (environment_of environment.now)
             (map listed_of packages.now) (group_of group.now)) }
     {
+        let mut text = Vec::with_capacity(alloc, group.canon_len() as usize)?;
+        group.canon_into(&mut text)?;
         let applies = some_applies(group.alternatives(), environment);
         let packages = if applies {
             packages_meeting(alloc, packages, group.alternatives(), environment)?
@@ -88,7 +90,7 @@ impl<'a> Answer<'a> {
         };
         let verdict = verdict_of(applies, &packages);
         Ok(Answer {
-            group,
+            text,
             verdict,
             packages,
         })
@@ -121,7 +123,7 @@ impl<'a> Report<'a> {
     pub(crate) fn of(
         alloc: Global,
         packages: &'a [Package],
-        groups: &'a [Group<'a>],
+        groups: &[Group<'_>],
         environment: &Env,
     ) -> Result<Report<'a>, AllocError>
         ensures { IfOk result

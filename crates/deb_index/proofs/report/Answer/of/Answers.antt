@@ -20,5 +20,5 @@ returns c =
           ap (λ packages. map found_of packages.items) w.packages-is ∙ ap (map found_of) w.new-packages.ensures.items
           ∙ sym (none-found 1 environment group (map listed_of c.args.packages.now) (sym (rw c.alternatives.ensures at w.if-applies.ensures)))
     ] in
-    answered environment group all (map found_of c.if-applies.packages.items) c.some_applies-applies.result c.verdict_of-verdict.result are (rw c.alternatives.ensures at c.some_applies-applies.ensures)
+    answered environment group all (map found_of c.if-applies.packages.items) c.canon_into.new.out.items c.some_applies-applies.result c.verdict_of-verdict.result are (rw c.in_ok-text.ensures.items at c.in_ok-canon_into.ensures.ok) (rw c.alternatives.ensures at c.some_applies-applies.ensures)
     (c.verdict_of-verdict.ensures ∙ ap (λ found. verdict_of c.some_applies-applies.result (map found_of found)) c.deref.ensures.value)
