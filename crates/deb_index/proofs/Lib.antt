@@ -4,3 +4,4 @@ pub mod ListedValues
 pub mod Copies
 pub mod Indexed
 pub mod Numbers
+pub mod ListedOnce

@@ -7,3 +7,4 @@ pub mod Kept
 pub mod Listing
 pub mod Indexes
 pub mod Told
+pub mod Laws

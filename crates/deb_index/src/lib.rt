@@ -4,6 +4,7 @@
 mod canonical_version;
 mod fault;
 mod index;
+pub mod laws;
 mod package;
 mod paragraph;
 mod provision;
