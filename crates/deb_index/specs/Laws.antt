@@ -1,5 +1,5 @@
--- Laws of what a file lists, and of what is told of a relation: canonical text changes neither. Debian
--- Policy 5.1 and 7.1; the canonical text is this project's own.
+-- Laws of what a file lists, and of what is told of a relation: canonical text changes neither.
+-- Debian Policy 5.1 and 7.1; the canonical text is this project's own.
 use Rattle.std.specs.Prelude.{◌≡◌, ℕ, List}
 use Rattle.deb_relation.specs.Applying.{Environment}
 use Rattle.deb_relation.specs.Grammar.{SpellsRelation}

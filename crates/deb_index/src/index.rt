@@ -42,8 +42,8 @@ impl Index {
     ///
     /// # Errors
     ///
-    /// - `Fault::Refused`: the file isn't accepted. This is the first refusal, with a code from 1 to
-    ///   21 and a line of the file, which are counted from 1.
+    /// - `Fault::Refused`: the file isn't accepted. This is the first refusal, with a code from 1
+    ///   to 21 and a line of the file, which are counted from 1.
     /// - `Fault::Memory`: a growth of memory was refused.
     /// - `Fault::Read`: a read failed in this call.
     pub fn read<R: Source>(alloc: Global, reader: &mut R) -> Result<Index, Fault>
