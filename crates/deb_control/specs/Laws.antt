@@ -48,7 +48,8 @@ CanonicalTextIsItsOwn =
     (refusal_of doc (canonical_text meaning) ≡ None)
     × (out_of doc (canonical_text meaning) ≡ canonical_text meaning)
 
--- The file is accepted, and these bytes are accepted with its meaning and are written of themselves.
+-- The file is accepted, and these bytes are accepted with its meaning and are written of
+-- themselves.
 pub record IsNormal (doc : Doc) (text written : List ℕ) : Type 0 where
   pub meaning : Meaning
   pub accepted : Accepted doc text meaning

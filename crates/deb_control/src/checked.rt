@@ -39,7 +39,8 @@ impl Checked {
     ghost use Rattle.std.specs.Option.{option_map};
     ghost use Rattle.deb_control.specs.contracts.checked.Checked.{the_row};
     ghost use Rattle.deb_control.specs.Checking.{FitsChecked, ChecksOn};
-    ghost use Rattle.deb_control.specs.CheckedStates.{checked_state, checked_moment, checked_answer, passing_of};
+    ghost use Rattle.deb_control.specs.CheckedStates.{checked_state, checked_moment};
+    ghost use Rattle.deb_control.specs.CheckedStates.{checked_answer, passing_of};
 
     /// A reader of checked paragraphs that has read nothing: whatever its source has left is the
     /// file. Takes no memory.

@@ -1,5 +1,5 @@
--- What values of all kinds mean, which bodies spell them, and what is refused. Debian Policy 5.6 and
--- 7.
+-- What values of all kinds mean, which bodies spell them, and what is refused. Debian Policy 5.6
+-- and 7.
 use Rattle.std.specs.Prelude.{ℕ, List, Option}
 use Rattle.deb_base.specs.declared.code.Code.{Code}
 use Rattle.deb_version.specs.Parts.{Meaning as VersionMeaning}
