@@ -63,7 +63,7 @@ values-passing doc seen text passes =
     (values.0, record { spelled = values.1; passes = found.1 ∙ ap Ok (parts.is ∙ values.2) })
 
 -- the field of a name, without case, has the body under its canonical spelling
-field-body : (name : List ℕ) (fields : List Field) (field : Field) → field_named name fields ≡ Some field → (body_of name fields ≡ Some field.body) × (canonical_name field.name ≡ canonical_name name)
+pub field-body : (name : List ℕ) (fields : List Field) (field : Field) → field_named name fields ≡ Some field → (body_of name fields ≡ Some field.body) × (canonical_name field.name ≡ canonical_name name)
 field-body name [] field is = absurd (cc)
 field-body name (first ∷ fields) field is = go (bytes_eq (folded first.name) (folded name)) refl is (field-body name fields field)
   where

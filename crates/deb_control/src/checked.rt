@@ -1,6 +1,6 @@
 //! Paragraphs of a document, checked one after another.
 
-ghost use Rattle.std.specs.Prelude.{◌≡◌, ◌+◌, ◌≤◌, ℕ, List, [], Some, None, IfOk, IsTrue};
+ghost use Rattle.std.specs.Prelude.{◌≡◌, ◌+◌, ◌≤◌, ℕ, List, [], Some, None, IfOk, IfSome, IsTrue};
 ghost use Rattle.deb_syntax.specs.Paragraphs.{state_of};
 ghost use Rattle.deb_control.specs.Checking.{passes_if, is_sound, found_answer};
 
@@ -78,6 +78,8 @@ impl Checked {
     /// - `Fault::Memory`: a growth of memory was refused.
     /// - `Fault::Read`: a read of `reader` failed in this call.
     pub fn next<'a, R: Source>(&'a mut self, reader: &mut R) -> Result<Option<Accepted<'a>>, Fault>
+        ensures doc { IfOk result
+            (λ given. IfSome given (λ accepted. accepted.doc ≡ self.old.doc)) }
         ensures* after { sem 𝓛
             (Rests the_row self.entry
             (λ new. ChecksOn self.old.doc
@@ -126,7 +128,8 @@ impl Checked {
 
     /// The paragraph that was given last, or `None` where the last answer was none.
     fn current(&self) -> Option<Accepted<'_>>
-        ensures { option_map passing_of result ≡ (checked_state self.now).current }
+        ensures passing { option_map passing_of result ≡ (checked_state self.now).current }
+        ensures doc { IfSome result (λ accepted. accepted.doc ≡ self.now.doc) }
     {
         if !self.gives {
             return None;

@@ -1,0 +1,30 @@
+-- Versions that are kept as their canonical text.
+use Rattle.std.proofs.Common.{◌≡◌, ℕ, List, None, sym, ap}
+use Rattle.deb_version.specs.Canonical.{version_text}
+use Rattle.deb_version.specs.Faults.{first_fault}
+use Rattle.deb_version.specs.Grammar.{SpellsVersion, spelling}
+use Rattle.deb_version.specs.Parts.{Meaning}
+use Rattle.deb_version.specs.Version.{components_of, meaning_of}
+use Rattle.deb_version.specs.declared.version.Version.{Version}
+use Rattle.deb_version.proofs.CanonicalVersion.{canonical_text_spells}
+use Rattle.deb_version.proofs.FaultLemmas.{no_fault-from_spells}
+use Rattle.deb_version.proofs.MeaningLemmas.{spelled_components}
+use Rattle.deb_field.specs.VersionLaw.{version_spelled}
+use Rattle.deb_index.specs.Versions.{version_in}
+
+-- the version that a text spells is the one that stands in it
+pub version_in-spelled : (text : List ℕ) (m : Meaning) → SpellsVersion text m → version_in text ≡ m
+version_in-spelled text m s = sym (spelled_components text m s).1
+
+text-spells : (v : Version) → SpellsVersion (version_text (meaning_of v)) (meaning_of v)
+text-spells v = canonical_text_spells (spelling (components_of v)) (meaning_of v) (version_spelled v)
+
+-- the canonical text of a version is one, that of this version, and canonical
+pub kept-faultless : (v : Version) → first_fault (version_text (meaning_of v)) ≡ None
+kept-faultless v = no_fault-from_spells (version_text (meaning_of v)) (meaning_of v) (text-spells v)
+
+pub kept-version : (v : Version) → version_in (version_text (meaning_of v)) ≡ meaning_of v
+kept-version v = version_in-spelled (version_text (meaning_of v)) (meaning_of v) (text-spells v)
+
+pub kept-canonical : (v : Version) → version_text (version_in (version_text (meaning_of v))) ≡ version_text (meaning_of v)
+kept-canonical v = ap version_text (kept-version v)

@@ -1,0 +1,7 @@
+pub mod KeptVersions
+pub mod Scans
+pub mod ListedValues
+pub mod Copies
+pub mod Indexed
+pub mod Numbers
+pub mod ListedOnce

@@ -1,0 +1,15 @@
+use Rattle.std.proofs.Common.{◌≡◌, ℕ, List, None, Some, map}
+use Rattle.deb_field.specs.declared.kind.Doc.TheVariants.{Packages}
+use Rattle.deb_control.specs.CheckedStates.{checked_state}
+use Rattle.deb_index.specs.Kept.{listed_of}
+use Rattle.deb_index.proofs.Indexed.{HasListed}
+use Rattle.deb_index.proofs.index.Index.read.Given as goal
+
+abbrev pub invariant-loop-count : goal.invariant-loop-count
+invariant-loop-count g l = record {
+  doc : l.checked.doc ≡ Packages;
+  fault : (checked_state l.checked).fault ≡ None;
+  reads : g.R.Source.failures l.reader ≡ g.R.Source.failures l.initial.reader;
+  count : (checked_state l.checked).count ≡ l.count;
+  text : (text : List ℕ) → g.R.Source.left l.initial.reader ≡ Some text → HasListed text (checked_state l.checked) (g.R.Source.left l.reader) (map listed_of l.packages.items);
+}

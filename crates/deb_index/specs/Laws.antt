@@ -1,0 +1,43 @@
+-- Laws of what a file lists, and of what is told of a relation: canonical text changes neither.
+-- Debian Policy 5.1 and 7.1; the canonical text is this project's own.
+use Rattle.std.specs.Prelude.{◌≡◌, ℕ, List}
+use Rattle.deb_relation.specs.Applying.{Environment}
+use Rattle.deb_relation.specs.Grammar.{SpellsRelation}
+use Rattle.deb_relation.specs.Meaning.{Relation}
+use Rattle.deb_relation.specs.Tests.{some_wildcard}
+use Rattle.deb_relation.specs.Texts.{relation_text}
+use Rattle.deb_field.specs.declared.kind.Doc.TheVariants.{Packages}
+use Rattle.deb_control.specs.Documents.{Meaning, Accepted, canonical_text}
+use Rattle.deb_index.specs.Listed.{Listed}
+use Rattle.deb_index.specs.Listing.{ListsAll}
+use Rattle.deb_index.specs.Reports.{report}
+
+-- A file lists one list of packages at most.
+abbrev pub ListsOnce : Type 0
+ListsOnce =
+    (text : List ℕ) (packages others : List Listed) → ListsAll text packages → ListsAll text others
+    → packages ≡ others
+
+-- The canonical text of a file lists what the file lists.
+abbrev pub CanonicalTextLists : Type 0
+CanonicalTextLists =
+    (text : List ℕ) (meaning : Meaning) (packages : List Listed) → Accepted Packages text meaning
+    → ListsAll text packages → ListsAll (canonical_text meaning) packages
+
+-- what is told of two relations over two lists, for every environment: the same
+pub record TellAlike (packages others : List Listed) (m n : Relation) : Type 0 where
+  pub reports : (environment : Environment)
+      → report packages m environment ≡ report others n environment
+  pub wildcards : some_wildcard m ≡ some_wildcard n
+
+-- What is told doesn't change where a file, a relation, or both, are put in their canonical text.
+pub record CanonicalTextChangesNoAnswer : Type 0 where
+  pub files : (text : List ℕ) (meaning : Meaning) (packages others : List Listed) (m : Relation)
+      → Accepted Packages text meaning → ListsAll text packages
+      → ListsAll (canonical_text meaning) others → TellAlike packages others m m
+  pub relations : (text : List ℕ) (packages : List Listed) (m n : Relation) → SpellsRelation text m
+      → SpellsRelation (relation_text m) n → TellAlike packages packages m n
+  pub both : (file : List ℕ) (meaning : Meaning) (packages others : List Listed) (text : List ℕ)
+      (m n : Relation) → Accepted Packages file meaning → ListsAll file packages
+      → ListsAll (canonical_text meaning) others → SpellsRelation text m
+      → SpellsRelation (relation_text m) n → TellAlike packages others m n

@@ -1,0 +1,10 @@
+pub mod Versions
+pub mod Alternatives
+pub mod Listed
+pub mod Meeting
+pub mod Reports
+pub mod Kept
+pub mod Listing
+pub mod Indexes
+pub mod Told
+pub mod Laws

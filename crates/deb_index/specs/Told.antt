@@ -1,0 +1,21 @@
+-- What a report and its parts stand for.
+use Rattle.std.specs.Prelude.{List, map}
+use Rattle.deb_index.specs.Kept.{listed_of}
+use Rattle.deb_index.specs.Reports.{Numbered, Answer}
+use Rattle.deb_index.specs.declared.report.Found.{Found}
+use Rattle.deb_index.specs.declared.report.Answer.{Answer as Told}
+use Rattle.deb_index.specs.declared.report.Report.{Report}
+
+abbrev pub found_of : Found → Numbered
+found_of found = (found.number, listed_of found.package.now)
+
+abbrev pub answer_of : Told → Answer
+answer_of told =
+    record {
+      text = told.text.items;
+      verdict = told.verdict;
+      packages = map found_of told.packages.items;
+    }
+
+abbrev pub report_of : Report → List Answer
+report_of told = map answer_of told.answers.items

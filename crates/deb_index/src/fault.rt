@@ -1,0 +1,23 @@
+//! Why a relation got no answer.
+
+use std::alloc::AllocError;
+
+/// Why an index told nothing of a relation.
+#[derive(Clone, Copy, Debug, PartialEq, Eq)]
+pub enum QueryFault {
+    /// An architecture list of the relation holds a wildcard (Debian Policy 11.1).
+    Wildcard,
+    /// A growth of memory was refused.
+    Memory,
+}
+
+impl From<AllocError> for QueryFault {
+    ghost use Rattle.std.specs.Prelude.{◌≡◌};
+    ghost use Rattle.deb_index.specs.declared.fault.QueryFault.TheVariants.{Memory};
+
+    ghost from_gives = { λ _ fault. fault ≡ Memory };
+
+    fn from(_error: AllocError) -> QueryFault {
+        QueryFault::Memory
+    }
+}

@@ -1,0 +1,108 @@
+//! Indexes of packages.
+
+ghost use Rattle.std.specs.Prelude.{◌≡◌, ℕ, List, Some, Err, IfOk, IfErr, IsTrue, length};
+ghost use Rattle.deb_base.specs.Devices.{read_failures_after, TellsReads};
+ghost use Rattle.deb_base.specs.Faults.{IsReadersFault};
+ghost use Rattle.deb_control.specs.Calls.{IfRefused};
+ghost use Rattle.deb_control.specs.Checking.{IsRefusalOfDocument};
+ghost use Rattle.deb_control.specs.Documents.{refusal_of};
+ghost use Rattle.deb_relation.specs.Environments.{environment_of};
+ghost use Rattle.deb_relation.specs.Relations.{relation_of};
+ghost use Rattle.deb_relation.specs.Tests.{some_wildcard};
+ghost use Rattle.deb_index.specs.Listing.{ListsAll};
+ghost use Rattle.deb_index.specs.Reports.{report};
+ghost use Rattle.deb_index.specs.Told.{report_of};
+
+use crate::fault::QueryFault;
+use crate::package::Package;
+use crate::paragraph::package_of;
+use crate::report::Report;
+use deb_base::{Fault, Source};
+use deb_control::Checked;
+use deb_field::Doc;
+use deb_relation::{Env, Relation};
+use std::alloc::Global;
+
+/// The packages that a file lists, in its order.
+///
+/// It owns what it keeps of each: the name, the version, the architecture, Multi-Arch and what is
+/// provided.
+#[derive(Debug, Drop)]
+pub struct Index {
+    packages: Vec<Package>,
+}
+
+impl Index {
+    ghost use Rattle.deb_index.specs.Indexes.{packages_of};
+
+    /// Reads a file as an index of packages (Debian Policy 5.1, 5.3 and 5.6).
+    ///
+    /// It takes one paragraph at a time. What is said of the file's text holds for a reader that
+    /// tells its bytes.
+    ///
+    /// # Errors
+    ///
+    /// - `Fault::Refused`: the file isn't accepted. This is the first refusal, with a code from 1
+    ///   to 21 and a line of the file, which are counted from 1.
+    /// - `Fault::Memory`: a growth of memory was refused.
+    /// - `Fault::Read`: a read failed in this call.
+    pub fn read<R: Source>(alloc: Global, reader: &mut R) -> Result<Index, Fault>
+        ensures ok { (text : List ℕ) → R.left reader.old ≡ Some text
+            → IfOk result (λ index. ListsAll text (packages_of index)) }
+        ensures refused { (text : List ℕ) → R.left reader.old ≡ Some text
+            → IfRefused result (λ refusal. refusal_of Doc.Packages text ≡ Some refusal) }
+
+        // Whether or not the reader tells its bytes.
+        ensures fault { IfErr result (λ fault. IsReadersFault fault IsRefusalOfDocument) }
+        ensures reads { R.failures reader.new ≡ read_failures_after (R.failures reader.old) result }
+        ensures tells_reads { TellsReads (R.failures reader.old) (R.failures reader.new) result }
+    {
+        let mut checked = Checked::new(alloc, Doc::Packages);
+        let mut packages = Vec::new(alloc);
+        for count in 0..u64::MAX {
+            let Some(paragraph) = checked.next(reader)? else {
+                return Ok(Index { packages });
+            };
+            packages.push(package_of(alloc, &paragraph)?)?;
+        }
+        // No file has so many paragraphs.
+        unreachable!()
+    }
+
+    /// What is told of a relation in an environment: of each group, in the order of the groups'
+    /// canonical texts, whether it is ignored, since none of its alternatives applies; met, since a
+    /// package meets one that applies, and by which packages; or unmet (Debian Policy 7.1).
+    ///
+    /// # Errors
+    ///
+    /// `Wildcard` exactly where an architecture list of the relation holds a wildcard, whatever
+    /// memory there is; else want of memory.
+    pub fn query(
+        &self,
+        alloc: Global,
+        relation: &Relation<'_>,
+        environment: &Env,
+    ) -> Result<Report<'_>, QueryFault>
+        ensures ok { IfOk result
+            (λ told. report_of told ≡ report (packages_of self.now) (relation_of relation.now)
+            (environment_of environment.now)) }
+        ensures wildcard { IsTrue (some_wildcard (relation_of relation.now))
+            → result ≡ Err QueryFault.Wildcard }
+        ensures refused { IfErr result
+            (λ fault. fault ≡ QueryFault.Wildcard
+            → IsTrue (some_wildcard (relation_of relation.now))) }
+    {
+        if relation.has_wildcard() {
+            return Err(QueryFault::Wildcard);
+        }
+        let report = Report::of(alloc, &self.packages, relation.groups(), environment)?;
+        Ok(report)
+    }
+
+    /// How many packages there are.
+    pub fn len(&self) -> usize
+        ensures { result ≡ length (packages_of self.now) }
+    {
+        self.packages.len()
+    }
+}

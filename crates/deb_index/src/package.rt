@@ -1,0 +1,162 @@
+//! Listed packages.
+
+ghost use Rattle.std.specs.Prelude.{◌≡◌, ◌&&◌, IfOk, map};
+ghost use Rattle.std.specs.List.{list_any};
+ghost use Rattle.std.specs.Option.{option_copied};
+ghost use Rattle.std.specs.Str.{bytes_eq};
+ghost use Rattle.deb_relation.specs.Applying.{applies};
+ghost use Rattle.deb_relation.specs.Environments.{environment_of};
+ghost use Rattle.deb_relation.specs.Views.{alternative_of};
+ghost use Rattle.deb_version.specs.Canonical.{version_text};
+ghost use Rattle.deb_index.specs.Meeting.{effective, is_allowed, is_foreign, meets, meets_by_name, meets_qualifier, multi_arch_or_no};
+ghost use Rattle.deb_index.specs.Reports.{meets_group};
+
+use crate::canonical_version::CanonicalVersion;
+use crate::provision::{Provision, meets_bound, some_provision_meets};
+use deb_field::MultiArch;
+use deb_relation::{Alternative, Env};
+use std::alloc::{AllocError, Global};
+
+/// What an index keeps of a package.
+#[derive(Debug, Drop)]
+pub struct Package {
+    pub(crate) name: Vec<u8>,
+    pub(crate) version: CanonicalVersion,
+    pub(crate) architecture: Vec<u8>,
+    pub(crate) multi_arch: Option<MultiArch>,
+    pub(crate) provisions: Vec<Provision>,
+}
+
+impl Package {
+    ghost use Rattle.deb_index.specs.Kept.{listed_of};
+
+    /// The name.
+    pub fn name(&self) -> &[u8]
+        ensures { result.now ≡ (listed_of self.now).name }
+    {
+        &self.name
+    }
+
+    /// The canonical text of the version.
+    pub fn version(&self) -> &[u8]
+        ensures { result.now ≡ version_text (listed_of self.now).version }
+    {
+        self.version.text()
+    }
+
+    /// The architecture, which may be `all`.
+    pub fn architecture(&self) -> &[u8]
+        ensures { result.now ≡ (listed_of self.now).architecture }
+    {
+        &self.architecture
+    }
+
+    /// Whether this meets a group by an alternative that applies.
+    pub(crate) fn meets_group(
+        &self,
+        alloc: Global,
+        group: &[Alternative<'_>],
+        environment: &Env,
+    ) -> Result<bool, AllocError>
+        ensures { IfOk result (λ met. met
+            ≡ meets_group (environment_of environment.now) (map alternative_of group.now)
+            (listed_of self.now)) }
+    {
+        for alternative in group {
+            if self.meets_applying(alloc, alternative, environment)? {
+                return Ok(true);
+            }
+        }
+        Ok(false)
+    }
+
+    /// Whether an alternative applies and this meets it.
+    fn meets_applying(
+        &self,
+        alloc: Global,
+        alternative: &Alternative<'_>,
+        environment: &Env,
+    ) -> Result<bool, AllocError>
+        ensures { IfOk result (λ met. met
+            ≡ (applies (alternative_of alternative.now) (environment_of environment.now)
+            && meets (environment_of environment.now) (alternative_of alternative.now)
+            (listed_of self.now))) }
+    {
+        Ok(alternative.applies(environment) && self.meets(alloc, alternative, environment)?)
+    }
+
+    /// Whether this meets an alternative, by name and by qualifier (Debian Policy 7.1).
+    fn meets(
+        &self,
+        alloc: Global,
+        alternative: &Alternative<'_>,
+        environment: &Env,
+    ) -> Result<bool, AllocError>
+        ensures { IfOk result (λ met. met
+            ≡ meets (environment_of environment.now) (alternative_of alternative.now)
+            (listed_of self.now)) }
+    {
+        Ok(
+            self.meets_by_name(alloc, alternative)?
+                && self.meets_qualifier(alternative.qualifier(), environment.target()),
+        )
+    }
+
+    /// Whether this has the name in a version that meets the bound, or provides it so (7.5).
+    fn meets_by_name(
+        &self,
+        alloc: Global,
+        alternative: &Alternative<'_>,
+    ) -> Result<bool, AllocError>
+        ensures { IfOk result (λ met. met
+            ≡ meets_by_name (alternative_of alternative.now) (listed_of self.now)) }
+    {
+        if self.name.as_slice() == alternative.name()
+            && meets_bound(alloc, alternative.bound(), &self.version)?
+        {
+            return Ok(true);
+        }
+        some_provision_meets(alloc, &self.provisions, alternative)
+    }
+
+    /// Whether this is of the architecture that a qualifier asks, or of a Multi-Arch that serves.
+    fn meets_qualifier(&self, qualifier: Option<&[u8]>, target: &[u8]) -> bool
+        ensures { result
+            ≡ meets_qualifier target.now (option_copied qualifier.entry) (listed_of self.now) }
+    {
+        let Some(qualifier) = qualifier else {
+            return self.is_of(target, target) || self.is_foreign();
+        };
+        if qualifier == b"any".as_slice() {
+            self.is_allowed()
+        } else if qualifier == b"native".as_slice() {
+            self.is_of(target, target)
+        } else {
+            self.is_of(target, qualifier)
+        }
+    }
+
+    /// Whether the architecture for a target is this one: `all` is the target.
+    fn is_of(&self, target: &[u8], architecture: &[u8]) -> bool
+        ensures { result
+            ≡ bytes_eq (effective target.now self.now.architecture.items) architecture.now }
+    {
+        if self.architecture.as_slice() == b"all".as_slice() {
+            target == architecture
+        } else {
+            self.architecture.as_slice() == architecture
+        }
+    }
+
+    fn is_foreign(&self) -> bool
+        ensures { result ≡ is_foreign (multi_arch_or_no self.now.multi_arch) }
+    {
+        matches!(self.multi_arch, Some(MultiArch::Foreign))
+    }
+
+    fn is_allowed(&self) -> bool
+        ensures { result ≡ is_allowed (multi_arch_or_no self.now.multi_arch) }
+    {
+        matches!(self.multi_arch, Some(MultiArch::Allowed))
+    }
+}

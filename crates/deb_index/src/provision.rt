@@ -1,0 +1,137 @@
+//! Names that packages provide.
+
+ghost use Rattle.std.specs.Prelude.{◌≡◌, IfOk, map};
+ghost use Rattle.std.specs.List.{list_any};
+ghost use Rattle.std.specs.Option.{option_map};
+ghost use Rattle.deb_relation.specs.Relations.{relation_of};
+ghost use Rattle.deb_relation.specs.Groups.{group_of};
+ghost use Rattle.deb_relation.specs.Views.{alternative_of, lent_bound_of};
+ghost use Rattle.deb_index.specs.Kept.{entry_provisions, kept_version, provision_of};
+ghost use Rattle.deb_index.specs.Listed.{is_plain, provided_by, provision_in, provisions_of};
+ghost use Rattle.deb_index.specs.Meeting.{meets_bound, provided_meets_bound, provision_meets};
+
+use crate::canonical_version::CanonicalVersion;
+use deb_relation::{Alternative, Group, Op, Relation};
+use deb_version::{Version, compare};
+use std::alloc::{AllocError, Global};
+
+/// A name that a package provides, with its version, if one is told (Debian Policy 7.5).
+#[derive(Debug, Drop)]
+pub(crate) struct Provision {
+    pub(crate) name: Vec<u8>,
+    pub(crate) version: Option<CanonicalVersion>,
+}
+
+impl Provision {
+    /// What an entry of Provides provides.
+    fn of(alloc: Global, entry: &Alternative<'_>) -> Result<Provision, AllocError>
+        ensures { IfOk result
+            (λ provision. provision_of provision ≡ provision_in (alternative_of entry.now)) }
+    {
+        let name = Vec::from_slice(alloc, entry.name())?;
+        let version = match entry.bound() {
+            Some((_, version)) => Some(CanonicalVersion::of(alloc, version)?),
+            None => None,
+        };
+        Ok(Provision { name, version })
+    }
+
+    /// Whether the name is that of an alternative, and meets its bound.
+    fn meets(&self, alloc: Global, alternative: &Alternative<'_>) -> Result<bool, AllocError>
+        ensures { IfOk result (λ meets. meets
+            ≡ provision_meets (alternative_of alternative.now) (provision_of self.now)) }
+    {
+        Ok(
+            self.name.as_slice() == alternative.name()
+                && provided_meets_bound(alloc, alternative.bound(), &self.version)?,
+        )
+    }
+}
+
+/// What the field Provides provides: the entries that are a name alone or with a version.
+pub(crate) fn provisions_of(
+    alloc: Global,
+    relation: &Relation<'_>,
+) -> Result<Vec<Provision>, AllocError>
+    ensures { IfOk result (λ provisions.
+        map provision_of provisions.items ≡ provisions_of (relation_of relation.now)) }
+{
+    let mut provisions = Vec::new(alloc);
+    for group in relation.groups() {
+        if let Some(entry) = plain_entry(group) {
+            provisions.push(Provision::of(alloc, entry)?)?;
+        }
+    }
+    Ok(provisions)
+}
+
+/// The one alternative of a group, if it is a name alone or with a version.
+fn plain_entry<'a, 'b>(group: &'b Group<'a>) -> Option<&'b Alternative<'a>>
+    ensures { provided_by (group_of group.now)
+        ≡ entry_provisions (option_map (λ entry. alternative_of entry.now) result) }
+{
+    match group.alternatives() {
+        [entry] if is_plain(entry) => Some(entry),
+        _ => None,
+    }
+}
+
+/// Whether an entry has neither a qualifier nor an architecture list nor a formula.
+fn is_plain(entry: &Alternative<'_>) -> bool
+    ensures { result ≡ is_plain (alternative_of entry.now) }
+{
+    entry.qualifier().is_none() && entry.architectures().is_none() && entry.formula().is_empty()
+}
+
+/// Whether a provided name with this version meets a bound.
+fn provided_meets_bound(
+    alloc: Global,
+    bound: Option<(Op, &Version<'_>)>,
+    version: &Option<CanonicalVersion>,
+) -> Result<bool, AllocError>
+    ensures { IfOk result (λ meets. meets
+        ≡ provided_meets_bound (option_map lent_bound_of bound.entry)
+        (option_map kept_version version.now)) }
+{
+    match (bound, version) {
+        (None, _) => Ok(true),
+        (Some(_), None) => Ok(false),
+        (Some(bound), Some(version)) => meets_bound(alloc, Some(bound), version),
+    }
+}
+
+/// Whether a version meets a bound.
+pub(crate) fn meets_bound(
+    alloc: Global,
+    bound: Option<(Op, &Version<'_>)>,
+    version: &CanonicalVersion,
+) -> Result<bool, AllocError>
+    ensures { IfOk result (λ meets. meets
+        ≡ meets_bound (option_map lent_bound_of bound.entry) (kept_version version.now)) }
+{
+    match bound {
+        None => Ok(true),
+        Some((operator, wanted)) => {
+            let order = compare(alloc, &version.version(), wanted)?;
+            Ok(operator.holds(order))
+        }
+    }
+}
+
+/// Whether some provided name meets an alternative.
+pub(crate) fn some_provision_meets(
+    alloc: Global,
+    provisions: &[Provision],
+    alternative: &Alternative<'_>,
+) -> Result<bool, AllocError>
+    ensures { IfOk result (λ meets. meets
+        ≡ list_any (provision_meets (alternative_of alternative.now))
+        (map provision_of provisions.now)) }
+{
+    for provision in provisions {
+        if provision.meets(alloc, alternative)? {
+            return Ok(true);
+        }
+    }
+    Ok(false)
+}

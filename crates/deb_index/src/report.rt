@@ -1,0 +1,200 @@
+//! What an index tells of a relation.
+
+ghost use Rattle.std.specs.Prelude.{◌≡◌, ◌+◌, IfOk, map, not};
+ghost use Rattle.std.specs.List.{list_all, list_any};
+ghost use Rattle.deb_relation.specs.Applying.{applies};
+ghost use Rattle.deb_relation.specs.Environments.{environment_of};
+ghost use Rattle.deb_relation.specs.Groups.{group_of};
+ghost use Rattle.deb_relation.specs.Views.{alternative_of};
+ghost use Rattle.deb_index.specs.Kept.{listed_of};
+ghost use Rattle.deb_index.specs.Reports.{all_met, answer, is_unmet, meets_group, passing_from, some_applies, verdict_of};
+ghost use Rattle.deb_index.specs.Told.{answer_of, found_of, report_of};
+
+use crate::package::Package;
+use crate::verdict::Verdict;
+use deb_relation::{Alternative, Env, Group};
+use std::alloc::{AllocError, Global};
+
+/// A listed package that meets a group.
+#[derive(Clone, Copy, Debug)]
+pub struct Found<'a> {
+    pub(crate) number: u64,
+    pub(crate) package: &'a Package,
+}
+
+impl<'a> Found<'a> {
+    /// Its number in the index, which is counted from 1.
+    pub fn number(&self) -> u64
+        ensures { result ≡ (found_of self.now).0 }
+    {
+        self.number
+    }
+
+    /// What the index keeps of it.
+    pub fn package(&self) -> &'a Package
+        ensures { listed_of result.now ≡ (found_of self.now).1 }
+    {
+        self.package
+    }
+}
+
+/// What is told of a group: its canonical text, the verdict, and the packages that meet it.
+#[derive(Debug, Drop)]
+pub struct Answer<'a> {
+    pub(crate) text: Vec<u8>,
+    pub(crate) verdict: Verdict,
+    pub(crate) packages: Vec<Found<'a>>,
+}
+
+impl<'a> Answer<'a> {
+    /// The canonical text of the group.
+    pub fn text(&self) -> &[u8]
+        ensures { result.now ≡ (answer_of self.now).text }
+    {
+        &self.text
+    }
+
+    /// Whether the group is ignored, met or unmet.
+    pub fn verdict(&self) -> Verdict
+        ensures { result ≡ (answer_of self.now).verdict }
+    {
+        self.verdict
+    }
+
+    /// The listed packages that meet an alternative of the group that applies, in ascending order
+    /// of their numbers, each once.
+    pub fn packages(&self) -> &[Found<'a>]
+        ensures { map found_of result.now ≡ (answer_of self.now).packages }
+    {
+        &self.packages
+    }
+
+    /// What is told of a group over packages.
+    fn of(
+        alloc: Global,
+        packages: &'a [Package],
+        group: &Group<'_>,
+        environment: &Env,
+    ) -> Result<Answer<'a>, AllocError>
+        ensures { IfOk result
+            (λ told. answer_of told ≡ answer (environment_of environment.now)
+            (map listed_of packages.now) (group_of group.now)) }
+    {
+        let mut text = Vec::with_capacity(alloc, group.canon_len() as usize)?;
+        group.canon_into(&mut text)?;
+        let applies = some_applies(group.alternatives(), environment);
+        let packages = if applies {
+            packages_meeting(alloc, packages, group.alternatives(), environment)?
+        } else {
+            Vec::new(alloc)
+        };
+        let verdict = verdict_of(applies, &packages);
+        Ok(Answer {
+            text,
+            verdict,
+            packages,
+        })
+    }
+}
+
+/// What an index tells of a relation: of each of its groups, in their order, whether it is met and
+/// by which packages (Debian Policy 7.1).
+#[derive(Debug, Drop)]
+pub struct Report<'a> {
+    pub(crate) answers: Vec<Answer<'a>>,
+}
+
+impl<'a> Report<'a> {
+    /// What is told of each group, in the order of the groups' canonical texts.
+    pub fn answers(&self) -> &[Answer<'a>]
+        ensures { map answer_of result.now ≡ report_of self.now }
+    {
+        &self.answers
+    }
+
+    /// Whether no group is unmet.
+    pub fn all_met(&self) -> bool
+        ensures { result ≡ all_met (report_of self.now) }
+    {
+        none_unmet(&self.answers)
+    }
+
+    /// What is told of groups over packages.
+    pub(crate) fn of(
+        alloc: Global,
+        packages: &'a [Package],
+        groups: &[Group<'_>],
+        environment: &Env,
+    ) -> Result<Report<'a>, AllocError>
+        ensures { IfOk result
+            (λ told. report_of told ≡ map (answer (environment_of environment.now)
+            (map listed_of packages.now)) (map group_of groups.now)) }
+    {
+        let mut answers = Vec::new(alloc);
+        for group in groups {
+            answers.push(Answer::of(alloc, packages, group, environment)?)?;
+        }
+        Ok(Report { answers })
+    }
+}
+
+/// The packages that meet an alternative that applies, with their numbers.
+fn packages_meeting<'a>(
+    alloc: Global,
+    packages: &'a [Package],
+    group: &[Alternative<'_>],
+    environment: &Env,
+) -> Result<Vec<Found<'a>>, AllocError>
+    ensures { IfOk result
+        (λ found. map found_of found.items
+        ≡ passing_from 1
+        (meets_group (environment_of environment.now) (map alternative_of group.now))
+        (map listed_of packages.now)) }
+{
+    let mut found = Vec::new(alloc);
+    for (index, package) in packages.iter().enumerate() {
+        if package.meets_group(alloc, group, environment)? {
+            let number = index as u64 + 1;
+            found.push(Found { number, package })?;
+        }
+    }
+    Ok(found)
+}
+
+/// The verdict on a group of which some alternative applies, or none, and these packages meet it.
+fn verdict_of(applies: bool, found: &[Found<'_>]) -> Verdict
+    ensures { result ≡ verdict_of applies (map found_of found.now) }
+{
+    if !applies {
+        Verdict::Ignored
+    } else if found.is_empty() {
+        Verdict::Unmet
+    } else {
+        Verdict::Met
+    }
+}
+
+/// Whether some alternative applies.
+fn some_applies(group: &[Alternative<'_>], environment: &Env) -> bool
+    ensures { result
+        ≡ some_applies (environment_of environment.now) (map alternative_of group.now) }
+{
+    some_is_asked(group, environment)
+}
+
+fn some_is_asked(group: &[Alternative<'_>], environment: &Env) -> bool
+    ensures { result ≡ list_any
+        (λ a. applies (alternative_of a) (environment_of environment.now)) group.now }
+{
+    group
+        .iter()
+        .any(|alternative| alternative.applies(environment))
+}
+
+fn none_unmet(answers: &[Answer<'_>]) -> bool
+    ensures { result ≡ list_all (λ told. not (is_unmet told.verdict)) answers.now }
+{
+    answers
+        .iter()
+        .all(|answer| !matches!(answer.verdict, Verdict::Unmet))
+}
