@@ -22,8 +22,7 @@ use std::alloc::Global;
 /// # Errors
 ///
 /// - `Fault::Refused`: the file isn't accepted. This is the first refusal, with a code from 1 to 21
-///   and
-///   a line of the file, which are counted from 1.
+///   and a line of the file, which are counted from 1.
 /// - `Fault::Memory`: a growth of memory was refused.
 /// - `Fault::Read`: a read failed in this call.
 pub fn check<R: Source>(alloc: Global, doc: Doc, reader: &mut R) -> Result<u64, Fault>

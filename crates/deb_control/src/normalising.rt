@@ -22,13 +22,11 @@ use std::alloc::Global;
 /// # Errors
 ///
 /// - `Fault::Refused`: the file isn't accepted. This is the first refusal, with a code from 1 to 21
-///   and
-/// a line of the file, which are counted from 1. The canonical text of the paragraphs before it was
-///   written.
+///   and a line of the file, which are counted from 1. The canonical text of the paragraphs before
+///   it was written.
 /// - `Fault::Memory`: a growth of memory was refused, and `Fault::Read`: a read failed in this
-///   call.
-///   The canonical text of the first paragraphs was written, each of which passes and was read with
-///   the blank line behind it.
+///   call. The canonical text of the first paragraphs was written, each of which passes and was
+///   read with the blank line behind it.
 /// - `Fault::Write`: a write failed in this call. A prefix of what else would have been written was
 ///   written.
 pub fn normalise<R: Source, W: Sink>(
