@@ -1,6 +1,5 @@
 pub mod BodyLemmas
 pub mod CanonicalNames
-pub mod Digits
 pub mod FieldBytes
 pub mod GraphicBodies
 pub mod LaterPieces

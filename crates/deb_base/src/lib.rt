@@ -6,8 +6,8 @@
 //!   `line 3: 7 DuplicateField`.
 //! - A [`Source`] and a [`Sink`] count their failed calls, so that a caller can tell whether a read
 //!   or a write failed; [`Input`] and [`Output`] make them of std's readers and writers.
-//! - [`put_all`] writes all of its bytes, or says that a write failed and has then written a front
-//!   of them.
+//! - [`put_all`] writes all of its bytes, and [`put_pieces`] all of its pieces, or says that a write
+//!   failed and has then written a front of them.
 //!
 //! Nothing in this crate takes memory.
 //!
@@ -22,7 +22,6 @@
 mod blank;
 mod body;
 mod code;
-mod decimal;
 mod device;
 mod fault;
 mod input;
@@ -44,7 +43,7 @@ pub use input::Input;
 pub use names::same_name;
 pub use output::Output;
 pub use package_names::{is_arch_name, is_package_name, is_profile_name, is_wildcard};
-pub use put::put_all;
+pub use put::{put_all, put_pieces};
 pub use refusal::Refusal;
 
 #[cfg(test)]

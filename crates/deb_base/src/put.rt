@@ -27,12 +27,17 @@ pub fn put_all<W: Sink>(out: &mut W, bytes: &[u8]) -> Result<(), Fault>
     Ok(())
 }
 
-/// Writes all of some pieces, one after the other, as `put_all` writes all of some bytes.
-pub(crate) fn put_pieces<W: Sink>(out: &mut W, pieces: &[&[u8]]) -> Result<(), Fault>
+/// Writes all of some pieces, one after the other, as [`put_all`] writes all of some bytes.
+///
+/// The only error is `Fault::Write`. It is answered exactly where a write to `out` failed in this
+/// call, which is then the last one, and a front of the pieces, perhaps empty, was written before
+/// it.
+pub fn put_pieces<W: Sink>(out: &mut W, pieces: &[&[u8]]) -> Result<(), Fault>
     ensures written { Puts (W.held out.old) (W.held out.new) result
         (flat_map (λ piece. piece.now) pieces.now) }
     ensures fault { IfErr result (λ fault. fault ≡ Fault.Write) }
     ensures counted { W.failures out.new ≡ write_failures_after (W.failures out.old) result }
+    ensures told { TellsWrites (W.failures out.old) (W.failures out.new) result }
 {
     for piece in pieces {
         put_all(out, piece)?;

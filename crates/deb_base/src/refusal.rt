@@ -5,9 +5,8 @@ ghost use Rattle.deb_base.specs.Codes.{number_of};
 ghost use Rattle.deb_base.specs.Devices.{write_failures_after, Puts, TellsWrites};
 ghost use Rattle.deb_base.specs.Lines.{refusal_line};
 
-use crate::decimal::Decimal;
-use crate::put::put_pieces;
-use crate::{Code, Fault, Sink};
+use crate::{Code, Fault, Sink, put_pieces};
+use itoa::Buffer;
 
 /// What is refused: why, and at which line.
 ///
@@ -37,15 +36,15 @@ impl Refusal {
         ensures counted { W.failures out.new ≡ write_failures_after (W.failures out.old) result }
         ensures told { TellsWrites (W.failures out.old) (W.failures out.new) result }
     {
-        let line = Decimal::of(self.line);
-        let number = Decimal::of(u64::from(self.number()));
+        let mut line = Buffer::new();
+        let mut number = Buffer::new();
         put_pieces(
             out,
             &[
                 b"line ",
-                line.as_bytes(),
+                line.format(self.line).as_bytes(),
                 b": ",
-                number.as_bytes(),
+                number.format(self.number()).as_bytes(),
                 b" ",
                 self.code.name(),
                 b"\n",

@@ -5,3 +5,4 @@ pub mod Copies
 pub mod Indexed
 pub mod Numbers
 pub mod ListedOnce
+pub mod WrittenParts

@@ -3,6 +3,7 @@ pub mod Alternatives
 pub mod Listed
 pub mod Meeting
 pub mod Reports
+pub mod ReportText
 pub mod Kept
 pub mod Listing
 pub mod Indexes

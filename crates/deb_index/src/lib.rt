@@ -22,6 +22,7 @@ mod package;
 mod paragraph;
 mod provision;
 mod report;
+mod report_text;
 mod verdict;
 
 pub use fault::QueryFault;

@@ -3,6 +3,7 @@
 mod devices;
 mod memory;
 mod refused;
+mod writing;
 
 use crate::Verdict::{Ignored, Met, Unmet};
 use crate::{Index, QueryFault, Report, Verdict};

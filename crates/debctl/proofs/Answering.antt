@@ -1,18 +1,19 @@
 -- From what a parse by `clap` answers to what `job_of` answers.
-use Rattle.std.proofs.Common.{◌≡◌, ◌⊎◌, ℕ, Bool, true, false, List, [], ◌∷◌, ◌∙◌, Option, Some, None, Result, Ok, Err, IfErr, IfOk, not, ◌||◌, ap, sym, refl, inl, inr}
+use Rattle.std.proofs.Common.{◌≡◌, ◌⊎◌, ℕ, Bool, true, false, List, [], ◌∷◌, ◌∙◌, Option, Some, None, Result, Ok, Err, IfErr, IfOk, not, ◌||◌, ap, subst, sym, refl, inl, inr}
 use Rattle.std.specs.List.{list_any}
 use Rattle.std.proofs.Math.Bool.{or-true}
 use Rattle.clap.specs.Faults.{fault_of, is_simple_and_free}
 use Rattle.clap.specs.Takes.{takes}
 use Rattle.debctl.proofs.TakenWords.{taken_where_no_kind}
 use Rattle.debctl.proofs.UnmixedKinds.{Unmixed, faults_unmixed}
-use Rattle.clap.specs.Simple.{is_simple}
+use Rattle.clap.specs.Simple.{App, is_simple, subcommand_of}
 use Rattle.clap.specs.Kinds.{Kinds, HasKind, IsAmong}
 use Rattle.clap.specs.Values.{kind_of}
+use Rattle.clap.specs.Walk.{Row, Text}
 use Rattle.clap.specs.declared.error.Error.{Error}
 use Rattle.clap.specs.declared.error.kind.ErrorKind.{ErrorKind}
 use Rattle.clap.specs.declared.error.kind.ErrorKind.TheVariants.{OutOfMemory}
-use Rattle.debctl.specs.Asked.{Asked, Request, asks, asks_help, unknown_kind, unknown_operator, unknown_command, has_mistake, has_request, is_request_kind, Answers, AreMistakes, AreRequests, AnswersMet, MeansError, TellsKind}
+use Rattle.debctl.specs.Asked.{Asked, Request, asked_in, asked_of, asks, asks_help, unknown_kind, unknown_operator, unknown_command, has_mistake, has_request, is_request_kind, request_of, Answers, AreMistakes, AreRequests, AnswersMet, MeansError, TellsKind}
 use Rattle.debctl.specs.Commands.{debctl_app}
 use Rattle.debctl.specs.declared.jobs.Call.{Call}
 use Rattle.debctl.specs.declared.words.UsageFault.{UsageFault}
@@ -33,6 +34,17 @@ taken_means kinds asked (Ok call) none answers = tt
 taken_means kinds asked (Err (Usage text)) none answers = inr (none, answers)
 taken_means kinds asked (Err (Help text)) none answers = inr (none, answers)
 taken_means kinds asked (Err Memory) none answers = tt
+
+-- what is answered to the command that a parse met is answered to the words
+pub words_are_answered : (app : App) (words : List Text) (met : Option (Text × List Row)) (result : Result Call UsageFault) → app ≡ debctl_app → met ≡ subcommand_of app words
+    → AnswersMet (asked_in met) result → AnswersMet (asked_of words) result
+words_are_answered app words met result is of answers = subst (λ asked. AnswersMet asked result) (ap asked_in (of ∙ ap (λ a. subcommand_of a words) is)) answers
+
+-- a call is the one that is asked
+pub call_is_asked : (asked : Option Asked) (result : Result Call UsageFault) → AnswersMet asked result → IfOk result (λ call. asked ≡ Some (asks (request_of call)))
+call_is_asked None result answers = absurd answers
+call_is_asked (Some asked) (Ok call) answers = ap Some answers
+call_is_asked (Some asked) (Err error) answers = tt
 
 -- a call is refused for want of memory alone
 pub asked_is_met : (asked : Option Asked) (request : Request) (result : Result Call UsageFault) → AnswersMet asked result → asked ≡ Some (asks request) → IfErr result (λ error. error ≡ Memory)

@@ -7,3 +7,4 @@ pub mod Telling
 pub mod DocumentTelling
 pub mod JobRefusals
 pub mod SameTelling
+pub mod QueryTelling

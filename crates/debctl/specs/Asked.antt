@@ -1,14 +1,14 @@
 -- What the program's words ask, as a function of what `clap` makes of them. (The words are this
 -- project's own.)
-use Rattle.std.specs.Prelude.{◌≡◌, ◌⊎◌, Bool, true, false, not, List, [], Option, Some, None, unwrap_or, option_map, if◌then◌else◌, codes, string_bytes, bytes_eq, Result, Ok, Err}
-use Rattle.std.specs.List.{list_any}
+use Rattle.std.specs.Prelude.{◌≡◌, ◌⊎◌, ◌==◌, Bool, true, false, not, List, [], map, Option, Some, None, unwrap_or, option_map, if◌then◌else◌, codes, string_bytes, bytes_eq, Result, Ok, Err}
+use Rattle.std.specs.List.{list_any, slice_split}
 use Rattle.std.specs.Option.{option_map_or}
 use Rattle.clap.specs.Kinds.{Kinds}
 use Rattle.clap.specs.Simple.{subcommand_of}
 use Rattle.clap.specs.Walk.{Row, Text, first_of}
 use Rattle.clap.specs.declared.error.kind.ErrorKind.{ErrorKind}
 use Rattle.clap.specs.declared.error.kind.ErrorKind.TheVariants.{DisplayHelp, DisplayVersion, OutOfMemory}
-use Rattle.debctl.specs.Commands.{debctl_app, check_word, normalise_word, same_word, compare_word, canon_version_word, help_word}
+use Rattle.debctl.specs.Commands.{debctl_app, check_word, normalise_word, same_word, compare_word, canon_version_word, query_word, help_word}
 use Rattle.deb_field.specs.declared.kind.Doc.{Doc}
 use Rattle.deb_field.specs.declared.kind.Doc.TheVariants.{Binary, Packages, Source}
 use Rattle.debctl.specs.declared.jobs.Call.{Call}
@@ -45,6 +45,15 @@ operator_named word =
     else if bytes_eq word (codes "gt") then Some cmp.Greater
     else None
 
+-- what stands between the commas (44) of a text
+abbrev pub comma_pieces : Text → List Text
+comma_pieces text = slice_split (λ b. b == 44) text
+
+-- the profiles that are named: none where no word names them
+abbrev pub profiles_asked : Option Text → List Text
+profiles_asked None = []
+profiles_asked (Some word) = comma_pieces word
+
 -- the word names a command
 abbrev pub is_command : Text → Bool
 is_command word =
@@ -53,6 +62,7 @@ is_command word =
     else if bytes_eq word same_word then true
     else if bytes_eq word compare_word then true
     else if bytes_eq word canon_version_word then true
+    else if bytes_eq word query_word then true
     else bytes_eq word help_word
 
 -- ---- calls
@@ -64,6 +74,7 @@ pub data Wanted : Type 0 where
   tells_same : Doc → Wanted
   compares : Text → Cmp → Text → Wanted
   canonicalises : Text → Wanted
+  queries : Text → List Text → Text → Wanted
 
 -- a call, with the bytes of its words and paths
 pub record Request : Type 0 where
@@ -78,6 +89,8 @@ wanted_of (job.Same kind) = tells_same kind
 wanted_of (job.Compare left operator right) =
     compares (string_bytes left) operator (string_bytes right)
 wanted_of (job.CanonVersion version) = canonicalises (string_bytes version)
+wanted_of (job.Query arch profiles relation) =
+    queries (string_bytes arch) (map string_bytes profiles.items) (string_bytes relation)
 
 abbrev pub request_of : Call → Request
 request_of call =
@@ -135,6 +148,16 @@ canon_version_asked rows =
       second = None;
     })
 
+-- `query`, by its architecture, its profiles and its relation
+abbrev pub query_asked : List Row → Asked
+query_asked rows =
+    asks (record {
+      wanted = queries (word_in (codes "arch") rows)
+          (profiles_asked (first_of (codes "profiles") rows)) (word_in (codes "relation") rows);
+      first = first_of (codes "path") rows;
+      second = None;
+    })
+
 abbrev pub help_asked : Option Text → Asked
 help_asked None = asks_help
 help_asked (Some word) = if is_command word then asks_help else unknown_command
@@ -147,6 +170,7 @@ asked_by name rows =
     else if bytes_eq name same_word then same_asked rows
     else if bytes_eq name compare_word then compare_asked rows
     else if bytes_eq name canon_version_word then canon_version_asked rows
+    else if bytes_eq name query_word then query_asked rows
     else help_asked (first_of (codes "command") rows)
 
 -- what the command that `clap` met asks

@@ -1,11 +1,11 @@
 -- Worked cases of what words ask: rows of words, with what `clap` and this project make of them.
-use Rattle.std.specs.Prelude.{◌≡◌, List, [], ◌∷◌, Some, None, true, codes, refl}
+use Rattle.std.specs.Prelude.{◌≡◌, List, [], ◌∷◌, Option, Some, None, true, codes, refl}
 use Rattle.clap.proofs.OnLiterals.{clap_on_literals}
 use Rattle.clap.specs.Faults.{fault_of}
 use Rattle.clap.specs.Takes.{takes}
 use Rattle.clap.specs.Walk.{Text}
 use Rattle.clap.specs.declared.error.kind.ErrorKind.TheVariants as kind
-use Rattle.debctl.specs.Asked.{asked_of, asks, asks_help, canonicalises, checks, compares, normalises, tells_same, unknown_command, unknown_kind, unknown_operator}
+use Rattle.debctl.specs.Asked.{asked_of, asks, asks_help, canonicalises, checks, comma_pieces, compares, normalises, profiles_asked, queries, tells_same, unknown_command, unknown_kind, unknown_operator, Asked}
 use Rattle.debctl.specs.Commands.{debctl_app}
 use Rattle.deb_field.specs.declared.kind.Doc.TheVariants.{Binary, Packages, Source}
 use Rattle.debctl.specs.declared.jobs.Cmp.TheVariants as cmp
@@ -59,9 +59,61 @@ version_with_hyphen : asked_of (line (codes "canon-version" ∷ codes "--" ∷ c
 unfolding clap_on_literals
 version_with_hyphen = refl
 
+-- the pieces of a text between its commas, and the profiles where nothing names them
+two_pieces : comma_pieces (codes "a,b") ≡ codes "a" ∷ codes "b" ∷ []
+two_pieces = refl
+
+one_empty_piece : comma_pieces [] ≡ [] ∷ []
+one_empty_piece = refl
+
+empty_piece_between : comma_pieces (codes "a,,x") ≡ codes "a" ∷ [] ∷ codes "x" ∷ []
+empty_piece_between = refl
+
+no_profiles : profiles_asked None ≡ []
+no_profiles = refl
+
+-- words of `query` behind its architecture
+abbrev query_line : List Text → List Text
+query_line words = line (codes "query" ∷ codes "--arch" ∷ codes "amd64" ∷ words)
+
+-- what is asked of `aa` for amd64
+abbrev asks_of_aa : List Text → Option Text → Option Asked
+asks_of_aa profiles path =
+    Some (asks (record {
+      wanted = queries (codes "amd64") profiles (codes "aa");
+      first = path;
+      second = None;
+    }))
+
+query_with_profiles : asked_of
+    (query_line (codes "--profiles" ∷ codes "a,b" ∷ codes "aa" ∷ codes "x" ∷ []))
+    ≡ asks_of_aa (codes "a" ∷ codes "b" ∷ []) (Some (codes "x"))
+unfolding clap_on_literals
+query_with_profiles = refl
+
+query_without_profiles : asked_of (query_line (codes "aa" ∷ codes "x" ∷ []))
+    ≡ asks_of_aa [] (Some (codes "x"))
+unfolding clap_on_literals
+query_without_profiles = refl
+
+query_with_empty_profile : asked_of
+    (query_line (codes "--profiles" ∷ [] ∷ codes "aa" ∷ codes "x" ∷ []))
+    ≡ asks_of_aa ([] ∷ []) (Some (codes "x"))
+unfolding clap_on_literals
+query_with_empty_profile = refl
+
+query_without_path : asked_of (query_line (codes "--profiles=a,,x" ∷ codes "aa" ∷ []))
+    ≡ asks_of_aa (codes "a" ∷ [] ∷ codes "x" ∷ []) None
+unfolding clap_on_literals
+query_without_path = refl
+
 help_on_command : asked_of (line (codes "help" ∷ codes "check" ∷ [])) ≡ Some asks_help
 unfolding clap_on_literals
 help_on_command = refl
+
+help_on_query : asked_of (line (codes "help" ∷ codes "query" ∷ [])) ≡ Some asks_help
+unfolding clap_on_literals
+help_on_query = refl
 
 help_on_nothing_known : asked_of (line (codes "help" ∷ codes "frob" ∷ [])) ≡ Some unknown_command
 unfolding clap_on_literals
@@ -96,10 +148,36 @@ kind_twice : fault_of debctl_app
 unfolding clap_on_literals
 kind_twice = refl
 
+missing_architecture : fault_of debctl_app (line (codes "query" ∷ codes "aa" ∷ []))
+    ≡ kind.MissingRequiredArgument ∷ []
+unfolding clap_on_literals
+missing_architecture = refl
+
+missing_relation : fault_of debctl_app (query_line []) ≡ kind.MissingRequiredArgument ∷ []
+unfolding clap_on_literals
+missing_relation = refl
+
+architecture_twice : fault_of debctl_app
+    (query_line (codes "--arch" ∷ codes "i386" ∷ codes "aa" ∷ []))
+    ≡ kind.ArgumentConflict ∷ []
+unfolding clap_on_literals
+architecture_twice = refl
+
+word_behind_a_path : fault_of debctl_app
+    (query_line (codes "aa" ∷ codes "x" ∷ codes "y" ∷ []))
+    ≡ kind.UnknownArgument ∷ []
+unfolding clap_on_literals
+word_behind_a_path = refl
+
 call_for_help : fault_of debctl_app (line (codes "check" ∷ codes "--help" ∷ [])) ≡ kind.DisplayHelp
     ∷ []
 unfolding clap_on_literals
 call_for_help = refl
+
+call_for_help_on_query : fault_of debctl_app (line (codes "query" ∷ codes "--help" ∷ []))
+    ≡ kind.DisplayHelp ∷ []
+unfolding clap_on_literals
+call_for_help_on_query = refl
 
 call_for_version : fault_of debctl_app (line (codes "-V" ∷ [])) ≡ kind.DisplayVersion ∷ []
 unfolding clap_on_literals

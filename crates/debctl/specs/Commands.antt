@@ -10,6 +10,17 @@ use Rattle.clap.specs.declared.builder.command.Command.TheViews.{out-Command}
 abbrev pub kind_rule : Rule
 kind_rule = record (new_rule (codes "kind")) { long = Some (codes "kind"); value_names = 1 }
 
+-- `--arch A`, which has to be there
+abbrev pub arch_rule : Rule
+arch_rule =
+    record (new_rule (codes "arch"))
+    { long = Some (codes "arch"); value_names = 1; required = true }
+
+-- `--profiles P,P`
+abbrev pub profiles_rule : Rule
+profiles_rule =
+    record (new_rule (codes "profiles")) { long = Some (codes "profiles"); value_names = 1 }
+
 -- a word that may stand there, and one that has to
 abbrev pub optional_rule : Text → Rule
 optional_rule id = record (new_rule id) { value_names = 1 }
@@ -31,6 +42,9 @@ compare_word = codes "compare"
 
 abbrev pub canon_version_word : Text
 canon_version_word = codes "canon-version"
+
+abbrev pub query_word : Text
+query_word = codes "query"
 
 abbrev pub help_word : Text
 help_word = codes "help"
@@ -55,6 +69,12 @@ compare_app =
 abbrev pub canon_version_app : App
 canon_version_app = with_rule (new_app canon_version_word) (required_rule (codes "version"))
 
+-- `query --arch A [--profiles P,P] RELATION [PATH]`
+abbrev pub query_app : App
+query_app =
+    with_rule (with_rule (with_rule (with_rule (new_app query_word) arch_rule) profiles_rule)
+    (required_rule (codes "relation"))) (optional_rule (codes "path"))
+
 -- `help [COMMAND]`
 abbrev pub help_app : App
 help_app = with_rule (new_app help_word) (optional_rule (codes "command"))
@@ -70,8 +90,9 @@ bare_app =
 abbrev pub debctl_app : App
 debctl_app =
     with_subcommand (with_subcommand (with_subcommand (with_subcommand (with_subcommand
-    (with_subcommand bare_app (document_app check_word).top) (document_app normalise_word).top)
-    same_app.top) compare_app.top) canon_version_app.top) help_app.top
+    (with_subcommand (with_subcommand bare_app (document_app check_word).top)
+    (document_app normalise_word).top) same_app.top) compare_app.top) canon_version_app.top)
+    query_app.top) help_app.top
 
 -- the command is what `clap` reads so, and none of its arguments is global
 pub record IsShaped (app : App) (command : Command) : Type 0 where

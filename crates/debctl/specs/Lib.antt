@@ -2,6 +2,7 @@ pub mod Asked
 pub mod AskedCases
 pub mod Commands
 pub mod DocumentJobs
+pub mod QueryJob
 pub mod Running
 pub mod SameJob
 pub mod Telling

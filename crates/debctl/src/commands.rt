@@ -2,7 +2,7 @@
 
 ghost use Rattle.std.specs.Prelude.{◌≡◌, IfOk, false};
 ghost use Rattle.clap.specs.Words.{rule_of};
-ghost use Rattle.debctl.specs.Commands.{bare_app, canon_version_app, check_word, normalise_word, compare_app, debctl_app, document_app, help_app, kind_rule, optional_rule, required_rule, same_app, IsShaped};
+ghost use Rattle.debctl.specs.Commands.{arch_rule, bare_app, canon_version_app, check_word, normalise_word, compare_app, debctl_app, document_app, help_app, kind_rule, optional_rule, profiles_rule, query_app, required_rule, same_app, IsShaped};
 
 use clap::{Arg, Command};
 use std::alloc::{AllocError, Global};
@@ -10,10 +10,10 @@ use std::alloc::{AllocError, Global};
 const DEBCTL_HELP: &str = "\
 Statuses:
   0  done, or the answer is yes
-  1  the answer is no
-  2  a file or a version is refused: standard error has `line N: CODE NAME`,
-     with line 0 for a word of the command line, and by `same` with `first: `
-     or `second: ` before it
+  1  the answer is no; by `query`: a group of the relation is unmet
+  2  a file, a version, a relation, an architecture or a profile is refused:
+     standard error has `line N: CODE NAME`, with line 0 for a word of the
+     command line, and by `same` with `first: ` or `second: ` before it
   3  a word is wrong, memory is wanting, or a read or a write failed
 
 A version or a path that begins with a hyphen comes after `--`:
@@ -109,6 +109,44 @@ A version that begins with a hyphen comes after `--`:
   $ debctl canon-version -- -1-1
   -1-1";
 
+const QUERY_HELP: &str = "\
+For each group of the relation (what stands between its commas), in byte order,
+one line is printed:
+  met GROUP      a package of the index meets it
+  unmet GROUP    no package does
+  ignored GROUP  nothing of it applies to the architecture and the profiles
+Below a line `met GROUP`, each package that meets it has a line
+` NUMBER PACKAGE VERSION ARCHITECTURE`, with its place in the index, from 1.
+
+Statuses:
+  0  no group is unmet
+  1  a group is unmet
+  2  a word or the index is refused, or the relation has a wildcard in an
+     architecture list: standard error has `line N: CODE NAME`, with line 0 for
+     what isn't of the index, and nothing is printed
+  3  a word is wrong, memory is wanting, or a read or a write failed
+
+Example: is this build dependency met by this index?
+  $ printf 'Package: gcc\\nVersion: 12.2\\nArchitecture: amd64\\n' > index
+  $ debctl query --arch amd64 'gcc (>= 12), make' index; echo $?
+  met gcc (>= 12)
+   1 gcc 12.2 amd64
+  unmet make
+  1
+
+Which packages have this name, or provide it?
+  $ printf 'Provides: c-compiler\\n\\nPackage: tcc\\nVersion: 0.9\\n' >> index
+  $ printf 'Architecture: amd64\\nProvides: c-compiler\\n' >> index
+  $ debctl query --arch amd64 c-compiler index
+  met c-compiler
+   1 gcc 12.2 amd64
+   2 tcc 0.9 amd64";
+
+const ARCH_HELP: &str = "The architecture that packages are asked for, such as amd64";
+
+const PROFILES_HELP: &str =
+    "The build profiles that are active, with commas between them; none without it";
+
 /// The program: `debctl`, with a command for each job, and `help`.
 pub(crate) fn debctl_command<'a>(alloc: Global) -> Result<Command<'a>, AllocError>
     ensures { IfOk result (IsShaped debctl_app) }
@@ -119,6 +157,7 @@ pub(crate) fn debctl_command<'a>(alloc: Global) -> Result<Command<'a>, AllocErro
         .subcommand(same_command(alloc)?)?
         .subcommand(compare_command(alloc)?)?
         .subcommand(canon_version_command(alloc)?)?
+        .subcommand(query_command(alloc)?)?
         .subcommand(help_command(alloc)?)
 }
 
@@ -128,7 +167,7 @@ fn bare_command<'a>(alloc: Global) -> Command<'a>
 {
     Command::new(alloc, "debctl")
         .version("0.1.0")
-        .about("Checks, normalises and compares Debian control data, and compares versions")
+        .about("Checks, normalises, compares and queries Debian control data and versions")
         .after_help(DEBCTL_HELP)
         .subcommand_required(true)
         .disable_help_subcommand(true)
@@ -213,6 +252,29 @@ pub(crate) fn canon_version_command<'a>(alloc: Global) -> Result<Command<'a>, Al
         .arg(required_word(alloc, "version", "V", "A version"))
 }
 
+/// `query --arch A [--profiles P,P] RELATION [PATH]`
+pub(crate) fn query_command<'a>(alloc: Global) -> Result<Command<'a>, AllocError>
+    ensures { IfOk result (IsShaped query_app) }
+{
+    Command::new(alloc, "query")
+        .about("Says which packages of an index meet a relation")
+        .after_help(QUERY_HELP)
+        .arg(arch_option(alloc))?
+        .arg(profiles_option(alloc))?
+        .arg(required_word(
+            alloc,
+            "relation",
+            "RELATION",
+            "The relation, as it stands in Depends or Build-Depends",
+        ))?
+        .arg(optional_word(
+            alloc,
+            "path",
+            "PATH",
+            "The index, a list of packages; without it standard input is read",
+        ))
+}
+
 /// `help [COMMAND]`
 pub(crate) fn help_command<'a>(alloc: Global) -> Result<Command<'a>, AllocError>
     ensures { IfOk result (IsShaped help_app) }
@@ -236,6 +298,29 @@ fn kind_option<'a>(alloc: Global) -> Arg<'a>
         .long("kind")
         .value_name("K")
         .help(KIND_HELP)
+}
+
+/// `--arch A`
+fn arch_option<'a>(alloc: Global) -> Arg<'a>
+    ensures rule { rule_of result ≡ arch_rule }
+    ensures local { result.global ≡ false }
+{
+    Arg::new(alloc, "arch")
+        .long("arch")
+        .value_name("A")
+        .help(ARCH_HELP)
+        .required(true)
+}
+
+/// `--profiles P,P`
+fn profiles_option<'a>(alloc: Global) -> Arg<'a>
+    ensures rule { rule_of result ≡ profiles_rule }
+    ensures local { result.global ≡ false }
+{
+    Arg::new(alloc, "profiles")
+        .long("profiles")
+        .value_name("P,P")
+        .help(PROFILES_HELP)
 }
 
 fn optional_word<'a>(alloc: Global, id: &'a str, shown: &'a str, help: &'a str) -> Arg<'a>

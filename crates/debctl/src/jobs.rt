@@ -32,12 +32,19 @@ pub enum Job {
     Compare(String, Cmp, String),
     /// `canon-version`: write the canonical text of a version.
     CanonVersion(String),
+    /// `query`: tell which packages of an index meet a relation, for an architecture and the build
+    /// profiles that are active.
+    Query {
+        arch: String,
+        profiles: Vec<String>,
+        relation: String,
+    },
 }
 
 /// A command and the paths of the files that it reads.
 ///
-/// Where `check` or `normalise` has no path, the file is standard input. `same` has both paths, and
-/// no other job has a second one.
+/// Where `check`, `normalise` or `query` has no path, the file is standard input. `same` has both
+/// paths, and no other job has a second one.
 #[derive(Debug, PartialEq, Eq, Drop)]
 pub struct Call {
     pub job: Job,

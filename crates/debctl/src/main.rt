@@ -21,6 +21,7 @@ mod commands;
 mod document_jobs;
 pub mod jobs;
 mod kind_word;
+mod query_job;
 mod run;
 mod same_job;
 mod streams;

@@ -5,6 +5,7 @@ ghost use Rattle.debctl.specs.Running.{Done, IfSecondUnread, IfUnread, IsRefused
 
 use crate::document_jobs::{run_check, run_normalise};
 use crate::jobs::Job;
+use crate::query_job::run_query;
 use crate::same_job::run_same;
 use crate::version_jobs::{run_canon_version, run_compare};
 use deb_base::{Sink, Source};
@@ -12,15 +13,15 @@ use std::alloc::Global;
 
 /// Does a job over readers and writers, tells on `err` why it wasn't done, and answers the status.
 ///
-/// `check` and `normalise` read `first`, and `same` reads both; a reader that a job doesn't use is
-/// left as it was.
+/// `check`, `normalise` and `query` read `first`, and `same` reads both; a reader that a job doesn't
+/// use is left as it was.
 ///
 /// - 0: done, or the answer is yes. `out` has `ok N` and a newline, the canonical text of the file,
-///   `same` and a newline, nothing, or the canonical version and a newline. Nothing was written on
-///   `err`.
-/// - 1: the answer of `same` or `compare` is no. By `same`, `out` has `different` and a newline;
-///   nothing else was written.
-/// - 2: a file or a version is refused. `err` has the refusal's line, by `same` with `first: ` or
+///   `same` and a newline, nothing, the canonical version and a newline, or the report. Nothing was
+///   written on `err`.
+/// - 1: the answer of `same` or `compare` is no, or by `query` some group is unmet. By `same`, `out`
+///   has `different` and a newline, by `query` the report; nothing else was written.
+/// - 2: a file or a word is refused. `err` has the refusal's line, by `same` with `first: ` or
 ///   `second: ` before it, and `out` nothing but, by `normalise`, the canonical text of the
 ///   paragraphs before the first that fails.
 /// - 3: memory was wanting, a read failed, or a write failed. `err` has `fault: memory`,
@@ -65,5 +66,18 @@ pub fn run<R: Source, S: Source, W: Sink, E: Sink>(
             run_compare(alloc, left.as_str(), *operator, right.as_str(), err)
         }
         Job::CanonVersion(version) => run_canon_version(alloc, version.as_str(), out, err),
+        Job::Query {
+            arch,
+            profiles,
+            relation,
+        } => run_query(
+            alloc,
+            arch.as_str(),
+            profiles,
+            relation.as_str(),
+            first,
+            out,
+            err,
+        ),
     }
 }

@@ -105,6 +105,11 @@ pub(crate) enum Asks {
     Same(Doc),
     Compare(&'static str, Cmp, &'static str),
     CanonVersion(&'static str),
+    Query(
+        &'static str,
+        &'static [&'static str],
+        &'static str,
+    ),
 }
 
 impl Asks {
@@ -119,6 +124,17 @@ impl Asks {
                 Job::Compare(left, operator, right)
             }
             Asks::CanonVersion(version) => Job::CanonVersion(String::from_str(alloc, version)?),
+            Asks::Query(arch, names, relation) => {
+                let mut profiles = Vec::new(alloc);
+                for name in names {
+                    profiles.push(String::from_str(alloc, name)?)?;
+                }
+                Job::Query {
+                    arch: String::from_str(alloc, arch)?,
+                    profiles,
+                    relation: String::from_str(alloc, relation)?,
+                }
+            }
         })
     }
 }
@@ -212,4 +228,5 @@ fn run_rows<T: Abort + AllocGlobal>(rt: &T, rows: &[Row]) -> Result<(), Fail> {
 
 mod files;
 mod pairs;
+mod queries;
 mod versions;

@@ -2,12 +2,12 @@
 
 ghost use Rattle.std.specs.Prelude.{◌≡◌, [], Some, None, map, true, codes, string_bytes, option_map, IfOk, IfErr, option_copied};
 ghost use Rattle.clap.specs.Words.{fault_of, first_of, found_of, has_subcommand, kind_of, rows_of, subcommand_rows_of, takes};
-ghost use Rattle.debctl.specs.Asked.{asked_by, asked_in, asked_of, asks, canon_version_asked, checks, compare_asked, document_asked, help_asked, kind_asked, normalises, request_of, same_asked, word_in, Answers, AnswersError, AnswersMet, IsHelp, MeansError, MeansKind, Request, TellsKind, UsesText};
+ghost use Rattle.debctl.specs.Asked.{asked_by, asked_in, asked_of, asks, canon_version_asked, checks, comma_pieces, compare_asked, document_asked, help_asked, kind_asked, normalises, profiles_asked, query_asked, request_of, same_asked, word_in, Answers, AnswersError, AnswersMet, IsHelp, MeansError, MeansKind, Request, TellsKind, UsesText};
 ghost use Rattle.debctl.specs.Commands.{debctl_app};
 
 use crate::commands::{
     canon_version_command, check_command, compare_command, debctl_command, help_command,
-    normalise_command, same_command,
+    normalise_command, query_command, same_command,
 };
 use crate::jobs::{Call, Job};
 use crate::kind_word::{kind_named, operator_named};
@@ -43,8 +43,12 @@ impl From<AllocError> for UsageFault {
 /// The call that the program's words ask for; the first word is the program's name.
 ///
 /// `check [--kind K] [PATH]`, `normalise [--kind K] [PATH]`, `same [--kind K] PATH PATH`,
-/// `compare V OP V` and `canon-version V` ask for a call. `help [COMMAND]` asks for help, and so do
-/// `--help` and `--version`.
+/// `compare V OP V`, `canon-version V` and `query --arch A [--profiles P,P] RELATION [PATH]` ask
+/// for a call. `help [COMMAND]` asks for help, and so do `--help` and `--version`.
+///
+/// The profiles of `query` are what stands between the commas of its P,P; without it there are
+/// none. Of a version, an architecture, a profile and a relation any text is taken: whether it is
+/// one is judged by the job.
 ///
 /// - `UsageFault::Usage`: a word is wrong, or one is missing. Of a K, an OP or a COMMAND that isn't
 ///   known the text is `usage: unknown kind`, `usage: unknown operator` or
@@ -119,6 +123,7 @@ fn call_by(alloc: Global, name: &str, found: &ArgMatches<'_>) -> Result<Call, Us
         "same" => same_call(alloc, found),
         "compare" => compare_call(alloc, found),
         "canon-version" => canon_version_call(alloc, found),
+        "query" => query_call(alloc, found),
         _ => Err(help_on(alloc, given(found, "command"))),
     }
 }
@@ -184,6 +189,23 @@ fn canon_version_call(alloc: Global, found: &ArgMatches<'_>) -> Result<Call, Usa
     })
 }
 
+fn query_call(alloc: Global, found: &ArgMatches<'_>) -> Result<Call, UsageFault>
+    ensures { Answers (query_asked (rows_of (found_of found.now))) result }
+{
+    let arch = String::from_str(alloc, word_in(found, "arch"))?;
+    let profiles = profiles_in(alloc, found)?;
+    let relation = String::from_str(alloc, word_in(found, "relation"))?;
+    Ok(Call {
+        job: Job::Query {
+            arch,
+            profiles,
+            relation,
+        },
+        first: path_in(alloc, found)?,
+        second: None,
+    })
+}
+
 /// The kind of document that `--kind` names, or a list of packages without it.
 fn kind_in(alloc: Global, found: &ArgMatches<'_>) -> Result<Doc, UsageFault>
     ensures { MeansKind (kind_asked (first_of (codes "kind") (rows_of (found_of found.now))))
@@ -196,6 +218,29 @@ fn kind_in(alloc: Global, found: &ArgMatches<'_>) -> Result<Doc, UsageFault>
         Some(kind) => Ok(kind),
         None => Err(usage(alloc, "usage: unknown kind")),
     }
+}
+
+/// The profiles that `--profiles` names, or none without it.
+fn profiles_in(alloc: Global, found: &ArgMatches<'_>) -> Result<Vec<String>, AllocError>
+    ensures { IfOk result
+        (λ profiles. map string_bytes profiles.items
+        ≡ profiles_asked (first_of (codes "profiles") (rows_of (found_of found.now)))) }
+{
+    match given(found, "profiles") {
+        Some(names) => comma_pieces(alloc, names),
+        None => Ok(Vec::new(alloc)),
+    }
+}
+
+/// What stands between the commas of a text.
+fn comma_pieces(alloc: Global, text: &str) -> Result<Vec<String>, AllocError>
+    ensures { IfOk result (λ pieces. map string_bytes pieces.items ≡ comma_pieces text.now) }
+{
+    let mut pieces = Vec::new(alloc);
+    for piece in text.split(',') {
+        pieces.push(String::from_str(alloc, piece)?)?;
+    }
+    Ok(pieces)
 }
 
 /// The path among the words, if there is one.
@@ -242,6 +287,7 @@ fn help_on(alloc: Global, word: Option<&str>) -> UsageFault
             canon_version_command(alloc),
             "debctl canon-version",
         ),
+        Some("query") => help_of(alloc, query_command(alloc), "debctl query"),
         Some("help") => help_of(alloc, help_command(alloc), "debctl help"),
         Some(_) => usage(alloc, "usage: unknown command"),
     }

@@ -5,12 +5,17 @@ use std::test::Fail;
 
 /// The words of a command line, the program's name first.
 fn words_of(alloc: Global, line: &[&str]) -> Result<Vec<String>, AllocError> {
-    let mut words = Vec::new(alloc);
-    words.push(String::from_str(alloc, "debctl")?)?;
-    for word in line {
-        words.push(String::from_str(alloc, word)?)?;
-    }
+    let mut words = strings_of(alloc, line)?;
+    words.insert(0, String::from_str(alloc, "debctl")?)?;
     Ok(words)
+}
+
+fn strings_of(alloc: Global, texts: &[&str]) -> Result<Vec<String>, AllocError> {
+    let mut strings = Vec::new(alloc);
+    for text in texts {
+        strings.push(String::from_str(alloc, text)?)?;
+    }
+    Ok(strings)
 }
 
 fn answer_to(alloc: Global, line: &[&str]) -> Result<Call, UsageFault> {
@@ -149,6 +154,55 @@ fn words_that_ask_for_a_call(rt: HostRuntime) -> Result<(), Fail> {
     Ok(())
 }
 
+/// A query of `aa` for amd64.
+fn query_of_aa(alloc: Global, profiles: &[&str], paths: &[&str]) -> Result<Call, AllocError> {
+    Ok(Call {
+        job: Job::Query {
+            arch: String::from_str(alloc, "amd64")?,
+            profiles: strings_of(alloc, profiles)?,
+            relation: String::from_str(alloc, "aa")?,
+        },
+        first: path_at(alloc, paths, 0)?,
+        second: None,
+    })
+}
+
+#[test]
+fn words_that_ask_for_a_query(rt: HostRuntime) -> Result<(), Fail> {
+    let alloc = rt.alloc();
+    // The words, the profiles and the path.
+    let rows: [(&'static [&'static str], &'static [&'static str], &'static [&'static str]); 7] = [
+        (
+            &["query", "--arch", "amd64", "--profiles", "a,b", "aa", "x"],
+            &["a", "b"],
+            &["x"],
+        ),
+        (&["query", "--arch", "amd64", "aa", "x"], &[], &["x"]),
+        (
+            &["query", "--arch", "amd64", "--profiles", "", "aa", "x"],
+            &[""],
+            &["x"],
+        ),
+        (
+            &["query", "--arch", "amd64", "--profiles", "a,,x", "aa", "x"],
+            &["a", "", "x"],
+            &["x"],
+        ),
+        (&["query", "--arch", "amd64", "aa"], &[], &[]),
+        (
+            &["query", "aa", "x", "--profiles=,b c", "--arch=amd64"],
+            &["", "b c"],
+            &["x"],
+        ),
+        (&["query", "--arch", "amd64", "--", "aa", "--"], &[], &["--"]),
+    ];
+    for (line, profiles, paths) in rows {
+        let call = query_of_aa(alloc, profiles, paths)?;
+        assert_eq!(rt; answer_to(alloc, line), Ok(call), "{line:?}");
+    }
+    Ok(())
+}
+
 #[test]
 fn words_that_are_not_known(rt: HostRuntime) -> Result<(), Fail> {
     let rows: [(&[&str], &str); 11] = [
@@ -161,7 +215,7 @@ fn words_that_are_not_known(rt: HostRuntime) -> Result<(), Fail> {
         (&["compare", "1", "", "2"], "usage: unknown operator"),
         (&["compare", "1_", "LT", "2"], "usage: unknown operator"),
         (&["same", "--kind", "foo", "x", "y"], "usage: unknown kind"),
-        (&["help", "query"], "usage: unknown command"),
+        (&["help", "frob"], "usage: unknown command"),
         (&["help", ""], "usage: unknown command"),
     ];
     for (line, text) in rows {
@@ -175,7 +229,7 @@ fn words_that_are_not_known(rt: HostRuntime) -> Result<(), Fail> {
 
 #[test]
 fn words_that_are_refused(rt: HostRuntime) -> Result<(), Fail> {
-    let rows: [(&[&str], &str); 18] = [
+    let rows: [(&[&str], &str); 22] = [
         (&[], "requires a subcommand"),
         (&["frob"], "unrecognized subcommand 'frob'"),
         (
@@ -203,6 +257,19 @@ fn words_that_are_refused(rt: HostRuntime) -> Result<(), Fail> {
         (&["compare", "-1", "lt", "2"], "unexpected argument '-1'"),
         (&["canon-version"], "required arguments were not provided"),
         (&["help", "check", "x"], "unexpected argument 'x'"),
+        (&["query", "aa"], "required arguments were not provided"),
+        (
+            &["query", "--arch", "amd64"],
+            "required arguments were not provided",
+        ),
+        (
+            &["query", "--arch", "amd64", "--arch", "i386", "aa"],
+            "cannot be used multiple times",
+        ),
+        (
+            &["query", "--arch", "amd64", "aa", "x", "y"],
+            "unexpected argument 'y'",
+        ),
     ];
     for (line, part) in rows {
         match answer_to(rt.alloc(), line) {
@@ -230,7 +297,14 @@ fn words_that_ask_for_help(rt: HostRuntime) -> Result<(), Fail> {
     assert_eq!(rt; version.as_str(), "debctl 0.1.0");
     let whole = help_text_of(alloc, &["--help"])?;
     assert_eq!(rt; help_text_of(alloc, &["help"])?, whole);
-    let commands = ["check", "normalise", "same", "compare", "canon-version"];
+    let commands = [
+        "check",
+        "normalise",
+        "same",
+        "compare",
+        "canon-version",
+        "query",
+    ];
     for command in commands {
         assert!(rt; whole.as_str().contains(command), "{command}");
         let help = help_text_of(alloc, &["help", command])?;

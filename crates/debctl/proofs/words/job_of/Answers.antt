@@ -1,12 +1,12 @@
 use Rattle.std.proofs.Common.{◌≡◌, ◌∙◌, ap, map, [], string_bytes, sym, subst}
-use Rattle.clap.specs.Simple.{app_of, is_simple, subcommand_of}
+use Rattle.clap.specs.Simple.{app_of, is_simple}
 use Rattle.clap.specs.Faults.{fault_of, is_simple_and_free}
 use Rattle.clap.specs.Kinds.{HasKind}
 use Rattle.clap.specs.Takes.{takes}
 use Rattle.clap.specs.Words.{kind_of, subcommand_rows_of}
-use Rattle.debctl.specs.Asked.{asked_in, asked_of, AnswersMet}
+use Rattle.debctl.specs.Asked.{asked_of}
 use Rattle.debctl.specs.Commands.{debctl_app}
-use Rattle.debctl.proofs.Answering.{is_simple_app, is_free_app, is_taken, taken_means, on_any_call, app_unmixed, kind_means, memory_is_told}
+use Rattle.debctl.proofs.Answering.{is_simple_app, is_free_app, is_taken, taken_means, words_are_answered, call_is_asked, asked_is_met, on_any_call, app_unmixed, kind_means, memory_is_told}
 use Rattle.debctl.proofs.words.job_of.Goals as goal
 
 pub returns-in-Ok-clause-faultless : goal.returns-in-Ok-clause-faultless
@@ -23,8 +23,17 @@ pub returns-in-Ok-clause-refused : goal.returns-in-Ok-clause-refused
 returns-in-Ok-clause-refused c =
     let is : app_of c.in_ok-command.command ≡ debctl_app = c.in_ok-command.ensures.is in
     let none : fault_of debctl_app (map string_bytes c.args.words.now) ≡ [] = ap (λ a. fault_of a (map string_bytes c.args.words.now)) (sym is) ∙ c.in-Ok.ensures.kinds (ap is_simple_and_free is ∙ is_free_app) in
-    let met : asked_in (subcommand_rows_of c.in-Ok.matches) ≡ asked_of (map string_bytes c.args.words.now) = ap asked_in ((c.in-Ok.ensures.matches (ap is_simple is ∙ is_simple_app)).1 ∙ ap (λ a. subcommand_of a (map string_bytes c.args.words.now)) is) in
-    taken_means _ _ c.call_of.result none (subst (λ asked. AnswersMet asked c.call_of.result) met c.call_of.ensures)
+    taken_means _ _ c.call_of.result none (words_are_answered (app_of c.in_ok-command.command) (map string_bytes c.args.words.now) (subcommand_rows_of c.in-Ok.matches) c.call_of.result is (c.in-Ok.ensures.matches (ap is_simple is ∙ is_simple_app)).1 c.call_of.ensures)
+
+pub returns-in-Ok-clause-ok : goal.returns-in-Ok-clause-ok
+returns-in-Ok-clause-ok c =
+    let is : app_of c.in_ok-command.command ≡ debctl_app = c.in_ok-command.ensures.is in
+    call_is_asked (asked_of (map string_bytes c.args.words.now)) c.call_of.result (words_are_answered (app_of c.in_ok-command.command) (map string_bytes c.args.words.now) (subcommand_rows_of c.in-Ok.matches) c.call_of.result is (c.in-Ok.ensures.matches (ap is_simple is ∙ is_simple_app)).1 c.call_of.ensures)
+
+pub returns-in-Ok-clause-accepted : goal.returns-in-Ok-clause-accepted
+returns-in-Ok-clause-accepted c taken request asked =
+    let is : app_of c.in_ok-command.command ≡ debctl_app = c.in_ok-command.ensures.is in
+    asked_is_met (asked_of (map string_bytes c.args.words.now)) request c.call_of.result (words_are_answered (app_of c.in_ok-command.command) (map string_bytes c.args.words.now) (subcommand_rows_of c.in-Ok.matches) c.call_of.result is (c.in-Ok.ensures.matches (ap is_simple is ∙ is_simple_app)).1 c.call_of.ensures) asked
 
 pub returns-in-Err-clause-refused : goal.returns-in-Err-clause-refused
 returns-in-Err-clause-refused c =

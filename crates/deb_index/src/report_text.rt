@@ -1,0 +1,116 @@
+//! The text of a report.
+
+ghost use Rattle.std.specs.Prelude.{◌≡◌, IfErr};
+ghost use Rattle.std.specs.List.{flat_map};
+ghost use Rattle.deb_base.specs.Devices.{write_failures_after, Puts, TellsWrites};
+ghost use Rattle.deb_index.specs.ReportText.{answer_text, group_line, package_line, report_text, verdict_word};
+ghost use Rattle.deb_index.specs.Told.{answer_of, found_of, report_of};
+
+use crate::report::{Answer, Found, Report};
+use crate::verdict::Verdict;
+use deb_base::{Fault, Sink, put_pieces};
+use itoa::Buffer;
+
+impl Report<'_> {
+    /// Writes the report, without memory: for each group a line with its verdict and its canonical
+    /// text, as `met aa | bb`, `unmet cc` or `ignored dd [i386]`; behind that of a met group a line
+    /// for each package that meets it, as ` 2 aa 1.0 all`: its number, name, canonical version and
+    /// architecture.
+    ///
+    /// # Errors
+    ///
+    /// `Fault::Write` alone: a write failed in this call, and a prefix of the report was written
+    /// before it.
+    pub fn write<W: Sink>(&self, out: &mut W) -> Result<(), Fault>
+        ensures written { Puts (W.held out.old) (W.held out.new) result
+            (report_text (report_of self.now)) }
+        ensures fault { IfErr result (λ fault. fault ≡ Fault.Write) }
+        ensures counted { W.failures out.new ≡ write_failures_after (W.failures out.old) result }
+        ensures told { TellsWrites (W.failures out.old) (W.failures out.new) result }
+    {
+        write_answers(&self.answers, out)
+    }
+}
+
+fn write_answers<W: Sink>(answers: &[Answer<'_>], out: &mut W) -> Result<(), Fault>
+    ensures written { Puts (W.held out.old) (W.held out.new) result
+        (flat_map (λ told. answer_text (answer_of told)) answers.now) }
+    ensures fault { IfErr result (λ fault. fault ≡ Fault.Write) }
+    ensures counted { W.failures out.new ≡ write_failures_after (W.failures out.old) result }
+{
+    for answer in answers {
+        write_answer(answer, out)?;
+    }
+    Ok(())
+}
+
+#[tactic(auto, using(deb_base::proofs::Writes::put_steps))]
+fn write_answer<W: Sink>(answer: &Answer<'_>, out: &mut W) -> Result<(), Fault>
+    ensures written { Puts (W.held out.old) (W.held out.new) result
+        (answer_text (answer_of answer.now)) }
+    ensures fault { IfErr result (λ fault. fault ≡ Fault.Write) }
+    ensures counted { W.failures out.new ≡ write_failures_after (W.failures out.old) result }
+{
+    write_group(answer, out)?;
+    write_packages(&answer.packages, out)
+}
+
+/// Writes the line of a group.
+fn write_group<W: Sink>(answer: &Answer<'_>, out: &mut W) -> Result<(), Fault>
+    ensures written { Puts (W.held out.old) (W.held out.new) result
+        (group_line (answer_of answer.now)) }
+    ensures fault { IfErr result (λ fault. fault ≡ Fault.Write) }
+    ensures counted { W.failures out.new ≡ write_failures_after (W.failures out.old) result }
+{
+    put_pieces(
+        out,
+        &[verdict_word(&answer.verdict), b" ", answer.text(), b"\n"],
+    )
+}
+
+fn write_packages<W: Sink>(packages: &[Found<'_>], out: &mut W) -> Result<(), Fault>
+    ensures written { Puts (W.held out.old) (W.held out.new) result
+        (flat_map (λ found. package_line (found_of found)) packages.now) }
+    ensures fault { IfErr result (λ fault. fault ≡ Fault.Write) }
+    ensures counted { W.failures out.new ≡ write_failures_after (W.failures out.old) result }
+{
+    for found in packages {
+        write_package(found, out)?;
+    }
+    Ok(())
+}
+
+/// Writes the line of a package.
+fn write_package<W: Sink>(found: &Found<'_>, out: &mut W) -> Result<(), Fault>
+    ensures written { Puts (W.held out.old) (W.held out.new) result
+        (package_line (found_of found.now)) }
+    ensures fault { IfErr result (λ fault. fault ≡ Fault.Write) }
+    ensures counted { W.failures out.new ≡ write_failures_after (W.failures out.old) result }
+{
+    let mut number = Buffer::new();
+    let package = found.package;
+    put_pieces(
+        out,
+        &[
+            b" ",
+            number.format(found.number).as_bytes(),
+            b" ",
+            package.name(),
+            b" ",
+            package.version(),
+            b" ",
+            package.architecture(),
+            b"\n",
+        ],
+    )
+}
+
+fn verdict_word(verdict: &Verdict) -> &[u8]
+    ensures { result.now ≡ verdict_word verdict.now }
+{
+    match verdict {
+        Verdict::Ignored => b"ignored",
+        Verdict::Met => b"met",
+        Verdict::Unmet => b"unmet",
+    }
+}
