@@ -51,6 +51,10 @@ environment_refused q left count held failures out fault relation spelled is =
     words_refused q left count held failures out fault
     (or_memory (λ refusal refused. inr (record { relation = relation; spelled = spelled; bad = refused.0; is = refused.1 })) fault is)
 
+-- the words are good
+abbrev pub good_words : (q : Question) (relation : Relation) → SpellsRelation q.relation relation → IsTrue (has_environment q) → IsGood q
+good_words q relation spelled environment = record { relation = relation; spelled = spelled; environment = environment }
+
 -- a fault of the index: nothing was written
 pub index_refused : {W : Type 0} (q : Question) (left : Option (List ℕ)) (count count_after : ℕ) (held : W → Option (List ℕ)) (failures : W → ℕ) (out : W) (fault : Fault)
     → IsGood q → ((text : List ℕ) → left ≡ Some text → IfRefused {T = Index} (Err fault) (λ refusal. refusal_of Packages text ≡ Some refusal)) → IsReadersFault fault IsRefusalOfDocument
