@@ -105,11 +105,7 @@ pub(crate) enum Asks {
     Same(Doc),
     Compare(&'static str, Cmp, &'static str),
     CanonVersion(&'static str),
-    Query(
-        &'static str,
-        &'static [&'static str],
-        &'static str,
-    ),
+    Query(&'static str, &'static [&'static str], &'static str),
 }
 
 impl Asks {

@@ -23,11 +23,7 @@ const ROWS: [(&[u8], &[u8], &[u8]); 7] = [
     ),
     (HELLO, b"ww", b"unmet ww\n"),
     (HELLO, b"vv(=2)", b"unmet vv (= 2)\n"),
-    (
-        HELLO,
-        b"vv (= 2.0)",
-        b"met vv (= 2.0)\n 2 world 1.0 all\n",
-    ),
+    (HELLO, b"vv (= 2.0)", b"met vv (= 2.0)\n 2 world 1.0 all\n"),
     (HELLO, b"", b""),
     (
         AA,

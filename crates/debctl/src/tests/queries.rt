@@ -20,11 +20,7 @@ const MET: Row = Row {
 
 const UNMET: Row = Row {
     name: "groups in the order of their texts",
-    asks: Asks::Query(
-        "amd64",
-        PROFILES,
-        "dd, aa:any, cc <!nocheck>, bb [!amd64]",
-    ),
+    asks: Asks::Query("amd64", PROFILES, "dd, aa:any, cc <!nocheck>, bb [!amd64]"),
     first: AA,
     status: 1,
     written: b"met aa:any\n 2 aa 2 i386\nignored bb [!amd64]\nignored cc <!nocheck>\nunmet dd\n",

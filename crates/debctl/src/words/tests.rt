@@ -171,7 +171,11 @@ fn query_of_aa(alloc: Global, profiles: &[&str], paths: &[&str]) -> Result<Call,
 fn words_that_ask_for_a_query(rt: HostRuntime) -> Result<(), Fail> {
     let alloc = rt.alloc();
     // The words, the profiles and the path.
-    let rows: [(&'static [&'static str], &'static [&'static str], &'static [&'static str]); 7] = [
+    let rows: [(
+        &'static [&'static str],
+        &'static [&'static str],
+        &'static [&'static str],
+    ); 7] = [
         (
             &["query", "--arch", "amd64", "--profiles", "a,b", "aa", "x"],
             &["a", "b"],
@@ -194,7 +198,11 @@ fn words_that_ask_for_a_query(rt: HostRuntime) -> Result<(), Fail> {
             &["", "b c"],
             &["x"],
         ),
-        (&["query", "--arch", "amd64", "--", "aa", "--"], &[], &["--"]),
+        (
+            &["query", "--arch", "amd64", "--", "aa", "--"],
+            &[],
+            &["--"],
+        ),
     ];
     for (line, profiles, paths) in rows {
         let call = query_of_aa(alloc, profiles, paths)?;

@@ -6,6 +6,6 @@ use Rattle.debctl.proofs.words.comma_pieces.Goals as goal
 pub returns : goal.returns
 returns c =
     let begins = YieldsList-from_str_split {s = c.into_iter-piece-iterator.result} 44 c.args.text.now (lit< tt) (rw c.into_iter-piece-iterator.ensures.into_iter_gives c.split-piece-items.ensures.text)
-        (rw c.into_iter-piece-iterator.ensures.into_iter_gives c.split-piece-items.ensures.has_more) (rw c.into_iter-piece-iterator.ensures.into_iter_gives c.split-piece-items.ensures.pattern) in
+    (rw c.into_iter-piece-iterator.ensures.into_iter_gives c.split-piece-items.ensures.has_more) (rw c.into_iter-piece-iterator.ensures.into_iter_gives c.split-piece-items.ensures.pattern) in
     let all = YieldsList-end begins c.loop-piece.yielded _ c.loop-piece.yielded_by _ _ c.in-None.is c.next.ensures.steps in
     c.loop-piece.invariant ∙ all.0
