@@ -4,9 +4,9 @@ use Rattle.std.specs.Io.KnownBytes.{Appends}
 use Rattle.deb_base.specs.Lines.{refusal_line}
 use Rattle.debctl.specs.Running.{IsRefused}
 use Rattle.debctl.specs.VersionJobs.{bad_version, IsNoVersion}
-use Rattle.debctl.specs.declared.jobs.Cmp.{Cmp}
-use Rattle.debctl.specs.declared.jobs.Job.{Job}
-use Rattle.debctl.specs.declared.jobs.Job.TheVariants.{Compare, CanonVersion}
+use Rattle.debctl_words.specs.declared.jobs.Cmp.{Cmp}
+use Rattle.debctl_words.specs.declared.jobs.Job.{Job}
+use Rattle.debctl_words.specs.declared.jobs.Job.TheVariants.{Compare, CanonVersion}
 
 pub compare_refused : {W : Type 0} (job : Job) (former latter : String Global) (operator : Cmp) → job ≡ Compare former operator latter
     → (left other : Option (List ℕ)) (held : W → Option (List ℕ)) (out : W) (err err_after : Option (List ℕ)) (first second : List ℕ) → first ≡ string_bytes former → second ≡ string_bytes latter

@@ -1,10 +1,6 @@
-pub mod Shapes
-pub mod Answering
-pub mod VersionTelling
-pub mod TakenWords
-pub mod UnmixedKinds
-pub mod Telling
 pub mod DocumentTelling
 pub mod JobRefusals
-pub mod SameTelling
 pub mod QueryTelling
+pub mod SameTelling
+pub mod Telling
+pub mod VersionTelling

@@ -1,6 +1,3 @@
-pub mod Asked
-pub mod AskedCases
-pub mod Commands
 pub mod DocumentJobs
 pub mod QueryJob
 pub mod Running

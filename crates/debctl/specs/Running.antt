@@ -12,8 +12,8 @@ use Rattle.debctl.specs.QueryJob.{QueriesFile, Question, TellsQueryRefusal, Writ
 use Rattle.debctl.specs.SameJob.{ComparesFiles, TellsComparison, TellsRefusedSide, WritesSame}
 use Rattle.debctl.specs.Telling.{done_status, Tells}
 use Rattle.debctl.specs.VersionJobs.{bad_version, verdict_status, Canonicalises, Compared, Compares, IsNoVersion, WritesLine}
-use Rattle.debctl.specs.declared.jobs.Job.{Job}
-use Rattle.debctl.specs.declared.jobs.Job.TheVariants.{Check, Normalise, Same, Compare, CanonVersion, Query}
+use Rattle.debctl_words.specs.declared.jobs.Job.{Job}
+use Rattle.debctl_words.specs.declared.jobs.Job.TheVariants.{Check, Normalise, Same, Compare, CanonVersion, Query}
 
 -- the question that a query's words are
 abbrev pub asked : String Global → Vec (String Global) Global → String Global → Question

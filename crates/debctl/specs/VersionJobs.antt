@@ -18,8 +18,8 @@ use Rattle.deb_version.specs.Order.{version_cmp}
 use Rattle.deb_version.specs.Parts.{Meaning}
 use Rattle.deb_version.specs.Version.{meaning_of}
 use Rattle.deb_version.specs.declared.version.Version.{Version}
-use Rattle.debctl.specs.declared.jobs.Cmp.{Cmp}
-use Rattle.debctl.specs.declared.jobs.Cmp.TheVariants as cmp
+use Rattle.debctl_words.specs.declared.jobs.Cmp.{Cmp}
+use Rattle.debctl_words.specs.declared.jobs.Cmp.TheVariants as cmp
 
 -- versions in this order compare as the operator asks
 abbrev pub is_less : Ordering → Bool

@@ -3,8 +3,8 @@ use Rattle.std.specs.Prelude.{◌≡◌, ◌⊎◌, ℕ, List, [], ◌∷◌, �
 use Rattle.deb_base.specs.Bodies.{newline}
 use Rattle.deb_base.specs.declared.fault.Fault.TheVariants as fault
 use Rattle.debctl.specs.Telling.{TellsFault, TellsFront, TellsUnwritten, TellsWhole}
-use Rattle.debctl.specs.declared.words.UsageFault.{UsageFault}
-use Rattle.debctl.specs.declared.words.UsageFault.TheVariants.{Usage, Help, Memory}
+use Rattle.debctl_words.specs.declared.words.UsageFault.{UsageFault}
+use Rattle.debctl_words.specs.declared.words.UsageFault.TheVariants.{Usage, Help, Memory}
 
 -- a text with its newline
 abbrev pub line_of : List ℕ → List ℕ

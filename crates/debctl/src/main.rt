@@ -1,7 +1,7 @@
 //! A program that checks and normalises files of Debian control data, tells whether two mean the
-//! same, and compares versions.
+//! same and which packages of an index meet a relation, and compares versions.
 //!
-//! - [`words::job_of`] says what the program's words ask for, or why they ask for nothing.
+//! - `debctl_words::job_of` says what the program's words ask for, or why they ask for nothing.
 //! - [`run`] does a job over readers and writers, tells on one of them why it wasn't done, and
 //!   answers the status. It reads no path and knows no stream of the system.
 //! - `main` opens the paths, hands `run` the files and the standard streams, and flushes what was
@@ -17,17 +17,13 @@
 //! ```
 #![tactic(auto)]
 
-mod commands;
 mod document_jobs;
-pub mod jobs;
-mod kind_word;
 mod query_job;
 mod run;
 mod same_job;
 mod streams;
 mod tell;
 mod version_jobs;
-pub mod words;
 
 pub use run::run;
 use std::process::ExitCode;

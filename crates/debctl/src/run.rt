@@ -4,11 +4,11 @@ ghost use Rattle.std.specs.Prelude.{◌≡◌, ◌<◌};
 ghost use Rattle.debctl.specs.Running.{Done, IfSecondUnread, IfUnread, IsRefused, SaysNo, Told};
 
 use crate::document_jobs::{run_check, run_normalise};
-use crate::jobs::Job;
 use crate::query_job::run_query;
 use crate::same_job::run_same;
 use crate::version_jobs::{run_canon_version, run_compare};
 use deb_base::{Sink, Source};
+use debctl_words::Job;
 use std::alloc::Global;
 
 /// Does a job over readers and writers, tells on `err` why it wasn't done, and answers the status.

@@ -1,10 +1,9 @@
 //! The program's words, files and standard streams, as the system has them.
 
-use crate::jobs::{Call, Job};
 use crate::run;
 use crate::tell::{FAULT_STATUS, tell, tell_words};
-use crate::words::{UsageFault, job_of};
 use deb_base::{Fault, Input, Output};
+use debctl_words::{Call, Job, UsageFault, job_of};
 use std::alloc::Global;
 use std::env;
 use std::fs::File;

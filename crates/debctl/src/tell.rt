@@ -8,9 +8,9 @@ ghost use Rattle.debctl.specs.SameJob.{side_line, word_before, TellsSide};
 ghost use Rattle.debctl.specs.Telling.{status_of, TellsFault};
 ghost use Rattle.debctl.specs.WordsTelling.{TellsWords};
 
-use crate::words::UsageFault;
 use deb_base::{Fault, Sink, put_all};
 use deb_control::{Side, SideFault};
+use debctl_words::UsageFault;
 
 /// The status where a word is wrong, memory is wanting, or a read or a write fails.
 pub(crate) const FAULT_STATUS: u8 = 3;

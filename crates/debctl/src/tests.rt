@@ -1,7 +1,7 @@
-use crate::jobs::{Cmp, Job};
 use crate::run;
 use deb_base::{Input, Output};
 use deb_field::Doc;
+use debctl_words::{Cmp, Job};
 use std::alloc::{AllocError, Global};
 use std::io::{self, ErrorKind, Read, Write};
 use std::process::Abort;
@@ -99,7 +99,7 @@ const FIRST_CANONICAL: &[u8] = b"Architecture: all\nPackage: aa\nVersion: 1\n";
 
 /// A job that a row asks for.
 #[derive(Clone, Copy, Debug)]
-pub(crate) enum Asks {
+enum Asks {
     Check(Doc),
     Normalise(Doc),
     Same(Doc),
@@ -109,7 +109,7 @@ pub(crate) enum Asks {
 }
 
 impl Asks {
-    pub(crate) fn job(self, alloc: Global) -> Result<Job, AllocError> {
+    fn job(self, alloc: Global) -> Result<Job, AllocError> {
         Ok(match self {
             Asks::Check(doc) => Job::Check(doc),
             Asks::Normalise(doc) => Job::Normalise(doc),

@@ -7,10 +7,10 @@ ghost use Rattle.deb_base.specs.declared.fault.Fault.{Fault};
 ghost use Rattle.debctl.specs.Telling.{done_status, Tells};
 ghost use Rattle.debctl.specs.VersionJobs.{bad_version, holds, verdict_status, Canonicalises, Compared, Compares, GivesLine, IsNoVersion, ParsesWord, WritesLine};
 
-use crate::jobs::Cmp;
 use crate::tell::tell;
 use deb_base::{Code, Fault, Refusal, Sink, put_all};
 use deb_version::{Version, compare};
+use debctl_words::Cmp;
 use std::alloc::Global;
 use std::cmp::Ordering;
 

@@ -5,10 +5,10 @@ use Rattle.clap.specs.Faults.{fault_of}
 use Rattle.clap.specs.Takes.{takes}
 use Rattle.clap.specs.Walk.{Text}
 use Rattle.clap.specs.declared.error.kind.ErrorKind.TheVariants as kind
-use Rattle.debctl.specs.Asked.{asked_of, asks, asks_help, canonicalises, checks, comma_pieces, compares, normalises, profiles_asked, queries, tells_same, unknown_command, unknown_kind, unknown_operator, Asked}
-use Rattle.debctl.specs.Commands.{debctl_app}
+use Rattle.debctl_words.specs.Asked.{asked_of, asks, asks_help, canonicalises, checks, comma_pieces, compares, normalises, profiles_asked, queries, tells_same, unknown_command, unknown_kind, unknown_operator, Asked}
+use Rattle.debctl_words.specs.Commands.{debctl_app}
 use Rattle.deb_field.specs.declared.kind.Doc.TheVariants.{Binary, Packages, Source}
-use Rattle.debctl.specs.declared.jobs.Cmp.TheVariants as cmp
+use Rattle.debctl_words.specs.declared.jobs.Cmp.TheVariants as cmp
 
 -- words behind the program's name
 abbrev line : List Text → List Text

@@ -8,16 +8,16 @@ use Rattle.clap.specs.Simple.{subcommand_of}
 use Rattle.clap.specs.Walk.{Row, Text, first_of}
 use Rattle.clap.specs.declared.error.kind.ErrorKind.{ErrorKind}
 use Rattle.clap.specs.declared.error.kind.ErrorKind.TheVariants.{DisplayHelp, DisplayVersion, OutOfMemory}
-use Rattle.debctl.specs.Commands.{debctl_app, check_word, normalise_word, same_word, compare_word, canon_version_word, query_word, help_word}
+use Rattle.debctl_words.specs.Commands.{debctl_app, check_word, normalise_word, same_word, compare_word, canon_version_word, query_word, help_word}
 use Rattle.deb_field.specs.declared.kind.Doc.{Doc}
 use Rattle.deb_field.specs.declared.kind.Doc.TheVariants.{Binary, Packages, Source}
-use Rattle.debctl.specs.declared.jobs.Call.{Call}
-use Rattle.debctl.specs.declared.jobs.Cmp.{Cmp}
-use Rattle.debctl.specs.declared.jobs.Cmp.TheVariants as cmp
-use Rattle.debctl.specs.declared.jobs.Job.{Job}
-use Rattle.debctl.specs.declared.jobs.Job.TheVariants as job
-use Rattle.debctl.specs.declared.words.UsageFault.{UsageFault}
-use Rattle.debctl.specs.declared.words.UsageFault.TheVariants.{Usage, Help, Memory}
+use Rattle.debctl_words.specs.declared.jobs.Call.{Call}
+use Rattle.debctl_words.specs.declared.jobs.Cmp.{Cmp}
+use Rattle.debctl_words.specs.declared.jobs.Cmp.TheVariants as cmp
+use Rattle.debctl_words.specs.declared.jobs.Job.{Job}
+use Rattle.debctl_words.specs.declared.jobs.Job.TheVariants as job
+use Rattle.debctl_words.specs.declared.words.UsageFault.{UsageFault}
+use Rattle.debctl_words.specs.declared.words.UsageFault.TheVariants.{Usage, Help, Memory}
 
 -- ---- words
 

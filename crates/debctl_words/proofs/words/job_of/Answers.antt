@@ -4,10 +4,10 @@ use Rattle.clap.specs.Faults.{fault_of, is_simple_and_free}
 use Rattle.clap.specs.Kinds.{HasKind}
 use Rattle.clap.specs.Takes.{takes}
 use Rattle.clap.specs.Words.{kind_of, subcommand_rows_of}
-use Rattle.debctl.specs.Asked.{asked_of}
-use Rattle.debctl.specs.Commands.{debctl_app}
-use Rattle.debctl.proofs.Answering.{is_simple_app, is_free_app, is_taken, taken_means, words_are_answered, call_is_asked, asked_is_met, on_any_call, app_unmixed, kind_means, memory_is_told}
-use Rattle.debctl.proofs.words.job_of.Goals as goal
+use Rattle.debctl_words.specs.Asked.{asked_of}
+use Rattle.debctl_words.specs.Commands.{debctl_app}
+use Rattle.debctl_words.proofs.Answering.{is_simple_app, is_free_app, is_taken, taken_means, words_are_answered, call_is_asked, asked_is_met, on_any_call, app_unmixed, kind_means, memory_is_told}
+use Rattle.debctl_words.proofs.words.job_of.Goals as goal
 
 pub returns-in-Ok-clause-faultless : goal.returns-in-Ok-clause-faultless
 returns-in-Ok-clause-faultless c =

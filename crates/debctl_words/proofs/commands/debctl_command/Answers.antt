@@ -1,6 +1,6 @@
 use Rattle.std.proofs.lemmas.Result.{IfOk-weaker}
-use Rattle.debctl.proofs.Shapes.{shaped_with}
-use Rattle.debctl.proofs.commands.debctl_command.Goals as goal
+use Rattle.debctl_words.proofs.Shapes.{shaped_with}
+use Rattle.debctl_words.proofs.commands.debctl_command.Goals as goal
 
 pub returns : goal.returns
 returns c =

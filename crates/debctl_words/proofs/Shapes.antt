@@ -5,7 +5,7 @@ use Rattle.clap.specs.Simple.{App, with_rule, with_subcommand}
 use Rattle.clap.specs.Walk.{Rule, rule_of}
 use Rattle.clap.specs.declared.builder.arg.Arg.{Arg}
 use Rattle.clap.specs.declared.builder.command.Command.{Command}
-use Rattle.debctl.specs.Commands.{IsShaped}
+use Rattle.debctl_words.specs.Commands.{IsShaped}
 
 pub shaped_with_rule : (above : App) (rule : Rule) (old new : Command) (added : Arg) → IsShaped above old → rule_of added ≡ rule → added.global ≡ false → AddsArg old added new → IsShaped (with_rule above rule) new
 shaped_with_rule above rule old new added was is local adds = record {

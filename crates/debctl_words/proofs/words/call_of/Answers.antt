@@ -6,8 +6,8 @@ use Rattle.clap.specs.Walk.{Row, Text}
 use Rattle.clap.specs.Words.{found_of, rows_of, subcommand_name_of}
 use Rattle.clap.specs.declared.parser.matches.ArgMatches.TheViews.{out-ArgMatches, out-SubCommand}
 use Rattle.clap.specs.declared.parser.matches.SubCommand.{SubCommand}
-use Rattle.debctl.specs.Asked.{asked_in, AnswersMet}
-use Rattle.debctl.proofs.words.call_of.Goals as goal
+use Rattle.debctl_words.specs.Asked.{asked_in, AnswersMet}
+use Rattle.debctl_words.proofs.words.call_of.Goals as goal
 
 -- the name and the rows of a command that was met are those two that were told
 met_is : {Z : Type 0} (met : Option (Box SubCommand Z)) (name : Text) (rows : List Row) → Some name ≡ option_map (λ b. (out-SubCommand (box_value b)).name.now) met

@@ -2,9 +2,9 @@ use Rattle.std.proofs.Common.{◌≡◌, codes, rules}
 use Rattle.std.proofs.lemmas.Result.{IfOk-weaker}
 use Rattle.clap.specs.Simple.{new_app}
 use Rattle.clap.specs.Walk.{rule_of}
-use Rattle.debctl.specs.Commands.{optional_rule, query_word, required_rule, IsShaped}
-use Rattle.debctl.proofs.Shapes.{shaped_with_rule}
-use Rattle.debctl.proofs.commands.query_command.Goals as goal
+use Rattle.debctl_words.specs.Commands.{optional_rule, query_word, required_rule, IsShaped}
+use Rattle.debctl_words.proofs.Shapes.{shaped_with_rule}
+use Rattle.debctl_words.proofs.commands.query_command.Goals as goal
 
 pub returns : goal.returns
 returns c =

@@ -2,7 +2,7 @@
 
 ghost use Rattle.std.specs.Prelude.{◌≡◌, IfOk, false};
 ghost use Rattle.clap.specs.Words.{rule_of};
-ghost use Rattle.debctl.specs.Commands.{arch_rule, bare_app, canon_version_app, check_word, normalise_word, compare_app, debctl_app, document_app, help_app, kind_rule, optional_rule, profiles_rule, query_app, required_rule, same_app, IsShaped};
+ghost use Rattle.debctl_words.specs.Commands.{arch_rule, bare_app, canon_version_app, check_word, normalise_word, compare_app, debctl_app, document_app, help_app, kind_rule, optional_rule, profiles_rule, query_app, required_rule, same_app, IsShaped};
 
 use clap::{Arg, Command};
 use std::alloc::{AllocError, Global};

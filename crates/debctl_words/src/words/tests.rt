@@ -1,7 +1,32 @@
 use super::*;
 use crate::jobs::Cmp;
-use crate::tests::Asks;
 use std::test::Fail;
+
+/// A job that isn't a query, as a row of a table has it.
+#[derive(Clone, Copy, Debug)]
+enum Asks {
+    Check(Doc),
+    Normalise(Doc),
+    Same(Doc),
+    Compare(&'static str, Cmp, &'static str),
+    CanonVersion(&'static str),
+}
+
+impl Asks {
+    fn job(self, alloc: Global) -> Result<Job, AllocError> {
+        Ok(match self {
+            Asks::Check(doc) => Job::Check(doc),
+            Asks::Normalise(doc) => Job::Normalise(doc),
+            Asks::Same(doc) => Job::Same(doc),
+            Asks::Compare(left, operator, right) => {
+                let left = String::from_str(alloc, left)?;
+                let right = String::from_str(alloc, right)?;
+                Job::Compare(left, operator, right)
+            }
+            Asks::CanonVersion(version) => Job::CanonVersion(String::from_str(alloc, version)?),
+        })
+    }
+}
 
 /// The words of a command line, the program's name first.
 fn words_of(alloc: Global, line: &[&str]) -> Result<Vec<String>, AllocError> {

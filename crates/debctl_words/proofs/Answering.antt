@@ -4,8 +4,8 @@ use Rattle.std.specs.List.{list_any}
 use Rattle.std.proofs.Math.Bool.{or-true}
 use Rattle.clap.specs.Faults.{fault_of, is_simple_and_free}
 use Rattle.clap.specs.Takes.{takes}
-use Rattle.debctl.proofs.TakenWords.{taken_where_no_kind}
-use Rattle.debctl.proofs.UnmixedKinds.{Unmixed, faults_unmixed}
+use Rattle.debctl_words.proofs.TakenWords.{taken_where_no_kind}
+use Rattle.debctl_words.proofs.UnmixedKinds.{Unmixed, faults_unmixed}
 use Rattle.clap.specs.Simple.{App, is_simple, subcommand_of}
 use Rattle.clap.specs.Kinds.{Kinds, HasKind, IsAmong}
 use Rattle.clap.specs.Values.{kind_of}
@@ -13,11 +13,11 @@ use Rattle.clap.specs.Walk.{Row, Text}
 use Rattle.clap.specs.declared.error.Error.{Error}
 use Rattle.clap.specs.declared.error.kind.ErrorKind.{ErrorKind}
 use Rattle.clap.specs.declared.error.kind.ErrorKind.TheVariants.{OutOfMemory}
-use Rattle.debctl.specs.Asked.{Asked, Request, asked_in, asked_of, asks, asks_help, unknown_kind, unknown_operator, unknown_command, has_mistake, has_request, is_request_kind, request_of, Answers, AreMistakes, AreRequests, AnswersMet, MeansError, TellsKind}
-use Rattle.debctl.specs.Commands.{debctl_app}
-use Rattle.debctl.specs.declared.jobs.Call.{Call}
-use Rattle.debctl.specs.declared.words.UsageFault.{UsageFault}
-use Rattle.debctl.specs.declared.words.UsageFault.TheVariants.{Usage, Help, Memory}
+use Rattle.debctl_words.specs.Asked.{Asked, Request, asked_in, asked_of, asks, asks_help, unknown_kind, unknown_operator, unknown_command, has_mistake, has_request, is_request_kind, request_of, Answers, AreMistakes, AreRequests, AnswersMet, MeansError, TellsKind}
+use Rattle.debctl_words.specs.Commands.{debctl_app}
+use Rattle.debctl_words.specs.declared.jobs.Call.{Call}
+use Rattle.debctl_words.specs.declared.words.UsageFault.{UsageFault}
+use Rattle.debctl_words.specs.declared.words.UsageFault.TheVariants.{Usage, Help, Memory}
 
 pub is_simple_app : is_simple debctl_app ≡ true
 is_simple_app = refl

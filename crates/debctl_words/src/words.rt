@@ -2,8 +2,8 @@
 
 ghost use Rattle.std.specs.Prelude.{◌≡◌, [], Some, None, map, true, codes, string_bytes, option_map, IfOk, IfErr, option_copied};
 ghost use Rattle.clap.specs.Words.{fault_of, first_of, found_of, has_subcommand, kind_of, rows_of, subcommand_rows_of, takes};
-ghost use Rattle.debctl.specs.Asked.{asked_by, asked_in, asked_of, asks, canon_version_asked, checks, comma_pieces, compare_asked, document_asked, help_asked, kind_asked, normalises, profiles_asked, query_asked, request_of, same_asked, word_in, Answers, AnswersError, AnswersMet, IsHelp, MeansError, MeansKind, Request, TellsKind, UsesText};
-ghost use Rattle.debctl.specs.Commands.{debctl_app};
+ghost use Rattle.debctl_words.specs.Asked.{asked_by, asked_in, asked_of, asks, canon_version_asked, checks, comma_pieces, compare_asked, document_asked, help_asked, kind_asked, normalises, profiles_asked, query_asked, request_of, same_asked, word_in, Answers, AnswersError, AnswersMet, IsHelp, MeansError, MeansKind, Request, TellsKind, UsesText};
+ghost use Rattle.debctl_words.specs.Commands.{debctl_app};
 
 use crate::commands::{
     canon_version_command, check_command, compare_command, debctl_command, help_command,
@@ -31,7 +31,7 @@ pub enum UsageFault {
 }
 
 impl From<AllocError> for UsageFault {
-    ghost use Rattle.debctl.specs.declared.words.UsageFault.TheVariants.{Memory};
+    ghost use Rattle.debctl_words.specs.declared.words.UsageFault.TheVariants.{Memory};
 
     ghost from_gives = { λ _ fault. fault ≡ Memory };
 

@@ -1,7 +1,7 @@
 //! The words for kinds of document, for operators and for commands.
 
 ghost use Rattle.std.specs.Prelude.{◌≡◌};
-ghost use Rattle.debctl.specs.Asked.{kind_named, operator_named};
+ghost use Rattle.debctl_words.specs.Asked.{kind_named, operator_named};
 
 use crate::jobs::Cmp;
 use deb_field::Doc;

@@ -1,0 +1,4 @@
+pub mod Answering
+pub mod Shapes
+pub mod TakenWords
+pub mod UnmixedKinds
