@@ -1,5 +1,7 @@
 //! Bodies with their canonical text or their refusal, and what callers see of a value.
 
+mod memory;
+
 use crate::*;
 use deb_base::{Code, is_body};
 use std::alloc::{AllocError, Global};
@@ -386,30 +388,5 @@ fn what_callers_see_of_a_relation(rt: HostRuntime) -> Result<(), Fail> {
     assert_eq!(rt; field.relationship(), Relationship::Provides);
     assert_eq!(rt; field.relation().groups().len(), 2);
     assert_eq!(rt; field.canon_len(), 12);
-    Ok(())
-}
-
-/// `rt try --test --fail-alloc N -- want_of_memory` refuses the Nth growth of a run and no other:
-/// exactly one of the calls below then wants memory, and where N passes their growths none does.
-#[test]
-fn want_of_memory(rt: HostRuntime) -> Result<(), Fail> {
-    let body = b"bb (>= 01)|aa, cc [i386 amd64] <!x y> <z>";
-    let mut out = Vec::new(rt.alloc());
-    match Value::parse(rt.alloc(), Doc::Packages, b"Depends", body) {
-        Err(fault) => assert_eq!(rt; fault, ValueFault::Memory),
-        Ok(value) => match value.canon_into(&mut out) {
-            Err(_) => assert!(rt; out.is_empty(), "unchanged"),
-            Ok(()) => assert_eq!(rt;
-                out.as_slice(),
-                b"bb (>= 1) | aa, cc [amd64 i386] <!x y> <z>".as_slice()
-            ),
-        },
-    }
-
-    // a body is refused in spite of it where reading takes no memory
-    match Value::parse(rt.alloc(), Doc::Packages, b"Provides", b"a") {
-        Err(fault) => assert_eq!(rt; fault, ValueFault::Refused(Code::BadRelation)),
-        Ok(_) => return Err(Fail::new("a relation of a short name")),
-    }
     Ok(())
 }

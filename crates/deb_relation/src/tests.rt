@@ -1,11 +1,11 @@
-//! Relations with their canonical text or the first step that fails, environments, and memory that
-//! is refused.
+//! Relations with their canonical text or the first step that fails, and environments.
+
+mod memory;
 
 use crate::{Alternative, Env, EnvFault, Op, Reason, Relation, RelationFault};
 use deb_version::BadVersion;
 use std::alloc::Global;
 use std::cmp::Ordering;
-use std::process::Abort;
 use std::test::Fail;
 
 /// A text, and the reason and the place of the step that fails.
@@ -526,63 +526,4 @@ fn large_relations(rt: HostRuntime) -> Result<(), Fail> {
         "ten thousand alternatives"
     );
     Ok(())
-}
-
-/// `rt try --test --fail-alloc N -- want_of_memory` refuses the Nth growth of a run and no other:
-/// exactly one of the calls below then wants memory, and where N passes their growths none does.
-#[test]
-fn want_of_memory(rt: HostRuntime) -> Result<(), Fail> {
-    let mut refusals = 0u32;
-    for text in [
-        b"bb (>= 01)|aa, cc [i386 amd64] <!x y> <z>, aa, cc [amd64] <z>".as_slice(),
-        // so many names that sorting them takes memory
-        b"aa [b a d c f e h g j i l k n m p o r q t s v u x w]".as_slice(),
-    ] {
-        match Relation::parse(rt.alloc(), text) {
-            Err(fault) => {
-                assert_eq!(rt; fault, RelationFault::Memory);
-                refusals = refusals.saturating_add(1);
-            }
-            Ok(relation) => {
-                let written = refusals_of_writing(&rt, rt.alloc(), &relation)?;
-                refusals = refusals.saturating_add(written);
-            }
-        }
-    }
-    match Env::new(rt.alloc(), b"amd64", &[b"nocheck", b"nodoc"]) {
-        Err(fault) => {
-            assert_eq!(rt; fault, EnvFault::Memory);
-            refusals = refusals.saturating_add(1);
-        }
-        Ok(environment) => assert!(rt; environment.active(b"nodoc")),
-    }
-    assert!(rt; refusals <= 1, "one growth at most is refused in a run");
-
-    // what is refused is refused first, and takes no memory where nothing stands before it
-    let fault = Env::new(rt.alloc(), b"all", &[]).err();
-    assert_eq!(rt; fault, Some(EnvFault::BadEnvironment));
-    Ok(())
-}
-
-/// How many calls that write canonical text want memory. Each leaves what was written before.
-fn refusals_of_writing(
-    rt: &impl Abort,
-    alloc: Global,
-    relation: &Relation<'_>,
-) -> Result<u32, Fail> {
-    let mut refusals = 0u32;
-    let mut out = Vec::new(alloc);
-    for group in relation.groups() {
-        out.clear();
-        if group.canon_into(&mut out).is_err() {
-            assert!(rt; out.is_empty(), "unchanged");
-            refusals = refusals.saturating_add(1);
-        }
-    }
-    let held = out.len();
-    if relation.canon_into(&mut out).is_err() {
-        assert_eq!(rt; out.len(), held, "unchanged");
-        refusals = refusals.saturating_add(1);
-    }
-    Ok(refusals)
 }

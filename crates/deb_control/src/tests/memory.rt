@@ -1,10 +1,25 @@
-//! Want of memory. `rt try --test --fail-alloc N -- want_of_memory` refuses the Nth growth of a run
-//! and no other: exactly one of the calls below then wants memory, or the test itself, and where N
-//! passes their growths none does.
+//! Want of memory. `rt try --test --fail-alloc 200 -- want_of_memory` refuses the 200th growth of
+//! each test and no other. Each test spends growths first, so that the one of its own number is
+//! refused: exactly one of the calls below then wants memory, or the test itself, and where the
+//! number passes their growths none does.
 
 use super::*;
 use crate::{Paragraph, Side, SideFault, same};
 use deb_syntax::Paragraphs;
+
+/// The growth of each test that is refused.
+const REFUSED_GROWTH: u32 = 200;
+
+/// Takes memory and gives it back so often that of the growths that follow, the one of this number
+/// is refused.
+fn spend(rt: &impl Abort, alloc: Global, growth: u32) -> Result<(), Fail> {
+    for _ in growth..REFUSED_GROWTH {
+        let mut spent = Vec::with_capacity(alloc, 1)?;
+        spent.push(b'=')?;
+        assert_eq!(rt; spent.as_slice(), b"=".as_slice());
+    }
+    Ok(())
+}
 
 /// Two paragraphs, of which the second is longer, and a third that lacks fields.
 const FILE: &[u8] = b"Package: aa\nVersion: 1\nArchitecture: all\n\n\
@@ -41,8 +56,9 @@ impl Refusals {
     }
 }
 
-#[test]
-fn want_of_memory(rt: HostRuntime) -> Result<(), Fail> {
+/// Makes each call that takes memory, with this growth refused.
+fn at_growth(rt: &impl Abort, alloc: Global, growth: u32) -> Result<(), Fail> {
+    spend(rt, alloc, growth)?;
     let refused = Err(refusal_at(Code::MissingField, 14));
     let rows: [(&[u8], Result<u64, Fault>, &[u8]); 3] = [
         (TEXT, Ok(2), TEXT),
@@ -51,15 +67,135 @@ fn want_of_memory(rt: HostRuntime) -> Result<(), Fail> {
     ];
     let mut refusals = Refusals(0);
     for (file, wanted, text) in rows {
-        let answer = check(rt.alloc(), Doc::Packages, &mut Input::new(file));
-        refusals.count_fault(&rt, answer, wanted);
-        normalise_all(&rt, rt.alloc(), file, wanted, text, &mut refusals);
+        let answer = check(alloc, Doc::Packages, &mut Input::new(file));
+        refusals.count_fault(rt, answer, wanted);
+        normalise_all(rt, alloc, file, wanted, text, &mut refusals);
     }
-    give_all(&rt, rt.alloc(), &mut refusals);
-    build_all(&rt, rt.alloc(), &mut refusals);
-    compare_all(&rt, rt.alloc(), &mut refusals);
+    give_all(rt, alloc, &mut refusals);
+    build_all(rt, alloc, &mut refusals);
+    compare_all(rt, alloc, &mut refusals);
     assert!(rt; refusals.0 <= 1, "one growth at most is refused in a run");
     Ok(())
+}
+
+#[test]
+fn want_of_memory_at_growth_1(rt: HostRuntime) -> Result<(), Fail> {
+    at_growth(&rt, rt.alloc(), 1)
+}
+
+#[test]
+fn want_of_memory_at_growth_2(rt: HostRuntime) -> Result<(), Fail> {
+    at_growth(&rt, rt.alloc(), 2)
+}
+
+#[test]
+fn want_of_memory_at_growth_3(rt: HostRuntime) -> Result<(), Fail> {
+    at_growth(&rt, rt.alloc(), 3)
+}
+
+#[test]
+fn want_of_memory_at_growth_10(rt: HostRuntime) -> Result<(), Fail> {
+    at_growth(&rt, rt.alloc(), 10)
+}
+
+#[test]
+fn want_of_memory_at_growth_15(rt: HostRuntime) -> Result<(), Fail> {
+    at_growth(&rt, rt.alloc(), 15)
+}
+
+#[test]
+fn want_of_memory_at_growth_20(rt: HostRuntime) -> Result<(), Fail> {
+    at_growth(&rt, rt.alloc(), 20)
+}
+
+#[test]
+fn want_of_memory_at_growth_25(rt: HostRuntime) -> Result<(), Fail> {
+    at_growth(&rt, rt.alloc(), 25)
+}
+
+#[test]
+fn want_of_memory_at_growth_30(rt: HostRuntime) -> Result<(), Fail> {
+    at_growth(&rt, rt.alloc(), 30)
+}
+
+#[test]
+fn want_of_memory_at_growth_35(rt: HostRuntime) -> Result<(), Fail> {
+    at_growth(&rt, rt.alloc(), 35)
+}
+
+#[test]
+fn want_of_memory_at_growth_40(rt: HostRuntime) -> Result<(), Fail> {
+    at_growth(&rt, rt.alloc(), 40)
+}
+
+#[test]
+fn want_of_memory_at_growth_45(rt: HostRuntime) -> Result<(), Fail> {
+    at_growth(&rt, rt.alloc(), 45)
+}
+
+#[test]
+fn want_of_memory_at_growth_50(rt: HostRuntime) -> Result<(), Fail> {
+    at_growth(&rt, rt.alloc(), 50)
+}
+
+#[test]
+fn want_of_memory_at_growth_60(rt: HostRuntime) -> Result<(), Fail> {
+    at_growth(&rt, rt.alloc(), 60)
+}
+
+#[test]
+fn want_of_memory_at_growth_70(rt: HostRuntime) -> Result<(), Fail> {
+    at_growth(&rt, rt.alloc(), 70)
+}
+
+#[test]
+fn want_of_memory_at_growth_75(rt: HostRuntime) -> Result<(), Fail> {
+    at_growth(&rt, rt.alloc(), 75)
+}
+
+#[test]
+fn want_of_memory_at_growth_80(rt: HostRuntime) -> Result<(), Fail> {
+    at_growth(&rt, rt.alloc(), 80)
+}
+
+#[test]
+fn want_of_memory_at_growth_95(rt: HostRuntime) -> Result<(), Fail> {
+    at_growth(&rt, rt.alloc(), 95)
+}
+
+#[test]
+fn want_of_memory_at_growth_110(rt: HostRuntime) -> Result<(), Fail> {
+    at_growth(&rt, rt.alloc(), 110)
+}
+
+#[test]
+fn want_of_memory_at_growth_125(rt: HostRuntime) -> Result<(), Fail> {
+    at_growth(&rt, rt.alloc(), 125)
+}
+
+#[test]
+fn want_of_memory_at_growth_133(rt: HostRuntime) -> Result<(), Fail> {
+    at_growth(&rt, rt.alloc(), 133)
+}
+
+#[test]
+fn want_of_memory_at_growth_140(rt: HostRuntime) -> Result<(), Fail> {
+    at_growth(&rt, rt.alloc(), 140)
+}
+
+#[test]
+fn want_of_memory_at_growth_147(rt: HostRuntime) -> Result<(), Fail> {
+    at_growth(&rt, rt.alloc(), 147)
+}
+
+#[test]
+fn want_of_memory_at_growth_153(rt: HostRuntime) -> Result<(), Fail> {
+    at_growth(&rt, rt.alloc(), 153)
+}
+
+#[test]
+fn want_of_memory_at_growth_159(rt: HostRuntime) -> Result<(), Fail> {
+    at_growth(&rt, rt.alloc(), 159)
 }
 
 /// Whole paragraphs are written before want of memory, and all of them without it. The writer needs

@@ -1,7 +1,22 @@
-//! Want of memory. `rt try --test --fail-alloc N -- want_of_memory` refuses the Nth growth of a run
-//! and no other: a call answers `Memory` where it is one of its own, and then for good.
+//! Want of memory. `rt try --test --fail-alloc 200 -- want_of_memory` refuses the 200th growth of
+//! each test and no other. Each test spends growths first, so that the one of its own number is
+//! refused: a call answers `Memory` where that growth is its own, and then for good.
 
 use super::*;
+
+/// The growth of each test that is refused.
+const REFUSED_GROWTH: u32 = 200;
+
+/// Takes memory and gives it back so often that of the growths that follow, the one of this number
+/// is refused.
+fn spend(rt: &impl Abort, alloc: Global, growth: u32) -> Result<(), Fail> {
+    for _ in growth..REFUSED_GROWTH {
+        let mut spent = Vec::with_capacity(alloc, 1)?;
+        spent.push(b'=')?;
+        assert_eq!(rt; spent.as_slice(), b"=".as_slice());
+    }
+    Ok(())
+}
 
 /// Names and bodies of 8 fields.
 const FIELDS: [&[u8]; 5] = [
@@ -103,16 +118,142 @@ fn assert_wanted(rt: &impl Abort, paragraphs: &mut Paragraphs, reader: &mut Piec
 
 /// The file is read with `begins` and without it. One growth at most is refused in a run, so at
 /// most one reading wants memory, and the other answers all.
-#[test]
-fn want_of_memory(rt: HostRuntime) {
-    let Some(file) = file(rt.alloc()) else {
-        return;
+fn at_growth(rt: &impl Abort, alloc: Global, growth: u32) -> Result<(), Fail> {
+    spend(rt, alloc, growth)?;
+    let Some(file) = file(alloc) else {
+        return Ok(());
     };
     let mut wanted: u32 = 0;
     for begins in [true, false] {
-        if read_rows(&rt, rt.alloc(), file.as_slice(), begins) {
+        if read_rows(rt, alloc, file.as_slice(), begins) {
             wanted = wanted.saturating_add(1);
         }
     }
     assert!(rt; wanted <= 1, "one growth at most is refused in a run");
+    Ok(())
+}
+
+#[test]
+fn want_of_memory_at_growth_1(rt: HostRuntime) -> Result<(), Fail> {
+    at_growth(&rt, rt.alloc(), 1)
+}
+
+#[test]
+fn want_of_memory_at_growth_2(rt: HostRuntime) -> Result<(), Fail> {
+    at_growth(&rt, rt.alloc(), 2)
+}
+
+#[test]
+fn want_of_memory_at_growth_3(rt: HostRuntime) -> Result<(), Fail> {
+    at_growth(&rt, rt.alloc(), 3)
+}
+
+#[test]
+fn want_of_memory_at_growth_5(rt: HostRuntime) -> Result<(), Fail> {
+    at_growth(&rt, rt.alloc(), 5)
+}
+
+#[test]
+fn want_of_memory_at_growth_8(rt: HostRuntime) -> Result<(), Fail> {
+    at_growth(&rt, rt.alloc(), 8)
+}
+
+#[test]
+fn want_of_memory_at_growth_11(rt: HostRuntime) -> Result<(), Fail> {
+    at_growth(&rt, rt.alloc(), 11)
+}
+
+#[test]
+fn want_of_memory_at_growth_14(rt: HostRuntime) -> Result<(), Fail> {
+    at_growth(&rt, rt.alloc(), 14)
+}
+
+#[test]
+fn want_of_memory_at_growth_17(rt: HostRuntime) -> Result<(), Fail> {
+    at_growth(&rt, rt.alloc(), 17)
+}
+
+#[test]
+fn want_of_memory_at_growth_20(rt: HostRuntime) -> Result<(), Fail> {
+    at_growth(&rt, rt.alloc(), 20)
+}
+
+#[test]
+fn want_of_memory_at_growth_23(rt: HostRuntime) -> Result<(), Fail> {
+    at_growth(&rt, rt.alloc(), 23)
+}
+
+#[test]
+fn want_of_memory_at_growth_26(rt: HostRuntime) -> Result<(), Fail> {
+    at_growth(&rt, rt.alloc(), 26)
+}
+
+#[test]
+fn want_of_memory_at_growth_29(rt: HostRuntime) -> Result<(), Fail> {
+    at_growth(&rt, rt.alloc(), 29)
+}
+
+#[test]
+fn want_of_memory_at_growth_32(rt: HostRuntime) -> Result<(), Fail> {
+    at_growth(&rt, rt.alloc(), 32)
+}
+
+#[test]
+fn want_of_memory_at_growth_35(rt: HostRuntime) -> Result<(), Fail> {
+    at_growth(&rt, rt.alloc(), 35)
+}
+
+#[test]
+fn want_of_memory_at_growth_38(rt: HostRuntime) -> Result<(), Fail> {
+    at_growth(&rt, rt.alloc(), 38)
+}
+
+#[test]
+fn want_of_memory_at_growth_40(rt: HostRuntime) -> Result<(), Fail> {
+    at_growth(&rt, rt.alloc(), 40)
+}
+
+#[test]
+fn want_of_memory_at_growth_41(rt: HostRuntime) -> Result<(), Fail> {
+    at_growth(&rt, rt.alloc(), 41)
+}
+
+#[test]
+fn want_of_memory_at_growth_42(rt: HostRuntime) -> Result<(), Fail> {
+    at_growth(&rt, rt.alloc(), 42)
+}
+
+#[test]
+fn want_of_memory_at_growth_44(rt: HostRuntime) -> Result<(), Fail> {
+    at_growth(&rt, rt.alloc(), 44)
+}
+
+#[test]
+fn want_of_memory_at_growth_49(rt: HostRuntime) -> Result<(), Fail> {
+    at_growth(&rt, rt.alloc(), 49)
+}
+
+#[test]
+fn want_of_memory_at_growth_55(rt: HostRuntime) -> Result<(), Fail> {
+    at_growth(&rt, rt.alloc(), 55)
+}
+
+#[test]
+fn want_of_memory_at_growth_61(rt: HostRuntime) -> Result<(), Fail> {
+    at_growth(&rt, rt.alloc(), 61)
+}
+
+#[test]
+fn want_of_memory_at_growth_67(rt: HostRuntime) -> Result<(), Fail> {
+    at_growth(&rt, rt.alloc(), 67)
+}
+
+#[test]
+fn want_of_memory_at_growth_73(rt: HostRuntime) -> Result<(), Fail> {
+    at_growth(&rt, rt.alloc(), 73)
+}
+
+#[test]
+fn want_of_memory_at_growth_79(rt: HostRuntime) -> Result<(), Fail> {
+    at_growth(&rt, rt.alloc(), 79)
 }
