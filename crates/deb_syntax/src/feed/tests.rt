@@ -1,6 +1,8 @@
 use crate::feed::{FILE_LIMIT, Feed, Sight, Tail};
 use deb_base::{Fault, Input, Source};
+use std::alloc::Global;
 use std::io::{self, ErrorKind, Read};
+use std::process::Abort;
 use std::test::Fail;
 
 /// A reader that gives its bytes in pieces of a size, and fails once where so many are left.
@@ -57,64 +59,90 @@ fn name_of(tail: Tail) -> &'static str {
     }
 }
 
+/// A feed that has taken the whole file. Before the end all that is unread is seen, and more is
+/// there.
+fn taken(rt: &impl Abort, alloc: Global, size: usize) -> Result<Feed, Fault> {
+    let mut feed = Feed::new(alloc);
+    assert_eq!(rt; feed.held(), 0, "before the first piece");
+    let mut reader = Input::new(Pieces {
+        rest: b"A: 1\n\nB: 2\n",
+        size,
+        fails_at: None,
+    });
+    for _ in 0..20 {
+        if take_one(&mut feed, &mut reader)? {
+            assert_more(rt, &feed, size);
+        }
+    }
+    Ok(feed)
+}
+
+/// There are more bytes than those that are seen.
+fn assert_more(rt: &impl Abort, feed: &Feed, size: usize) {
+    let sight = sight_of(feed, 11);
+    assert_eq!(rt; name_of(sight.tail), "more", "pieces of {size}");
+    assert!(rt; sight.seen == feed.unread(), "pieces of {size}");
+}
+
+/// How many bytes are seen, and what is behind them, where the file may have so many bytes more.
+const ROWS: [(u64, usize, &str); 5] = [
+    (0, 0, "beyond"),
+    (8, 8, "beyond"),
+    (9, 9, "nothing"),
+    (10, 9, "nothing"),
+    (100, 9, "nothing"),
+];
+
+fn assert_rows(rt: &impl Abort, feed: &Feed) {
+    for (room, seen, tail) in ROWS {
+        let sight = sight_of(feed, room);
+        assert_eq!(rt; sight.seen.len(), seen, "{room} bytes more");
+        assert_eq!(rt; name_of(sight.tail), tail, "{room} bytes more");
+    }
+}
+
 #[test]
 fn what_is_seen_ends_where_the_file_may(rt: HostRuntime) -> Result<(), Fail> {
-    let rows: [(u64, usize, &str); 5] = [
-        (0, 0, "beyond"),
-        (8, 8, "beyond"),
-        (9, 9, "nothing"),
-        (10, 9, "nothing"),
-        (100, 9, "nothing"),
-    ];
     for size in [1, 2, 7, 9] {
-        let mut feed = Feed::new(rt.alloc());
-        assert_eq!(rt; feed.held(), 0, "before the first piece");
-        let mut reader = Input::new(Pieces {
-            rest: b"A: 1\n\nB: 2\n",
-            size,
-            fails_at: None,
-        });
-        for _ in 0..20 {
-            let open = take_one(&mut feed, &mut reader).map_err(|_| "failed")?;
-            if open {
-                let sight = sight_of(&feed, 11);
-                assert_eq!(rt; name_of(sight.tail), "more", "pieces of {size}");
-                assert_eq!(rt; sight.seen, feed.unread(), "pieces of {size}");
-            }
-        }
-        assert_eq!(rt;
-            feed.unread(),
-            b"A: 1\n\nB: 2\n".as_slice(),
-            "pieces of {size}"
-        );
+        let mut feed = taken(&rt, rt.alloc(), size)?;
+        assert_unread(&rt, &feed, b"A: 1\n\nB: 2\n");
         pass_line(&mut feed, 2);
-        for (room, seen, tail) in rows {
-            let sight = sight_of(&feed, room);
-            assert_eq!(rt; sight.seen.len(), seen, "{room} bytes more");
-            assert_eq!(rt; name_of(sight.tail), tail, "{room} bytes more");
-        }
+        assert_rows(&rt, &feed);
         feed.keep(3.min(feed.unread().len()));
-        assert_eq!(rt; feed.unread(), b" 1\n".as_slice(), "pieces of {size}");
+        assert_unread(&rt, &feed, b" 1\n");
         assert_eq!(rt; feed.lines(), 1, "pieces of {size}");
     }
     Ok(())
 }
 
+fn assert_unread(rt: &impl Abort, feed: &Feed, unread: &[u8]) {
+    assert_eq!(rt; feed.unread(), unread);
+}
+
 #[test]
-fn a_failed_read_changes_nothing(rt: HostRuntime) -> Result<(), Fail> {
+fn a_failed_read_changes_nothing(rt: HostRuntime) {
     let mut feed = Feed::new(rt.alloc());
     let mut reader = Input::new(Pieces {
         rest: b"A: 1\nB: 2\n",
         size: 5,
         fails_at: Some(5),
     });
-    let answers = [Ok(true), Err(Fault::Read), Ok(true), Ok(false)];
-    let unread: [&[u8]; 4] = [b"A: 1\n", b"A: 1\n", b"A: 1\nB: 2\n", b"A: 1\nB: 2\n"];
-    for (answer, unread) in answers.iter().zip(unread.iter()) {
-        assert_eq!(rt; take_one(&mut feed, &mut reader), *answer);
-        assert_eq!(rt; feed.unread(), *unread);
-    }
-    Ok(())
+    assert_taken(&rt, &mut feed, &mut reader, Ok(true), b"A: 1\n");
+    assert_taken(&rt, &mut feed, &mut reader, Err(Fault::Read), b"A: 1\n");
+    assert_taken(&rt, &mut feed, &mut reader, Ok(true), b"A: 1\nB: 2\n");
+    assert_taken(&rt, &mut feed, &mut reader, Ok(false), b"A: 1\nB: 2\n");
+}
+
+/// What is answered when one piece is taken, and what is unread then.
+fn assert_taken(
+    rt: &impl Abort,
+    feed: &mut Feed,
+    reader: &mut Input<Pieces<'_>>,
+    answer: Result<bool, Fault>,
+    unread: &[u8],
+) {
+    assert_eq!(rt; take_one(feed, reader), answer);
+    assert_unread(rt, feed, unread);
 }
 
 /// The buffer holds two pieces as long as no more than one is unread, and its bytes are those of
@@ -126,22 +154,33 @@ fn bytes_are_moved_where_others_have_passed(rt: HostRuntime) -> Result<(), Fail>
         file.push((at % 251) as u8)?;
     }
     for size in [10_000, 65_536, 100_000] {
-        let mut feed = Feed::new(rt.alloc());
-        let mut reader = Input::new(Pieces {
-            rest: file.as_slice(),
-            size,
-            fails_at: None,
-        });
-        let mut seen = Vec::new(rt.alloc());
-        for _ in 0..100 {
-            take_one(&mut feed, &mut reader).map_err(|_| "failed")?;
-            let count = feed.unread().len();
-            seen.extend_from_slice(feed.unread())?;
-            pass_line(&mut feed, count);
-        }
-        assert!(rt; feed.ended(), "pieces of {size}");
-        assert!(rt; seen.as_slice() == file.as_slice(), "pieces of {size}");
-        assert_eq!(rt; feed.held(), 131_072, "pieces of {size}");
+        let passed = passed(&rt, rt.alloc(), file.as_slice(), size)?;
+        assert!(rt; passed.as_slice() == file.as_slice(), "pieces of {size}");
     }
+    Ok(())
+}
+
+/// The bytes that are passed, each piece before the next is taken.
+fn passed(rt: &impl Abort, alloc: Global, file: &[u8], size: usize) -> Result<Vec<u8>, Fail> {
+    let mut feed = Feed::new(alloc);
+    let mut reader = Input::new(Pieces {
+        rest: file,
+        size,
+        fails_at: None,
+    });
+    let mut seen = Vec::new(alloc);
+    for _ in 0..100 {
+        take_one(&mut feed, &mut reader)?;
+        pass_unread(&mut feed, &mut seen)?;
+    }
+    assert!(rt; feed.ended(), "pieces of {size}");
+    assert_eq!(rt; feed.held(), 131_072, "pieces of {size}");
+    Ok(seen)
+}
+
+fn pass_unread(feed: &mut Feed, seen: &mut Vec<u8>) -> Result<(), Fail> {
+    seen.extend_from_slice(feed.unread())?;
+    let count = feed.unread().len();
+    pass_line(feed, count);
     Ok(())
 }

@@ -5,7 +5,9 @@ ghost use Rattle.deb_base.specs.Bodies.{IsBody};
 use super::*;
 use crate::{Paragraphs, Raw};
 use deb_base::Input;
+use std::alloc::Global;
 use std::io::Write;
+use std::process::Abort;
 use std::test::Fail;
 
 /// Asks for the body of a field.
@@ -153,6 +155,16 @@ fn fields_of_paragraphs(rt: HostRuntime) -> Result<(), Fail> {
     Ok(())
 }
 
+/// The names that a paragraph is asked for, and the line of the field that is found.
+const NAMES: [(&[u8], Option<u64>); 6] = [
+    (b"Pre-Depends", Some(7)),
+    (b"pRE-dEPENDS", Some(7)),
+    (b"x_y", Some(8)),
+    (b"x\x7fy", None),
+    (b"Pre-Depend", None),
+    (b"Pre-Depends ", None),
+];
+
 #[test]
 fn names_are_found_without_case(rt: HostRuntime) -> Result<(), Fail> {
     let text: &[u8] = b"\n\n\n\n\n\nPre-Depends: a\nX_Y: b";
@@ -160,19 +172,19 @@ fn names_are_found_without_case(rt: HostRuntime) -> Result<(), Fail> {
     let mut paragraphs = Paragraphs::new(rt.alloc());
     let paragraph = paragraphs.next(&mut reader)?.ok_or("no paragraph")?;
     assert_eq!(rt; paragraph.first_line(), 7);
-    let names: [(&[u8], Option<u64>); 6] = [
-        (b"Pre-Depends", Some(7)),
-        (b"pRE-dEPENDS", Some(7)),
-        (b"x_y", Some(8)),
-        (b"x\x7fy", None),
-        (b"Pre-Depend", None),
-        (b"Pre-Depends ", None),
-    ];
-    for (name, line) in &names {
-        let found = paragraph.get(name).map(|field| field.line);
-        assert_eq!(rt; found, *line, "{}", name.escape_ascii());
+    for (name, line) in NAMES {
+        assert_line(&rt, &paragraph, name, line);
     }
     Ok(())
+}
+
+/// The line of the field that is found by a name.
+fn assert_line(rt: &impl Abort, paragraph: &Raw<'_>, name: &[u8], line: Option<u64>) {
+    let mut found = None;
+    if let Some(field) = paragraph.get(name) {
+        found = Some(field.line);
+    }
+    assert_eq!(rt; found, line, "{}", name.escape_ascii());
 }
 
 #[test]
@@ -188,55 +200,57 @@ fn refusals_of_lines(rt: HostRuntime) {
     }
 }
 
-#[test]
-fn a_hundred_thousand_fields(rt: HostRuntime) -> Result<(), Fail> {
-    let mut text = Vec::new(rt.alloc());
-    for i in 0..100_000u32 {
+/// Fields that are called F and a number, from 0.
+fn numbered_fields(alloc: Global, count: u64) -> Result<Vec<u8>, Fail> {
+    let mut text = Vec::new(alloc);
+    for i in 0..count {
         write!(text, "F{i}: x\n")?;
     }
+    Ok(text)
+}
+
+/// The second field of a name is refused at its line.
+fn assert_second(rt: &impl Abort, answer: Result<(), Fault>, line: u64) {
+    let want = Fault::Refused(Refusal {
+        code: Code::DuplicateField,
+        line,
+    });
+    assert_eq!(rt; answer, Err(want));
+}
+
+#[test]
+fn the_last_of_a_hundred_thousand_fields(rt: HostRuntime) -> Result<(), Fail> {
+    let mut text = numbered_fields(rt.alloc(), 100_000)?;
     text.extend_from_slice(b"last:")?;
     let mut reader = Input::new(text.as_slice());
     let mut paragraphs = Paragraphs::new(rt.alloc());
     let paragraph = paragraphs.next(&mut reader)?.ok_or("no paragraph")?;
     assert_eq!(rt; paragraph.len(), 100_001);
-    let last = paragraph.get(b"LAST").ok_or("no last field")?;
-    assert_eq!(rt; last.line, 100_001);
+    assert_line(&rt, &paragraph, b"LAST", Some(100_001));
+    Ok(())
+}
 
-    let mut places = Vec::new(rt.alloc());
-    text.truncate(text.len() - 5);
+#[test]
+fn a_name_again_behind_a_hundred_thousand(rt: HostRuntime) -> Result<(), Fail> {
+    let mut text = numbered_fields(rt.alloc(), 100_000)?;
     text.extend_from_slice(b"f0: x\nlast")?;
-    let want = Fault::Refused(Refusal {
-        code: Code::DuplicateField,
-        line: 100_011,
-    });
-    assert_eq!(rt;
-        judge(rt.alloc(), text.as_slice(), 11, &mut places),
-        Err(want)
-    );
+    let answer = judge(rt.alloc(), text.as_slice(), 11, &mut Vec::new(rt.alloc()));
+    assert_second(&rt, answer, 100_011);
     Ok(())
 }
 
 #[test]
 fn names_beyond_the_few(rt: HostRuntime) -> Result<(), Fail> {
-    let mut places = Vec::new(rt.alloc());
     for count in 30..36u64 {
-        let mut front = Vec::new(rt.alloc());
-        for i in 0..count {
-            write!(front, "F{i}: x\n")?;
-        }
         for twice in [0, 29, count - 1] {
-            let mut text = Vec::new(rt.alloc());
-            text.extend_from_slice(front.as_slice())?;
+            let mut text = numbered_fields(rt.alloc(), count)?;
             write!(text, "f{twice}:")?;
-            let want = Fault::Refused(Refusal {
-                code: Code::DuplicateField,
-                line: count + 1,
-            });
-            let answer = judge(rt.alloc(), text.as_slice(), 1, &mut places);
-            assert_eq!(rt; answer, Err(want), "{count} {twice}");
+            let answer = judge(rt.alloc(), text.as_slice(), 1, &mut Vec::new(rt.alloc()));
+            assert_second(&rt, answer, count + 1);
         }
-        front.extend_from_slice(b"G: x")?;
-        let answer = judge(rt.alloc(), front.as_slice(), 1, &mut places);
+        let mut text = numbered_fields(rt.alloc(), count)?;
+        text.extend_from_slice(b"G: x")?;
+        let answer = judge(rt.alloc(), text.as_slice(), 1, &mut Vec::new(rt.alloc()));
         assert_eq!(rt; answer, Ok(()), "{count}");
     }
     Ok(())

@@ -34,34 +34,91 @@ fn read_all(
     let mut paragraphs = Paragraphs::new(alloc);
     assert_eq!(rt; paragraphs.held(), 0, "the buffer of a new reader");
     for _ in 0..u64::MAX {
-        assert_eq!(rt; paragraphs.lines(), 0, "lines before the end");
-        let mut first = Ok(None);
-        if begins {
-            first = paragraphs.begins(&mut Input::new(&mut *reader));
-            assert_within(rt, &paragraphs, reader);
-            let again = paragraphs.begins(&mut Input::new(&mut *reader));
-            assert_eq!(rt; again, first, "`begins` asked again");
-        }
-        let found = next_line(&mut paragraphs, reader, told)?;
-        assert_within(rt, &paragraphs, reader);
-        if begins {
-            assert_begins(rt, first, found);
-        }
+        assert_before_the_end(rt, &paragraphs);
+        let found = if begins {
+            next_begun(rt, &mut paragraphs, reader, told)?
+        } else {
+            next_within(rt, &mut paragraphs, reader, told)?
+        };
         if let Ok(Some(_)) = found {
             continue;
         }
-        let (calls, lines) = (reader.calls, paragraphs.lines());
-        for _ in 0..2 {
-            let next = next_line(&mut paragraphs, reader, told)?;
-            assert_eq!(rt; next, found, "`next` after the last answer");
-            let first = paragraphs.begins(&mut Input::new(&mut *reader));
-            assert_eq!(rt; first, found, "`begins` after the last answer");
-            assert_eq!(rt; reader.calls, calls, "reads after the last answer");
-            assert_eq!(rt; paragraphs.lines(), lines, "lines after the last answer");
-        }
-        return Ok(found.map(|_| lines));
+        assert_last(rt, &mut paragraphs, reader, found, told)?;
+        return Ok(lines_of(&paragraphs, found));
     }
     Err("no end")?
+}
+
+fn assert_before_the_end(rt: &impl Abort, paragraphs: &Paragraphs) {
+    assert_eq!(rt; paragraphs.lines(), 0, "lines before the end");
+}
+
+/// What `next` answers after `begins`.
+fn next_begun(
+    rt: &impl Abort,
+    paragraphs: &mut Paragraphs,
+    reader: &mut Pieces<'_>,
+    told: &mut String,
+) -> Result<Result<Option<u64>, Fault>, Fail> {
+    let first = begins(paragraphs, reader);
+    assert_within(rt, paragraphs, reader);
+    let again = begins(paragraphs, reader);
+    assert_answer(rt, again, first, "`begins` asked again");
+    let found = next_within(rt, paragraphs, reader, told)?;
+    assert_begins(rt, first, found);
+    Ok(found)
+}
+
+/// What `next` answers, and what holds when it returns.
+fn next_within(
+    rt: &impl Abort,
+    paragraphs: &mut Paragraphs,
+    reader: &mut Pieces<'_>,
+    told: &mut String,
+) -> Result<Result<Option<u64>, Fault>, Fail> {
+    let found = next_line(paragraphs, reader, told)?;
+    assert_within(rt, paragraphs, reader);
+    Ok(found)
+}
+
+/// The last answer is given again, twice, without a read.
+fn assert_last(
+    rt: &impl Abort,
+    paragraphs: &mut Paragraphs,
+    reader: &mut Pieces<'_>,
+    last: Result<Option<u64>, Fault>,
+    told: &mut String,
+) -> Result<(), Fail> {
+    let (calls, lines) = (reader.calls, paragraphs.lines());
+    for _ in 0..2 {
+        let next = next_line(paragraphs, reader, told)?;
+        assert_answer(rt, next, last, "`next` after the last answer");
+        let first = begins(paragraphs, reader);
+        assert_answer(rt, first, last, "`begins` after the last answer");
+        assert_eq!(rt; reader.calls, calls, "reads after the last answer");
+        assert_eq!(rt; paragraphs.lines(), lines, "lines after the last answer");
+    }
+    Ok(())
+}
+
+/// How many lines the file has, after the last answer.
+fn lines_of(paragraphs: &Paragraphs, last: Result<Option<u64>, Fault>) -> Result<u64, Fault> {
+    last?;
+    Ok(paragraphs.lines())
+}
+
+fn begins(paragraphs: &mut Paragraphs, reader: &mut Pieces<'_>) -> Result<Option<u64>, Fault> {
+    paragraphs.begins(&mut Input::new(&mut *reader))
+}
+
+/// An answer of `next` or `begins` is what is wanted.
+fn assert_answer(
+    rt: &impl Abort,
+    answer: Result<Option<u64>, Fault>,
+    wanted: Result<Option<u64>, Fault>,
+    of: &str,
+) {
+    assert_eq!(rt; answer, wanted, "{of}");
 }
 
 /// The first line of the next paragraph, which is told.
@@ -84,15 +141,19 @@ fn tell(told: &mut String, raw: &Raw<'_>) -> Result<(), Fail> {
     let first_line = raw.first_line();
     writeln!(told, "@{first_line}")?;
     for field in raw.fields() {
-        let line = field.line;
-        let name = field.name.escape_ascii();
-        let len = field.body.len();
-        if len < 1_000 {
-            let body = field.body.escape_ascii();
-            writeln!(told, "{line} {name}: {body}")?;
-        } else {
-            writeln!(told, "{line} {name}: {len} bytes")?;
-        }
+        tell_field(told, field.line, field.name, field.body)?;
+    }
+    Ok(())
+}
+
+fn tell_field(told: &mut String, line: u64, name: &[u8], body: &[u8]) -> Result<(), Fail> {
+    let name = name.escape_ascii();
+    let len = body.len();
+    if len < 1_000 {
+        let body = body.escape_ascii();
+        writeln!(told, "{line} {name}: {body}")?;
+    } else {
+        writeln!(told, "{line} {name}: {len} bytes")?;
     }
     Ok(())
 }
@@ -110,21 +171,27 @@ fn assert_begins(
     found: Result<Option<u64>, Fault>,
 ) {
     match first {
-        Ok(None) => assert_eq!(rt; found, Ok(None), "`next` after `begins` at the end"),
-        Ok(Some(line)) => match found {
-            Ok(Some(found)) => assert_eq!(rt; line, found, "where a paragraph begins"),
-            Ok(None) => assert!(rt; false, "the end where a paragraph begins"),
-            Err(Fault::Refused(refusal)) => assert!(rt;
-                line <= refusal.line,
-                "the line of a refusal"
-            ),
-            Err(_) => {}
-        },
-        Err(Fault::Refused(refusal)) => {
-            assert_eq!(rt; refusal.code, Code::FileTooLong, "what `begins` refuses");
-            assert_eq!(rt; found, Err(Fault::Refused(refusal)), "`next` after it");
+        Ok(None) => assert_answer(rt, found, Ok(None), "`next` after `begins` at the end"),
+        Ok(Some(line)) => assert!(rt;
+            begins_at(found, line),
+            "{found:?} where a paragraph begins in line {line}"
+        ),
+        Err(fault) => {
+            if let Fault::Refused(refusal) = fault {
+                assert_eq!(rt; refusal.code, Code::FileTooLong, "what `begins` refuses");
+            }
+            assert_answer(rt, found, Err(fault), "`next` after a fault of `begins`");
         }
-        Err(fault) => assert_eq!(rt; found, Err(fault), "`next` after a fault of `begins`"),
+    }
+}
+
+/// Whether `next` may answer so where a paragraph begins in a line.
+fn begins_at(found: Result<Option<u64>, Fault>, line: u64) -> bool {
+    match found {
+        Ok(Some(found)) => line == found,
+        Ok(None) => false,
+        Err(Fault::Refused(refusal)) => line <= refusal.line,
+        Err(_) => true,
     }
 }
 
@@ -142,4 +209,30 @@ fn file_of(alloc: Global, pieces: &[(&[u8], u8, usize)]) -> Result<Vec<u8>, Fail
         file.resize(len, *byte)?;
     }
     Ok(file)
+}
+
+/// Reads a file in pieces of a size to its end.
+fn read_file(
+    rt: &impl Abort,
+    alloc: Global,
+    file: &[u8],
+    size: usize,
+    begins: bool,
+    told: &mut String,
+) -> Result<Result<u64, Fault>, Fail> {
+    let mut reader = Pieces::new(file, size, 0);
+    read_all(rt, alloc, &mut reader, begins, told)
+}
+
+/// Where the reading of a file ends.
+fn assert_end(
+    rt: &impl Abort,
+    end: Result<u64, Fault>,
+    wanted: Result<u64, Fault>,
+    file: &[u8],
+    size: usize,
+    begins: bool,
+) {
+    let shown = file.escape_ascii();
+    assert_eq!(rt; end, wanted, "{shown} in pieces of {size}, {begins}");
 }

@@ -101,22 +101,32 @@ const ROWS: [Row; 24] = [
 
 #[test]
 fn files_have_their_paragraphs(rt: HostRuntime) -> Result<(), Fail> {
-    for Row(file, wanted, lines) in &ROWS {
-        let shown = file.escape_ascii();
+    for row in &ROWS {
         for size in SIZES {
-            for begins in [false, true] {
-                let mut told = String::new(rt.alloc());
-                let mut reader = Pieces::new(file, size, 0);
-                let end = read_all(&rt, rt.alloc(), &mut reader, begins, &mut told)?;
-                assert_eq!(rt; end, Ok(*lines), "{shown} in pieces of {size}, {begins}");
-                assert_eq!(rt;
-                    told.as_str(),
-                    *wanted,
-                    "{shown} in pieces of {size}, {begins}"
-                );
-            }
+            assert_row(&rt, rt.alloc(), row, size, false)?;
+            assert_row(&rt, rt.alloc(), row, size, true)?;
         }
     }
+    Ok(())
+}
+
+fn assert_row(
+    rt: &impl Abort,
+    alloc: Global,
+    row: &Row,
+    size: usize,
+    begins: bool,
+) -> Result<(), Fail> {
+    let Row(file, wanted, lines) = row;
+    let mut told = String::new(alloc);
+    let end = read_file(rt, alloc, file, size, begins, &mut told)?;
+    assert_end(rt, end, Ok(*lines), file, size, begins);
+    let shown = file.escape_ascii();
+    assert_eq!(rt;
+        told.as_str(),
+        *wanted,
+        "{shown} in pieces of {size}, {begins}"
+    );
     Ok(())
 }
 
@@ -124,24 +134,34 @@ fn files_have_their_paragraphs(rt: HostRuntime) -> Result<(), Fail> {
 #[test]
 fn a_paragraph_cut_at_each_byte(rt: HostRuntime) -> Result<(), Fail> {
     for count in 0..=PACKAGE.len() {
-        let (lines, line) = match count {
-            0 => (Some(0), 0),
-            1..8 => (None, 1),
-            8..13 => (Some(1), 0),
-            13..20 => (None, 2),
-            20..24 => (Some(2), 0),
-            24..36 => (None, 3),
-            _ => (Some(3), 0),
-        };
-        let wanted = lines.ok_or(refusal_at(Code::NoColon, line));
+        let file = &PACKAGE[..count.min(PACKAGE.len())];
+        let wanted = end_of_cut(count);
         for size in SIZES {
-            let mut told = String::new(rt.alloc());
-            let mut reader = Pieces::new(&PACKAGE[..count.min(PACKAGE.len())], size, 0);
-            let end = read_all(&rt, rt.alloc(), &mut reader, false, &mut told)?;
-            assert_eq!(rt; end, wanted, "{count} bytes in pieces of {size}");
+            let end = read_file(
+                &rt,
+                rt.alloc(),
+                file,
+                size,
+                false,
+                &mut String::new(rt.alloc()),
+            )?;
+            assert_end(&rt, end, wanted, file, size, false);
         }
     }
     Ok(())
+}
+
+/// Where the reading ends of so many bytes of `PACKAGE`.
+fn end_of_cut(count: usize) -> Result<u64, Fault> {
+    match count {
+        0 => Ok(0),
+        1..8 => Err(refusal_at(Code::NoColon, 1)),
+        8..13 => Ok(1),
+        13..20 => Err(refusal_at(Code::NoColon, 2)),
+        20..24 => Ok(2),
+        24..36 => Err(refusal_at(Code::NoColon, 3)),
+        _ => Ok(3),
+    }
 }
 
 /// Blank lines, `begins`, `next` and `lines`, one after another.
@@ -149,28 +169,58 @@ fn a_paragraph_cut_at_each_byte(rt: HostRuntime) -> Result<(), Fail> {
 fn a_file_call_by_call(rt: HostRuntime) -> Result<(), Fail> {
     let mut input = Input::new(b"\n \nPackage: aa\n".as_slice());
     let mut paragraphs = Paragraphs::new(rt.alloc());
-    assert_eq!(rt; paragraphs.begins(&mut input), Ok(Some(3)));
-    assert_eq!(rt; paragraphs.begins(&mut input), Ok(Some(3)));
+    assert_first(&rt, &mut paragraphs, &mut input, Ok(Some(3)));
+    assert_first(&rt, &mut paragraphs, &mut input, Ok(Some(3)));
     assert!(rt; paragraphs.held() >= 11, "the paragraph's line is kept");
-    assert!(rt; paragraphs.current().is_none(), "nothing was read");
-    assert_eq!(rt; paragraphs.lines(), 0);
+    assert_lines(&rt, &paragraphs, 0);
 
-    assert_eq!(rt; paragraphs.advance(&mut input), Ok(true));
+    assert_advance(&rt, &mut paragraphs, &mut input, true);
     let raw = paragraphs.current().ok_or("no paragraph")?;
+    assert_paragraph(&rt, &raw)?;
+    assert_lines(&rt, &paragraphs, 0);
+
+    assert_first(&rt, &mut paragraphs, &mut input, Ok(None));
+    assert_lines(&rt, &paragraphs, 3);
+    assert_advance(&rt, &mut paragraphs, &mut input, false);
+    assert!(rt; paragraphs.next(&mut input)?.is_none());
+    assert_lines(&rt, &paragraphs, 3);
+    Ok(())
+}
+
+/// What `begins` answers, and that no paragraph is read after it.
+fn assert_first(
+    rt: &impl Abort,
+    paragraphs: &mut Paragraphs,
+    input: &mut Input<&[u8]>,
+    first: Result<Option<u64>, Fault>,
+) {
+    let answer = paragraphs.begins(input);
+    assert_answer(rt, answer, first, "`begins`");
+    assert!(rt; paragraphs.current().is_none(), "after `begins`");
+}
+
+/// What `advance` answers.
+fn assert_advance(
+    rt: &impl Abort,
+    paragraphs: &mut Paragraphs,
+    input: &mut Input<&[u8]>,
+    found: bool,
+) {
+    assert_eq!(rt; paragraphs.advance(input), Ok(found));
+}
+
+fn assert_lines(rt: &impl Abort, paragraphs: &Paragraphs, lines: u64) {
+    assert_eq!(rt; paragraphs.lines(), lines);
+}
+
+/// The paragraph of one field, in the third line.
+fn assert_paragraph(rt: &impl Abort, raw: &Raw<'_>) -> Result<(), Fail> {
     assert_eq!(rt; raw.len(), 1);
     assert_eq!(rt; raw.first_line(), 3);
     let field = raw.field(0).ok_or("no field")?;
-    assert_eq!(rt; field.name, b"Package".as_slice());
     assert_eq!(rt; field.line, 3);
-    assert_eq!(rt; field.body, b"aa".as_slice());
+    assert!(rt; field.name == b"Package".as_slice());
+    assert!(rt; field.body == b"aa".as_slice());
     assert!(rt; raw.get(b"pACKAGE").is_some());
-    assert_eq!(rt; paragraphs.lines(), 0);
-
-    assert_eq!(rt; paragraphs.begins(&mut input), Ok(None));
-    assert!(rt; paragraphs.current().is_none(), "after `begins`");
-    assert_eq!(rt; paragraphs.lines(), 3);
-    assert_eq!(rt; paragraphs.advance(&mut input), Ok(false));
-    assert!(rt; paragraphs.next(&mut input)?.is_none());
-    assert_eq!(rt; paragraphs.lines(), 3);
     Ok(())
 }

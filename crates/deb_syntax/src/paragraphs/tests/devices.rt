@@ -11,29 +11,40 @@ const TOLD: &str = "@1\n1 A: 1\n@4\n4 B: 2\\n c\n@7\n7 C: 3\n@10\n10 D: 4\n";
 fn a_failed_read_is_no_end(rt: HostRuntime) -> Result<(), Fail> {
     for size in SIZES {
         for begins in [false, true] {
-            let mut calls = 0;
-            for failing in 0..40 {
-                let mut told = String::new(rt.alloc());
-                let mut reader = Pieces::new(FILE, size, failing);
-                let end = read_all(&rt, rt.alloc(), &mut reader, begins, &mut told)?;
-                if failing == 0 {
-                    calls = reader.calls;
-                }
-                if 1 <= failing && failing <= calls {
-                    assert_eq!(rt; end, Err(Fault::Read), "call {failing} in pieces of {size}");
-                    assert_eq!(rt; reader.calls, failing, "reads in pieces of {size}");
-                    assert!(rt;
-                        TOLD.starts_with(told.as_str()),
-                        "what was read before call {failing} in pieces of {size}"
-                    );
-                } else {
-                    assert_eq!(rt; end, Ok(10), "call {failing} in pieces of {size}");
-                    assert_eq!(rt; told.as_str(), TOLD, "call {failing} in pieces of {size}");
-                }
+            let calls = assert_failing(&rt, rt.alloc(), size, begins, 0, 0)?;
+            for failing in 1..40 {
+                assert_failing(&rt, rt.alloc(), size, begins, failing, calls)?;
             }
         }
     }
     Ok(())
+}
+
+/// Reads the file with one call that fails, where there are so many, and answers how many calls
+/// there were.
+fn assert_failing(
+    rt: &impl Abort,
+    alloc: Global,
+    size: usize,
+    begins: bool,
+    failing: u64,
+    calls: u64,
+) -> Result<u64, Fail> {
+    let mut told = String::new(alloc);
+    let mut reader = Pieces::new(FILE, size, failing);
+    let end = read_all(rt, alloc, &mut reader, begins, &mut told)?;
+    if 1 <= failing && failing <= calls {
+        assert_end(rt, end, Err(Fault::Read), FILE, size, begins);
+        assert_eq!(rt; reader.calls, failing, "reads in pieces of {size}");
+        assert!(rt;
+            TOLD.starts_with(told.as_str()),
+            "before call {failing} in pieces of {size}"
+        );
+    } else {
+        assert_end(rt, end, Ok(10), FILE, size, begins);
+        assert_eq!(rt; told.as_str(), TOLD, "call {failing} in pieces of {size}");
+    }
+    Ok(reader.calls)
 }
 
 /// A refusal of a line stands before a failed read behind its paragraph, or that read in its place.
@@ -70,15 +81,22 @@ fn one_piece_is_taken_ahead(rt: HostRuntime) -> Result<(), Fail> {
         let mut reader = Pieces::new(file.as_slice(), size, 0);
         let mut paragraphs = Paragraphs::new(rt.alloc());
         for (line, at_line, behind) in rows {
-            let first = paragraphs.begins(&mut Input::new(&mut reader));
-            assert_eq!(rt; first, Ok(Some(line)), "in pieces of {size}");
-            let taken = file.len().saturating_sub(reader.rest.len());
-            assert!(rt; taken <= at_line, "{taken} bytes at line {line}");
+            let first = begins(&mut paragraphs, &mut reader);
+            assert_answer(&rt, first, Ok(Some(line)), "`begins`");
+            assert_taken(&rt, file.len(), &reader, at_line, line);
             let found = paragraphs.advance(&mut Input::new(&mut reader));
             assert_eq!(rt; found, Ok(true), "in pieces of {size}");
-            let taken = file.len().saturating_sub(reader.rest.len());
-            assert!(rt; taken <= behind, "{taken} bytes behind line {line}");
+            assert_taken(&rt, file.len(), &reader, behind, line);
         }
     }
     Ok(())
+}
+
+/// At most so many bytes are taken of a file of so many.
+fn assert_taken(rt: &impl Abort, len: usize, reader: &Pieces<'_>, most: usize, line: u64) {
+    let taken = len.saturating_sub(reader.rest.len());
+    assert!(rt;
+        taken <= most,
+        "{taken} bytes, {most} at most, at line {line}"
+    );
 }

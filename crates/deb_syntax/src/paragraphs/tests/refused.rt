@@ -79,20 +79,44 @@ const ROWS: [Row; 26] = [
 #[test]
 fn refusals_have_their_lines(rt: HostRuntime) -> Result<(), Fail> {
     for Row(file, code, line, before) in &ROWS {
-        let shown = file.escape_ascii();
-        for size in SIZES {
-            for begins in [false, true] {
-                let mut told = String::new(rt.alloc());
-                let mut reader = Pieces::new(file, size, 0);
-                let end = read_all(&rt, rt.alloc(), &mut reader, begins, &mut told)?;
-                let wanted = Err(refusal_at(*code, *line));
-                assert_eq!(rt; end, wanted, "{shown} in pieces of {size}, {begins}");
-                let found = told.as_str().matches('@').count();
-                assert_eq!(rt; found, *before, "{shown} in pieces of {size}, {begins}");
-            }
+        assert_read(
+            &rt,
+            rt.alloc(),
+            file,
+            Err(refusal_at(*code, *line)),
+            Some(*before),
+        )?;
+    }
+    Ok(())
+}
+
+/// Where the reading of a file ends in pieces of each size, with `begins` and without it, and how
+/// many paragraphs it has.
+fn assert_read(
+    rt: &impl Abort,
+    alloc: Global,
+    file: &[u8],
+    end: Result<u64, Fault>,
+    paragraphs: Option<usize>,
+) -> Result<(), Fail> {
+    for size in SIZES {
+        for begins in [false, true] {
+            let mut told = String::new(alloc);
+            let found = read_file(rt, alloc, file, size, begins, &mut told)?;
+            assert_end(rt, found, end, file, size, begins);
+            assert_count(rt, told.as_str(), paragraphs, file, size);
         }
     }
     Ok(())
+}
+
+/// How many paragraphs are told, where that is known.
+fn assert_count(rt: &impl Abort, told: &str, paragraphs: Option<usize>, file: &[u8], size: usize) {
+    if let Some(wanted) = paragraphs {
+        let found = told.matches('@').count();
+        let shown = file.escape_ascii();
+        assert_eq!(rt; found, wanted, "{shown} in pieces of {size}");
+    }
 }
 
 /// A line, and its code as the first line of a paragraph and as a later one behind `A: 1`.
@@ -162,33 +186,28 @@ const FRAMES: [Frame; 11] = [
 
 #[test]
 fn each_code_on_each_line(rt: HostRuntime) -> Result<(), Fail> {
-    for Line(line, first, later) in &LINES {
-        for Frame(before, behind, is_first, number, paragraphs, lines) in &FRAMES {
-            let mut file = Vec::new(rt.alloc());
-            file.extend_from_slice(before)?;
-            file.extend_from_slice(line)?;
-            file.extend_from_slice(behind)?;
-            let shown = file.as_slice().escape_ascii();
-            let code = if *is_first { *first } else { *later };
-            let wanted = match code {
-                Some(code) => Err(refusal_at(code, *number)),
-                None => Ok(*lines),
-            };
-            for size in SIZES {
-                for begins in [false, true] {
-                    let mut told = String::new(rt.alloc());
-                    let mut reader = Pieces::new(file.as_slice(), size, 0);
-                    let end = read_all(&rt, rt.alloc(), &mut reader, begins, &mut told)?;
-                    assert_eq!(rt; end, wanted, "{shown} in pieces of {size}, {begins}");
-                    let found = told.as_str().matches('@').count();
-                    if wanted.is_ok() {
-                        assert_eq!(rt; found, *paragraphs, "{shown} in pieces of {size}");
-                    }
-                }
-            }
+    for line in &LINES {
+        for frame in &FRAMES {
+            assert_in_frame(&rt, rt.alloc(), line, frame)?;
         }
     }
     Ok(())
+}
+
+fn assert_in_frame(rt: &impl Abort, alloc: Global, line: &Line, frame: &Frame) -> Result<(), Fail> {
+    let Line(line, first, later) = line;
+    let Frame(before, behind, is_first, number, paragraphs, lines) = frame;
+    let mut file = Vec::new(alloc);
+    file.extend_from_slice(before)?;
+    file.extend_from_slice(line)?;
+    file.extend_from_slice(behind)?;
+    match if *is_first { *first } else { *later } {
+        Some(code) => {
+            let end = Err(refusal_at(code, *number));
+            assert_read(rt, alloc, file.as_slice(), end, None)
+        }
+        None => assert_read(rt, alloc, file.as_slice(), Ok(*lines), Some(*paragraphs)),
+    }
 }
 
 /// Three fields, 100,000 more, and the first of these again.
@@ -201,14 +220,15 @@ fn a_name_among_a_hundred_thousand(rt: HostRuntime) -> Result<(), Fail> {
     }
     file.extend_from_slice(b"f0: x\n")?;
     for size in [7, 65_536] {
-        let mut told = String::new(rt.alloc());
-        let mut reader = Pieces::new(file.as_slice(), size, 0);
-        let end = read_all(&rt, rt.alloc(), &mut reader, true, &mut told)?;
-        assert_eq!(rt;
-            end,
-            Err(refusal_at(Code::DuplicateField, 100_004)),
-            "in pieces of {size}"
-        );
+        assert_second(&rt, rt.alloc(), file.as_slice(), size)?;
     }
+    Ok(())
+}
+
+/// The second field of a name is refused in line 100,004.
+fn assert_second(rt: &impl Abort, alloc: Global, file: &[u8], size: usize) -> Result<(), Fail> {
+    let end = read_file(rt, alloc, file, size, true, &mut String::new(alloc))?;
+    let wanted = Err(refusal_at(Code::DuplicateField, 100_004));
+    assert_eq!(rt; end, wanted, "in pieces of {size}");
     Ok(())
 }

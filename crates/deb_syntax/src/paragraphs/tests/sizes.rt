@@ -19,7 +19,7 @@ struct Row(
     Result<u64, u64>,
 );
 
-const ROWS: [Row; 36] = [
+const FULL_PARAGRAPHS: [Row; 15] = [
     // a paragraph of the most bytes, and of one more, with its last newline and without
     Row(&[(FULL, b'x', REST), (b"\n", 0, 0)], TOLD, Ok(4)),
     Row(&[(FULL, b'x', REST)], TOLD, Ok(4)),
@@ -96,6 +96,9 @@ const ROWS: [Row; 36] = [
         "@1\n1 Package: aa\n2 Version: 1\n3 Architecture: all\n4 X: 16777171 bytes\n@7\n7 B: 1\n",
         Ok(7),
     ),
+];
+
+const LINES: [Row; 13] = [
     // a paragraph of one line
     Row(
         &[(b"X:", b'x', 16_777_213), (b"\n", 0, 0)],
@@ -137,7 +140,10 @@ const ROWS: [Row; 36] = [
         "@5000001\n5000001 A: 1\n",
         Ok(5_000_001),
     ),
-    // too long goes before each other code, on its line and on a line before it
+];
+
+/// Too long goes before each other code, on its line and on a line before it.
+const OTHER_CODES: [Row; 8] = [
     Row(&[(b"X: \xff", b'x', 16_777_216)], "", Err(1)),
     Row(&[(b"-----BEGIN PGP", b'x', 16_777_216)], "", Err(1)),
     Row(&[(b"#", b'x', 16_777_216)], "", Err(1)),
@@ -150,38 +156,56 @@ const ROWS: [Row; 36] = [
 
 #[test]
 fn paragraphs_have_a_limit(rt: HostRuntime) -> Result<(), Fail> {
-    for (index, Row(pieces, told, end)) in ROWS.iter().enumerate() {
-        let file = file_of(rt.alloc(), pieces)?;
-        assert_long(&rt, rt.alloc(), file.as_slice(), 65_536, told, *end, index)?;
+    for (index, row) in FULL_PARAGRAPHS.iter().enumerate() {
+        assert_row(&rt, rt.alloc(), row, index)?;
     }
     Ok(())
+}
+
+#[test]
+fn lines_have_a_limit(rt: HostRuntime) -> Result<(), Fail> {
+    for (index, row) in LINES.iter().enumerate() {
+        assert_row(&rt, rt.alloc(), row, index)?;
+    }
+    Ok(())
+}
+
+#[test]
+fn the_limit_goes_before_other_codes(rt: HostRuntime) -> Result<(), Fail> {
+    for (index, row) in OTHER_CODES.iter().enumerate() {
+        assert_row(&rt, rt.alloc(), row, index)?;
+    }
+    Ok(())
+}
+
+fn assert_row(rt: &impl Abort, alloc: Global, row: &Row, index: usize) -> Result<(), Fail> {
+    let Row(pieces, told, end) = row;
+    let file = file_of(alloc, pieces)?;
+    let end = wanted_end(*end);
+    assert_long(rt, alloc, file.as_slice(), false, told, end, index)?;
+    assert_long(rt, alloc, file.as_slice(), true, told, end, index)
+}
+
+fn wanted_end(end: Result<u64, u64>) -> Result<u64, Fault> {
+    match end {
+        Ok(lines) => Ok(lines),
+        Err(line) => Err(refusal_at(Code::ParagraphTooLong, line)),
+    }
 }
 
 fn assert_long(
     rt: &impl Abort,
     alloc: Global,
     file: &[u8],
-    size: usize,
+    begins: bool,
     wanted: &str,
-    end: Result<u64, u64>,
+    wanted_end: Result<u64, Fault>,
     index: usize,
 ) -> Result<(), Fail> {
-    let wanted_end = end.map_err(|line| refusal_at(Code::ParagraphTooLong, line));
-    for begins in [false, true] {
-        let mut told = String::new(alloc);
-        let mut reader = Pieces::new(file, size, 0);
-        let end = read_all(rt, alloc, &mut reader, begins, &mut told)?;
-        assert_eq!(rt;
-            end,
-            wanted_end,
-            "row {index} in pieces of {size}, {begins}"
-        );
-        assert_eq!(rt;
-            told.as_str(),
-            wanted,
-            "row {index} in pieces of {size}, {begins}"
-        );
-    }
+    let mut told = String::new(alloc);
+    let end = read_file(rt, alloc, file, 65_536, begins, &mut told)?;
+    assert_eq!(rt; end, wanted_end, "row {index}, {begins}");
+    assert_eq!(rt; told.as_str(), wanted, "row {index}, {begins}");
     Ok(())
 }
 
