@@ -35,6 +35,3 @@ pub use normalising::normalise;
 pub use paragraph::Paragraph;
 pub use side::{Side, SideFault};
 pub use typed_field::TypedField;
-
-#[cfg(test)]
-mod tests;

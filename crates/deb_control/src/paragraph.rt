@@ -211,6 +211,3 @@ fn has_field(paragraph: &Raw<'_>, name: &[u8]) -> bool
 {
     paragraph.get(name).is_some()
 }
-
-#[cfg(test)]
-mod tests;

@@ -42,6 +42,3 @@ pub use source::SourceName;
 pub use text::{Line, Text};
 pub use value::{Value, ValueFault};
 pub use words::Words;
-
-#[cfg(test)]
-mod tests;

@@ -30,6 +30,3 @@ pub use index::Index;
 pub use package::Package;
 pub use report::{Answer, Found, Report};
 pub use verdict::Verdict;
-
-#[cfg(test)]
-mod tests;

@@ -37,6 +37,3 @@ pub use fault::{Reason, RelationFault};
 pub use group::Group;
 pub use operator::Op;
 pub use relation::Relation;
-
-#[cfg(test)]
-mod tests;

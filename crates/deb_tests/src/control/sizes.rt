@@ -1,7 +1,7 @@
 //! Paragraphs near the most bytes that they and their canonical text may have.
 
 use super::*;
-use crate::Paragraph;
+use deb_control::Paragraph;
 use deb_syntax::Paragraphs;
 
 /// The most bytes of a paragraph.

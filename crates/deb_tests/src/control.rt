@@ -6,11 +6,12 @@ mod comparing;
 mod devices;
 mod failing;
 mod memory;
+mod paragraphs;
 mod refused;
 mod sizes;
 
-use crate::{Checked, check, normalise};
 use deb_base::{Code, Fault, Input, Output, Refusal};
+use deb_control::{Checked, check, normalise};
 use deb_field::Doc;
 use devices::Pieces;
 use std::alloc::Global;

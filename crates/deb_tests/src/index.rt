@@ -5,9 +5,9 @@ mod memory;
 mod refused;
 mod writing;
 
-use crate::Verdict::{Ignored, Met, Unmet};
-use crate::{Index, QueryFault, Report, Verdict};
 use deb_base::Input;
+use deb_index::Verdict::{Ignored, Met, Unmet};
+use deb_index::{Index, QueryFault, Report, Verdict};
 use deb_relation::{Env, Relation};
 use std::alloc::Global;
 use std::process::Abort;

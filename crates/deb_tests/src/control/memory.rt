@@ -4,7 +4,7 @@
 //! number passes their growths none does.
 
 use super::*;
-use crate::{Paragraph, Side, SideFault, same};
+use deb_control::{Paragraph, Side, SideFault, same};
 use deb_syntax::Paragraphs;
 
 /// The growth of each test that is refused.

@@ -2,8 +2,8 @@
 
 mod memory;
 
-use crate::*;
 use deb_base::{Code, is_body};
+use deb_field::*;
 use std::alloc::{AllocError, Global};
 use std::process::Abort;
 use std::test::Fail;

@@ -1,7 +1,8 @@
 //! Typed paragraphs: their canonical text, or their refusal.
 
-use super::*;
-use deb_base::Input;
+use deb_base::{Code, Fault, Input};
+use deb_control::Paragraph;
+use deb_field::{Doc, Value};
 use deb_syntax::Paragraphs;
 use std::test::Fail;
 

@@ -2,7 +2,7 @@
 
 mod memory;
 
-use crate::{Alternative, Env, EnvFault, Op, Reason, Relation, RelationFault};
+use deb_relation::{Alternative, Env, EnvFault, Op, Reason, Relation, RelationFault};
 use deb_version::BadVersion;
 use std::alloc::Global;
 use std::cmp::Ordering;

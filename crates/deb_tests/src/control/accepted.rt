@@ -1,7 +1,7 @@
 //! Files that are accepted, with their canonical text, and what the paragraphs that are given show.
 
 use super::*;
-use crate::Accepted;
+use deb_control::Accepted;
 use deb_field::{Canon, Value};
 
 const ROWS: [Row; 24] = [

@@ -1,7 +1,7 @@
 //! Pairs of files: whether they mean the same, and which of them is refused or can't be read.
 
 use super::*;
-use crate::{Side, SideFault, same};
+use deb_control::{Side, SideFault, same};
 
 /// Three paragraphs.
 const FILE: &[u8] = b"Package: aa\nVersion: 1\nArchitecture: all\n\n\
