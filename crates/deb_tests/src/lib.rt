@@ -10,6 +10,8 @@ mod control;
 #[cfg(test)]
 mod field;
 #[cfg(test)]
+mod growth;
+#[cfg(test)]
 mod index;
 #[cfg(test)]
 mod relation;

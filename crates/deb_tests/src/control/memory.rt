@@ -4,22 +4,9 @@
 //! number passes their growths none does.
 
 use super::*;
+use crate::growth::spend;
 use deb_control::{Paragraph, Side, SideFault, same};
 use deb_syntax::Paragraphs;
-
-/// The growth of each test that is refused.
-const REFUSED_GROWTH: u32 = 200;
-
-/// Takes memory and gives it back so often that of the growths that follow, the one of this number
-/// is refused.
-fn spend(rt: &impl Abort, alloc: Global, growth: u32) -> Result<(), Fail> {
-    for _ in growth..REFUSED_GROWTH {
-        let mut spent = Vec::with_capacity(alloc, 1)?;
-        spent.push(b'=')?;
-        assert_eq!(rt; spent.as_slice(), b"=".as_slice());
-    }
-    Ok(())
-}
 
 /// Two paragraphs, of which the second is longer, and a third that lacks fields.
 const FILE: &[u8] = b"Package: aa\nVersion: 1\nArchitecture: all\n\n\

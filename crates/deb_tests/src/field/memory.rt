@@ -4,20 +4,7 @@
 //! number passes their growths none does.
 
 use super::*;
-
-/// The growth of each test that is refused.
-const REFUSED_GROWTH: u32 = 200;
-
-/// Takes memory and gives it back so often that of the growths that follow, the one of this number
-/// is refused.
-fn spend(rt: &impl Abort, alloc: Global, growth: u32) -> Result<(), Fail> {
-    for _ in growth..REFUSED_GROWTH {
-        let mut spent = Vec::with_capacity(alloc, 1)?;
-        spent.push(b'=')?;
-        assert_eq!(rt; spent.as_slice(), b"=".as_slice());
-    }
-    Ok(())
-}
+use crate::growth::spend;
 
 /// Reads a value and writes its canonical text, with this growth refused.
 fn at_growth(rt: &impl Abort, alloc: Global, growth: u32) -> Result<(), Fail> {
