@@ -3,7 +3,7 @@
 ghost use Rattle.deb_base.specs.Bodies.{IsBody};
 
 use super::*;
-use crate::{Paragraphs, Raw};
+use crate::{Paragraphs, Raw, RawField};
 use deb_base::Input;
 use std::alloc::Global;
 use std::io::Write;
@@ -26,11 +26,11 @@ fn longest_body(paragraph: &Raw<'_>) -> usize {
     longest
 }
 
-/// A paragraph whose first line has number 1, and its fields: name, line and body.
-struct Accepted(
-    &'static [u8],
-    &'static [(&'static [u8], u64, &'static [u8])],
-);
+/// The name of a field, its line and its body.
+type Wanted = (&'static [u8], u64, &'static [u8]);
+
+/// A paragraph whose first line has number 1, and its fields.
+struct Accepted(&'static [u8], &'static [Wanted]);
 
 const ACCEPTED: [Accepted; 8] = [
     Accepted(
@@ -128,31 +128,51 @@ const REFUSED: [Refused; 24] = [
 #[test]
 fn fields_of_paragraphs(rt: HostRuntime) -> Result<(), Fail> {
     for Accepted(text, fields) in &ACCEPTED {
-        let shown = text.escape_ascii();
         let mut reader = Input::new(*text);
         let mut paragraphs = Paragraphs::new(rt.alloc());
         let paragraph = paragraphs.next(&mut reader)?.ok_or("no paragraph")?;
-        assert_eq!(rt; paragraph.len(), fields.len(), "{shown}");
-        assert!(rt; !paragraph.is_empty(), "{shown}");
-        assert_eq!(rt; paragraph.first_line(), 1, "{shown}");
-        for (index, (name, line, body)) in fields.iter().enumerate() {
-            let field = paragraph.field(index).ok_or("no field at the index")?;
-            assert_eq!(rt; field.name, *name, "{shown}");
-            assert_eq!(rt; field.line, *line, "{shown}");
-            assert_eq!(rt; field.body, *body, "{shown}");
-            let found = paragraph.get(name).ok_or("no field of the name")?;
-            assert_eq!(rt; found.line, *line, "{shown}");
-        }
-        assert!(rt; paragraph.field(fields.len()).is_none(), "{shown}");
-        let longest = fields.iter().map(|(_, _, body)| body.len()).max();
-        assert_eq!(rt; Some(longest_body(&paragraph)), longest, "{shown}");
-        for (field, (name, _, _)) in paragraph.fields().zip(fields.iter()) {
-            assert_eq!(rt; field.name, *name, "{shown}");
-        }
-        assert!(rt; paragraph.get(b"Absent").is_none(), "{shown}");
-        assert!(rt; paragraph.get(b"").is_none(), "{shown}");
+        assert_fields(&rt, &paragraph, fields);
+        assert_counts(&rt, &paragraph, fields);
     }
     Ok(())
+}
+
+/// The fields of a paragraph, by their places, by their names and in their order.
+fn assert_fields(rt: &impl Abort, paragraph: &Raw<'_>, fields: &[Wanted]) {
+    for (index, wanted) in fields.iter().enumerate() {
+        assert_field(rt, paragraph.field(index), wanted);
+        assert_line(rt, paragraph, wanted.0, Some(wanted.1));
+    }
+    for (field, wanted) in paragraph.fields().zip(fields.iter()) {
+        assert_field(rt, Some(field), wanted);
+    }
+    assert_line(rt, paragraph, b"Absent", None);
+    assert_line(rt, paragraph, b"", None);
+}
+
+fn assert_field(rt: &impl Abort, found: Option<RawField<'_>>, wanted: &Wanted) {
+    let found = found.map(|field| (field.name, field.line, field.body));
+    assert_eq!(rt; found, Some(*wanted));
+}
+
+/// How many fields there are, where they begin, and how long the longest body is.
+fn assert_counts(rt: &impl Abort, paragraph: &Raw<'_>, fields: &[Wanted]) {
+    let counts = (
+        paragraph.len(),
+        paragraph.first_line(),
+        paragraph.is_empty(),
+    );
+    assert_eq!(rt; counts, (fields.len(), 1, false));
+    assert_longest(rt, paragraph, fields);
+    assert!(rt; paragraph.field(fields.len()).is_none());
+}
+
+fn assert_longest(rt: &impl Abort, paragraph: &Raw<'_>, fields: &[Wanted]) {
+    let mut longest = 0;
+    for (_, _, body) in fields {
+        longest = longest.max(body.len());
+    }
+    assert_eq!(rt; longest_body(paragraph), longest);
 }
 
 /// The names that a paragraph is asked for, and the line of the field that is found.

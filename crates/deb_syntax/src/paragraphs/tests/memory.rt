@@ -27,10 +27,12 @@ const FIELDS: [&[u8]; 5] = [
     b"6:1\n7:1\n8:1\n9:1\naa:1\nbb:1\ncc:1\ndd:1\n",
 ];
 
-/// The paragraphs of the file: the number of the first line, how many fields there are, and whether
-/// a growth is needed to find the first line, and behind that to read and judge the rest. More than
-/// 32 fields need a set of names, each time; a long line needs a longer buffer.
-const ROWS: [(u64, usize, bool, bool); 7] = [
+/// A paragraph of the file: the number of its first line, how many fields it has, and whether a
+/// growth is needed to find the first line, and behind that to read and judge the rest.
+type Row = (u64, usize, bool, bool);
+
+/// More than 32 fields need a set of names, each time; a long line needs a longer buffer.
+const ROWS: [Row; 7] = [
     (1, 1, true, true),
     (3, 1, false, false),
     (5, 40, false, true),
@@ -71,31 +73,57 @@ fn next_shape(
 fn read_rows(rt: &impl Abort, alloc: Global, file: &[u8], begins: bool) -> bool {
     let mut reader = Pieces::new(file, 65_536, 0);
     let mut paragraphs = Paragraphs::new(alloc);
-    for (line, fields, at_first, behind) in ROWS {
-        if begins {
-            let first = paragraphs.begins(&mut Input::new(&mut reader));
-            if first == Err(Fault::Memory) {
-                assert!(rt; at_first, "`begins` at line {line}");
-                assert_wanted(rt, &mut paragraphs, &mut reader);
-                return true;
-            }
-            assert_eq!(rt; first, Ok(Some(line)), "where a paragraph begins");
-        }
-        let found = next_shape(&mut paragraphs, &mut reader);
-        if found == Err(Fault::Memory) {
-            assert!(rt; behind || (at_first && !begins), "`next` at line {line}");
+    for row in ROWS {
+        let wanted = (begins && begins_wants(rt, &mut paragraphs, &mut reader, row))
+            || next_wants(rt, &mut paragraphs, &mut reader, row, begins);
+        if wanted {
             assert_wanted(rt, &mut paragraphs, &mut reader);
             return true;
         }
-        assert_eq!(rt; found, Ok(Some((line, fields))), "a paragraph");
     }
-    assert_eq!(rt;
-        next_shape(&mut paragraphs, &mut reader),
-        Ok(None),
-        "the end"
-    );
-    assert_eq!(rt; paragraphs.lines(), 122, "the lines of the file");
+    assert_end(rt, &mut paragraphs, &mut reader);
     false
+}
+
+/// Whether `begins` wants memory; else it finds the first line of the row.
+fn begins_wants(
+    rt: &impl Abort,
+    paragraphs: &mut Paragraphs,
+    reader: &mut Pieces<'_>,
+    row: Row,
+) -> bool {
+    let (line, _, at_first, _) = row;
+    let first = paragraphs.begins(&mut Input::new(&mut *reader));
+    let wants = first == Err(Fault::Memory);
+    assert!(rt; at_first || !wants, "`begins` at line {line}");
+    assert!(rt;
+        wants || first == Ok(Some(line)),
+        "where a paragraph begins"
+    );
+    wants
+}
+
+/// Whether `next` wants memory; else it finds the paragraph of the row.
+fn next_wants(
+    rt: &impl Abort,
+    paragraphs: &mut Paragraphs,
+    reader: &mut Pieces<'_>,
+    row: Row,
+    has_begun: bool,
+) -> bool {
+    let (line, fields, at_first, behind) = row;
+    let found = next_shape(paragraphs, reader);
+    let wants = found == Err(Fault::Memory);
+    let grows = behind || (at_first && !has_begun);
+    assert!(rt; grows || !wants, "`next` at line {line}");
+    assert!(rt; wants || found == Ok(Some((line, fields))), "a paragraph");
+    wants
+}
+
+fn assert_end(rt: &impl Abort, paragraphs: &mut Paragraphs, reader: &mut Pieces<'_>) {
+    let found = next_shape(paragraphs, reader);
+    assert_eq!(rt; found, Ok(None), "the end");
+    assert_eq!(rt; paragraphs.lines(), 122, "the lines of the file");
 }
 
 /// Memory was wanted: each further call says so, and reads nothing.
