@@ -48,39 +48,78 @@ fn assert_file(
     wanted: Result<u64, Fault>,
     written: &[u8],
 ) -> Result<(), Fail> {
-    let shown = file.escape_ascii();
     for size in sizes {
         let size = *size;
-        let mut reader = Pieces::new(file, size, 0);
-        let answer = check(alloc, doc, &mut Input::new(&mut reader));
-        assert_eq!(rt; answer, wanted, "check: {shown} in pieces of {size}");
-
-        let mut held = Vec::new(alloc);
-        let mut reader = Pieces::new(file, size, 0);
-        let answer = normalise(
-            alloc,
-            doc,
-            &mut Input::new(&mut reader),
-            &mut Output::new(&mut held),
-        );
-        assert_eq!(rt; answer, wanted, "normalise: {shown} in pieces of {size}");
-        assert_eq!(rt;
-            held.as_slice(),
-            written,
-            "normalise: {shown} in pieces of {size}"
-        );
-
-        let mut given = Vec::new(alloc);
-        let mut reader = Pieces::new(file, size, 0);
-        let answer = read_all(rt, alloc, doc, &mut reader, &mut given)?;
-        assert_eq!(rt; answer, wanted, "next: {shown} in pieces of {size}");
-        assert_eq!(rt;
-            given.as_slice(),
-            written,
-            "next: {shown} in pieces of {size}"
-        );
+        let answer = check(alloc, doc, &mut Input::new(Pieces::new(file, size, 0)));
+        assert_answer(rt, answer, wanted, "check", file, size);
+        assert_normalised(rt, alloc, size, doc, file, wanted, written);
+        assert_given(rt, alloc, size, doc, file, wanted, written)?;
     }
     Ok(())
+}
+
+/// What `normalise` answers and writes.
+fn assert_normalised(
+    rt: &impl Abort,
+    alloc: Global,
+    size: usize,
+    doc: Doc,
+    file: &[u8],
+    wanted: Result<u64, Fault>,
+    written: &[u8],
+) {
+    let mut held = Vec::new(alloc);
+    let answer = normalise_pieces(alloc, doc, &mut Pieces::new(file, size, 0), &mut held);
+    assert_answer(rt, answer, wanted, "normalise", file, size);
+    assert_text(rt, held.as_slice(), written, "normalise", file, size);
+}
+
+fn normalise_pieces(
+    alloc: Global,
+    doc: Doc,
+    reader: &mut Pieces<'_>,
+    held: &mut Vec<u8>,
+) -> Result<u64, Fault> {
+    normalise(
+        alloc,
+        doc,
+        &mut Input::new(&mut *reader),
+        &mut Output::new(&mut *held),
+    )
+}
+
+/// What `next` gives, called again and again.
+fn assert_given(
+    rt: &impl Abort,
+    alloc: Global,
+    size: usize,
+    doc: Doc,
+    file: &[u8],
+    wanted: Result<u64, Fault>,
+    written: &[u8],
+) -> Result<(), Fail> {
+    let mut given = Vec::new(alloc);
+    let answer = read_all(rt, alloc, doc, &mut Pieces::new(file, size, 0), &mut given)?;
+    assert_answer(rt, answer, wanted, "next", file, size);
+    assert_text(rt, given.as_slice(), written, "next", file, size);
+    Ok(())
+}
+
+fn assert_answer(
+    rt: &impl Abort,
+    answer: Result<u64, Fault>,
+    wanted: Result<u64, Fault>,
+    call: &str,
+    file: &[u8],
+    size: usize,
+) {
+    let shown = file.escape_ascii();
+    assert_eq!(rt; answer, wanted, "{call}: {shown} in pieces of {size}");
+}
+
+fn assert_text(rt: &impl Abort, text: &[u8], wanted: &[u8], call: &str, file: &[u8], size: usize) {
+    let shown = file.escape_ascii();
+    assert_eq!(rt; text, wanted, "{call}: {shown} in pieces of {size}");
 }
 
 /// Reads a file to its end, and answers how many paragraphs it has, or to a fault. Their canonical
@@ -100,15 +139,43 @@ fn read_all(
         if found == Ok(true) {
             continue;
         }
-        let calls = reader.calls;
-        for _ in 0..3 {
-            let next = next_text(&mut checked, reader, count, text)?;
-            assert_eq!(rt; next, found, "`next` after the last answer");
-            assert_eq!(rt; reader.calls, calls, "reads after the last answer");
-        }
-        return Ok(found.map(|_| count));
+        assert_last(rt, &mut checked, reader, found, text)?;
+        return Ok(count_of(found, count));
     }
     Err("no end")?
+}
+
+/// The last answer of all, once so many paragraphs were given.
+fn count_of(last: Result<bool, Fault>, count: u64) -> Result<u64, Fault> {
+    last?;
+    Ok(count)
+}
+
+/// The last answer is given again, three times, without a read.
+fn assert_last(
+    rt: &impl Abort,
+    checked: &mut Checked,
+    reader: &mut Pieces<'_>,
+    last: Result<bool, Fault>,
+    text: &mut Vec<u8>,
+) -> Result<(), Fail> {
+    let calls = reader.calls;
+    for _ in 0..3 {
+        let next = next_text(checked, reader, 0, text)?;
+        assert_same_answer(rt, next, last, reader.calls, calls);
+    }
+    Ok(())
+}
+
+fn assert_same_answer(
+    rt: &impl Abort,
+    next: Result<bool, Fault>,
+    last: Result<bool, Fault>,
+    calls: u64,
+    wanted_calls: u64,
+) {
+    assert_eq!(rt; next, last, "`next` after the last answer");
+    assert_eq!(rt; calls, wanted_calls, "reads after the last answer");
 }
 
 /// Whether there is a next paragraph, whose canonical text is appended.

@@ -1,7 +1,7 @@
 //! Files that are accepted, with their canonical text, and what the paragraphs that are given show.
 
 use super::*;
-use deb_control::Accepted;
+use deb_control::{Accepted, Paragraph};
 use deb_field::{Canon, Value};
 
 const ROWS: [Row; 24] = [
@@ -222,16 +222,40 @@ const SHOWN: [Shown; 2] = [
 #[test]
 fn paragraphs_that_are_given(rt: HostRuntime) -> Result<(), Fail> {
     for size in SIZES {
-        let mut input = Input::new(Pieces::new(FILE, size, 0));
-        let mut checked = Checked::new(rt.alloc(), Doc::Packages);
-        for shown in &SHOWN {
-            let paragraph = checked.next(&mut input)?.ok_or("no paragraph")?;
-            assert_shown(&rt, &paragraph, shown);
-            assert_values(&rt, rt.alloc(), &paragraph, shown)?;
-        }
-        assert!(rt; checked.next(&mut input)?.is_none(), "the end");
-        assert!(rt; checked.next(&mut input)?.is_none(), "again");
+        assert_paragraphs(&rt, rt.alloc(), size)?;
     }
+    Ok(())
+}
+
+fn assert_paragraphs(rt: &impl Abort, alloc: Global, size: usize) -> Result<(), Fail> {
+    let mut input = Input::new(Pieces::new(FILE, size, 0));
+    let mut checked = Checked::new(alloc, Doc::Packages);
+    for shown in &SHOWN {
+        assert_next(rt, alloc, &mut checked, &mut input, shown)?;
+    }
+    assert_end(rt, &mut checked, &mut input)?;
+    assert_end(rt, &mut checked, &mut input)
+}
+
+fn assert_next(
+    rt: &impl Abort,
+    alloc: Global,
+    checked: &mut Checked,
+    input: &mut Input<Pieces<'_>>,
+    shown: &Shown,
+) -> Result<(), Fail> {
+    let paragraph = checked.next(input)?.ok_or("no paragraph")?;
+    assert_shown(rt, &paragraph, shown);
+    assert_values(rt, alloc, &paragraph, shown)
+}
+
+fn assert_end(
+    rt: &impl Abort,
+    checked: &mut Checked,
+    input: &mut Input<Pieces<'_>>,
+) -> Result<(), Fail> {
+    let next = checked.next(input)?;
+    assert!(rt; next.is_none(), "the end");
     Ok(())
 }
 
@@ -240,6 +264,15 @@ fn assert_shown(rt: &impl Abort, paragraph: &Accepted<'_>, shown: &Shown) {
     let Shown(first_line, wanted, text) = shown;
     assert_eq!(rt; paragraph.first_line(), *first_line);
     assert_eq!(rt; paragraph.canonical_text(), *text);
+    assert_fields(rt, paragraph, wanted);
+    for Field(name, line, body) in wanted {
+        assert_found(rt, paragraph, name, *line, body);
+    }
+    assert_names(rt, paragraph);
+}
+
+/// The fields in the order of the file.
+fn assert_fields(rt: &impl Abort, paragraph: &Accepted<'_>, wanted: &[Field; 4]) {
     let mut fields = paragraph.fields();
     for Field(name, line, body) in wanted {
         let found = fields
@@ -248,10 +281,16 @@ fn assert_shown(rt: &impl Abort, paragraph: &Accepted<'_>, shown: &Shown) {
         assert_eq!(rt; found, Some((*name, *line, *body)));
     }
     assert!(rt; fields.next().is_none(), "no more fields");
-    for Field(name, line, body) in wanted {
-        let found = paragraph.get(name).map(|field| (field.line, field.body));
-        assert_eq!(rt; found, Some((*line, *body)));
-    }
+}
+
+/// The field that is found by a name.
+fn assert_found(rt: &impl Abort, paragraph: &Accepted<'_>, name: &[u8], line: u64, body: &[u8]) {
+    let found = paragraph.get(name).map(|field| (field.line, field.body));
+    assert_eq!(rt; found, Some((line, body)));
+}
+
+/// Names are found in any case, and whole.
+fn assert_names(rt: &impl Abort, paragraph: &Accepted<'_>) {
     let found = paragraph.get(b"vErSiOn").map(|field| field.name);
     assert_eq!(rt; found, paragraph.get(b"Version").map(|field| field.name));
     assert!(rt; found.is_some(), "a name in another case");
@@ -269,24 +308,64 @@ fn assert_values(
     paragraph: &Accepted<'_>,
     shown: &Shown,
 ) -> Result<(), Fail> {
+    assert_name(rt, alloc, paragraph)?;
+    let wanted: &[u8] = if shown.0 == 2 { b"=1" } else { b"=2" };
+    assert_version(rt, alloc, paragraph, wanted)?;
+    let typed = paragraph.paragraph(alloc)?;
+    assert_typed_text(rt, alloc, &typed, shown.2)?;
+    assert_typed(rt, &typed, shown.1.len());
+    Ok(())
+}
+
+fn assert_name(rt: &impl Abort, alloc: Global, paragraph: &Accepted<'_>) -> Result<(), Fail> {
     let name = paragraph.value(alloc, b"pACKAGE")?.ok_or("no name")?;
     assert!(rt; matches!(name, Value::Name(_)));
+    let absent = paragraph.value(alloc, b"Absent")?;
+    assert!(rt; absent.is_none());
+    Ok(())
+}
+
+fn assert_version(
+    rt: &impl Abort,
+    alloc: Global,
+    paragraph: &Accepted<'_>,
+    wanted: &[u8],
+) -> Result<(), Fail> {
     let version = paragraph.value(alloc, b"VERSION")?.ok_or("no version")?;
     assert!(rt; matches!(version, Value::Version(_)));
+    assert_value_text(rt, alloc, &version, wanted)
+}
+
+/// A value's canonical text, behind a byte that stood there.
+fn assert_value_text(
+    rt: &impl Abort,
+    alloc: Global,
+    value: &Value<'_>,
+    wanted: &[u8],
+) -> Result<(), Fail> {
     let mut text = Vec::new(alloc);
     text.push(b'=')?;
-    version.canon_into(&mut text)?;
-    let wanted: &[u8] = if shown.0 == 2 { b"=1" } else { b"=2" };
+    value.canon_into(&mut text)?;
     assert_eq!(rt; text.as_slice(), wanted);
-    assert!(rt; paragraph.value(alloc, b"Absent")?.is_none());
+    Ok(())
+}
 
-    let typed = paragraph.paragraph(alloc)?;
-    assert_eq!(rt; typed.canon_len(), shown.2.len() as u64);
-    text.clear();
+fn assert_typed_text(
+    rt: &impl Abort,
+    alloc: Global,
+    typed: &Paragraph<'_>,
+    wanted: &[u8],
+) -> Result<(), Fail> {
+    assert_eq!(rt; typed.canon_len(), wanted.len() as u64);
+    let mut text = Vec::new(alloc);
     typed.canon_into(&mut text)?;
-    assert_eq!(rt; text.as_slice(), shown.2);
-    assert_eq!(rt; typed.fields().len(), shown.1.len());
+    assert_eq!(rt; text.as_slice(), wanted);
+    Ok(())
+}
+
+/// How many fields there are, and what is found by a name.
+fn assert_typed(rt: &impl Abort, typed: &Paragraph<'_>, count: usize) {
+    assert_eq!(rt; typed.fields().len(), count);
     assert!(rt; matches!(typed.get(b"Version"), Some(Value::Version(_))));
     assert!(rt; typed.get(b"Absent").is_none());
-    Ok(())
 }

@@ -43,16 +43,89 @@ const EITHER: &[u8] = b"Package: aa\nVersion: 1\nArchitecture: all\nDepends: aa 
 
 const OTHER_FIRST: &[u8] = b"Package: aa\nVersion: 1\nArchitecture: all\nDepends: bb | aa\n";
 
-/// Two files, and what is answered of them.
-#[derive(Drop)]
-struct Pair(&'static [u8], &'static [u8], Result<bool, SideFault>);
+/// Two files, and what is answered of them, or which one is refused with the code and the line.
+struct Pair(
+    &'static [u8],
+    &'static [u8],
+    Result<bool, (Side, Code, u64)>,
+);
 
-fn first(code: Code, line: u64) -> Result<bool, SideFault> {
-    at(Side::First, refusal_at(code, line))
-}
+const PAIRS: [Pair; 11] = [
+    // the same, in any spelling
+    Pair(FILE, FILE, Ok(true)),
+    Pair(FILE, SPELLED, Ok(true)),
+    Pair(b"", b"", Ok(true)),
+    Pair(b"\n \n", b"", Ok(true)),
+    // other paragraphs, in another order, fewer, and none
+    Pair(FILE, TURNED, Ok(false)),
+    Pair(FILE, SHORT, Ok(false)),
+    Pair(SHORT, SPELLED, Ok(false)),
+    Pair(FILE, b"", Ok(false)),
+    Pair(b"\n", FILE, Ok(false)),
+    // relations: sets of groups, in which alternatives have an order
+    Pair(DEPENDS, DEPENDS_SPELLED, Ok(true)),
+    Pair(EITHER, OTHER_FIRST, Ok(false)),
+];
 
-fn second(code: Code, line: u64) -> Result<bool, SideFault> {
-    at(Side::Second, refusal_at(code, line))
+const REFUSED_PAIRS: [Pair; 11] = [
+    // a difference at once, and a refusal at the end
+    Pair(FILE, LAST_LINE, Err((Side::Second, Code::BadNumber, 8))),
+    Pair(LAST_LINE, FILE, Err((Side::First, Code::BadNumber, 8))),
+    // one ends before the refusal of the other
+    Pair(b"", LAST_LINE, Err((Side::Second, Code::BadNumber, 8))),
+    Pair(
+        SHORT,
+        IN_THE_THIRD,
+        Err((Side::Second, Code::MissingField, 11)),
+    ),
+    Pair(
+        IN_THE_THIRD,
+        SHORT,
+        Err((Side::First, Code::MissingField, 11)),
+    ),
+    // both are refused, the second one sooner, later and at the same place
+    Pair(
+        IN_THE_THIRD,
+        AT_ONCE,
+        Err((Side::First, Code::MissingField, 11)),
+    ),
+    Pair(
+        AT_ONCE,
+        IN_THE_THIRD,
+        Err((Side::First, Code::BadVersion, 2)),
+    ),
+    Pair(LAST_LINE, AT_ONCE, Err((Side::First, Code::BadNumber, 8))),
+    Pair(
+        IN_THE_THIRD,
+        IN_THE_THIRD,
+        Err((Side::First, Code::MissingField, 11)),
+    ),
+    // the second one is refused, and the first one goes on
+    Pair(FILE, AT_ONCE, Err((Side::Second, Code::BadVersion, 2))),
+    Pair(
+        FILE,
+        IN_THE_THIRD,
+        Err((Side::Second, Code::MissingField, 11)),
+    ),
+];
+
+/// A paragraph.
+const ONE: &[u8] = b"Package: aa\nVersion: 1\nArchitecture: all\n";
+
+const PAIRS_OF_ONE: [Pair; 5] = [
+    Pair(ONE, ONE, Ok(true)),
+    Pair(ONE, FILE, Err((Side::Second, Code::TooManyParagraphs, 5))),
+    Pair(FILE, ONE, Err((Side::First, Code::TooManyParagraphs, 5))),
+    Pair(ONE, b"", Err((Side::Second, Code::NoParagraph, 1))),
+    Pair(b"", b"", Err((Side::First, Code::NoParagraph, 1))),
+];
+
+/// What a pair's answer is to the call.
+fn answer_of_pair(answer: Result<bool, (Side, Code, u64)>) -> Result<bool, SideFault> {
+    match answer {
+        Ok(is_same) => Ok(is_same),
+        Err((side, code, line)) => at(side, refusal_at(code, line)),
+    }
 }
 
 fn at(side: Side, fault: Fault) -> Result<bool, SideFault> {
@@ -61,74 +134,50 @@ fn at(side: Side, fault: Fault) -> Result<bool, SideFault> {
 
 /// Each pair, in pieces of other sizes.
 #[test]
-fn pairs_of_files(rt: HostRuntime) -> Result<(), Fail> {
-    let pairs = [
-        // the same, in any spelling
-        Pair(FILE, FILE, Ok(true)),
-        Pair(FILE, SPELLED, Ok(true)),
-        Pair(b"", b"", Ok(true)),
-        Pair(b"\n \n", b"", Ok(true)),
-        // other paragraphs, in another order, fewer, and none
-        Pair(FILE, TURNED, Ok(false)),
-        Pair(FILE, SHORT, Ok(false)),
-        Pair(SHORT, SPELLED, Ok(false)),
-        Pair(FILE, b"", Ok(false)),
-        Pair(b"\n", FILE, Ok(false)),
-        // a difference at once, and a refusal at the end
-        Pair(FILE, LAST_LINE, second(Code::BadNumber, 8)),
-        Pair(LAST_LINE, FILE, first(Code::BadNumber, 8)),
-        // one ends before the refusal of the other
-        Pair(b"", LAST_LINE, second(Code::BadNumber, 8)),
-        Pair(SHORT, IN_THE_THIRD, second(Code::MissingField, 11)),
-        Pair(IN_THE_THIRD, SHORT, first(Code::MissingField, 11)),
-        // both are refused, the second one sooner, later and at the same place
-        Pair(IN_THE_THIRD, AT_ONCE, first(Code::MissingField, 11)),
-        Pair(AT_ONCE, IN_THE_THIRD, first(Code::BadVersion, 2)),
-        Pair(LAST_LINE, AT_ONCE, first(Code::BadNumber, 8)),
-        Pair(IN_THE_THIRD, IN_THE_THIRD, first(Code::MissingField, 11)),
-        // the second one is refused, and the first one goes on
-        Pair(FILE, AT_ONCE, second(Code::BadVersion, 2)),
-        Pair(FILE, IN_THE_THIRD, second(Code::MissingField, 11)),
-        // relations: sets of groups, in which alternatives have an order
-        Pair(DEPENDS, DEPENDS_SPELLED, Ok(true)),
-        Pair(EITHER, OTHER_FIRST, Ok(false)),
-    ];
-    for Pair(file, other, wanted) in &pairs {
-        for (size, size_too) in [(1, 65_536), (7, 2), (65_536, 3)] {
-            let answer = same(
-                rt.alloc(),
-                Doc::Packages,
-                &mut Input::new(Pieces::new(file, size, 0)),
-                &mut Input::new(Pieces::new(other, size_too, 0)),
-            );
-            assert_eq!(rt;
-                answer,
-                *wanted,
-                "{} and {} in pieces of {size} and {size_too}",
-                file.escape_ascii(),
-                other.escape_ascii()
-            );
-        }
+fn pairs_of_files(rt: HostRuntime) {
+    for pair in &PAIRS {
+        assert_pair(&rt, rt.alloc(), Doc::Packages, pair);
     }
-    Ok(())
+    for pair in &REFUSED_PAIRS {
+        assert_pair(&rt, rt.alloc(), Doc::Packages, pair);
+    }
 }
 
 /// A kind of document that has one paragraph.
 #[test]
 fn pairs_of_one_paragraph(rt: HostRuntime) {
-    let one = b"Package: aa\nVersion: 1\nArchitecture: all\n".as_slice();
-    let pairs = [
-        Pair(one, one, Ok(true)),
-        Pair(one, FILE, second(Code::TooManyParagraphs, 5)),
-        Pair(FILE, one, first(Code::TooManyParagraphs, 5)),
-        Pair(one, b"", second(Code::NoParagraph, 1)),
-        Pair(b"", b"", first(Code::NoParagraph, 1)),
-    ];
-    for Pair(file, other, wanted) in &pairs {
-        let (mut file, mut other) = (Input::new(*file), Input::new(*other));
-        let answer = same(rt.alloc(), Doc::Binary, &mut file, &mut other);
-        assert_eq!(rt; answer, *wanted);
+    for pair in &PAIRS_OF_ONE {
+        assert_pair(&rt, rt.alloc(), Doc::Binary, pair);
     }
+}
+
+fn assert_pair(rt: &impl Abort, alloc: Global, doc: Doc, pair: &Pair) {
+    for (size, size_too) in [(1, 65_536), (7, 2), (65_536, 3)] {
+        let Pair(file, other, wanted) = pair;
+        let answer = same(
+            alloc,
+            doc,
+            &mut Input::new(Pieces::new(file, size, 0)),
+            &mut Input::new(Pieces::new(other, size_too, 0)),
+        );
+        assert_same(rt, answer, answer_of_pair(*wanted), file, other, size);
+    }
+}
+
+fn assert_same(
+    rt: &impl Abort,
+    answer: Result<bool, SideFault>,
+    wanted: Result<bool, SideFault>,
+    file: &[u8],
+    other: &[u8],
+    size: usize,
+) {
+    let (shown, shown_too) = (file.escape_ascii(), other.escape_ascii());
+    assert_eq!(rt;
+        answer,
+        wanted,
+        "{shown} in pieces of {size} and {shown_too}"
+    );
 }
 
 /// A reader that fails once, at each of its calls: that is told with its side, and no reader is
@@ -148,32 +197,74 @@ fn one_of_two_cant_be_read(rt: HostRuntime) {
 /// Fails each call of one of the readers.
 fn fail_each(rt: &impl Abort, alloc: Global, side: Side, file: &[u8], other: &[u8], size: usize) {
     for failing in 1..100u64 {
-        let is_first = side == Side::First;
-        let (call, call_too) = if is_first { (failing, 0) } else { (0, failing) };
-        let mut reader = Pieces::new(file, size, call);
-        let mut reader_too = Pieces::new(other, size, call_too);
-        let answer = same(
-            alloc,
-            Doc::Packages,
-            &mut Input::new(&mut reader),
-            &mut Input::new(&mut reader_too),
-        );
-        let calls = if is_first {
-            reader.calls
+        let (calls, answer) = if side == Side::First {
+            fail_first(alloc, file, other, size, failing)
         } else {
-            reader_too.calls
+            fail_second(alloc, file, other, size, failing)
         };
         if calls < failing {
-            assert!(rt; failing > 2, "a reader that is called");
-            assert!(rt; answer != at(side, Fault::Read), "no call failed");
+            assert_none_failed(rt, side, answer, failing);
             return;
         }
         assert_eq!(rt; calls, failing, "the last call is the one that failed");
-        assert_eq!(rt;
-            answer,
-            at(side, Fault::Read),
-            "call {failing} in pieces of {size}"
-        );
+        assert_failed(rt, side, answer, failing, size);
     }
     assert!(rt; false, "no end");
+}
+
+/// How many calls of the first reader there are where one fails, and what is answered.
+fn fail_first(
+    alloc: Global,
+    file: &[u8],
+    other: &[u8],
+    size: usize,
+    failing: u64,
+) -> (u64, Result<bool, SideFault>) {
+    let mut reader = Pieces::new(file, size, failing);
+    let mut other = Input::new(Pieces::new(other, size, 0));
+    let answer = same(
+        alloc,
+        Doc::Packages,
+        &mut Input::new(&mut reader),
+        &mut other,
+    );
+    (reader.calls, answer)
+}
+
+/// The same of the second reader.
+fn fail_second(
+    alloc: Global,
+    file: &[u8],
+    other: &[u8],
+    size: usize,
+    failing: u64,
+) -> (u64, Result<bool, SideFault>) {
+    let mut file = Input::new(Pieces::new(file, size, 0));
+    let mut reader = Pieces::new(other, size, failing);
+    let answer = same(
+        alloc,
+        Doc::Packages,
+        &mut file,
+        &mut Input::new(&mut reader),
+    );
+    (reader.calls, answer)
+}
+
+fn assert_none_failed(rt: &impl Abort, side: Side, answer: Result<bool, SideFault>, failing: u64) {
+    assert!(rt; failing > 2, "a reader that is called");
+    assert!(rt; answer != at(side, Fault::Read), "no call failed");
+}
+
+fn assert_failed(
+    rt: &impl Abort,
+    side: Side,
+    answer: Result<bool, SideFault>,
+    failing: u64,
+    size: usize,
+) {
+    assert_eq!(rt;
+        answer,
+        at(side, Fault::Read),
+        "call {failing} in pieces of {size}"
+    );
 }

@@ -27,36 +27,56 @@ const FRONTS: [(usize, usize); 3] = [(0, 0), (41, 42), (87, 92)];
 #[test]
 fn a_failed_read_leaves_whole_paragraphs(rt: HostRuntime) -> Result<(), Fail> {
     for size in SIZES {
-        let mut calls = 0;
+        let calls = calls_of(rt.alloc(), size);
         for failing in 0..140 {
-            let mut reader = Pieces::new(FILE, size, failing);
-            let mut held = Vec::new(rt.alloc());
-            let answer = normalise(
-                rt.alloc(),
-                Doc::Packages,
-                &mut Input::new(&mut reader),
-                &mut Output::new(&mut held),
-            );
-            if failing == 0 {
-                calls = reader.calls;
-            }
             if 1 <= failing && failing <= calls {
-                assert_eq!(rt;
-                    answer,
-                    Err(Fault::Read),
-                    "call {failing} in pieces of {size}"
-                );
-                assert_eq!(rt; reader.calls, failing, "reads in pieces of {size}");
-                let taken = FILE.len().saturating_sub(reader.rest.len());
-                assert_front(&rt, held.as_slice(), taken);
+                assert_cut_off(&rt, rt.alloc(), size, failing);
+                assert_same_fault(&rt, rt.alloc(), size, failing, Err(Fault::Read))?;
             } else {
-                assert_eq!(rt; answer, Ok(3), "call {failing} in pieces of {size}");
-                assert_eq!(rt; held.as_slice(), TEXT, "call {failing} in pieces of {size}");
+                assert_whole(&rt, rt.alloc(), size, failing);
+                assert_same_fault(&rt, rt.alloc(), size, failing, Ok(3))?;
             }
-            assert_same_fault(&rt, rt.alloc(), size, failing, answer)?;
         }
     }
     Ok(())
+}
+
+/// How many reads there are where none fails.
+fn calls_of(alloc: Global, size: usize) -> u64 {
+    let mut reader = Pieces::new(FILE, size, 0);
+    let mut held = Vec::new(alloc);
+    let _ = normalise_pieces(alloc, Doc::Packages, &mut reader, &mut held);
+    reader.calls
+}
+
+/// The failed read is the last one.
+fn assert_cut_off(rt: &impl Abort, alloc: Global, size: usize, failing: u64) {
+    let mut reader = Pieces::new(FILE, size, failing);
+    let mut held = Vec::new(alloc);
+    let answer = normalise_pieces(alloc, Doc::Packages, &mut reader, &mut held);
+    assert_call(rt, answer, Err(Fault::Read), size, failing);
+    assert_eq!(rt; reader.calls, failing, "reads in pieces of {size}");
+    let taken = FILE.len().saturating_sub(reader.rest.len());
+    assert_front(rt, held.as_slice(), taken);
+}
+
+/// All is written where no read fails.
+fn assert_whole(rt: &impl Abort, alloc: Global, size: usize, failing: u64) {
+    let mut reader = Pieces::new(FILE, size, failing);
+    let mut held = Vec::new(alloc);
+    let answer = normalise_pieces(alloc, Doc::Packages, &mut reader, &mut held);
+    assert_call(rt, answer, Ok(3), size, failing);
+    assert_eq!(rt; held.as_slice(), TEXT, "call {failing} in pieces of {size}");
+}
+
+fn assert_call(
+    rt: &impl Abort,
+    answer: Result<u64, Fault>,
+    wanted: Result<u64, Fault>,
+    size: usize,
+    failing: u64,
+) {
+    assert_eq!(rt; answer, wanted, "call {failing} in pieces of {size}");
 }
 
 /// Whole paragraphs were written, each of which was read with the blank line behind it.
@@ -77,85 +97,109 @@ fn assert_same_fault(
     failing: u64,
     wanted: Result<u64, Fault>,
 ) -> Result<(), Fail> {
-    let mut reader = Pieces::new(FILE, size, failing);
-    let answer = check(alloc, Doc::Packages, &mut Input::new(&mut reader));
-    assert_eq!(rt; answer, wanted, "call {failing} in pieces of {size}");
+    let mut input = Input::new(Pieces::new(FILE, size, failing));
+    let answer = check(alloc, Doc::Packages, &mut input);
+    assert_call(rt, answer, wanted, size, failing);
     let mut reader = Pieces::new(FILE, size, failing);
     let mut text = Vec::new(alloc);
     let answer = read_all(rt, alloc, Doc::Packages, &mut reader, &mut text)?;
-    assert_eq!(rt; answer, wanted, "call {failing} in pieces of {size}");
+    assert_call(rt, answer, wanted, size, failing);
     Ok(())
 }
 
 /// A read that fails within a second paragraph: the first one was written, whatever the pieces.
 #[test]
-fn a_failed_read_in_a_second_paragraph(rt: HostRuntime) -> Result<(), Fail> {
-    let file = b"Package: aa\nVersion: 1\nArchitecture: all\n\nPackage: b".as_slice();
+fn a_failed_read_in_a_second_paragraph(rt: HostRuntime) {
     // the size of the pieces, and the call behind the last one that gives bytes
     for (size, failing) in [(1, 53), (2, 27), (3, 19), (7, 9), (65_536, 2)] {
-        for doc in [Doc::Packages, Doc::Binary] {
-            let mut reader = Pieces::new(file, size, failing);
-            let mut held = Vec::new(rt.alloc());
-            let answer = normalise(
-                rt.alloc(),
-                doc,
-                &mut Input::new(&mut reader),
-                &mut Output::new(&mut held),
-            );
-            assert_eq!(rt; answer, Err(Fault::Read), "in pieces of {size}");
-            assert_eq!(rt; held.as_slice(), REFUSED_TEXT, "in pieces of {size}");
-        }
+        assert_first_written(&rt, rt.alloc(), Doc::Packages, size, failing);
+        assert_first_written(&rt, rt.alloc(), Doc::Binary, size, failing);
     }
-    Ok(())
 }
 
-/// The writer fails at each of its calls, or takes nothing from then on: a file that is accepted,
-/// and one whose second paragraph is refused.
+fn assert_first_written(rt: &impl Abort, alloc: Global, doc: Doc, size: usize, failing: u64) {
+    let file = b"Package: aa\nVersion: 1\nArchitecture: all\n\nPackage: b".as_slice();
+    let mut held = Vec::new(alloc);
+    let mut reader = Pieces::new(file, size, failing);
+    let answer = normalise_pieces(alloc, doc, &mut reader, &mut held);
+    assert_call(rt, answer, Err(Fault::Read), size, failing);
+    assert_eq!(rt; held.as_slice(), REFUSED_TEXT, "in pieces of {size}");
+}
+
+/// A file that is accepted, and one whose second paragraph is refused.
+const WRITTEN: [Row; 2] = [
+    Row(Doc::Packages, FILE, Ok(3), TEXT),
+    Row(
+        Doc::Packages,
+        REFUSED,
+        Err((Code::MissingField, 5)),
+        REFUSED_TEXT,
+    ),
+];
+
+/// The writer fails at each of its calls, or takes nothing from then on.
 #[test]
-fn a_failed_write_leaves_a_prefix(rt: HostRuntime) -> Result<(), Fail> {
-    let refused = Err(refusal_at(Code::MissingField, 5));
-    let rows = [(FILE, Ok(3), TEXT), (REFUSED, refused, REFUSED_TEXT)];
-    for (file, wanted, text) in rows {
-        for then in [Then::Fails, Then::TakesNone] {
-            for most in [1, 7, 65_536] {
-                for calls in 0..140u8 {
-                    let mut writer = Slow::new(rt.alloc(), most, u64::from(calls), then);
-                    let answer = normalise(
-                        rt.alloc(),
-                        Doc::Packages,
-                        &mut Input::new(file),
-                        &mut Output::new(&mut writer),
-                    );
-                    assert_written(&rt, &writer, answer, wanted, text);
-                    if most == 1 {
-                        let count = usize::from(calls).min(text.len());
-                        assert_eq!(rt; writer.held.len(), count, "{calls} bytes taken");
-                    }
-                }
+fn a_failed_write_leaves_a_prefix(rt: HostRuntime) {
+    for row in &WRITTEN {
+        for most in [1, 7, 65_536] {
+            for calls in 0..140u8 {
+                fail_write(&rt, rt.alloc(), row, most, calls, Then::Fails);
+                fail_write(&rt, rt.alloc(), row, most, calls, Then::TakesNone);
             }
         }
     }
-    Ok(())
 }
 
-/// A failed write is the only one and the last call; without it all was written.
-fn assert_written(
-    rt: &impl Abort,
-    writer: &Slow,
-    answer: Result<u64, Fault>,
-    wanted: Result<u64, Fault>,
-    text: &[u8],
-) {
+/// Writes through so many calls that are good.
+fn fail_write(rt: &impl Abort, alloc: Global, row: &Row, most: usize, calls: u8, then: Then) {
+    let Row(doc, file, wanted, text) = row;
+    let mut writer = Slow::new(alloc, most, u64::from(calls), then);
+    let answer = normalise(
+        alloc,
+        *doc,
+        &mut Input::new(*file),
+        &mut Output::new(&mut writer),
+    );
     let held = writer.held.as_slice();
     if writer.failures == 0 {
-        assert_eq!(rt; answer, wanted);
-        assert_eq!(rt; held, text);
+        assert_written(rt, answer, answer_of(*wanted), held, text);
     } else {
-        assert_eq!(rt; answer, Err(Fault::Write));
-        assert_eq!(rt; writer.failures, 1, "calls behind the one that failed");
-        assert!(rt;
-            text.starts_with(held) && held.len() < text.len(),
-            "a prefix"
-        );
+        assert_failed(rt, answer, writer.failures, held, text);
     }
+    if most == 1 {
+        assert_count(rt, held.len(), usize::from(calls), text.len());
+    }
+}
+
+/// Without a failed write all was written.
+fn assert_written(
+    rt: &impl Abort,
+    answer: Result<u64, Fault>,
+    wanted: Result<u64, Fault>,
+    held: &[u8],
+    text: &[u8],
+) {
+    assert_eq!(rt; answer, wanted);
+    assert_eq!(rt; held, text);
+}
+
+/// A failed write is the only one and the last call.
+fn assert_failed(
+    rt: &impl Abort,
+    answer: Result<u64, Fault>,
+    failures: u64,
+    held: &[u8],
+    text: &[u8],
+) {
+    assert_eq!(rt; answer, Err(Fault::Write));
+    assert_eq!(rt; failures, 1, "calls behind the one that failed");
+    assert!(rt;
+        text.starts_with(held) && held.len() < text.len(),
+        "a prefix"
+    );
+}
+
+/// Each call that is good takes a byte, as long as there are any.
+fn assert_count(rt: &impl Abort, count: usize, calls: usize, len: usize) {
+    assert_eq!(rt; count, calls.min(len), "{calls} bytes taken");
 }

@@ -4,6 +4,7 @@ use deb_base::{Code, Fault, Input};
 use deb_control::Paragraph;
 use deb_field::{Doc, Value};
 use deb_syntax::Paragraphs;
+use std::process::Abort;
 use std::test::Fail;
 
 /// A kind of document, a paragraph, and its canonical text.
@@ -109,36 +110,69 @@ const REFUSED: [Refused; 12] = [
 
 #[test]
 fn canonical_text_of_paragraphs(rt: HostRuntime) -> Result<(), Fail> {
-    for Accepted(doc, text, canonical) in &ACCEPTED {
-        let shown = text.escape_ascii();
-        let mut reader = Input::new(*text);
-        let mut paragraphs = Paragraphs::new(rt.alloc());
-        let raw = paragraphs.next(&mut reader)?.ok_or("no paragraph")?;
-        let paragraph = Paragraph::build(rt.alloc(), *doc, &raw)?;
-        assert_eq!(rt; paragraph.canon_len(), canonical.len() as u64, "{shown}");
-        let mut out = Vec::new(rt.alloc());
-        out.push(b'!')?;
-        paragraph.canon_into(&mut out)?;
-        assert_eq!(rt; out[0], b'!', "{shown}");
-        assert_eq!(rt; &out[1..], *canonical, "{shown}");
-        assert_eq!(rt; paragraph.fields().len(), raw.len(), "{shown}");
+    for accepted in &ACCEPTED {
+        assert_accepted(&rt, rt.alloc(), accepted)?;
     }
     Ok(())
 }
 
+fn assert_accepted(rt: &impl Abort, alloc: Global, accepted: &Accepted) -> Result<(), Fail> {
+    let Accepted(doc, text, canonical) = accepted;
+    let mut reader = Input::new(*text);
+    let mut paragraphs = Paragraphs::new(alloc);
+    let raw = paragraphs.next(&mut reader)?.ok_or("no paragraph")?;
+    let paragraph = Paragraph::build(alloc, *doc, &raw)?;
+    assert_lengths(rt, &paragraph, canonical.len() as u64, raw.len(), text);
+    assert_canonical(rt, alloc, &paragraph, canonical, text)
+}
+
+/// How long the canonical text is, and how many fields there are.
+fn assert_lengths(rt: &impl Abort, paragraph: &Paragraph<'_>, len: u64, count: usize, text: &[u8]) {
+    let shown = text.escape_ascii();
+    assert_eq!(rt; paragraph.canon_len(), len, "{shown}");
+    assert_eq!(rt; paragraph.fields().len(), count, "{shown}");
+}
+
+/// The canonical text, behind a byte that stood there.
+fn assert_canonical(
+    rt: &impl Abort,
+    alloc: Global,
+    paragraph: &Paragraph<'_>,
+    canonical: &[u8],
+    text: &[u8],
+) -> Result<(), Fail> {
+    let mut out = Vec::new(alloc);
+    out.push(b'!')?;
+    paragraph.canon_into(&mut out)?;
+    assert_behind(rt, out.as_slice(), canonical, text);
+    Ok(())
+}
+
+fn assert_behind(rt: &impl Abort, out: &[u8], canonical: &[u8], text: &[u8]) {
+    let shown = text.escape_ascii();
+    assert_eq!(rt; out.first(), Some(&b'!'), "{shown}");
+    assert_eq!(rt; out.get(1..), Some(canonical), "{shown}");
+}
+
 #[test]
 fn refusals_of_paragraphs(rt: HostRuntime) -> Result<(), Fail> {
-    for Refused(doc, text, code, line) in &REFUSED {
-        let mut reader = Input::new(*text);
-        let mut paragraphs = Paragraphs::new(rt.alloc());
-        let raw = paragraphs.next(&mut reader)?.ok_or("no paragraph")?;
-        let refused = match Paragraph::build(rt.alloc(), *doc, &raw) {
-            Err(Fault::Refused(refusal)) => refusal.code == *code && refusal.line == *line,
-            _ => false,
-        };
-        assert!(rt; refused, "{}", text.escape_ascii());
+    for refused in &REFUSED {
+        let is_refused = is_refused(rt.alloc(), refused)?;
+        assert!(rt; is_refused, "{}", refused.1.escape_ascii());
     }
     Ok(())
+}
+
+/// Whether a paragraph is refused with its code and its line.
+fn is_refused(alloc: Global, refused: &Refused) -> Result<bool, Fail> {
+    let Refused(doc, text, code, line) = refused;
+    let mut reader = Input::new(*text);
+    let mut paragraphs = Paragraphs::new(alloc);
+    let raw = paragraphs.next(&mut reader)?.ok_or("no paragraph")?;
+    match Paragraph::build(alloc, *doc, &raw) {
+        Err(Fault::Refused(refusal)) => Ok(refusal.code == *code && refusal.line == *line),
+        _ => Ok(false),
+    }
 }
 
 #[test]
@@ -148,13 +182,22 @@ fn values_by_names_without_case(rt: HostRuntime) -> Result<(), Fail> {
     let mut paragraphs = Paragraphs::new(rt.alloc());
     let raw = paragraphs.next(&mut reader)?.ok_or("no paragraph")?;
     let paragraph = Paragraph::build(rt.alloc(), Doc::Packages, &raw)?;
+    assert_order(&rt, &paragraph);
+    assert_values(&rt, &paragraph);
+    Ok(())
+}
+
+/// The fields stand in the order of their names.
+fn assert_order(rt: &impl Abort, paragraph: &Paragraph<'_>) {
     let lines: [u64; 4] = [3, 4, 1, 2];
     for (field, line) in paragraph.fields().iter().zip(lines.iter()) {
         assert_eq!(rt; field.raw.line, *line);
     }
+}
+
+fn assert_values(rt: &impl Abort, paragraph: &Paragraph<'_>) {
     assert!(rt; matches!(paragraph.get(b"pAckage"), Some(Value::Name(_))));
     assert!(rt; matches!(paragraph.get(b"x-fOO"), Some(Value::Text(_))));
     assert!(rt; matches!(paragraph.get(b"version"), Some(Value::Version(_))));
     assert!(rt; paragraph.get(b"Absent").is_none());
-    Ok(())
 }

@@ -165,29 +165,74 @@ const LONG: [Long; 17] = [
 
 #[test]
 fn paragraphs_have_a_limit(rt: HostRuntime) -> Result<(), Fail> {
-    for (index, Long(doc, pieces, answer, len)) in LONG.iter().enumerate() {
-        let file = file_of(rt.alloc(), pieces)?;
-        let wanted = answer_of(*answer);
-        let answer = check(rt.alloc(), *doc, &mut Input::new(file.as_slice()));
-        assert_eq!(rt; answer, wanted, "row {index}");
-        let mut held = Vec::new(rt.alloc());
-        let answer = normalise(
-            rt.alloc(),
-            *doc,
-            &mut Input::new(file.as_slice()),
-            &mut Output::new(&mut held),
-        );
-        assert_eq!(rt; answer, wanted, "row {index}");
-        assert_eq!(rt; held.len(), *len, "row {index}");
-        let begins = held.as_slice().starts_with(SMALL_TEXT);
-        assert_eq!(rt; begins, *len > 0, "row {index}");
-        let mut reader = Pieces::new(file.as_slice(), 65_536, 0);
-        let mut given = Vec::new(rt.alloc());
-        let answer = read_all(&rt, rt.alloc(), *doc, &mut reader, &mut given)?;
-        assert_eq!(rt; answer, wanted, "row {index}");
-        assert!(rt; given == held, "row {index}");
+    for (index, long) in LONG.iter().enumerate() {
+        assert_long(&rt, rt.alloc(), long, index)?;
     }
     Ok(())
+}
+
+fn assert_long(rt: &impl Abort, alloc: Global, long: &Long, index: usize) -> Result<(), Fail> {
+    let Long(doc, pieces, answer, len) = long;
+    let file = file_of(alloc, pieces)?;
+    let wanted = answer_of(*answer);
+    let answer = check(alloc, *doc, &mut Input::new(file.as_slice()));
+    assert_row(rt, answer, wanted, index);
+    let held = normalised(rt, alloc, *doc, file.as_slice(), wanted, index);
+    assert_len(rt, held.as_slice(), *len, index);
+    let given = given(rt, alloc, *doc, file.as_slice(), wanted, index)?;
+    assert!(rt; given.as_slice() == held.as_slice(), "row {index}");
+    Ok(())
+}
+
+/// What `normalise` writes.
+fn normalised(
+    rt: &impl Abort,
+    alloc: Global,
+    doc: Doc,
+    file: &[u8],
+    wanted: Result<u64, Fault>,
+    index: usize,
+) -> Vec<u8> {
+    let mut held = Vec::new(alloc);
+    let answer = normalise(
+        alloc,
+        doc,
+        &mut Input::new(file),
+        &mut Output::new(&mut held),
+    );
+    assert_row(rt, answer, wanted, index);
+    held
+}
+
+/// What `next` gives.
+fn given(
+    rt: &impl Abort,
+    alloc: Global,
+    doc: Doc,
+    file: &[u8],
+    wanted: Result<u64, Fault>,
+    index: usize,
+) -> Result<Vec<u8>, Fail> {
+    let mut given = Vec::new(alloc);
+    let mut reader = Pieces::new(file, 65_536, 0);
+    let answer = read_all(rt, alloc, doc, &mut reader, &mut given)?;
+    assert_row(rt, answer, wanted, index);
+    Ok(given)
+}
+
+fn assert_row(
+    rt: &impl Abort,
+    answer: Result<u64, Fault>,
+    wanted: Result<u64, Fault>,
+    index: usize,
+) {
+    assert_eq!(rt; answer, wanted, "row {index}");
+}
+
+/// How many bytes are written, and how they begin.
+fn assert_len(rt: &impl Abort, text: &[u8], len: usize, index: usize) {
+    assert_eq!(rt; text.len(), len, "row {index}");
+    assert_eq!(rt; text.starts_with(SMALL_TEXT), len > 0, "row {index}");
 }
 
 /// A paragraph by itself, and the length of its canonical text, or the code and the line of its
@@ -216,12 +261,19 @@ const SINGLE: [Single; 5] = [
 fn typed_paragraphs_have_a_limit(rt: HostRuntime) -> Result<(), Fail> {
     for (index, Single(pieces, wanted)) in SINGLE.iter().enumerate() {
         let file = file_of(rt.alloc(), pieces)?;
-        let mut paragraphs = Paragraphs::new(rt.alloc());
-        let mut input = Input::new(file.as_slice());
-        let raw = paragraphs.next(&mut input)?.ok_or("no paragraph")?;
-        let built = Paragraph::build(rt.alloc(), Doc::Packages, &raw);
-        let len = built.map(|paragraph| paragraph.canon_len());
-        assert_eq!(rt; len, answer_of(*wanted), "row {index}");
+        let len = typed_len(rt.alloc(), file.as_slice())?;
+        assert_row(&rt, len, answer_of(*wanted), index);
     }
     Ok(())
+}
+
+/// The length of the canonical text of a file's first paragraph.
+fn typed_len(alloc: Global, file: &[u8]) -> Result<Result<u64, Fault>, Fail> {
+    let mut paragraphs = Paragraphs::new(alloc);
+    let mut input = Input::new(file);
+    let raw = paragraphs.next(&mut input)?.ok_or("no paragraph")?;
+    match Paragraph::build(alloc, Doc::Packages, &raw) {
+        Ok(paragraph) => Ok(Ok(paragraph.canon_len())),
+        Err(fault) => Ok(Err(fault)),
+    }
 }
