@@ -4,6 +4,7 @@ use deb_base::{Code, Fault, Input};
 use deb_control::Paragraph;
 use deb_field::{Doc, Value};
 use deb_syntax::Paragraphs;
+use std::alloc::Global;
 use std::process::Abort;
 use std::test::Fail;
 
