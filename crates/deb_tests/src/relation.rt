@@ -2,10 +2,12 @@
 
 mod memory;
 
-use deb_relation::{Alternative, Env, EnvFault, Op, Reason, Relation, RelationFault};
+use deb_relation::{Alternative, Env, EnvFault, Group, Op, Reason, Relation, RelationFault};
 use deb_version::BadVersion;
 use std::alloc::Global;
 use std::cmp::Ordering;
+use std::io::Write;
+use std::process::Abort;
 use std::test::Fail;
 
 /// A text, and the reason and the place of the step that fails.
@@ -151,20 +153,18 @@ fn fault_in(alloc: Global, text: &[u8]) -> Option<(Reason, usize)> {
     }
 }
 
+/// The step that fails in a text, or None.
+fn assert_fault(rt: &impl Abort, alloc: Global, text: &[u8], fault: Option<(Reason, usize)>) {
+    let shown = text.escape_ascii();
+    assert_eq!(rt; fault_in(alloc, text), fault, "{shown}");
+}
+
 #[test]
-fn prefixes_of_a_relation(rt: HostRuntime) -> Result<(), Fail> {
-    let mut text = Vec::new(rt.alloc());
-    assert_eq!(rt; fault_in(rt.alloc(), &text), None);
-    for byte in LONGEST {
-        text.push(*byte)?;
-        let len = text.len();
-        assert_eq!(rt;
-            fault_in(rt.alloc(), &text),
-            prefix_fault(len),
-            "{len} bytes"
-        );
+fn prefixes_of_a_relation(rt: HostRuntime) {
+    for len in 0..=LONGEST.len() {
+        let prefix = &LONGEST[..len.min(LONGEST.len())];
+        assert_fault(&rt, rt.alloc(), prefix, prefix_fault(len));
     }
-    Ok(())
 }
 
 fn is_white(byte: u8) -> bool {
@@ -176,7 +176,7 @@ fn is_small_or_digit(byte: u8) -> bool {
 }
 
 /// The steps of the grammar.
-#[derive(Clone, Copy, Debug)]
+#[derive(Clone, Copy)]
 enum Step {
     Name,
     NameGoesOn,
@@ -304,16 +304,21 @@ const PLACES: [Place; 9] = [
 
 #[test]
 fn each_byte_at_each_step(rt: HostRuntime) -> Result<(), Fail> {
-    for Place(step, before, behind) in &PLACES {
+    for place in &PLACES {
         for byte in 0..=255u8 {
-            let mut text = Vec::new(rt.alloc());
-            text.extend_from_slice(before)?;
-            text.push(byte)?;
-            text.extend_from_slice(behind)?;
-            let fault = fault_in(rt.alloc(), &text);
-            assert_eq!(rt; fault, fault_at(*step, byte), "{step:?}: {byte}");
+            assert_byte(&rt, rt.alloc(), place, byte)?;
         }
     }
+    Ok(())
+}
+
+fn assert_byte(rt: &impl Abort, alloc: Global, place: &Place, byte: u8) -> Result<(), Fail> {
+    let Place(step, before, behind) = place;
+    let mut text = Vec::new(alloc);
+    text.extend_from_slice(before)?;
+    text.push(byte)?;
+    text.extend_from_slice(behind)?;
+    assert_fault(rt, alloc, &text, fault_at(*step, byte));
     Ok(())
 }
 
@@ -328,41 +333,68 @@ fn canonical(alloc: Global, text: &[u8]) -> Result<Vec<u8>, Fail> {
 #[test]
 fn refused_relations(rt: HostRuntime) {
     for Refused(text, reason, at) in &REFUSED {
-        let fault = Relation::parse(rt.alloc(), text.as_bytes()).err();
-        let expected = RelationFault::Bad {
-            reason: *reason,
-            at: *at,
-        };
-        assert_eq!(rt; fault, Some(expected), "{text}");
+        assert_fault(&rt, rt.alloc(), text.as_bytes(), Some((*reason, *at)));
     }
 }
 
 #[test]
 fn accepted_relations(rt: HostRuntime) -> Result<(), Fail> {
     for Row(text, expected) in &ROWS {
-        let relation = Relation::parse(rt.alloc(), text.as_bytes())?;
-        let mut out = Vec::new(rt.alloc());
-        relation.canon_into(&mut out)?;
-        assert_eq!(rt; out.as_slice(), expected.as_bytes(), "{text}");
-        assert_eq!(rt; relation.canon_len(), expected.len() as u64, "{text}");
-        let again = canonical(rt.alloc(), &out)?;
-        assert_eq!(rt; again.as_slice(), expected.as_bytes(), "{text}");
-
-        // the groups' texts make up the relation's
-        let mut joined = Vec::new(rt.alloc());
-        for (i, group) in relation.groups().iter().enumerate() {
-            if i > 0 {
-                joined.extend_from_slice(b", ")?;
-            }
-            let before = joined.len() as u64;
-            group.canon_into(&mut joined)?;
-            assert_eq!(rt;
-                before.checked_add(group.canon_len()),
-                Some(joined.len() as u64)
-            );
-        }
-        assert_eq!(rt; joined.as_slice(), expected.as_bytes(), "{text}");
+        let text = text.as_bytes();
+        let expected = expected.as_bytes();
+        assert_canonical(&rt, rt.alloc(), text, expected)?;
+        assert_canonical(&rt, rt.alloc(), expected, expected)?;
+        assert_parts(&rt, rt.alloc(), text, expected)?;
     }
+    Ok(())
+}
+
+/// The canonical text of a text.
+fn assert_canonical(
+    rt: &impl Abort,
+    alloc: Global,
+    text: &[u8],
+    expected: &[u8],
+) -> Result<(), Fail> {
+    let out = canonical(alloc, text)?;
+    assert_bytes(rt, &out, expected);
+    Ok(())
+}
+
+fn assert_bytes(rt: &impl Abort, bytes: &[u8], expected: &[u8]) {
+    let shown = expected.escape_ascii();
+    assert_eq!(rt; bytes, expected, "{shown}");
+}
+
+/// A relation's length is that of its canonical text, and the groups' texts make up its text.
+fn assert_parts(rt: &impl Abort, alloc: Global, text: &[u8], expected: &[u8]) -> Result<(), Fail> {
+    let relation = Relation::parse(alloc, text)?;
+    assert_length(rt, relation.canon_len(), expected.len() as u64);
+    let joined = joined(rt, alloc, &relation)?;
+    assert_bytes(rt, &joined, expected);
+    Ok(())
+}
+
+fn assert_length(rt: &impl Abort, length: u64, expected: u64) {
+    assert_eq!(rt; length, expected);
+}
+
+fn joined(rt: &impl Abort, alloc: Global, relation: &Relation<'_>) -> Result<Vec<u8>, Fail> {
+    let mut joined = Vec::new(alloc);
+    for (i, group) in relation.groups().iter().enumerate() {
+        if i > 0 {
+            joined.extend_from_slice(b", ")?;
+        }
+        join_group(rt, group, &mut joined)?;
+    }
+    Ok(joined)
+}
+
+fn join_group(rt: &impl Abort, group: &Group<'_>, joined: &mut Vec<u8>) -> Result<(), Fail> {
+    let before = joined.len() as u64;
+    group.canon_into(joined)?;
+    let behind = joined.len() as u64;
+    assert_eq!(rt; before.checked_add(group.canon_len()), Some(behind));
     Ok(())
 }
 
@@ -371,159 +403,251 @@ fn parts_of_alternatives(rt: HostRuntime) -> Result<(), Fail> {
     let text = b"aa:any(>=1.)[!i386 !amd64]<y !x><z> | bb";
     let relation = Relation::parse(rt.alloc(), text)?;
     let [group] = relation.groups() else {
-        assert!(rt; false, "one group");
-        return Ok(());
+        return Err(Fail::from("not one group"));
     };
     let [a, b] = group.alternatives() else {
-        assert!(rt; false, "two alternatives");
-        return Ok(());
+        return Err(Fail::from("not two alternatives"));
     };
-    assert_eq!(rt; a.name(), b"aa".as_slice());
-    assert_eq!(rt; a.qualifier(), Some(b"any".as_slice()));
-    assert!(rt; matches!(a.bound(), Some((Op::LaterEqual, _))));
-    let mut version = Vec::new(rt.alloc());
-    if let Some((_, bound)) = a.bound() {
-        bound.canon_into(&mut version)?;
-    }
-    assert_eq!(rt; version.as_slice(), b"1.0".as_slice());
-    let Some((negated, names)) = a.architectures() else {
-        assert!(rt; false, "an architecture list");
-        return Ok(());
-    };
-    assert!(rt; negated);
-    assert_eq!(rt; names.len(), 2);
-    assert_eq!(rt; names.first().copied(), Some(b"amd64".as_slice()));
-    assert_eq!(rt; a.formula().len(), 2);
-    let first = a.formula().first().and_then(|items| items.first().copied());
-    assert_eq!(rt; first, Some((true, b"x".as_slice())));
-
-    assert_eq!(rt; b.name(), b"bb".as_slice());
-    assert_eq!(rt; b.qualifier(), None);
-    assert!(rt; b.bound().is_none() && b.architectures().is_none() && b.formula().is_empty());
+    assert_name(&rt, a, b"aa", Some(b"any"));
+    assert_bound(&rt, rt.alloc(), a)?;
+    assert_architectures(&rt, a)?;
+    assert_formula(&rt, a);
+    assert_name(&rt, b, b"bb", None);
+    assert_plain(&rt, b);
     Ok(())
 }
+
+fn assert_name(
+    rt: &impl Abort,
+    alternative: &Alternative<'_>,
+    name: &[u8],
+    qualifier: Option<&[u8]>,
+) {
+    assert_bytes(rt, alternative.name(), name);
+    assert_eq!(rt; alternative.qualifier(), qualifier);
+}
+
+/// The bound is `>= 1.0`.
+fn assert_bound(rt: &impl Abort, alloc: Global, alternative: &Alternative<'_>) -> Result<(), Fail> {
+    let Some((operator, bound)) = alternative.bound() else {
+        return Err(Fail::from("no bound"));
+    };
+    assert!(rt; matches!(operator, Op::LaterEqual));
+    let mut version = Vec::new(alloc);
+    bound.canon_into(&mut version)?;
+    assert_bytes(rt, &version, b"1.0");
+    Ok(())
+}
+
+/// The architectures are negated and two, and `amd64` is the first of them.
+fn assert_architectures(rt: &impl Abort, alternative: &Alternative<'_>) -> Result<(), Fail> {
+    let Some((negated, [first, _])) = alternative.architectures() else {
+        return Err(Fail::from("not two architectures"));
+    };
+    assert!(rt; negated);
+    assert_bytes(rt, first, b"amd64");
+    Ok(())
+}
+
+/// The formula has two lists, and `!x` stands first.
+fn assert_formula(rt: &impl Abort, alternative: &Alternative<'_>) {
+    assert_length(rt, alternative.formula().len() as u64, 2);
+    let first = first_restriction(alternative);
+    assert_eq!(rt; first, Some((true, b"x".as_slice())));
+}
+
+fn first_restriction<'a>(alternative: &Alternative<'a>) -> Option<(bool, &'a [u8])> {
+    let items = alternative.formula().first()?;
+    items.first().copied()
+}
+
+/// There is no bound, no list and no formula.
+fn assert_plain(rt: &impl Abort, alternative: &Alternative<'_>) {
+    assert!(rt; alternative.bound().is_none());
+    assert!(rt; alternative.architectures().is_none());
+    assert!(rt; alternative.formula().is_empty());
+}
+
+/// A text, and whether some group has two alternatives, whether there is a wildcard, and whether
+/// each bound is `=`.
+struct Asked(&'static str, bool, bool, bool);
+
+const ASKED: [Asked; 11] = [
+    Asked("", false, false, true),
+    Asked("aa [linux-any]", false, true, true),
+    Asked("aa [any]", false, true, true),
+    Asked("bb, cc [amd64] | aa [!any-i386]", true, true, true),
+    Asked("aa:any", false, false, true),
+    Asked("aa [all]", false, false, true),
+    Asked("aa (= 1), bb", false, false, true),
+    Asked("aa (>= 1)", false, false, false),
+    Asked("aa (= 1) | bb (<< 1), cc", true, false, false),
+    Asked("aa (<= 1)", false, false, false),
+    Asked("aa (>> 1)", false, false, false),
+];
 
 #[test]
 fn tests_of_relations(rt: HostRuntime) -> Result<(), Fail> {
-    // text, some group has two alternatives, a wildcard, only `=`
-    let rows = [
-        ("", false, false, true),
-        ("aa [linux-any]", false, true, true),
-        ("aa [any]", false, true, true),
-        ("bb, cc [amd64] | aa [!any-i386]", true, true, true),
-        ("aa:any", false, false, true),
-        ("aa [all]", false, false, true),
-        ("aa (= 1), bb", false, false, true),
-        ("aa (>= 1)", false, false, false),
-        ("aa (= 1) | bb (<< 1), cc", true, false, false),
-        ("aa (<= 1)", false, false, false),
-        ("aa (>> 1)", false, false, false),
-    ];
-    for (text, alternatives, wildcard, equals) in rows {
+    for Asked(text, alternatives, wildcard, equals) in &ASKED {
         let relation = Relation::parse(rt.alloc(), text.as_bytes())?;
-        assert_eq!(rt; relation.has_alternatives(), alternatives, "{text}");
-        assert_eq!(rt; relation.has_wildcard(), wildcard, "{text}");
-        assert_eq!(rt; relation.only_equals(), equals, "{text}");
+        assert_answer(&rt, relation.has_alternatives(), *alternatives, text);
+        assert_answer(&rt, relation.has_wildcard(), *wildcard, text);
+        assert_answer(&rt, relation.only_equals(), *equals, text);
     }
     Ok(())
 }
+
+fn assert_answer(rt: &impl Abort, answer: bool, expected: bool, text: &str) {
+    assert_eq!(rt; answer, expected, "{text}");
+}
+
+/// A text, and whether its first alternative applies for amd64 with the profile `nocheck`.
+const APPLY: [(&str, bool); 13] = [
+    ("cc <!nocheck>", false),
+    ("cc <!nocheck> <nocheck>", true),
+    ("cc <nocheck nodoc>", false),
+    ("cc <nocheck !nodoc>", true),
+    ("cc <nodoc> <!nodoc>", true),
+    ("bb [!amd64]", false),
+    ("bb [i386]", false),
+    ("bb [linux-any]", false),
+    ("bb [i386 amd64]", true),
+    ("bb [!i386]", true),
+    ("bb", true),
+    ("bb [amd64] <!nocheck>", false),
+    ("bb [i386] <nocheck>", false),
+];
 
 #[test]
 fn alternatives_that_apply(rt: HostRuntime) -> Result<(), Fail> {
     let environment = Env::new(rt.alloc(), b"amd64", &[b"nocheck"])?;
-    assert_eq!(rt; environment.target(), b"amd64".as_slice());
-    assert!(rt; environment.active(b"nocheck") && !environment.active(b"nodoc"));
-    let rows = [
-        ("cc <!nocheck>", false),
-        ("cc <!nocheck> <nocheck>", true),
-        ("cc <nocheck nodoc>", false),
-        ("cc <nocheck !nodoc>", true),
-        ("cc <nodoc> <!nodoc>", true),
-        ("bb [!amd64]", false),
-        ("bb [i386]", false),
-        ("bb [linux-any]", false),
-        ("bb [i386 amd64]", true),
-        ("bb [!i386]", true),
-        ("bb", true),
-        ("bb [amd64] <!nocheck>", false),
-        ("bb [i386] <nocheck>", false),
-    ];
-    for (text, applies) in rows {
+    for (text, applies) in APPLY {
         let relation = Relation::parse(rt.alloc(), text.as_bytes())?;
-        let answer = relation
-            .groups()
-            .first()
-            .and_then(|group| group.alternatives().first())
-            .map(|alternative: &Alternative<'_>| alternative.applies(&environment));
-        assert_eq!(rt; answer, Some(applies), "{text}");
+        let answer = first_applies(&relation, &environment).ok_or("no alternative")?;
+        assert_answer(&rt, answer, applies, text);
     }
-    let targets: [&[u8]; 6] = [b"any", b"linux-any", b"all", b"AMD64", b"", b"a.b"];
-    for target in targets {
-        let fault = Env::new(rt.alloc(), target, &[]).err();
-        assert_eq!(rt; fault, Some(EnvFault::BadEnvironment));
+    Ok(())
+}
+
+/// Whether the first alternative applies.
+fn first_applies(relation: &Relation<'_>, environment: &Env) -> Option<bool> {
+    let group = relation.groups().first()?;
+    let alternative = group.alternatives().first()?;
+    Some(alternative.applies(environment))
+}
+
+#[test]
+fn parts_of_an_environment(rt: HostRuntime) -> Result<(), Fail> {
+    let environment = Env::new(rt.alloc(), b"amd64", &[b"nocheck"])?;
+    assert_bytes(&rt, environment.target(), b"amd64");
+    assert!(rt; environment.active(b"nocheck") && !environment.active(b"nodoc"));
+    Ok(())
+}
+
+const NO_TARGETS: [&[u8]; 6] = [b"any", b"linux-any", b"all", b"AMD64", b"", b"a.b"];
+
+const NO_PROFILES: [&[u8]; 4] = [b"No", b"", b"+x", b"x_"];
+
+#[test]
+fn environments(rt: HostRuntime) {
+    for target in NO_TARGETS {
+        assert_refused(&rt, Env::new(rt.alloc(), target, &[]));
     }
-    let profiles: [&[u8]; 4] = [b"No", b"", b"+x", b"x_"];
-    for profile in profiles {
-        let fault = Env::new(rt.alloc(), b"amd64", &[b"nocheck", profile]).err();
-        assert_eq!(rt; fault, Some(EnvFault::BadEnvironment));
+    for profile in NO_PROFILES {
+        assert_refused(&rt, Env::new(rt.alloc(), b"amd64", &[b"nocheck", profile]));
     }
     assert!(rt; Env::new(rt.alloc(), b"kfreebsd-i386", &[]).is_ok());
-    Ok(())
+}
+
+fn assert_refused(rt: &impl Abort, environment: Result<Env, EnvFault>) {
+    assert_eq!(rt; environment.err(), Some(EnvFault::BadEnvironment));
 }
 
 #[test]
 fn operators(rt: HostRuntime) {
-    let rows = [
-        (Op::Earlier, [true, false, false]),
-        (Op::EarlierEqual, [true, true, false]),
-        (Op::Equal, [false, true, false]),
-        (Op::LaterEqual, [false, true, true]),
-        (Op::Later, [false, false, true]),
+    assert_holds(&rt, Op::Earlier, [true, false, false]);
+    assert_holds(&rt, Op::EarlierEqual, [true, true, false]);
+    assert_holds(&rt, Op::Equal, [false, true, false]);
+    assert_holds(&rt, Op::LaterEqual, [false, true, true]);
+    assert_holds(&rt, Op::Later, [false, false, true]);
+}
+
+/// Whether an operator holds of the three orders.
+fn assert_holds(rt: &impl Abort, operator: Op, answers: [bool; 3]) {
+    let held = [
+        operator.holds(Ordering::Less),
+        operator.holds(Ordering::Equal),
+        operator.holds(Ordering::Greater),
     ];
-    for (operator, answers) in rows {
-        assert_eq!(rt; operator.holds(Ordering::Less), answers[0]);
-        assert_eq!(rt; operator.holds(Ordering::Equal), answers[1]);
-        assert_eq!(rt; operator.holds(Ordering::Greater), answers[2]);
+    assert_eq!(rt; held, answers);
+}
+
+/// Ten thousand names, each with its distance from this number.
+fn numbered_names(alloc: Global, from: u32, between: &[u8]) -> Result<Vec<u8>, Fail> {
+    let mut text = Vec::new(alloc);
+    for n in 0..10_000u32 {
+        if n > 0 {
+            text.extend_from_slice(between)?;
+        }
+        let number = from.abs_diff(n);
+        write!(text, "p{number:04}")?;
     }
+    Ok(text)
+}
+
+/// Ten thousand names in a mixed order, each of them twice.
+fn mixed_names(alloc: Global) -> Result<Vec<u8>, Fail> {
+    let mut text = Vec::new(alloc);
+    for n in 0..10_000u32 {
+        for m in [n, n.abs_diff(5_000)] {
+            let number = m.wrapping_mul(7_919) % 10_000;
+            write!(text, "p{number:04},")?;
+        }
+    }
+    Ok(text)
+}
+
+/// One name ten thousand times.
+fn repeated_name(alloc: Global, between: &[u8]) -> Result<Vec<u8>, Fail> {
+    let mut text = Vec::new(alloc);
+    for n in 0..10_000u32 {
+        if n > 0 {
+            text.extend_from_slice(between)?;
+        }
+        text.extend_from_slice(b"aa")?;
+    }
+    Ok(text)
+}
+
+/// The canonical text of a large text.
+fn assert_large(rt: &impl Abort, alloc: Global, text: &[u8], expected: &[u8]) -> Result<(), Fail> {
+    let out = canonical(alloc, text)?;
+    assert!(rt; out.as_slice() == expected, "{} bytes", text.len());
+    Ok(())
 }
 
 #[test]
-fn large_relations(rt: HostRuntime) -> Result<(), Fail> {
-    // ten thousand groups in reverse order, and mixed with repeats; one group ten thousand times
-    let mut text = Vec::new(rt.alloc());
-    let mut mixed = Vec::new(rt.alloc());
-    let mut expected = Vec::new(rt.alloc());
-    let mut repeated = Vec::new(rt.alloc());
-    let mut alternatives = Vec::new(rt.alloc());
-    for n in 0..10_000u32 {
-        if n > 0 {
-            text.push(b',')?;
-            expected.extend_from_slice(b", ")?;
-            repeated.push(b',')?;
-            alternatives.extend_from_slice(b" | ")?;
-        }
-        text.extend_from_slice(format!(in rt.alloc(); "p{:04}", 9_999u32.abs_diff(n))?.as_bytes())?;
-        for m in [n, n.abs_diff(5_000)] {
-            let group = format!(in rt.alloc(); "p{:04},", m.wrapping_mul(7_919) % 10_000)?;
-            mixed.extend_from_slice(group.as_bytes())?;
-        }
-        expected.extend_from_slice(format!(in rt.alloc(); "p{:04}", n)?.as_bytes())?;
-        repeated.extend_from_slice(b"aa")?;
-        alternatives.extend_from_slice(b"aa")?;
-    }
-    for text in [text, mixed] {
-        let out = canonical(rt.alloc(), &text)?;
-        assert!(rt;
-            out.as_slice() == expected.as_slice(),
-            "ten thousand groups"
-        );
-    }
-    let out = canonical(rt.alloc(), &repeated)?;
-    assert_eq!(rt; out.as_slice(), b"aa".as_slice());
-    let out = canonical(rt.alloc(), &alternatives)?;
-    assert!(rt;
-        out.as_slice() == alternatives.as_slice(),
-        "ten thousand alternatives"
-    );
-    Ok(())
+fn ten_thousand_groups_in_reverse_order(rt: HostRuntime) -> Result<(), Fail> {
+    let text = numbered_names(rt.alloc(), 9_999, b",")?;
+    let expected = numbered_names(rt.alloc(), 0, b", ")?;
+    assert_large(&rt, rt.alloc(), &text, &expected)
+}
+
+#[test]
+fn ten_thousand_groups_mixed_with_repeats(rt: HostRuntime) -> Result<(), Fail> {
+    let text = mixed_names(rt.alloc())?;
+    let expected = numbered_names(rt.alloc(), 0, b", ")?;
+    assert_large(&rt, rt.alloc(), &text, &expected)
+}
+
+#[test]
+fn one_group_ten_thousand_times(rt: HostRuntime) -> Result<(), Fail> {
+    let text = repeated_name(rt.alloc(), b",")?;
+    assert_canonical(&rt, rt.alloc(), &text, b"aa")
+}
+
+#[test]
+fn ten_thousand_alternatives(rt: HostRuntime) -> Result<(), Fail> {
+    let text = repeated_name(rt.alloc(), b" | ")?;
+    assert_large(&rt, rt.alloc(), &text, &text)
 }
