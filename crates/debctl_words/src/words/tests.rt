@@ -120,7 +120,7 @@ const OTHER_FILES: [Asked; 7] = [
     ),
 ];
 
-const VERSIONS: [Asked; 12] = [
+const OPERATORS: [Asked; 6] = [
     Asked(
         &["compare", "1", "lt", "2"],
         Asks::Compare("1", Cmp::Less, "2"),
@@ -151,6 +151,9 @@ const VERSIONS: [Asked; 12] = [
         Asks::Compare("1", Cmp::Greater, "2"),
         &[],
     ),
+];
+
+const VERSIONS: [Asked; 6] = [
     Asked(
         &["compare", "1_", "lt", ""],
         Asks::Compare("1_", Cmp::Less, ""),
@@ -187,6 +190,11 @@ fn words_that_ask_for_a_check(rt: HostRuntime) -> Result<(), Fail> {
 #[test]
 fn words_that_ask_for_another_job_on_files(rt: HostRuntime) -> Result<(), Fail> {
     assert_calls(&rt, rt.alloc(), &OTHER_FILES)
+}
+
+#[test]
+fn words_that_ask_for_an_operator(rt: HostRuntime) -> Result<(), Fail> {
+    assert_calls(&rt, rt.alloc(), &OPERATORS)
 }
 
 #[test]
