@@ -6,8 +6,8 @@
 //!   `line 3: 7 DuplicateField`.
 //! - A [`Source`] and a [`Sink`] count their failed calls, so that a caller can tell whether a read
 //!   or a write failed; [`Input`] and [`Output`] make them of std's readers and writers.
-//! - [`put_all`] writes all of its bytes, and [`put_pieces`] all of its pieces, or says that a write
-//!   failed and has then written a front of them.
+//! - [`put_all`] writes all of its bytes, and [`put_pieces`] all of its pieces, or says that a
+//!   write failed and has then written a front of them.
 //!
 //! Nothing in this crate takes memory.
 //!

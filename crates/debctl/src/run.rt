@@ -13,14 +13,14 @@ use std::alloc::Global;
 
 /// Does a job over readers and writers, tells on `err` why it wasn't done, and answers the status.
 ///
-/// `check`, `normalise` and `query` read `first`, and `same` reads both; a reader that a job doesn't
-/// use is left as it was.
+/// `check`, `normalise` and `query` read `first`, and `same` reads both; a reader that a job
+/// doesn't use is left as it was.
 ///
 /// - 0: done, or the answer is yes. `out` has `ok N` and a newline, the canonical text of the file,
 ///   `same` and a newline, nothing, the canonical version and a newline, or the report. Nothing was
 ///   written on `err`.
-/// - 1: the answer of `same` or `compare` is no, or by `query` some group is unmet. By `same`, `out`
-///   has `different` and a newline, by `query` the report; nothing else was written.
+/// - 1: the answer of `same` or `compare` is no, or by `query` some group is unmet. By `same`,
+///   `out` has `different` and a newline, by `query` the report; nothing else was written.
 /// - 2: a file or a word is refused. `err` has the refusal's line, by `same` with `first: ` or
 ///   `second: ` before it, and `out` nothing but, by `normalise`, the canonical text of the
 ///   paragraphs before the first that fails.
