@@ -45,6 +45,3 @@ pub use output::Output;
 pub use package_names::{is_arch_name, is_package_name, is_profile_name, is_wildcard};
 pub use put::{put_all, put_pieces};
 pub use refusal::Refusal;
-
-#[cfg(test)]
-mod tests;

@@ -167,6 +167,3 @@ fn is_no_revision(revision: &[u8]) -> bool
 {
     without_zeros(revision).is_empty()
 }
-
-#[cfg(test)]
-mod tests;

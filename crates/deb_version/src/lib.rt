@@ -30,6 +30,3 @@ mod version;
 pub use fault::BadVersion;
 pub use order::compare;
 pub use version::Version;
-
-#[cfg(test)]
-mod tests;

@@ -117,6 +117,3 @@ fn compare_runs(a: &[u8], b: &[u8]) -> Ordering
     let b = without_zeros(b);
     a.len().cmp(&b.len()).then_with(|| a.cmp(&b))
 }
-
-#[cfg(test)]
-mod tests;

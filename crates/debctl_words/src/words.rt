@@ -321,6 +321,3 @@ fn usage(alloc: Global, text: &str) -> UsageFault
         Err(_) => UsageFault::Memory,
     }
 }
-
-#[cfg(test)]
-mod tests;

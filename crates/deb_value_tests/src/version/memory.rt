@@ -3,25 +3,12 @@
 //! refused: exactly one of the calls below then wants memory, or the test itself, and where the
 //! number passes their growths none does.
 
-use crate::{Version, compare};
+use crate::growth::spend;
+use deb_version::{Version, compare};
 use std::alloc::Global;
 use std::cmp::Ordering;
 use std::process::Abort;
 use std::test::Fail;
-
-/// The growth of each test that is refused.
-const REFUSED_GROWTH: u32 = 200;
-
-/// Takes memory and gives it back so often that of the growths that follow, the one of this number
-/// is refused.
-fn spend(rt: &impl Abort, alloc: Global, growth: u32) -> Result<(), Fail> {
-    for _ in growth..REFUSED_GROWTH {
-        let mut spent = Vec::with_capacity(alloc, 1)?;
-        spent.push(b'=')?;
-        assert_eq!(rt; spent.as_slice(), b"=".as_slice());
-    }
-    Ok(())
-}
 
 /// Appends canonical texts and compares versions, with this growth refused. A call that needs no
 /// growth, and every call after the one that wants memory, has to answer Ok. The tests below have

@@ -1,6 +1,10 @@
 //! Texts that are no versions, each with its first fault, and texts that are.
 
-use crate::{BadVersion, Version, compare};
+mod canonical;
+mod memory;
+mod order;
+
+use deb_version::{BadVersion, Version, compare};
 use std::cmp::Ordering;
 use std::test::Fail;
 

@@ -1,4 +1,6 @@
-use crate::*;
+//! Codes and lines of refusals, devices, names and bodies.
+
+use deb_base::*;
 use std::alloc::Global;
 use std::io::{self, ErrorKind, Read, Write};
 use std::test::Fail;

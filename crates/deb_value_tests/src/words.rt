@@ -1,5 +1,8 @@
-use super::*;
-use crate::jobs::Cmp;
+//! What words ask for, and what is told of those that ask for nothing.
+
+use deb_field::Doc;
+use debctl_words::{Call, Cmp, Job, UsageFault, job_of};
+use std::alloc::{AllocError, Global};
 use std::process::Abort;
 use std::test::Fail;
 

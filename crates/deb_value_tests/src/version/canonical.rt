@@ -1,8 +1,6 @@
 //! Spellings with their canonical text.
 
-mod memory;
-
-use crate::{Version, compare};
+use deb_version::{Version, compare};
 use std::test::Fail;
 
 /// A spelling, and the canonical text of its version.

@@ -1,7 +1,8 @@
 //! The order of worked versions.
 
-use super::*;
+use deb_version::{Version, compare};
 use std::alloc::Global;
+use std::cmp::Ordering;
 use std::test::Fail;
 
 /// The order of two versions, by their texts.
