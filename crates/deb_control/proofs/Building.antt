@@ -1,11 +1,11 @@
 -- What is built of a paragraph whose fields were read and sorted.
-use Rattle.std.proofs.Common.{◌≡◌, ◌<◌, ◌≤◌, ◌&&◌, not, true, false, List, [], ◌∷◌, length, map, Ok, Err, None, refl, sym, ap, ◌∙◌, subst, arith, All, IsPermutation}
+use Rattle.std.proofs.Common.{◌≡◌, ◌<◌, ◌≤◌, ◌&&◌, not, true, List, [], ◌∷◌, length, map, Ok, Err, None, refl, sym, ap, ◌∙◌, subst, arith, All, IsPermutation}
 use Rattle.std.proofs.lemmas.Bool.{and_parts, not-true, lt-leb}
 use Rattle.std.proofs.lemmas.List.Elements.{All-nil, All-cons, All-tail, All-get_or}
 use Rattle.std.proofs.lemmas.List.Sorted.{All-permutation}
 use Rattle.std.specs.List.{AllByRecursion}
 use Rattle.std.specs.List.Sorted.{IsSortedBy}
-use Rattle.deb_base.specs.declared.code.Code.TheVariants.{MissingField, ParagraphTooLong}
+use Rattle.deb_base.specs.declared.code.Code.TheVariants.{ParagraphTooLong}
 use Rattle.deb_base.specs.Bodies.{paragraph_limit}
 use Rattle.deb_syntax.specs.Fields.{Field, has_name, AreDistinct, is_field, are_fields}
 use Rattle.deb_syntax.specs.Meaning.{entries_of}
@@ -67,9 +67,6 @@ unfolding paragraph_limit
 limit_is = refl
 
 module _ (doc : Doc) (seen : Seen) (good : value_refusal_of (rules_of doc) seen.fields ≡ None) where
-  pub built-missing : false ≡ have_names seen.fields (rules_of doc).required → built (rules_of doc) seen ≡ Err (record { code = MissingField; line = seen.first })
-  built-missing missing = ap (refused_or_built (rules_of doc) seen) good ∙ rw (sym missing) refl
-
   pub built-too_long : (now : List TypedField) → AreRead doc seen.fields now → true ≡ have_names seen.fields (rules_of doc).required → 16777216 < length (text_of_values (values_in now)) → built (rules_of doc) seen ≡ Err (record { code = ParagraphTooLong; line = seen.first })
   built-too_long now read named long =
       let longer : paragraph_limit < length (paragraph_text (canonical_entries (rules_of doc) seen.fields)) =

@@ -2,30 +2,28 @@
 use Rattle.std.proofs.Common.{◌≡◌, ◌⊎◌, inl, inr, ℕ, ◌+◌, ◌<◌, ◌≤◌, ◌==◌, ◌&&◌, not, Bool, true, false, cond, leb, List, [], ◌∷◌, ◌++◌, length, Option, None, Some, Result, Ok, Err, IfOk, IfErr, IfNone, IfSome, MatchResult, IsTrue, IsSome, ◌↔◌, refl, sym, ap, ◌∙◌, subst, arith, length-append, append-nil}
 use Rattle.std.proofs.Math.Bool.{and-false}
 use Rattle.std.proofs.lemmas.Bool.{ne_eqb, false≢true, and_parts, leb-true}
-use Rattle.deb_base.specs.Codes.{number_of}
 use Rattle.deb_base.specs.Devices.{read_failures_after}
 use Rattle.deb_base.specs.Faults.{IsReadersFault, RefusedOrMemory}
-use Rattle.deb_base.specs.declared.code.Code.TheVariants.{FileTooLong, NoParagraph, TooManyParagraphs}
+use Rattle.deb_base.specs.declared.code.Code.TheVariants.{NoParagraph, TooManyParagraphs}
 use Rattle.deb_base.specs.declared.fault.Fault.{Fault}
 use Rattle.deb_base.specs.declared.fault.Fault.TheVariants.{Refused, Memory, Read, Write}
 use Rattle.deb_base.specs.declared.refusal.Refusal.{Refusal}
 use Rattle.deb_syntax.specs.Ahead.{TakesNoMore}
 use Rattle.deb_syntax.specs.Answers.{Seen, next_answer, next_begin}
 use Rattle.deb_syntax.specs.Fields.{are_numbered}
-use Rattle.deb_syntax.specs.Lines.{lines_of, paragraphs_of, file_limit}
+use Rattle.deb_syntax.specs.Lines.{paragraphs_of, file_limit}
 use Rattle.deb_syntax.specs.Meaning.{Entries}
 use Rattle.deb_syntax.specs.Paragraphs.{advance_answer}
 use Rattle.deb_syntax.specs.Reading.{State, Fits, passed_count, GivesNone, Answers, AnswersBegin, Moment, Advances, Begins}
 use Rattle.deb_syntax.proofs.JudgingLaws.{push-append}
 use Rattle.deb_field.specs.Kinds.{is_single}
 use Rattle.deb_field.specs.declared.kind.Doc.{Doc}
-use Rattle.deb_control.specs.Canonical.{paragraph_text, file_text}
-use Rattle.deb_control.specs.Checking.{Passing, CheckedState, CheckedMoment, Follow, FitsChecked, GivesPassing, GivesEnd, AnswersChecked, IsRefusalOfDocument, Checks, ChecksOn, found_answer}
+use Rattle.deb_control.specs.Canonical.{file_text}
+use Rattle.deb_control.specs.Checking.{Passing, CheckedState, CheckedMoment, Follow, FitsChecked, AnswersChecked, IsRefusalOfDocument, Checks, ChecksOn, found_answer}
 use Rattle.deb_control.specs.Documents.{rules_of}
-use Rattle.deb_control.specs.Finding.{end_answer, AddsPassing, IsTooLong, RefusesSeen}
-use Rattle.deb_control.specs.Refusals.{built, has_some, answer_of_seen, next_checked, line_behind}
+use Rattle.deb_control.specs.Finding.{end_answer, AddsPassing, RefusesSeen}
+use Rattle.deb_control.specs.Refusals.{has_some, answer_of_seen, next_checked, line_behind}
 use Rattle.deb_control.specs.Rules.{Rules}
-use Rattle.deb_control.specs.Tallies.{bytes_with}
 use Rattle.deb_control.specs.declared.tally.Tally.{Tally}
 use Rattle.deb_control.proofs.NextChecked.{next_checked-seen, next_checked-second, next_checked-last, next_checked-refused, bytes-with, next_checked-passes, next_checked-unbuilt, next_checked-too_long}
 use Rattle.deb_control.proofs.RefusalCodes.{built-code, readers_fault}

@@ -1,5 +1,5 @@
 -- The fields of a paragraph that have been read so far.
-use Rattle.std.proofs.Common.{◌≡◌, ℕ, suc, ◌+◌, ◌<◌, ◌&&◌, Bor, inl, inr, Bool, true, false, is_some, Option, None, Some, List, [], ◌∷◌, ◌++◌, length, map, drop, slice_get, option_map, add-one, append_assoc, append-nil, refl, sym, ap, ◌∙◌, subst, arith}
+use Rattle.std.proofs.Common.{◌≡◌, ℕ, suc, ◌+◌, ◌<◌, ◌&&◌, Bor, inl, inr, Bool, true, false, is_some, Option, None, Some, List, [], ◌∷◌, ◌++◌, length, map, drop, slice_get, option_map, add-one, append_assoc, refl, sym, ap, ◌∙◌, subst, arith}
 use Rattle.std.proofs.Math.Seq.{drop-cons}
 use Rattle.std.proofs.lemmas.List.{map-append}
 use Rattle.std.proofs.lemmas.Option.{slice_get_within, slice_get_cases, get_or_from_slice_get}
@@ -26,9 +26,6 @@ pub record HasRead (doc : Doc) (fields : List Field) (items : List TypedField) (
   pub read : map field_in items ++ drop i fields ≡ fields
   pub good : AllByRecursion (IsTypedField doc) items
   pub refusal : value_refusal_of (rules_of doc) fields ≡ value_refusal_of (rules_of doc) (drop i fields)
-
-pub HasRead-start : (doc : Doc) (fields : List Field) → HasRead doc fields [] 0
-HasRead-start doc fields = record { read = refl; good = tt; refusal = refl }
 
 -- the field at an index, and those behind it
 drop-at : (fields : List Field) (i : ℕ) (field : Field) → slice_get fields i ≡ Some field → drop i fields ≡ field ∷ drop (i + 1) fields
@@ -74,11 +71,6 @@ RefusedOrMemory-to P Q f (Refused refusal) h = f refusal h
 RefusedOrMemory-to P Q f Memory h = tt
 RefusedOrMemory-to P Q f Read h = absurd h
 RefusedOrMemory-to P Q f Write h = absurd h
-
--- all of them, at the end
-pub HasRead-all : (doc : Doc) (fields : List Field) (items : List TypedField) (i : ℕ) → drop i fields ≡ [] → HasRead doc fields items i → (map field_in items ≡ fields) × (value_refusal_of (rules_of doc) fields ≡ None)
-HasRead-all doc fields items i none before =
-    (sym (append-nil (map field_in items)) ∙ ap (λ m. map field_in items ++ m) (sym none) ∙ before.read, before.refusal ∙ ap (value_refusal_of (rules_of doc)) none)
 
 -- an index with no element is past the end
 pub none_is_past : {X : Type 0} (xs : List X) (i : ℕ) → i < length xs → None ≡ slice_get xs i → ⊥

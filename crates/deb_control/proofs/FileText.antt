@@ -63,7 +63,3 @@ HaveMeanings-file_text n (entries ∷ next ∷ meaning) are =
 -- what a text means has the form of a meaning
 pub AreEntries-from_means : (text : List ℕ) (meaning : List Entries) → Means text meaning → AllByRecursion AreEntries meaning
 AreEntries-from_means text meaning means = AreEntries-from_meanings (paragraphs_of text) meaning (HaveLines-paragraphs_from 1 (lines_of text)) means
-
--- the canonical text of what a text means means the same
-pub Means-file_text : (text : List ℕ) (meaning : List Entries) → Means text meaning → Means (file_text meaning) meaning
-Means-file_text text meaning means = HaveMeanings-file_text 1 meaning (AreEntries-from_means text meaning means)

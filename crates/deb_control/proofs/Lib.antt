@@ -21,7 +21,6 @@ pub mod ValueLookups
 pub mod FollowedParagraphs
 pub mod CheckedSoFar
 pub mod ComparedSoFar
-pub mod ReadCounts
 pub mod PartsWithin
 pub mod ReadAlone
 pub mod RefusalLines

@@ -1,8 +1,8 @@
 -- What is answered of a document's next paragraph, from what its reader of paragraphs answers.
-use Rattle.std.proofs.Common.{◌≡◌, ◌⊎◌, inl, inr, ℕ, ◌+◌, ◌<◌, ◌≤◌, ◌==◌, ◌&&◌, not, Bool, true, false, cond, nat_le, List, [], ◌∷◌, ◌++◌, drop, length, Option, None, Some, Result, Ok, Err, refl, sym, ap, ◌∙◌, subst, arith, length-append}
+use Rattle.std.proofs.Common.{◌≡◌, ℕ, ◌+◌, ◌<◌, ◌≤◌, ◌&&◌, true, false, cond, List, [], ◌∷◌, ◌++◌, drop, length, Option, None, Some, Ok, Err, refl, sym, ap, ◌∙◌, arith, length-append}
 use Rattle.std.proofs.lemmas.Bool.{le-leb, lt-leb, ne_eqb}
 use Rattle.deb_base.specs.Bodies.{newline}
-use Rattle.deb_base.specs.declared.code.Code.TheVariants.{FileTooLong, NoParagraph, TooManyParagraphs}
+use Rattle.deb_base.specs.declared.code.Code.TheVariants.{FileTooLong, TooManyParagraphs}
 use Rattle.deb_base.specs.declared.refusal.Refusal.{Refusal}
 use Rattle.deb_syntax.specs.Answers.{Seen, line_beyond, paragraphs_within, answer_of_first, begin_of_first, next_answer, next_begin}
 use Rattle.deb_syntax.specs.Lines.{Paragraph, file_limit}

@@ -26,11 +26,11 @@ use Rattle.deb_control.specs.Documents.{rules_of}
 use Rattle.deb_control.specs.Paragraphs.{AreValuesOf}
 use Rattle.deb_control.specs.PassingValues.{HasValue}
 use Rattle.deb_control.specs.Refusals.{built, value_refusal_of}
-use Rattle.deb_control.specs.ValueFiles.{ValueEntries, body_under}
+use Rattle.deb_control.specs.ValueFiles.{ValueEntries}
 use Rattle.deb_control.proofs.Building.{distinct-from}
 use Rattle.deb_control.proofs.DocumentRules.{document_rules}
 use Rattle.deb_control.proofs.FieldValues.{values-from_none, each-from_none, is_some-find}
-use Rattle.deb_control.proofs.Passing.{IsBuilt, built-parts}
+use Rattle.deb_control.proofs.Passing.{built-parts}
 use Rattle.deb_control.proofs.ValueBodies.{value_at}
 
 -- what is built of it

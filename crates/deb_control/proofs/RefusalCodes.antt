@@ -1,5 +1,5 @@
 -- The codes with which a paragraph that was read is refused.
-use Rattle.std.proofs.Common.{◌≡◌, ◌≤◌, Bool, true, false, cond, not, nat_le, List, [], ◌∷◌, length, Option, None, Some, Result, Ok, Err, IfSome, refl, sym, ap, ◌∙◌, subst, arith}
+use Rattle.std.proofs.Common.{◌≡◌, ◌≤◌, Bool, true, false, cond, not, nat_le, List, [], ◌∷◌, length, Option, None, Some, Result, Ok, Err, IfSome, refl, subst, arith}
 use Rattle.std.proofs.lemmas.Bool.{and_parts, leb-true}
 use Rattle.std.specs.List.{list_all}
 use Rattle.deb_base.specs.Codes.{number_of}
@@ -22,7 +22,7 @@ use Rattle.deb_field.specs.Values.{value_refusal}
 use Rattle.deb_control.specs.Canonical.{paragraph_text}
 use Rattle.deb_control.specs.Checking.{IsRefusalOfDocument}
 use Rattle.deb_control.specs.Documents.{rules_of}
-use Rattle.deb_control.specs.Refusals.{refusal_or, value_refusal_of, have_names, canonical_entries, named_and_short, refused_or_built, built}
+use Rattle.deb_control.specs.Refusals.{refusal_or, value_refusal_of, have_names, canonical_entries, refused_or_built, built}
 
 abbrev IsCode : Code → Type 0
 IsCode code = (1 ≤ number_of code) × (number_of code ≤ 21)

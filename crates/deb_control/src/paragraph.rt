@@ -19,13 +19,10 @@ ghost use Rattle.deb_control.specs.Paragraphs.{field_in, values_in, text_of_valu
 ghost use Rattle.deb_syntax.specs.Paragraphs.{seen_of};
 
 use crate::typed_field::{TypedField, append_fields, sort};
-use deb_base::{Code, Fault, Refusal, same_name};
+use deb_base::{Code, Fault, PARAGRAPH_LIMIT, Refusal, same_name};
 use deb_field::{Doc, Value, ValueFault, required};
 use deb_syntax::{Raw, RawField};
 use std::alloc::{AllocError, Global};
-
-/// The most bytes that the canonical text of a paragraph may have.
-const PARAGRAPH_LIMIT: usize = 16_777_216;
 
 /// A paragraph of a document of a kind: its fields with their values, by the canonical spellings of
 /// their names.
@@ -118,7 +115,7 @@ pub(crate) fn read_fields<'a>(
         (λ fields. AreValuesOf doc (seen_of paragraph.now) (values_in fields.items)) }
     ensures text { IfOk result
         (λ fields. text.new.items ≡ text_of_values (values_in fields.items)) }
-    ensures short { IfOk result (λ fields. length text.new.items ≤ 16777216) }
+    ensures short { IfOk result (λ fields. length text.new.items ≤ PARAGRAPH_LIMIT) }
     ensures fault { IfErr result
         (λ fault. RefusedOrMemory fault
         (λ refusal. built (rules_of doc) (seen_of paragraph.now) ≡ Err refusal)) }

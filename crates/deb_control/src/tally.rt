@@ -2,16 +2,17 @@
 
 ghost use Rattle.std.specs.Prelude.{◌≡◌, ◌+◌, ◌≤◌, ◌<◌, Some, None, IfSome, IfNone};
 ghost use Rattle.deb_control.specs.Tallies.{bytes_with};
+ghost use Rattle.deb_syntax.specs.declared.feed.TheConstants.{FILE_LIMIT};
 
-/// The most bytes that the canonical text of a file may have.
-const FILE_LIMIT: u64 = 4_294_967_295;
+use deb_base::PARAGRAPH_LIMIT;
+use deb_syntax::FILE_LIMIT;
 
 /// How many paragraphs were given, and how long their canonical text is as a file.
 #[derive(Clone, Copy)]
 pub(crate) struct Tally {
     pub(crate) paragraphs: u64,
     pub(crate) bytes: u64,
-    ghost within: { bytes ≤ 4294967295 },
+    ghost within: { bytes ≤ FILE_LIMIT },
     ghost few: { paragraphs ≤ bytes + 1 },
 }
 
@@ -30,11 +31,11 @@ impl Tally {
     /// With a further paragraph, whose canonical text has this length; or `None` where the file's
     /// has too many bytes then.
     pub(crate) fn with(self, length: usize) -> Option<Tally>
-        requires { length ≤ 16777216 }
+        requires { length ≤ PARAGRAPH_LIMIT }
         ensures some { IfSome result
             (λ given. (given.paragraphs ≡ self.paragraphs + 1)
             × (given.bytes ≡ bytes_with self.paragraphs self.bytes length)) }
-        ensures none { IfNone result (4294967295 < bytes_with self.paragraphs self.bytes length) }
+        ensures none { IfNone result (FILE_LIMIT < bytes_with self.paragraphs self.bytes length) }
     {
         let separator = u64::from(self.paragraphs > 0);
         let bytes = self.bytes + separator + length as u64;

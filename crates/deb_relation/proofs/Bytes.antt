@@ -9,6 +9,7 @@ use Rattle.deb_version.specs.Parts.{Meaning as Version}
 use Rattle.deb_version.specs.Grammar.{SpellsVersion, Components, AreComponents, IsEpoch, IsRevision, is_upstream_byte, is_revision_byte, spelling, epoch_text, revision_text}
 use Rattle.deb_version.proofs.ByteLemmas.{differs, all_pass-fact, empty-test}
 use Rattle.deb_version.proofs.CanonicalComponent.{All-append, All-weaker}
+use Rattle.deb_version.proofs.PartsLemmas.{cons_not_nil}
 use Rattle.deb_version.specs.Faults.{first_fault}
 use Rattle.deb_version.specs.declared.fault.BadVersion.TheVariants.{Empty}
 use Rattle.deb_version.proofs.FaultLemmas.{no_fault-from_spells}
@@ -166,3 +167,8 @@ white_stops_close close white more c all = stops-append (is_before close) white 
 pub version_first : (text rest : List ℕ) → text ≢ [] → Passes is_version_byte text → Stops is_white (text ++ rest)
 version_first [] rest some all = absurd (some refl)
 version_first (b ∷ bs) rest some all = version_white b all.0
+
+-- a signed name has a byte
+pub signed-some : (negated : Bool) (name : List ℕ) → name ≢ [] → signed_text negated name ≢ []
+signed-some true name some e = cons_not_nil 33 name e
+signed-some false name some e = some e

@@ -17,7 +17,7 @@ use Rattle.deb_relation.specs.Sets.{byte_cmp, by_order, insert_by, itself}
 use Rattle.deb_relation.specs.Texts.{joined, separated, operator_text, signed_text, item_text, restrictions_text, qualifier_text, bound_text, architectures_text, formula_text, alternative_text, group_text, relation_text}
 use Rattle.deb_relation.proofs.Bytes.{arch_some, profile_some}
 use Rattle.deb_relation.proofs.Regular.{list_regular, items_regular, group_regular}
-use Rattle.deb_relation.proofs.SpelledLists.{signed-some}
+use Rattle.deb_relation.proofs.Bytes.{signed-some}
 use Rattle.deb_version.proofs.PartsLemmas.{cons_not_nil}
 
 -- lengths added up

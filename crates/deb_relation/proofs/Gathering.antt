@@ -1,6 +1,6 @@
 -- A step again and again: what one step more gives.
 use Rattle.std.proofs.Common.{◌≡◌, ℕ, zero, suc, ◌<◌, ◌≤◌, List, [], ◌∷◌, length, Option, Some, None, Ok, Err, Result, sym, ap, ◌∙◌, subst, arith, refl}
-use Rattle.deb_relation.specs.Reading.{Stopped, Reading, Next, and_then, and_next, gathered, gather}
+use Rattle.deb_relation.specs.Reading.{Stopped, Next, and_next, gathered, gather}
 use Rattle.deb_relation.specs.Stops.{Gives}
 use Rattle.deb_relation.specs.declared.fault.Stop.{Stop}
 use Rattle.deb_relation.specs.declared.fault.Stop.TheVariants.{Bad, Memory}
@@ -56,11 +56,6 @@ module _ {A S : Type 0} (step : List ℕ → Next A) (put : A → S → S) (is :
   pub read-stop : {R T : Type 0} (stop : Stop) (view : R → Option (A × List ℕ)) → Gives (Err stop) view (step rest) → (view' : T → S × List ℕ) → Gives (Err stop) view' (gather step put none text)
   read-stop (Bad reason left) view e view' = read ∙ gather-err step put is all rest (reason, left) e
   read-stop Memory view e view' = tt
-
--- and what comes behind it
-pub stop-and_then : {R A B T : Type 0} (r : Reading A) (next : A → List ℕ → Result B Stopped) (stop : Stop) (view : R → A × List ℕ) → Gives (Err stop) view r → (view' : T → B) → Gives (Err stop) view' (and_then r next)
-stop-and_then r next (Bad reason left) view e view' = ap (λ q. and_then q next) e
-stop-and_then r next Memory view e view' = tt
 
 pub gives-err : {T B : Type 0} (answer : Result T Stop) (stop : Stop) (view : T → B) (r : Result B Stopped) → answer ≡ Err stop → Gives (Err stop) view r → Gives answer view r
 gives-err answer stop view r is g = subst (λ a. Gives a view r) (sym is) g

@@ -6,7 +6,6 @@ pub mod GatheredSets
 pub mod Gathering
 pub mod Inserting
 pub mod Joining
-pub mod Lengths
 pub mod Mapped
 pub mod Runs
 pub mod Sorting

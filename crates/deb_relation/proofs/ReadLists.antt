@@ -1,7 +1,8 @@
 -- What is read of an architecture list, a restriction list and a formula is spelled there.
-use Rattle.std.proofs.Common.{◌≡◌, ◌≢◌, ℕ, zero, suc, ◌≤◌, ◌<◌, Bool, true, false, not, List, [], ◌∷◌, ◌++◌, length, map, drop, IsTrue, Option, Some, None, Ok, Err, refl, sym, ap, ◌∙◌, subst, append_assoc, codes, cond, ◌==◌, ◌||◌, arith}
-use Rattle.std.specs.List.{AllByRecursion}
+use Rattle.std.proofs.Common.{◌≡◌, ◌≢◌, ℕ, zero, suc, ◌≤◌, ◌<◌, Bool, true, false, not, List, [], ◌∷◌, ◌++◌, length, map, drop, IsTrue, Option, Some, None, Ok, Err, refl, sym, ap, ◌∙◌, subst, append_assoc, length-drop, codes, cond, ◌==◌, ◌||◌, arith}
+use Rattle.std.specs.List.{AllByRecursion, prefix_len}
 use Rattle.std.proofs.lemmas.Bool.{false≢true}
+use Rattle.std.proofs.lemmas.List.{length-append}
 use Rattle.std.proofs.lemmas.Bool.Decides.{Decides-eqb}
 use Rattle.deb_base.specs.PackageNames.{is_arch_name, is_profile_name}
 use Rattle.deb_relation.specs.declared.fault.Reason.TheVariants.{Unclosed, ListEmpty, ItemBad, MixedSigns}
@@ -10,12 +11,10 @@ use Rattle.deb_relation.specs.Meaning.{Item, Restrictions}
 use Rattle.deb_relation.specs.Reading.{Stopped, Next, and_then, and_next, gathered, gather, begins, behind_run, behind_white, is_at_end, is_before, is_white, run_of, ends_list, name_of_item, next_architecture, next_restriction, read_list_end, with_behind, end_list, is_empty_list, read_names, read_architectures, read_restrictions, some_next, next_restrictions, read_formula}
 use Rattle.deb_relation.specs.Sets.{insert_by, itself, same_bool}
 use Rattle.deb_relation.specs.Texts.{signed_text, item_text, restrictions_text}
-use Rattle.deb_relation.proofs.Bytes.{arch_bytes, profile_bytes, arch_some, profile_some, signed_run}
+use Rattle.deb_relation.proofs.Bytes.{signed-some, arch_bytes, profile_bytes, arch_some, profile_some, signed_run}
 use Rattle.deb_relation.proofs.Gathering.{IsStep}
-use Rattle.deb_relation.proofs.Lengths.{step-next_architecture, step-next_restriction}
 use Rattle.deb_relation.proofs.ReadParts.{either, WentOn, went_on, stopped-no, ok-same, begins_is, TookWhite}
 use Rattle.deb_relation.proofs.Runs.{Passes, Stops, run_of-split, run_of-passes, behind_run-stops}
-use Rattle.deb_relation.proofs.SpelledLists.{signed-some}
 
 -- an item that is read, and what is behind it
 pub record TookItem {A : Type 0} (text : A → List ℕ) (close : ℕ) (Good : A → Type 0) (rest : List ℕ) (q : A × List ℕ) : Type 0 where
@@ -222,6 +221,28 @@ restriction_took rest q e =
       stops = behind_run-stops (is_before 62) here;
     })))
 
+-- an item that is taken leaves fewer bytes
+item_shrinks : {A : Type 0} (text : A → List ℕ) (close : ℕ) (Good : A → Type 0) (rest : List ℕ) (q : A × List ℕ) → text q.0 ≢ [] → TookItem text close Good rest q → length q.1 < length rest
+item_shrinks text close Good rest q some t = by_item (text q.0) some t.split
+  where
+    by_item : (item : List ℕ) → item ≢ [] → rest ≡ t.white ++ (item ++ q.1) → length q.1 < length rest
+    by_item [] some e = absurd (some refl)
+    by_item (b ∷ bs) some e = omega (arith, ap length e, length-append t.white ((b ∷ bs) ++ q.1), length-append bs q.1)
+
+pub step-next_architecture : (negated : Bool) → IsStep (next_architecture negated)
+unfolding next_architecture
+step-next_architecture negated = record {
+  ends = refl;
+  shrinks = λ rest name behind e. let t = architecture_took negated rest (name, behind) e in item_shrinks (signed_text negated) 93 _ rest (name, behind) (signed-some negated name (arch_some name t.good)) t;
+}
+
+pub step-next_restriction : IsStep next_restriction
+unfolding next_restriction
+step-next_restriction = record {
+  ends = refl;
+  shrinks = λ rest item behind e. let t = restriction_took rest (item, behind) e in item_shrinks item_text 62 _ rest (item, behind) (signed-some item.0 item.1 (profile_some item.1 t.good)) t;
+}
+
 names_took : (negated : Bool) (rest : List ℕ) (q : List (List ℕ) × List ℕ) → read_names negated rest ≡ Ok q → TookList (signed_text negated) itself 93 (λ name. IsTrue (is_arch_name name)) rest q
 unfolding read_names
 names_took negated rest q e =
@@ -300,6 +321,20 @@ list_piece text q e =
             set = l.set;
           };
         })
+
+-- a list in angle brackets leaves fewer bytes
+pub step-next_restrictions : IsStep next_restrictions
+unfolding next_restrictions
+step-next_restrictions = record {
+  ends = refl;
+  shrinks = λ rest list behind e. either (begins 60 rest) _ _ _ e
+      (λ begin e1.
+      let s = went_on (read_restrictions (drop 1 rest)) some_next (Some (list, behind)) e1 in
+      let l = restrictions_took (drop 1 rest) s.first s.was in
+      let same = ap (λ q. length q.1) (some_same _ _ s.then) in
+      omega (arith, same, ap length (begins_is 60 rest begin), ap length l.split, length-append l.inner (62 ∷ l.more), ap length l.after, length-drop (prefix_len is_white l.more) l.more))
+      (λ _ x. absurd (none_some _ x));
+}
 
 -- a formula at the beginning of a text
 pub record TookFormula (text : List ℕ) (all : List Restrictions) (q : List Restrictions × List ℕ) : Type 0 where

@@ -6,9 +6,10 @@ use Rattle.deb_relation.specs.Meaning.{Alternative, Group, Relation}
 use Rattle.deb_relation.specs.Reading.{Reading, Next, and_then, and_next, gathered, gather, begins, behind_white, is_at_end, is_white, run_of, read_name, read_qualifier, read_bound, read_architectures, read_formula, read_alternative, next_alternative, append, read_group, piece_behind, next_piece, put_piece, read_relation, placed, relation_in, some_next}
 use Rattle.deb_relation.specs.Texts.{group_text}
 use Rattle.std.proofs.lemmas.Bool.{false≢true}
+use Rattle.std.proofs.lemmas.List.{length-append}
 use Rattle.deb_version.proofs.PartsLemmas.{cons_not_nil}
 use Rattle.deb_relation.proofs.Bytes.{at_end-some}
-use Rattle.deb_relation.proofs.Lengths.{step-next_piece}
+use Rattle.deb_relation.proofs.Gathering.{IsStep}
 use Rattle.deb_relation.proofs.ReadLists.{architectures_took, formula_took, none_some, some_none, some_same, err_some}
 use Rattle.deb_relation.proofs.ReadParts.{either, went_on, stopped-no, ok-same, begins_is, Took, name_took, qualifier_took, bound_took}
 use Rattle.deb_relation.proofs.Runs.{run_of-split, run_of-passes}
@@ -84,6 +85,14 @@ next_took rest q e =
     subst (TookAlternative rest) (some_same _ _ s.then) (record { piece = t.piece; split = begins_is 124 rest bar ∙ ap (λ r. 124 ∷ r) t.split; spelled = t.spelled }))
     (λ _ x. absurd (none_some _ x))
 
+-- a further alternative leaves fewer bytes
+pub step-next_alternative : IsStep next_alternative
+unfolding next_alternative
+step-next_alternative = record {
+  ends = refl;
+  shrinks = λ rest a behind e. let t = next_took rest (a, behind) e in omega (arith, ap length t.split, length-append t.piece behind);
+}
+
 more_are : (a : Alternative) (group : Group) (piece rest behind behind' : List ℕ) → rest ≡ 124 ∷ (piece ++ behind) → SpellsAlternative piece a → are_more group behind behind' → are_more (a ∷ group) rest behind'
 more_are a [] piece rest behind behind' split spelled more = (piece, split ∙ ap (λ t. 124 ∷ (piece ++ t)) more, spelled)
 more_are a (next ∷ group) piece rest behind behind' split spelled more =
@@ -152,6 +161,19 @@ piece_took text q e =
     }))
     (λ _ e2. let s = went_on (read_group (behind_white text)) piece_behind (Some q) e2 in
     group_piece text s.first.0 s.first.1 q (group_took text s.first s.was) s.then))
+
+-- a piece leaves fewer bytes: behind the last there are none
+pub step-next_piece : IsStep next_piece
+unfolding next_piece
+step-next_piece = record { ends = refl; shrinks = λ text piece rest e. by_split text piece rest e (piece_took text (piece, rest) e) }
+  where
+    by_split : (text : List ℕ) (piece : Option Group) (rest : List ℕ) → next_piece text ≡ Ok (Some (piece, rest)) → TookPiece text (piece, rest) → length rest < length text
+    by_split [] piece rest e t = absurd (none_some _ e)
+    by_split (b ∷ bs) piece rest e t = from t.split
+      where
+        from : ((b ∷ bs) ≡ t.piece ++ 44 ∷ rest) ⊎ (((b ∷ bs) ≡ t.piece) × (rest ≡ [])) → length rest < length (b ∷ bs)
+        from (inl split) = omega (arith, ap length split, length-append t.piece (44 ∷ rest))
+        from (inr whole) = omega (arith, ap length whole.1)
 
 no_piece_white : (text : List ℕ) → next_piece text ≡ Ok None → IsWhite text
 unfolding next_piece

@@ -51,17 +51,6 @@ behind_run-stops test (b ∷ bs) = by_test (behind_run-stops test bs) (test b) r
     by_test more true e = subst (λ n. Stops test (drop n (b ∷ bs))) (sym (one-add (prefix_len test bs))) more
     by_test more false e = e
 
--- white space in front of a text doesn't matter where it is skipped
-pub white-more : (white rest : List ℕ) → IsWhite white → behind_white (white ++ rest) ≡ behind_white rest
-white-more [] rest w = refl
-white-more (b ∷ white) rest w =
-    ap (λ v. drop (cond v (1 + prefix_len is_white (white ++ rest)) 0) (b ∷ (white ++ rest))) w.0
-    ∙ ap (λ n. drop n (b ∷ (white ++ rest))) (one-add (prefix_len is_white (white ++ rest)))
-    ∙ white-more white rest w.1
-
-pub white-none : (rest : List ℕ) → Stops is_white rest → behind_white rest ≡ rest
-white-none rest stops = behind_run-whole is_white [] rest tt stops
-
 pub white-past : (white rest : List ℕ) → IsWhite white → Stops is_white rest → behind_white (white ++ rest) ≡ rest
 white-past white rest w stops = behind_run-whole is_white white rest w stops
 

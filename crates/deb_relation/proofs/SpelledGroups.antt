@@ -9,7 +9,7 @@ use Rattle.deb_relation.specs.Sets.{insert_by}
 use Rattle.deb_relation.specs.Texts.{group_text}
 use Rattle.deb_relation.proofs.Bytes.{other, package_bytes, package_some, at_end-some, signed_stops}
 use Rattle.deb_relation.proofs.Gathering.{gather-none, gather-some}
-use Rattle.deb_relation.proofs.Lengths.{step-next_alternative, step-next_piece}
+use Rattle.deb_relation.proofs.ReadRelation.{step-next_alternative, step-next_piece}
 use Rattle.deb_relation.proofs.Runs.{Passes, white-past}
 use Rattle.deb_base.specs.PackageNames.{is_package_byte}
 use Rattle.deb_relation.proofs.SpelledRelation.{Starts, is_end, alternative_read}

@@ -11,9 +11,9 @@ use Rattle.deb_relation.specs.Meaning.{Item, Restrictions}
 use Rattle.deb_relation.specs.Reading.{Next, and_then, gather, begins, behind_run, behind_white, is_before, is_white, run_of, ends_list, name_of_item, next_architecture, next_restriction, read_list_end, end_list, is_empty_list, read_names, read_architectures, read_restrictions, next_restrictions, read_formula}
 use Rattle.deb_relation.specs.Sets.{byte_cmp, by_order, insert_by, itself, same_bool}
 use Rattle.deb_relation.specs.Texts.{signed_text, item_text, restrictions_text}
-use Rattle.deb_relation.proofs.Bytes.{arch_bytes, profile_bytes, arch_some, profile_some, at_end-some, signed_run, signed_stops, begins-signed, white_stops_close}
+use Rattle.deb_relation.proofs.Bytes.{signed-some, arch_bytes, profile_bytes, arch_some, profile_some, at_end-some, signed_run, signed_stops, begins-signed, white_stops_close}
 use Rattle.deb_relation.proofs.Gathering.{IsStep, gather-none, gather-some}
-use Rattle.deb_relation.proofs.Lengths.{step-next_architecture, step-next_restriction, step-next_restrictions}
+use Rattle.deb_relation.proofs.ReadLists.{step-next_architecture, step-next_restriction, step-next_restrictions}
 use Rattle.deb_relation.proofs.Runs.{Passes, Stops, run_of-whole, behind_run-whole, white-past}
 use Rattle.deb_version.proofs.PartsLemmas.{cons_not_nil}
 
@@ -88,10 +88,6 @@ item_stands close (b ∷ bs) behind some run = rw (at_end-some (b ∷ (bs ++ beh
     no_close true c e = cc
     no_close false true e = cc
     no_close false false e = refl
-
-pub signed-some : (negated : Bool) (name : List ℕ) → name ≢ [] → signed_text negated name ≢ []
-signed-some true name some e = cons_not_nil 33 name e
-signed-some false name some e = some e
 
 name_of-signed : (negated : Bool) (name : List ℕ) → Passes is_package_byte name → name_of_item (signed_text negated name) ≡ name
 name_of-signed true name all = refl

@@ -12,7 +12,7 @@ ghost use Rattle.deb_syntax.specs.Walking.{Describes};
 use crate::begun::{Begun, along};
 use crate::feed::{Feed, Tail};
 use crate::take::Run;
-use deb_base::{Code, Fault, Refusal, Source};
+use deb_base::{Code, Fault, PARAGRAPH_LIMIT, Refusal, Source};
 
 /// A line of which no bytes are kept but those that came last.
 #[derive(Clone, Copy, Debug)]
@@ -32,7 +32,7 @@ pub(crate) fn drop_line<R: Source>(
     reader: &mut R,
 ) -> Result<DroppedLine, Fault>
     requires more { IsFalse (feed_state feed.old).ended }
-    requires short { run.bytes ≤ 16777216 }
+    requires short { run.bytes ≤ PARAGRAPH_LIMIT }
     requires within { run.bytes ≤ length (feed_state feed.old).unread }
     requires room { length (feed_state feed.old).unread ≤ room_ahead (feed_state feed.old) }
     requires seen { Describes run.begun (drop run.bytes (feed_state feed.old).unread) }

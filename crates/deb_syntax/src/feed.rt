@@ -4,11 +4,11 @@ ghost use Rattle.std.specs.Prelude.{◌≡◌, ◌+◌, ◌<◌, ◌≤◌, ◌^
 ghost use Rattle.deb_syntax.specs.Lines.{file_limit};
 
 use crate::window::Window;
-use deb_base::{Fault, Source};
+use deb_base::{Fault, PARAGRAPH_LIMIT, Source};
 use std::alloc::Global;
 
-/// The most bytes that a file may have (this project's own).
-const FILE_LIMIT: u64 = 4_294_967_295;
+/// The most bytes that a file may have, and that its canonical text may have (this project's own).
+pub const FILE_LIMIT: u64 = 4_294_967_295;
 
 /// What stands behind the unread bytes that may be looked at.
 #[derive(Clone, Copy)]
@@ -139,7 +139,7 @@ impl Feed {
     /// Takes one piece of the reader behind the unread bytes, which don't end the file yet.
     pub(crate) fn take<R: Source>(&mut self, reader: &mut R) -> Result<(), Fault>
         requires more { IsFalse (feed_state self.old).ended }
-        requires short { length (feed_state self.old).unread ≤ 16777216 }
+        requires short { length (feed_state self.old).unread ≤ PARAGRAPH_LIMIT }
         ensures { TakesPiece (feed_state self.old) (record
             { bytes = R.left reader.old; failures = R.failures reader.old }) result
             (feed_state self.new) (record {

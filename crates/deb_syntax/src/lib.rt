@@ -33,5 +33,6 @@ mod standing;
 mod take;
 mod window;
 
+pub use feed::FILE_LIMIT;
 pub use paragraphs::Paragraphs;
 pub use raw::{Fields, Raw, RawField};

@@ -11,7 +11,7 @@ ghost use Rattle.deb_syntax.specs.Reading.{IsRefusalOfText};
 
 use crate::begun::Begun;
 use crate::ending::paragraph_extent;
-use crate::feed::Feed;
+use crate::feed::{FILE_LIMIT, Feed};
 use crate::first::{First, first_line};
 use crate::judge::judge;
 use crate::place::Place;
@@ -100,7 +100,7 @@ impl Paragraphs {
         ensures finished { (state_of self.now).finished ≡ true
             → result ≡ (state_of self.now).lines }
         ensures unfinished { (state_of self.now).finished ≡ false → result ≡ 0 }
-        ensures bounded { result ≤ 4294967295 }
+        ensures bounded { result ≤ FILE_LIMIT }
     {
         if self.finished { self.feed.lines() } else { 0 }
     }

@@ -1,16 +1,15 @@
-//! Tests of the libraries that judge values and words, by their public calls: tables of what is
-//! accepted, refused and written, devices that fail, and want of memory.
+//! Tests of the libraries that judge values and words, by their public calls.
 //!
-//! They stand apart so that those crates are proved once in the gate, and not once more beside
-//! their tests.
+//! They show what no row over the program can: that each call which takes memory gives its exact
+//! answer where there is memory, for a short and for a long argument; at which place a version or a
+//! relation is refused, and why; what devices see; and that `out` stays as it was where memory is
+//! wanting.
 #![tactic(auto)]
 
 #[cfg(test)]
 mod base;
 #[cfg(test)]
 mod field;
-#[cfg(test)]
-mod growth;
 #[cfg(test)]
 mod relation;
 #[cfg(test)]

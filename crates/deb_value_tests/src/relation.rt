@@ -1,12 +1,9 @@
-//! Relations with their canonical text or the first step that fails, and environments.
-
-mod memory;
+//! Relations: the first step that fails and its place, the parts of a worked one, canonical text of
+//! short and of long ones; and environments.
 
 use deb_relation::{Alternative, Env, EnvFault, Group, Op, Reason, Relation, RelationFault};
 use deb_version::BadVersion;
 use std::alloc::Global;
-use std::cmp::Ordering;
-use std::io::Write;
 use std::process::Abort;
 use std::test::Fail;
 
@@ -85,42 +82,17 @@ const REFUSED: [Refused; 52] = [
     Refused("aa <x> [y]", Reason::Trailing, 7),
 ];
 
-/// A text and its canonical text.
-struct Row(&'static str, &'static str);
-
-const ROWS: [Row; 25] = [
-    Row("", ""),
-    Row(" , ,", ""),
-    Row("\t\n ", ""),
-    Row("aa", "aa"),
-    Row("bb,aa", "aa, bb"),
-    Row("aa,bb,aa", "aa, bb"),
-    Row("aaa, aa", "aa, aaa"),
-    Row("bb | aa | bb", "bb | aa | bb"),
-    Row("bb|aa,aa|bb", "aa | bb, bb | aa"),
-    Row("bb (>=1.0)|aa", "bb (>= 1.0) | aa"),
-    Row(
-        "bb (>=1.0)|aa,, cc [i386 amd64 i386] <!x y> <z>,cc [amd64 i386] <z> <y !x> ,",
-        "bb (>= 1.0) | aa, cc [amd64 i386] <!x y> <z>",
-    ),
-    Row(
-        "bb (>=1.)|aa,, cc [i386 amd64],bb(>=1.0)|aa",
-        "bb (>= 1.0) | aa, cc [amd64 i386]",
-    ),
-    Row("aa:any(>=1.)[x]<y>", "aa:any (>= 1.0) [x] <y>"),
-    Row("aa <b> <a> <a b>", "aa <a b> <a> <b>"),
-    Row("aa <b a b>", "aa <a b>"),
-    Row("aa <a !a>", "aa <!a a>"),
-    Row("aa [!i386 !amd64]", "aa [!amd64 !i386]"),
-    Row("aa\n(\t<<\n1\t)", "aa (<< 1)"),
-    Row("aa(<=1),aa(=1),aa(>>1)", "aa (<= 1), aa (= 1), aa (>> 1)"),
-    Row("aa (= 01.0-0), aa (= 0:1.00)", "aa (= 1.0)"),
-    Row("aa (= 1:2-3)", "aa (= 1:2-3)"),
-    Row("aa:native, aa:i386, aa", "aa, aa:i386, aa:native"),
-    Row("aa [linux-any any]", "aa [any linux-any]"),
-    Row("aa<x><y>", "aa <x> <y>"),
-    Row("0ad, g++, lib-x.y+z", "0ad, g++, lib-x.y+z"),
-];
+#[test]
+fn texts_that_are_no_relations(rt: HostRuntime) {
+    for Refused(text, reason, at) in &REFUSED {
+        let found = Relation::parse(rt.alloc(), text.as_bytes()).err();
+        let wanted = RelationFault::Bad {
+            reason: *reason,
+            at: *at,
+        };
+        assert!(rt; found == Some(wanted), "{text}: {found:?}");
+    }
+}
 
 /// The longest row that is accepted.
 const LONGEST: &[u8] =
@@ -153,316 +125,81 @@ fn fault_in(alloc: Global, text: &[u8]) -> Option<(Reason, usize)> {
     }
 }
 
-/// The step that fails in a text, or None.
-fn assert_fault(rt: &impl Abort, alloc: Global, text: &[u8], fault: Option<(Reason, usize)>) {
-    let shown = text.escape_ascii();
-    assert_eq!(rt; fault_in(alloc, text), fault, "{shown}");
-}
-
 #[test]
 fn prefixes_of_a_relation(rt: HostRuntime) {
     for len in 0..=LONGEST.len() {
-        let prefix = &LONGEST[..len.min(LONGEST.len())];
-        assert_fault(&rt, rt.alloc(), prefix, prefix_fault(len));
+        let found = fault_in(rt.alloc(), &LONGEST[..len.min(LONGEST.len())]);
+        assert!(rt; found == prefix_fault(len), "{len} bytes: {found:?}");
     }
 }
 
-fn is_white(byte: u8) -> bool {
-    matches!(byte, b' ' | b'\t' | b'\n')
-}
-
-fn is_small_or_digit(byte: u8) -> bool {
-    byte.is_ascii_lowercase() || byte.is_ascii_digit()
-}
-
-/// The steps of the grammar.
-#[derive(Clone, Copy)]
-enum Step {
-    Name,
-    NameGoesOn,
-    Qualifier,
-    Operator,
-    Version,
-    BoundEnds,
-    Architecture,
-    Restriction,
-    AlternativeEnds,
-}
-
-/// What a step says of a byte that stands there.
-fn fault_at(step: Step, byte: u8) -> Option<(Reason, usize)> {
-    match step {
-        Step::Name => at_a_name(byte),
-        Step::NameGoesOn => in_a_name(byte),
-        Step::Qualifier => at_a_qualifier(byte),
-        Step::Operator => at_an_operator(byte),
-        Step::Version => at_a_version(byte),
-        Step::BoundEnds => behind_a_version(byte),
-        Step::Architecture => at_an_architecture(byte),
-        Step::Restriction => at_a_restriction(byte),
-        Step::AlternativeEnds => behind_an_alternative(byte),
-    }
-}
-
-fn at_a_name(byte: u8) -> Option<(Reason, usize)> {
-    match byte {
-        b'|' | b'(' | b')' | b'[' | b']' | b'<' | b'>' | b':' => Some((Reason::NameExpected, 0)),
-        b',' | b' ' | b'\t' | b'\n' => Some((Reason::NameBad, 1)),
-        _ if is_small_or_digit(byte) => None,
-        _ => Some((Reason::NameBad, 0)),
-    }
-}
-
-fn in_a_name(byte: u8) -> Option<(Reason, usize)> {
-    match byte {
-        b'+' | b'-' | b'.' => None,
-        _ if is_small_or_digit(byte) => None,
-        _ => Some((Reason::NameBad, 0)),
-    }
-}
-
-fn at_a_qualifier(byte: u8) -> Option<(Reason, usize)> {
-    if is_small_or_digit(byte) {
-        None
-    } else {
-        Some((Reason::QualifierBad, 3))
-    }
-}
-
-fn at_an_operator(byte: u8) -> Option<(Reason, usize)> {
-    match byte {
-        b'=' => None,
-        _ if is_white(byte) => Some((Reason::OperatorBad, 5)),
-        _ => Some((Reason::OperatorBad, 4)),
-    }
-}
-
-fn at_a_version(byte: u8) -> Option<(Reason, usize)> {
-    match byte {
-        b'<' | b'=' | b'>' => Some((Reason::OperatorBad, 4)),
-        b')' => Some((Reason::Version(BadVersion::Empty), 5)),
-        b' ' | b'\t' | b'\n' => Some((Reason::Version(BadVersion::Empty), 6)),
-        b':' => Some((Reason::Version(BadVersion::EpochEmpty), 5)),
-        b'-' => Some((Reason::Version(BadVersion::RevisionEmpty), 5)),
-        b'+' | b'.' | b'~' => None,
-        _ if byte.is_ascii_alphanumeric() => None,
-        _ => Some((Reason::Version(BadVersion::UpstreamByte { at: 0 }), 5)),
-    }
-}
-
-fn behind_a_version(byte: u8) -> Option<(Reason, usize)> {
-    match byte {
-        b')' => None,
-        _ if is_white(byte) => Some((Reason::Unclosed, 9)),
-        _ => Some((Reason::Unclosed, 8)),
-    }
-}
-
-fn at_an_architecture(byte: u8) -> Option<(Reason, usize)> {
-    match byte {
-        b']' => Some((Reason::ListEmpty, 4)),
-        _ if is_white(byte) => Some((Reason::ListEmpty, 5)),
-        _ if is_small_or_digit(byte) => None,
-        _ => Some((Reason::ItemBad, 4)),
-    }
-}
-
-fn at_a_restriction(byte: u8) -> Option<(Reason, usize)> {
-    match byte {
-        b'>' => Some((Reason::ListEmpty, 4)),
-        _ if is_white(byte) => Some((Reason::ListEmpty, 5)),
-        _ if is_small_or_digit(byte) => None,
-        _ => Some((Reason::ItemBad, 4)),
-    }
-}
-
-fn behind_an_alternative(byte: u8) -> Option<(Reason, usize)> {
-    match byte {
-        b',' => None,
-        b'|' => Some((Reason::NameExpected, 4)),
-        b'(' => Some((Reason::OperatorBad, 4)),
-        b'[' | b'<' => Some((Reason::Unclosed, 4)),
-        _ if is_white(byte) => None,
-        _ => Some((Reason::Trailing, 3)),
-    }
-}
-
-/// A step, and the text before the byte and behind it.
-struct Place(Step, &'static [u8], &'static [u8]);
-
-const PLACES: [Place; 9] = [
-    Place(Step::Name, b"", b"a"),
-    Place(Step::NameGoesOn, b"a", b"a"),
-    Place(Step::Qualifier, b"aa:", b""),
-    Place(Step::Operator, b"aa (", b"1)"),
-    Place(Step::Version, b"aa (=", b")"),
-    Place(Step::BoundEnds, b"aa (= 1 ", b""),
-    Place(Step::Architecture, b"aa [", b"]"),
-    Place(Step::Restriction, b"aa <", b">"),
-    Place(Step::AlternativeEnds, b"aa ", b""),
-];
-
-#[test]
-fn each_byte_at_each_step(rt: HostRuntime) -> Result<(), Fail> {
-    for place in &PLACES {
-        for byte in 0..=255u8 {
-            assert_byte(&rt, rt.alloc(), place, byte)?;
-        }
-    }
-    Ok(())
-}
-
-fn assert_byte(rt: &impl Abort, alloc: Global, place: &Place, byte: u8) -> Result<(), Fail> {
-    let Place(step, before, behind) = place;
-    let mut text = Vec::new(alloc);
-    text.extend_from_slice(before)?;
-    text.push(byte)?;
-    text.extend_from_slice(behind)?;
-    assert_fault(rt, alloc, &text, fault_at(*step, byte));
-    Ok(())
-}
-
-/// The canonical text that a text has.
-fn canonical(alloc: Global, text: &[u8]) -> Result<Vec<u8>, Fail> {
-    let relation = Relation::parse(alloc, text)?;
-    let mut out = Vec::new(alloc);
-    relation.canon_into(&mut out)?;
-    Ok(out)
+/// Whether a relation has this canonical text, behind what stands there; None where a call fails.
+fn has_text(alloc: Global, text: &[u8], canonical: &[u8]) -> Option<bool> {
+    let relation = Relation::parse(alloc, text).ok()?;
+    let mut out = vec![in alloc; b'='; 2_000].ok()?;
+    relation.canon_into(&mut out).ok()?;
+    let has_len = relation.canon_len() == canonical.len() as u64;
+    Some(has_len && out.get(2_000..) == Some(canonical))
 }
 
 #[test]
-fn refused_relations(rt: HostRuntime) {
-    for Refused(text, reason, at) in &REFUSED {
-        assert_fault(&rt, rt.alloc(), text.as_bytes(), Some((*reason, *at)));
-    }
+fn canonical_text(rt: HostRuntime) {
+    let canonical: &[u8] = b"bb (>= 1.0) | aa, cc [amd64 i386] <!x y> <z>";
+    assert!(rt; has_text(rt.alloc(), LONGEST, canonical) == Some(true));
+    assert!(rt; has_text(rt.alloc(), b" , ,", b"") == Some(true));
+}
+
+/// The same of a group.
+fn group_has_text(alloc: Global, group: &Group<'_>, canonical: &[u8]) -> Option<bool> {
+    let mut out = vec![in alloc; b'='; 2_000].ok()?;
+    group.canon_into(&mut out).ok()?;
+    let has_len = group.canon_len() == canonical.len() as u64;
+    Some(has_len && out.get(2_000..) == Some(canonical))
 }
 
 #[test]
-fn accepted_relations(rt: HostRuntime) -> Result<(), Fail> {
-    for Row(text, expected) in &ROWS {
-        let text = text.as_bytes();
-        let expected = expected.as_bytes();
-        assert_canonical(&rt, rt.alloc(), text, expected)?;
-        assert_canonical(&rt, rt.alloc(), expected, expected)?;
-        assert_parts(&rt, rt.alloc(), text, expected)?;
-    }
-    Ok(())
-}
-
-/// The canonical text of a text.
-fn assert_canonical(
-    rt: &impl Abort,
-    alloc: Global,
-    text: &[u8],
-    expected: &[u8],
-) -> Result<(), Fail> {
-    let out = canonical(alloc, text)?;
-    assert_bytes(rt, &out, expected);
-    Ok(())
-}
-
-fn assert_bytes(rt: &impl Abort, bytes: &[u8], expected: &[u8]) {
-    let shown = expected.escape_ascii();
-    assert_eq!(rt; bytes, expected, "{shown}");
-}
-
-/// A relation's length is that of its canonical text, and the groups' texts make up its text.
-fn assert_parts(rt: &impl Abort, alloc: Global, text: &[u8], expected: &[u8]) -> Result<(), Fail> {
-    let relation = Relation::parse(alloc, text)?;
-    assert_length(rt, relation.canon_len(), expected.len() as u64);
-    let joined = joined(rt, alloc, &relation)?;
-    assert_bytes(rt, &joined, expected);
-    Ok(())
-}
-
-fn assert_length(rt: &impl Abort, length: u64, expected: u64) {
-    assert_eq!(rt; length, expected);
-}
-
-fn joined(rt: &impl Abort, alloc: Global, relation: &Relation<'_>) -> Result<Vec<u8>, Fail> {
-    let mut joined = Vec::new(alloc);
-    for (i, group) in relation.groups().iter().enumerate() {
-        if i > 0 {
-            joined.extend_from_slice(b", ")?;
-        }
-        join_group(rt, group, &mut joined)?;
-    }
-    Ok(joined)
-}
-
-fn join_group(rt: &impl Abort, group: &Group<'_>, joined: &mut Vec<u8>) -> Result<(), Fail> {
-    let before = joined.len() as u64;
-    group.canon_into(joined)?;
-    let behind = joined.len() as u64;
-    assert_eq!(rt; before.checked_add(group.canon_len()), Some(behind));
+fn groups_in_the_order_of_their_texts(rt: HostRuntime) -> Result<(), Fail> {
+    let relation = Relation::parse(rt.alloc(), LONGEST)?;
+    let [first, second] = relation.groups() else {
+        return Err(Fail::from("not two groups"));
+    };
+    assert!(rt; group_has_text(rt.alloc(), first, b"bb (>= 1.0) | aa") == Some(true));
+    assert!(rt; group_has_text(rt.alloc(), second, b"cc [amd64 i386] <!x y> <z>") == Some(true));
     Ok(())
 }
 
 #[test]
 fn parts_of_alternatives(rt: HostRuntime) -> Result<(), Fail> {
-    let text = b"aa:any(>=1.)[!i386 !amd64]<y !x><z> | bb";
-    let relation = Relation::parse(rt.alloc(), text)?;
+    let relation = Relation::parse(rt.alloc(), b"aa:any(>=1.)[!i386 !amd64]<y !x><z> | bb")?;
     let [group] = relation.groups() else {
         return Err(Fail::from("not one group"));
     };
     let [a, b] = group.alternatives() else {
         return Err(Fail::from("not two alternatives"));
     };
-    assert_name(&rt, a, b"aa", Some(b"any"));
-    assert_bound(&rt, rt.alloc(), a)?;
-    assert_architectures(&rt, a)?;
-    assert_formula(&rt, a);
-    assert_name(&rt, b, b"bb", None);
+    assert_parts(&rt, a);
     assert_plain(&rt, b);
     Ok(())
 }
 
-fn assert_name(
-    rt: &impl Abort,
-    alternative: &Alternative<'_>,
-    name: &[u8],
-    qualifier: Option<&[u8]>,
-) {
-    assert_bytes(rt, alternative.name(), name);
-    assert_eq!(rt; alternative.qualifier(), qualifier);
+/// The alternative is `aa:any (>= 1.0) [!amd64 !i386] <!x y> <z>`.
+fn assert_parts(rt: &impl Abort, alternative: &Alternative<'_>) {
+    assert!(rt; alternative.name() == b"aa".as_slice());
+    assert!(rt; alternative.qualifier() == Some(b"any".as_slice()));
+    let bound = alternative.bound();
+    assert!(rt; matches!(bound, Some((Op::LaterEqual, version)) if version.canon_len() == 3));
+    let architectures = alternative.architectures();
+    assert!(rt; matches!(architectures, Some((true, [b"amd64", b"i386"]))));
+    let formula = alternative.formula();
+    assert!(rt; formula.len() == 2);
+    let first = formula.first().and_then(|list| list.first().copied());
+    assert!(rt; first == Some((true, b"x".as_slice())));
 }
 
-/// The bound is `>= 1.0`.
-fn assert_bound(rt: &impl Abort, alloc: Global, alternative: &Alternative<'_>) -> Result<(), Fail> {
-    let Some((operator, bound)) = alternative.bound() else {
-        return Err(Fail::from("no bound"));
-    };
-    assert!(rt; matches!(operator, Op::LaterEqual));
-    let mut version = Vec::new(alloc);
-    bound.canon_into(&mut version)?;
-    assert_bytes(rt, &version, b"1.0");
-    Ok(())
-}
-
-/// The architectures are negated and two, and `amd64` is the first of them.
-fn assert_architectures(rt: &impl Abort, alternative: &Alternative<'_>) -> Result<(), Fail> {
-    let Some((negated, [first, _])) = alternative.architectures() else {
-        return Err(Fail::from("not two architectures"));
-    };
-    assert!(rt; negated);
-    assert_bytes(rt, first, b"amd64");
-    Ok(())
-}
-
-/// The formula has two lists, and `!x` stands first.
-fn assert_formula(rt: &impl Abort, alternative: &Alternative<'_>) {
-    assert_length(rt, alternative.formula().len() as u64, 2);
-    let first = first_restriction(alternative);
-    assert_eq!(rt; first, Some((true, b"x".as_slice())));
-}
-
-fn first_restriction<'a>(alternative: &Alternative<'a>) -> Option<(bool, &'a [u8])> {
-    let items = alternative.formula().first()?;
-    items.first().copied()
-}
-
-/// There is no bound, no list and no formula.
+/// The alternative is `bb`.
 fn assert_plain(rt: &impl Abort, alternative: &Alternative<'_>) {
+    assert!(rt; alternative.name() == b"bb".as_slice());
+    assert!(rt; alternative.qualifier().is_none());
     assert!(rt; alternative.bound().is_none());
     assert!(rt; alternative.architectures().is_none());
     assert!(rt; alternative.formula().is_empty());
@@ -472,182 +209,170 @@ fn assert_plain(rt: &impl Abort, alternative: &Alternative<'_>) {
 /// each bound is `=`.
 struct Asked(&'static str, bool, bool, bool);
 
-const ASKED: [Asked; 11] = [
+const ASKED: [Asked; 5] = [
     Asked("", false, false, true),
     Asked("aa [linux-any]", false, true, true),
-    Asked("aa [any]", false, true, true),
     Asked("bb, cc [amd64] | aa [!any-i386]", true, true, true),
-    Asked("aa:any", false, false, true),
-    Asked("aa [all]", false, false, true),
-    Asked("aa (= 1), bb", false, false, true),
-    Asked("aa (>= 1)", false, false, false),
+    Asked("aa:any (= 1), bb [all]", false, false, true),
     Asked("aa (= 1) | bb (<< 1), cc", true, false, false),
-    Asked("aa (<= 1)", false, false, false),
-    Asked("aa (>> 1)", false, false, false),
 ];
 
 #[test]
 fn tests_of_relations(rt: HostRuntime) -> Result<(), Fail> {
     for Asked(text, alternatives, wildcard, equals) in &ASKED {
         let relation = Relation::parse(rt.alloc(), text.as_bytes())?;
-        assert_answer(&rt, relation.has_alternatives(), *alternatives, text);
-        assert_answer(&rt, relation.has_wildcard(), *wildcard, text);
-        assert_answer(&rt, relation.only_equals(), *equals, text);
+        assert!(rt; relation.has_alternatives() == *alternatives, "{text}");
+        assert!(rt; relation.has_wildcard() == *wildcard, "{text}");
+        assert!(rt; relation.only_equals() == *equals, "{text}");
     }
     Ok(())
 }
 
-fn assert_answer(rt: &impl Abort, answer: bool, expected: bool, text: &str) {
-    assert_eq!(rt; answer, expected, "{text}");
+/// All 17,576 names of three letters, each in the place of its distance from this number.
+fn names(alloc: Global, from: u32, between: &[u8]) -> Option<Vec<u8>> {
+    let mut text = Vec::new(alloc);
+    for n in 0..17_576u32 {
+        if n > 0 {
+            text.extend_from_slice(between).ok()?;
+        }
+        let n = from.abs_diff(n);
+        for letter in [n / 676 % 26, n / 26 % 26, n % 26] {
+            text.push(b'a'.wrapping_add(letter as u8)).ok()?;
+        }
+    }
+    Some(text)
 }
 
-/// A text, and whether its first alternative applies for amd64 with the profile `nocheck`.
-const APPLY: [(&str, bool); 13] = [
-    ("cc <!nocheck>", false),
-    ("cc <!nocheck> <nocheck>", true),
-    ("cc <nocheck nodoc>", false),
-    ("cc <nocheck !nodoc>", true),
-    ("cc <nodoc> <!nodoc>", true),
-    ("bb [!amd64]", false),
-    ("bb [i386]", false),
-    ("bb [linux-any]", false),
-    ("bb [i386 amd64]", true),
-    ("bb [!i386]", true),
-    ("bb", true),
-    ("bb [amd64] <!nocheck>", false),
-    ("bb [i386] <nocheck>", false),
-];
+/// Each group stands twice, in descending order and then in ascending order.
+#[test]
+fn many_groups(rt: HostRuntime) -> Result<(), Fail> {
+    let canonical = names(rt.alloc(), 0, b", ").ok_or("memory")?;
+    let mut text = names(rt.alloc(), 17_575, b",").ok_or("memory")?;
+    text.push(b',')?;
+    text.extend_from_slice(&canonical)?;
+    assert!(rt; has_text(rt.alloc(), &text, &canonical) == Some(true));
+    Ok(())
+}
 
 #[test]
-fn alternatives_that_apply(rt: HostRuntime) -> Result<(), Fail> {
-    let environment = Env::new(rt.alloc(), b"amd64", &[b"nocheck"])?;
-    for (text, applies) in APPLY {
-        let relation = Relation::parse(rt.alloc(), text.as_bytes())?;
-        let answer = first_applies(&relation, &environment).ok_or("no alternative")?;
-        assert_answer(&rt, answer, applies, text);
-    }
+fn many_alternatives(rt: HostRuntime) -> Result<(), Fail> {
+    let text = names(rt.alloc(), 17_575, b" | ").ok_or("memory")?;
+    assert!(rt; has_text(rt.alloc(), &text, &text) == Some(true));
     Ok(())
 }
 
+/// A list of all names as architectures, one of all as profiles, and as many of one profile.
+fn long_lists(alloc: Global) -> Option<Vec<u8>> {
+    let mut text = Vec::new(alloc);
+    text.extend_from_slice(b"aa [").ok()?;
+    text.extend_from_slice(&names(alloc, 0, b" ")?).ok()?;
+    text.extend_from_slice(b"] <").ok()?;
+    text.extend_from_slice(&names(alloc, 0, b" ")?).ok()?;
+    text.extend_from_slice(b"> <").ok()?;
+    text.extend_from_slice(&names(alloc, 0, b"> <")?).ok()?;
+    text.push(b'>').ok()?;
+    Some(text)
+}
+
+#[test]
+fn an_alternative_of_long_lists(rt: HostRuntime) -> Result<(), Fail> {
+    let text = long_lists(rt.alloc()).ok_or("memory")?;
+    assert!(rt; has_text(rt.alloc(), &text, &text) == Some(true));
+    Ok(())
+}
+
+/// A relation whose one alternative applies for amd64 with the profile nocheck, or doesn't.
+const APPLY: [(&str, bool); 4] = [
+    ("bb [i386 amd64] <nocheck !nodoc>", true),
+    ("cc <!nocheck> <nocheck>", true),
+    ("bb [!amd64]", false),
+    ("bb [amd64] <!nocheck>", false),
+];
+
 /// Whether the first alternative applies.
-fn first_applies(relation: &Relation<'_>, environment: &Env) -> Option<bool> {
-    let group = relation.groups().first()?;
-    let alternative = group.alternatives().first()?;
+fn first_applies(alloc: Global, text: &str, environment: &Env) -> Option<bool> {
+    let relation = Relation::parse(alloc, text.as_bytes()).ok()?;
+    let alternative = relation.groups().first()?.alternatives().first()?;
     Some(alternative.applies(environment))
 }
 
 #[test]
-fn parts_of_an_environment(rt: HostRuntime) -> Result<(), Fail> {
+fn alternatives_that_apply(rt: HostRuntime) -> Result<(), Fail> {
     let environment = Env::new(rt.alloc(), b"amd64", &[b"nocheck"])?;
-    assert_bytes(&rt, environment.target(), b"amd64");
+    for (text, wanted) in APPLY {
+        assert!(rt;
+            first_applies(rt.alloc(), text, &environment) == Some(wanted),
+            "{text}"
+        );
+    }
+    Ok(())
+}
+
+#[test]
+fn parts_of_an_environment(rt: HostRuntime) -> Result<(), Fail> {
+    assert!(rt; Env::new(rt.alloc(), b"amd64", &[]).is_ok());
+    let environment = Env::new(rt.alloc(), b"amd64", &[b"nocheck"])?;
+    assert!(rt; environment.target() == b"amd64".as_slice());
     assert!(rt; environment.active(b"nocheck") && !environment.active(b"nodoc"));
     Ok(())
 }
 
-const NO_TARGETS: [&[u8]; 6] = [b"any", b"linux-any", b"all", b"AMD64", b"", b"a.b"];
-
-const NO_PROFILES: [&[u8]; 4] = [b"No", b"", b"+x", b"x_"];
-
+/// A target of ten thousand bytes, and a thousand profiles.
 #[test]
-fn environments(rt: HostRuntime) {
-    for target in NO_TARGETS {
-        assert_refused(&rt, Env::new(rt.alloc(), target, &[]));
-    }
-    for profile in NO_PROFILES {
-        assert_refused(&rt, Env::new(rt.alloc(), b"amd64", &[b"nocheck", profile]));
-    }
-    assert!(rt; Env::new(rt.alloc(), b"kfreebsd-i386", &[]).is_ok());
-}
-
-fn assert_refused(rt: &impl Abort, environment: Result<Env, EnvFault>) {
-    assert_eq!(rt; environment.err(), Some(EnvFault::BadEnvironment));
-}
-
-#[test]
-fn operators(rt: HostRuntime) {
-    assert_holds(&rt, Op::Earlier, [true, false, false]);
-    assert_holds(&rt, Op::EarlierEqual, [true, true, false]);
-    assert_holds(&rt, Op::Equal, [false, true, false]);
-    assert_holds(&rt, Op::LaterEqual, [false, true, true]);
-    assert_holds(&rt, Op::Later, [false, false, true]);
-}
-
-/// Whether an operator holds of the three orders.
-fn assert_holds(rt: &impl Abort, operator: Op, answers: [bool; 3]) {
-    let held = [
-        operator.holds(Ordering::Less),
-        operator.holds(Ordering::Equal),
-        operator.holds(Ordering::Greater),
-    ];
-    assert_eq!(rt; held, answers);
-}
-
-/// Ten thousand names, each with its distance from this number.
-fn numbered_names(alloc: Global, from: u32, between: &[u8]) -> Result<Vec<u8>, Fail> {
-    let mut text = Vec::new(alloc);
-    for n in 0..10_000u32 {
-        if n > 0 {
-            text.extend_from_slice(between)?;
-        }
-        let number = from.abs_diff(n);
-        write!(text, "p{number:04}")?;
-    }
-    Ok(text)
-}
-
-/// Ten thousand names in a mixed order, each of them twice.
-fn mixed_names(alloc: Global) -> Result<Vec<u8>, Fail> {
-    let mut text = Vec::new(alloc);
-    for n in 0..10_000u32 {
-        for m in [n, n.abs_diff(5_000)] {
-            let number = m.wrapping_mul(7_919) % 10_000;
-            write!(text, "p{number:04},")?;
-        }
-    }
-    Ok(text)
-}
-
-/// One name ten thousand times.
-fn repeated_name(alloc: Global, between: &[u8]) -> Result<Vec<u8>, Fail> {
-    let mut text = Vec::new(alloc);
-    for n in 0..10_000u32 {
-        if n > 0 {
-            text.extend_from_slice(between)?;
-        }
-        text.extend_from_slice(b"aa")?;
-    }
-    Ok(text)
-}
-
-/// The canonical text of a large text.
-fn assert_large(rt: &impl Abort, alloc: Global, text: &[u8], expected: &[u8]) -> Result<(), Fail> {
-    let out = canonical(alloc, text)?;
-    assert!(rt; out.as_slice() == expected, "{} bytes", text.len());
+fn a_long_environment(rt: HostRuntime) -> Result<(), Fail> {
+    let name = vec![in rt.alloc(); b'a'; 10_000]?;
+    let mut profiles = [b"nodoc".as_slice(); 1_000];
+    profiles[999] = &name;
+    let environment = Env::new(rt.alloc(), &name, &profiles)?;
+    assert!(rt; environment.target() == name.as_slice());
+    assert!(rt; environment.active(b"nodoc") && environment.active(&name));
     Ok(())
 }
 
 #[test]
-fn ten_thousand_groups_in_reverse_order(rt: HostRuntime) -> Result<(), Fail> {
-    let text = numbered_names(rt.alloc(), 9_999, b",")?;
-    let expected = numbered_names(rt.alloc(), 0, b", ")?;
-    assert_large(&rt, rt.alloc(), &text, &expected)
+fn no_environments(rt: HostRuntime) {
+    let bad = Some(EnvFault::BadEnvironment);
+    assert!(rt; Env::new(rt.alloc(), b"any", &[]).err() == bad);
+    assert!(rt; Env::new(rt.alloc(), b"amd64", &[b"nocheck", b"+x"]).err() == bad);
+}
+
+/// Appends the canonical text to a list without room. Whether the list then has the text, or where
+/// memory is wanting what it had before.
+fn has_all_or_none(alloc: Global, relation: &Relation<'_>) -> Option<bool> {
+    let mut out = vec![in alloc; b'='; 3].ok()?;
+    let wanted: &[u8] = match relation.canon_into(&mut out) {
+        Ok(()) => b"===bb | aa",
+        Err(_) => b"===",
+    };
+    Some(out.as_slice() == wanted)
+}
+
+/// Each second growth is one of `canon_into`.
+#[test]
+fn want_of_memory_leaves_what_stands_before_a_relation(rt: HostRuntime) -> Result<(), Fail> {
+    let relation = Relation::parse(rt.alloc(), b"bb|aa")?;
+    for _ in 0..150 {
+        assert!(rt; has_all_or_none(rt.alloc(), &relation) == Some(true));
+    }
+    Ok(())
+}
+
+/// The same of a group.
+fn group_has_all_or_none(alloc: Global, group: &Group<'_>) -> Option<bool> {
+    let mut out = vec![in alloc; b'='; 3].ok()?;
+    let wanted: &[u8] = match group.canon_into(&mut out) {
+        Ok(()) => b"===bb | aa",
+        Err(_) => b"===",
+    };
+    Some(out.as_slice() == wanted)
 }
 
 #[test]
-fn ten_thousand_groups_mixed_with_repeats(rt: HostRuntime) -> Result<(), Fail> {
-    let text = mixed_names(rt.alloc())?;
-    let expected = numbered_names(rt.alloc(), 0, b", ")?;
-    assert_large(&rt, rt.alloc(), &text, &expected)
-}
-
-#[test]
-fn one_group_ten_thousand_times(rt: HostRuntime) -> Result<(), Fail> {
-    let text = repeated_name(rt.alloc(), b",")?;
-    assert_canonical(&rt, rt.alloc(), &text, b"aa")
-}
-
-#[test]
-fn ten_thousand_alternatives(rt: HostRuntime) -> Result<(), Fail> {
-    let text = repeated_name(rt.alloc(), b" | ")?;
-    assert_large(&rt, rt.alloc(), &text, &text)
+fn want_of_memory_leaves_what_stands_before_a_group(rt: HostRuntime) -> Result<(), Fail> {
+    let relation = Relation::parse(rt.alloc(), b"bb|aa")?;
+    let group = relation.groups().first().ok_or("no group")?;
+    for _ in 0..150 {
+        assert!(rt; group_has_all_or_none(rt.alloc(), group) == Some(true));
+    }
+    Ok(())
 }

@@ -1,10 +1,8 @@
-//! Texts that are no versions, each with its first fault, and texts that are.
-
-mod canonical;
-mod memory;
-mod order;
+//! Versions: the first fault of a text that is none, and canonical text and order of short and of
+//! long ones.
 
 use deb_version::{BadVersion, Version, compare};
+use std::alloc::Global;
 use std::cmp::Ordering;
 use std::test::Fail;
 
@@ -36,58 +34,85 @@ const REFUSED: [Refused; 21] = [
     Refused("1_-_", BadVersion::UpstreamByte { at: 1 }),
 ];
 
-const ACCEPTED: [&str; 12] = [
-    "2147483647:1",
-    "00:1:02-0",
-    "1:2",
-    "~",
-    "1--1",
-    "2:1--0",
-    "1a0b0",
-    "0",
-    "a",
-    "1.0~rc1-0.1+b1",
-    "1:2:3-4-5",
-    "1234567890123456789012345678901234567890",
-];
-
 #[test]
 fn texts_that_are_no_versions(rt: HostRuntime) {
     for Refused(text, fault) in &REFUSED {
-        assert_eq!(rt;
-            Version::parse(text.as_bytes()).err(),
-            Some(*fault),
-            "{text}"
-        );
+        let found = Version::parse(text.as_bytes()).err();
+        assert!(rt; found == Some(*fault), "{text}: {found:?}");
     }
 }
 
-#[test]
-fn texts_that_are_versions(rt: HostRuntime) {
-    for text in &ACCEPTED {
-        assert!(rt; Version::parse(text.as_bytes()).is_ok(), "{text}");
-    }
+/// Whether a version has this canonical text, behind what stands there; None where a call fails.
+fn has_text(alloc: Global, text: &[u8], canonical: &[u8]) -> Option<bool> {
+    let version = Version::parse(text).ok()?;
+    let mut out = vec![in alloc; b'='; 2_000].ok()?;
+    version.canon_into(&mut out).ok()?;
+    let has_len = version.canon_len() == canonical.len() as u64;
+    Some(has_len && out.get(2_000..) == Some(canonical))
 }
 
 #[test]
-fn an_epoch_of_a_million_zeros(rt: HostRuntime) -> Result<(), Fail> {
-    let mut text = vec![in rt.alloc(); b'0'; 1_000_000]?;
-    text.extend_from_slice(b"7:1.0-1")?;
-    assert!(rt; Version::parse(&text).is_ok());
+fn canonical_text(rt: HostRuntime) {
+    assert!(rt; has_text(rt.alloc(), b"00:1:02-0", b"0:1:2") == Some(true));
+    assert!(rt; has_text(rt.alloc(), b"01.0-a00-00", b"1.0-a-0") == Some(true));
+}
+
+/// How two versions compare; None where a call fails.
+fn order_of(alloc: Global, a: &[u8], b: &[u8]) -> Option<Ordering> {
+    compare(alloc, &Version::parse(a).ok()?, &Version::parse(b).ok()?).ok()
+}
+
+#[test]
+fn order(rt: HostRuntime) {
+    assert!(rt; order_of(rt.alloc(), b"1.0~rc1", b"1.0") == Some(Ordering::Less));
+    assert!(rt; order_of(rt.alloc(), b"0:1.0-0", b"1.00") == Some(Ordering::Equal));
+}
+
+/// So many zeros, and a million digits behind them.
+fn long_version(alloc: Global, zeros: usize, last: u8) -> Option<Vec<u8>> {
+    let mut text = vec![in alloc; b'0'; zeros].ok()?;
+    text.extend_from_slice(b"7:").ok()?;
+    text.resize(zeros.checked_add(1_000_001)?, b'7').ok()?;
+    text.push(last).ok()?;
+    Some(text)
+}
+
+#[test]
+fn canonical_text_of_a_long_version(rt: HostRuntime) -> Result<(), Fail> {
+    let text = long_version(rt.alloc(), 1_000_000, b'7').ok_or("memory")?;
+    let canonical = long_version(rt.alloc(), 0, b'7').ok_or("memory")?;
+    assert!(rt; has_text(rt.alloc(), &text, &canonical) == Some(true));
     Ok(())
 }
 
 #[test]
-fn the_page_of_the_crate(rt: HostRuntime) -> Result<(), Fail> {
-    let installed = Version::parse(b"1:2.10-3~deb12u1")?;
-    let offered = Version::parse(b"01:2.010-3")?;
-    assert_eq!(rt; compare(rt.alloc(), &installed, &offered)?, Ordering::Less);
+fn order_of_long_versions(rt: HostRuntime) -> Result<(), Fail> {
+    let earlier = long_version(rt.alloc(), 1_000_000, b'7').ok_or("memory")?;
+    let later = long_version(rt.alloc(), 0, b'8').ok_or("memory")?;
+    assert!(rt; order_of(rt.alloc(), &later, &later) == Some(Ordering::Equal));
+    assert!(rt; order_of(rt.alloc(), &earlier, &later) == Some(Ordering::Less));
+    assert!(rt; order_of(rt.alloc(), &later, &earlier) == Some(Ordering::Greater));
+    Ok(())
+}
 
-    let mut canonical = Vec::new(rt.alloc());
-    offered.canon_into(&mut canonical)?;
-    assert_eq!(rt; canonical.as_slice(), b"1:2.10-3".as_slice());
+/// Appends the canonical text to a list with room for the epoch alone, which is written by then.
+/// Whether the list then has the text, or where memory is wanting what it had before.
+fn has_all_or_none(alloc: Global, version: &Version<'_>) -> Option<bool> {
+    let mut out = Vec::with_capacity(alloc, 8).ok()?;
+    out.extend_from_slice(b"====").ok()?;
+    let wanted: &[u8] = match version.canon_into(&mut out) {
+        Ok(()) => b"====1:1.0.0.0.0.0.0.0.0.0",
+        Err(_) => b"====",
+    };
+    Some(out.as_slice() == wanted)
+}
 
-    let fault = Version::parse(b"1.0_2").err();
-    assert_eq!(rt; fault, Some(BadVersion::UpstreamByte { at: 3 }));
+/// Each second growth is one of `canon_into`.
+#[test]
+fn want_of_memory_leaves_what_stands_before_a_version(rt: HostRuntime) -> Result<(), Fail> {
+    let version = Version::parse(b"1:1.0.0.0.0.0.0.0.0.0")?;
+    for _ in 0..150 {
+        assert!(rt; has_all_or_none(rt.alloc(), &version) == Some(true));
+    }
     Ok(())
 }

@@ -44,10 +44,6 @@ component_text-first bytes (b ∷ after) cut e =
     ∙ component_text-cons (part_of cut) (parts_of (b ∷ after)) (parts_some (cuts_of (b ∷ after)) (AreCuts-cuts_of (b ∷ after)))
     ∙ ap (λ v. cut.0 ++ (number_text cut v ++ component_text (parts_of (b ∷ after)))) (sym (ne_eqb (length (b ∷ after)) 0 (λ h. omega arith)))
 
-pub rest_text-some : (rest : List ℕ) → rest ≢ [] → rest_text rest ≡ component_text (parts_of rest)
-rest_text-some [] some = absurd (some refl)
-rest_text-some (b ∷ rest) some = refl
-
 -- Where nothing is left without leading zeros the value is 0.
 pub without_zeros-none : (run : List ℕ) → without_zeros run ≡ [] → value_of run ≡ 0
 without_zeros-none [] e = refl

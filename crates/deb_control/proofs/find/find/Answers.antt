@@ -1,4 +1,4 @@
-use Rattle.std.proofs.Common.{◌≡◌, ◌<◌, ◌≤◌, None, Some, inl, inr, true, refl, sym, ap, ◌∙◌, subst, arith}
+use Rattle.std.proofs.Common.{◌≡◌, None, Some, inl, inr, true, refl, sym, ◌∙◌, arith}
 use Rattle.std.proofs.lemmas.Result.{err_from_is_err_and}
 use Rattle.deb_syntax.proofs.Callers.{goes-from_passes}
 use Rattle.deb_syntax.specs.Paragraphs.{state_of, seen_of}

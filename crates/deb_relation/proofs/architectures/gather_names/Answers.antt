@@ -5,7 +5,7 @@ use Rattle.deb_relation.specs.Reading.{append, next_architecture}
 use Rattle.deb_relation.specs.Stops.{next_of}
 use Rattle.deb_relation.specs.Views.{names_of, text_behind, name_key}
 use Rattle.deb_relation.proofs.Gathering.{read-more, read-last, loop-stop}
-use Rattle.deb_relation.proofs.Lengths.{step-next_architecture}
+use Rattle.deb_relation.proofs.ReadLists.{step-next_architecture}
 use Rattle.deb_relation.proofs.architectures.gather_names.Goals as goal
 
 pub returns-in_err-name : goal.returns-in_err-name

@@ -5,7 +5,7 @@ use Rattle.deb_relation.specs.Reading.{append, next_restriction}
 use Rattle.deb_relation.specs.Stops.{next_of}
 use Rattle.deb_relation.specs.Views.{items_of, item_behind, item_of}
 use Rattle.deb_relation.proofs.Gathering.{read-more, read-last, loop-stop}
-use Rattle.deb_relation.proofs.Lengths.{step-next_restriction}
+use Rattle.deb_relation.proofs.ReadLists.{step-next_restriction}
 use Rattle.deb_relation.proofs.formula.gather_items.Goals as goal
 
 pub returns-in_err-item : goal.returns-in_err-item

@@ -5,7 +5,7 @@ use Rattle.deb_relation.specs.Reading.{append, next_restrictions}
 use Rattle.deb_relation.specs.Stops.{next_of}
 use Rattle.deb_relation.specs.Views.{items_of, restrictions_of}
 use Rattle.deb_relation.proofs.Gathering.{read-more, read-last, loop-stop}
-use Rattle.deb_relation.proofs.Lengths.{step-next_restrictions}
+use Rattle.deb_relation.proofs.ReadLists.{step-next_restrictions}
 use Rattle.deb_relation.proofs.formula.gather_lists.Goals as goal
 
 pub returns-in_err-list : goal.returns-in_err-list

@@ -5,7 +5,7 @@ use Rattle.deb_relation.specs.Reading.{append, next_alternative}
 use Rattle.deb_relation.specs.Stops.{next_of}
 use Rattle.deb_relation.specs.Views.{alternative_of}
 use Rattle.deb_relation.proofs.Gathering.{read-more, read-last, loop-stop}
-use Rattle.deb_relation.proofs.Lengths.{step-next_alternative}
+use Rattle.deb_relation.proofs.ReadRelation.{step-next_alternative}
 use Rattle.deb_relation.proofs.group.gather_alternatives.Goals as goal
 
 pub returns-in_err-alternative : goal.returns-in_err-alternative

@@ -5,7 +5,7 @@ use Rattle.deb_relation.specs.Groups.{append_piece, group_of, piece_behind}
 use Rattle.deb_relation.specs.Reading.{next_piece}
 use Rattle.deb_relation.specs.Stops.{next_of}
 use Rattle.deb_relation.proofs.Gathering.{read-more, read-last, loop-stop}
-use Rattle.deb_relation.proofs.Lengths.{step-next_piece}
+use Rattle.deb_relation.proofs.ReadRelation.{step-next_piece}
 use Rattle.deb_relation.proofs.relation.gather_groups.Goals as goal
 
 pub returns-in_err-piece : goal.returns-in_err-piece

@@ -1,5 +1,4 @@
 use Rattle.std.proofs.Common.{refl}
-use Rattle.deb_syntax.specs.Paragraphs.{state_of}
 use Rattle.deb_control.proofs.Checks.{checks_on}
 use Rattle.deb_control.proofs.checked.Checked.step.Goals as goal
 

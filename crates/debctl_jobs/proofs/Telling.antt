@@ -1,0 +1,17 @@
+-- What status 2 says of the fault that was told.
+use Rattle.std.proofs.Common.{◌≡◌, ℕ, inl, inr, List, Option, arith, refl}
+use Rattle.std.specs.Io.KnownBytes.{Appends}
+use Rattle.deb_base.specs.Lines.{refusal_line}
+use Rattle.deb_base.specs.declared.fault.Fault.{Fault}
+use Rattle.deb_base.specs.declared.fault.Fault.TheVariants.{Refused, Memory, Read, Write}
+use Rattle.deb_base.specs.declared.refusal.Refusal.{Refusal}
+use Rattle.debctl_jobs.specs.Telling.{TellsFault}
+
+-- a fault whose status is 2 is a refusal, and its line was written
+pub told_as_two : {E : Type 0} (held : E → Option (List ℕ)) (failures : E → ℕ) (err err_after : E) (status : ℕ) (fault : Fault)
+    → TellsFault held failures err err_after fault status → status ≡ 2 → (refusal : Refusal) × (fault ≡ Refused refusal) × Appends (held err) (held err_after) (refusal_line refusal)
+told_as_two held failures err err_after status fault (inr front) is = absurd (omega (arith, front.status, is))
+told_as_two held failures err err_after status (Refused refusal) (inl whole) is = (refusal, refl, whole.written)
+told_as_two held failures err err_after status Memory (inl whole) is = absurd (omega (arith, whole.status, is))
+told_as_two held failures err err_after status Read (inl whole) is = absurd (omega (arith, whole.status, is))
+told_as_two held failures err err_after status Write (inl whole) is = absurd (omega (arith, whole.status, is))

@@ -1,0 +1,128 @@
+-- What a whole command answers and writes, by its job. The jobs and their statuses are this
+-- project's own.
+use Rattle.std.specs.Prelude.{◌≡◌, ◌⊎◌, ℕ, ⊤, Bool, true, false, List, map, Option, Some, Result, String, Vec, string_bytes}
+use Rattle.std.specs.Io.KnownBytes.{Appends}
+use Rattle.std.specs.declared.alloc.Global.{Global}
+use Rattle.deb_base.specs.Lines.{refusal_line}
+use Rattle.deb_base.specs.declared.fault.Fault.{Fault}
+use Rattle.deb_control.specs.Calls.{WritesCanonical}
+use Rattle.deb_control.specs.declared.side.SideFault.{SideFault}
+use Rattle.debctl_jobs.specs.DocumentJobs.{ChecksFile, NormalisesFile, TellsRefusal, TellsRefusalBehind, WritesOk}
+use Rattle.debctl_jobs.specs.QueryJob.{QueriesFile, Question, TellsQueryRefusal, WritesReport, question}
+use Rattle.debctl_jobs.specs.SameJob.{ComparesFiles, TellsComparison, TellsRefusedSide, WritesSame}
+use Rattle.debctl_jobs.specs.Telling.{done_status, Tells}
+use Rattle.debctl_jobs.specs.VersionJobs.{bad_version, verdict_status, Canonicalises, Compared, Compares, IsNoVersion, WritesLine}
+use Rattle.debctl_words.specs.declared.jobs.Job.{Job}
+use Rattle.debctl_words.specs.declared.jobs.Job.TheVariants.{Check, Normalise, Same, Compare, CanonVersion, Query}
+
+-- the question that a query's words are
+abbrev pub asked : String Global → Vec (String Global) Global → String Global → Question
+asked arch profiles relation =
+    question (string_bytes arch) (map string_bytes profiles.items) (string_bytes relation)
+
+-- Of the readers of the first file and of the second, `left` and `other` are the texts that they
+-- tell.
+
+-- Status 0: `ok N` for an accepted file, its canonical text, `same`, yes, a version's canonical
+-- text with a newline, and a report without an unmet group.
+abbrev pub Done : {W : Type 0} → Job → Option (List ℕ) → Option (List ℕ) →
+    (W → Option (List ℕ)) → (W → ℕ) → W → W → Type 0
+Done (Check doc) left other held failures out new =
+    (text : List ℕ) → left ≡ Some text → WritesOk doc text (held out) (held new)
+Done (Normalise doc) left other held failures out new =
+    (text : List ℕ) → left ≡ Some text → (n : ℕ) × WritesCanonical doc text n (held out) (held new)
+Done (Same doc) left other held failures out new =
+    WritesSame doc left other (held out) (held new) true
+Done (Compare former operator latter) left other held failures out new =
+    (new ≡ out) × Compared (string_bytes former) operator (string_bytes latter) true
+Done (CanonVersion version) left other held failures out new =
+    WritesLine (string_bytes version) held failures out new
+Done (Query arch profiles relation) left other held failures out new =
+    (text : List ℕ) → left ≡ Some text
+    → WritesReport (asked arch profiles relation) text (held out) (held new) true
+
+-- Status 1: `different`, no, for which nothing was written, and a report with an unmet group.
+abbrev pub SaysNo : {W : Type 0} → Job → Option (List ℕ) → Option (List ℕ) →
+    (W → Option (List ℕ)) → W → W → Type 0
+SaysNo (Check doc) left other held out new = ⊥
+SaysNo (Normalise doc) left other held out new = ⊥
+SaysNo (Same doc) left other held out new = WritesSame doc left other (held out) (held new) false
+SaysNo (Compare former operator latter) left other held out new =
+    (new ≡ out) × Compared (string_bytes former) operator (string_bytes latter) false
+SaysNo (CanonVersion version) left other held out new = ⊥
+SaysNo (Query arch profiles relation) left other held out new =
+    (text : List ℕ) → left ≡ Some text
+    → WritesReport (asked arch profiles relation) text (held out) (held new) false
+
+-- Status 2: a file or a version is refused, exactly the refusal's line was written on `err`, by
+-- `same` behind the side of the file, and nothing on `out` but the canonical text of the paragraphs
+-- before the first that fails, by `normalise`.
+abbrev pub IsRefused : {W : Type 0} → Job → Option (List ℕ) → Option (List ℕ) →
+    (W → Option (List ℕ)) → W → W → Option (List ℕ) → Option (List ℕ) → Type 0
+IsRefused (Check doc) left other held out new err err_after =
+    (new ≡ out) × TellsRefusal doc left err err_after
+IsRefused (Normalise doc) left other held out new err err_after =
+    TellsRefusalBehind doc left (held out) (held new) err err_after
+IsRefused (Same doc) left other held out new err err_after =
+    (new ≡ out) × TellsRefusedSide doc left other err err_after
+IsRefused (Compare former operator latter) left other held out new err err_after =
+    (new ≡ out) × (IsNoVersion (string_bytes former) ⊎ IsNoVersion (string_bytes latter))
+    × Appends err err_after (refusal_line bad_version)
+IsRefused (CanonVersion version) left other held out new err err_after =
+    (new ≡ out) × IsNoVersion (string_bytes version)
+    × Appends err err_after (refusal_line bad_version)
+IsRefused (Query arch profiles relation) left other held out new err err_after =
+    (new ≡ out) × TellsQueryRefusal (asked arch profiles relation) left err err_after
+
+-- Whatever the status: there is an answer to the job, and it is told. (n and n_after are the first
+-- reader's counts of failed calls before and after, m and m_after the second one's.)
+abbrev pub Told : {W E : Type 0} → Job → Option (List ℕ) → ℕ → ℕ → Option (List ℕ) → ℕ → ℕ →
+    (W → Option (List ℕ)) → (W → ℕ) → W → W → (E → Option (List ℕ)) → (E → ℕ) → E → E → ℕ → Type 0
+Told (Check doc) left n n_after other m m_after held writes out new held_err tells err err_after
+    status =
+    (answer : Result ⊤ Fault)
+    × ChecksFile doc left n n_after held writes out new answer
+    × Tells done_status held_err tells err err_after answer status
+Told (Normalise doc) left n n_after other m m_after held writes out new held_err tells err err_after
+    status =
+    (answer : Result ℕ Fault)
+    × NormalisesFile doc left n n_after held writes out new answer
+    × Tells done_status held_err tells err err_after answer status
+Told (Same doc) left n n_after other m m_after held writes out new held_err tells err err_after
+    status =
+    (answer : Result Bool SideFault)
+    × ComparesFiles doc left other n n_after m m_after answer
+    × TellsComparison held writes out new held_err tells err err_after answer status
+Told (Compare a operator b) left n n_after other m m_after held writes out new held_err tells err
+    err_after status =
+    (answer : Result Bool Fault)
+    × Compares (string_bytes a) operator (string_bytes b) answer × (new ≡ out)
+    × Tells verdict_status held_err tells err err_after answer status
+Told (CanonVersion version) left n n_after other m m_after held writes out new held_err tells err
+    err_after status =
+    (answer : Result ⊤ Fault)
+    × Canonicalises (string_bytes version) held writes out new answer
+    × Tells done_status held_err tells err err_after answer status
+Told (Query arch profiles relation) left n n_after other m m_after held writes out new held_err
+    tells err err_after status =
+    (answer : Result Bool Fault)
+    × QueriesFile (asked arch profiles relation) left n n_after held writes out new answer
+    × Tells verdict_status held_err tells err err_after answer status
+
+-- A job that reads no file leaves the first reader as it was.
+abbrev pub IfUnread : Job → Type 0 → Type 0
+IfUnread (Check doc) P = Unit {0}
+IfUnread (Normalise doc) P = Unit {0}
+IfUnread (Same doc) P = Unit {0}
+IfUnread (Compare former operator latter) P = P
+IfUnread (CanonVersion version) P = P
+IfUnread (Query arch profiles relation) P = Unit {0}
+
+-- Every job but `same` leaves the second reader as it was.
+abbrev pub IfSecondUnread : Job → Type 0 → Type 0
+IfSecondUnread (Check doc) P = P
+IfSecondUnread (Normalise doc) P = P
+IfSecondUnread (Same doc) P = Unit {0}
+IfSecondUnread (Compare former operator latter) P = P
+IfSecondUnread (CanonVersion version) P = P
+IfSecondUnread (Query arch profiles relation) P = P

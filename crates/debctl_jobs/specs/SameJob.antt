@@ -1,0 +1,122 @@
+-- What the job of `same` answers and tells. Its lines are this project's own; acceptance, refusals
+-- and what files mean are those of documents of a kind (Debian Policy 5.1 and 5.3 to 5.6).
+use Rattle.std.specs.Prelude.{◌≡◌, ◌⊎◌, ℕ, Bool, if◌then◌else◌, List, [], ◌++◌, Option, Some, Result, Ok, Err, IfOk, IfErr, codes, refl}
+use Rattle.std.specs.Fmt.{digits}
+use Rattle.std.specs.Io.KnownBytes.{Appends}
+use Rattle.deb_base.specs.Devices.{read_failures_after}
+use Rattle.deb_base.specs.Faults.{IsReadersFault}
+use Rattle.deb_base.specs.Lines.{fault_line, refusal_line}
+use Rattle.deb_base.specs.declared.code.Code.TheVariants.{BadNumber}
+use Rattle.deb_base.specs.declared.fault.Fault.{Fault}
+use Rattle.deb_base.specs.declared.fault.Fault.TheVariants.{Refused, Memory, Read, Write}
+use Rattle.deb_base.specs.declared.refusal.Refusal.{Refusal}
+use Rattle.deb_field.specs.declared.kind.Doc.{Doc}
+use Rattle.deb_control.specs.Calls.{IfRefused}
+use Rattle.deb_control.specs.Checking.{IsRefusalOfDocument}
+use Rattle.deb_control.specs.Comparing.{RefusesSecond, TellsSame}
+use Rattle.deb_control.specs.Documents.{refusal_of}
+use Rattle.deb_control.specs.Sides.{of_first, of_second}
+use Rattle.deb_control.specs.declared.side.Side.{Side}
+use Rattle.deb_control.specs.declared.side.Side.TheVariants.{First, Second}
+use Rattle.deb_control.specs.declared.side.SideFault.{SideFault}
+use Rattle.debctl_jobs.specs.Telling.{status_of, TellsFront, TellsUnwritten, TellsWhole}
+use Rattle.debctl_jobs.specs.VersionJobs.{verdict_status}
+
+-- ---- lines
+
+-- the line of an answer
+abbrev pub same_line : Bool → List ℕ
+same_line same = if same then codes "same\n" else codes "different\n"
+
+-- what stands before the line of a file's refusal
+abbrev pub side_word : Side → List ℕ
+side_word First = codes "first: "
+side_word Second = codes "second: "
+
+-- what stands before the line of a fault: one that is no refusal is told without its side
+abbrev pub word_before : Side → Fault → List ℕ
+word_before side (Refused _) = side_word side
+word_before side Memory = []
+word_before side Read = []
+word_before side Write = []
+
+-- the line of a fault with its side
+abbrev pub side_line : SideFault → List ℕ
+side_line told = word_before told.side told.fault ++ fault_line told.fault
+
+-- ---- the answer
+
+-- What is answered of two files: by their readers' texts, and the counts of failed calls of the
+-- first reader and of the second, before and after.
+pub record ComparesFiles (doc : Doc) (left other : Option (List ℕ)) (n n_after m m_after : ℕ)
+    (answer : Result Bool SideFault) : Type 0 where
+  pub ok : (text text_too : List ℕ) → left ≡ Some text → other ≡ Some text_too →
+      IfOk answer (TellsSame doc text text_too)
+  pub first : (text : List ℕ) → left ≡ Some text →
+      IfRefused (of_first answer) (λ refusal. refusal_of doc text ≡ Some refusal)
+  pub second : (text text_too : List ℕ) → left ≡ Some text → other ≡ Some text_too →
+      IfRefused (of_second answer) (RefusesSecond doc text text_too)
+  pub fault : IfErr answer (λ told. IsReadersFault told.fault IsRefusalOfDocument)
+  pub reads_first : n_after ≡ read_failures_after n (of_first answer)
+  pub reads_second : m_after ≡ read_failures_after m (of_second answer)
+
+-- Exactly the line of an answer was written, and where both readers tell their texts, both files
+-- are accepted, and that is whether they mean the same.
+pub record WritesSame (doc : Doc) (left other old new : Option (List ℕ)) (same : Bool)
+    : Type 0 where
+  pub means : (text text_too : List ℕ) → left ≡ Some text → other ≡ Some text_too →
+      TellsSame doc text text_too same
+  pub written : Appends old new (same_line same)
+
+-- ---- refusals
+
+-- The file of that side is refused so; where it is the second one, the first one is accepted.
+abbrev pub RefusesSide : Side → Doc → Option (List ℕ) → Option (List ℕ) → Refusal → Type 0
+RefusesSide First doc left other refusal =
+    (text : List ℕ) → left ≡ Some text → refusal_of doc text ≡ Some refusal
+RefusesSide Second doc left other refusal =
+    (text text_too : List ℕ) → left ≡ Some text → other ≡ Some text_too →
+    RefusesSecond doc text text_too refusal
+
+-- One of the files is refused, and exactly its side and the refusal's line were told.
+pub record TellsRefusedSide (doc : Doc) (left other err err_after : Option (List ℕ)) : Type 0 where
+  pub side : Side
+  pub refusal : Refusal
+  pub is_file_refusal : IsRefusalOfDocument refusal
+  pub refused : RefusesSide side doc left other refusal
+  pub told : Appends err err_after (side_word side ++ refusal_line refusal)
+
+-- ---- telling
+
+-- A fault is told by its line, and by its status unless a write of the line fails.
+abbrev pub TellsSide : {E : Type 0} → (E → Option (List ℕ)) → (E → ℕ) → E → E → SideFault → ℕ
+    → Type 0
+TellsSide held failures old new told status =
+    TellsWhole held failures old new (side_line told) (status_of told.fault) status
+    ⊎ TellsFront held failures old new (side_line told) status
+
+-- An answer is told by its line on `out` and its status, or where a write of that fails, by that
+-- fault.
+abbrev pub TellsAnswer : {W E : Type 0} → (W → Option (List ℕ)) → (W → ℕ) → W → W →
+    (E → Option (List ℕ)) → (E → ℕ) → E → E → Bool → ℕ → Type 0
+TellsAnswer held writes out new held_err tells err err_after same status =
+    (TellsWhole held writes out new (same_line same) (verdict_status same) status
+    × (err_after ≡ err))
+    ⊎ TellsUnwritten held writes out new held_err tells err err_after (same_line same) status
+
+-- An answer or a fault is told so; of a fault nothing is written on `out`.
+abbrev pub TellsComparison : {W E : Type 0} → (W → Option (List ℕ)) → (W → ℕ) → W → W →
+    (E → Option (List ℕ)) → (E → ℕ) → E → E → Result Bool SideFault → ℕ → Type 0
+TellsComparison held writes out new held_err tells err err_after (Ok same) status =
+    TellsAnswer held writes out new held_err tells err err_after same status
+TellsComparison held writes out new held_err tells err err_after (Err told) status =
+    (new ≡ out) × TellsSide held_err tells err err_after told status
+
+line_of_refused_second : side_line (record
+    { side = Second; fault = Refused (record { code = BadNumber; line = 4 }) })
+    ≡ codes "second: line 4: 15 BadNumber\n"
+unfolding digits
+line_of_refused_second = refl
+
+line_of_failed_read : side_line (record { side = Second; fault = Read }) ≡ codes "fault: read\n"
+line_of_failed_read = refl

@@ -1,0 +1,109 @@
+//! The jobs on files: `check` and `normalise`.
+
+ghost use Rattle.std.specs.Prelude.{◌≡◌, ◌<◌, ℕ, List, Some, Result, ⊤, IfOk, string_bytes};
+ghost use Rattle.deb_base.specs.declared.fault.Fault.{Fault};
+ghost use Rattle.deb_control.specs.Calls.{WritesCanonical};
+ghost use Rattle.debctl_jobs.specs.DocumentJobs.{ok_line, ChecksFile, NormalisesFile, TellsRefusal, TellsRefusalBehind, WritesOk};
+ghost use Rattle.debctl_jobs.specs.Telling.{done_status, Tells};
+
+use crate::tell::tell;
+use deb_base::{Fault, Sink, Source, put_all};
+use deb_control::{check, normalise};
+use deb_field::Doc;
+use std::alloc::{AllocError, Global};
+
+/// Writes on `out` that a file is accepted as a document of a kind, and answers the status.
+///
+/// - 0: the file is accepted. `ok N` with a newline was written, for its N paragraphs, and nothing
+///   on `err`.
+/// - 2: the file is refused. Nothing was written on `out`, and the refusal's line on `err`.
+/// - 3: memory was wanting, a read failed, or a write failed. `err` has the fault's line; where a
+///   write on `err` failed, a prefix of its line.
+pub(crate) fn run_check<R: Source, W: Sink, E: Sink>(
+    alloc: Global,
+    doc: Doc,
+    first: &mut R,
+    out: &mut W,
+    err: &mut E,
+) -> u8
+    ensures done { result ≡ 0 → (err.new ≡ err.old)
+        × ((text : List ℕ) → R.left first.old ≡ Some text
+        → WritesOk doc text (W.held out.old) (W.held out.new)) }
+    ensures refused { result ≡ 2 → (out.new ≡ out.old)
+        × TellsRefusal doc (R.left first.old) (E.held err.old) (E.held err.new) }
+
+    // Where a call of a device failed, the status is 3.
+    ensures read_failed { R.failures first.old < R.failures first.new → result ≡ 3 }
+    ensures write_failed { W.failures out.old < W.failures out.new → result ≡ 3 }
+    ensures telling_failed { E.failures err.old < E.failures err.new → result ≡ 3 }
+
+    // Whatever the status: there is an answer, and that is told.
+    ensures told { (answer : Result ⊤ Fault)
+        × ChecksFile doc (R.left first.old) (R.failures first.old)
+        (R.failures first.new) W.held W.failures out.old out.new answer
+        × Tells done_status E.held E.failures err.old err.new answer result }
+{
+    match write_verdict(alloc, doc, first, out) {
+        Ok(()) => 0,
+        Err(fault) => tell(&fault, err),
+    }
+}
+
+/// Writes the canonical text of a file as a document of a kind on `out`, and answers the status.
+///
+/// - 0: the file is accepted. Its canonical text was written, and nothing on `err`.
+/// - 2: the file is refused. The canonical text of the paragraphs before the first that fails was
+///   written, and the refusal's line on `err`.
+/// - 3: memory was wanting, a read failed, or a write failed. `err` has the fault's line; where a
+///   write on `err` failed, a prefix of its line.
+pub(crate) fn run_normalise<R: Source, W: Sink, E: Sink>(
+    alloc: Global,
+    doc: Doc,
+    first: &mut R,
+    out: &mut W,
+    err: &mut E,
+) -> u8
+    ensures done { result ≡ 0 → (err.new ≡ err.old)
+        × ((text : List ℕ) → R.left first.old ≡ Some text → (n : ℕ)
+        × WritesCanonical doc text n (W.held out.old) (W.held out.new)) }
+    ensures refused { result ≡ 2
+        → TellsRefusalBehind doc (R.left first.old) (W.held out.old) (W.held out.new)
+        (E.held err.old) (E.held err.new) }
+
+    // Where a call of a device failed, the status is 3.
+    ensures read_failed { R.failures first.old < R.failures first.new → result ≡ 3 }
+    ensures write_failed { W.failures out.old < W.failures out.new → result ≡ 3 }
+    ensures telling_failed { E.failures err.old < E.failures err.new → result ≡ 3 }
+
+    // Whatever the status: there is an answer, and that is told.
+    ensures told { (answer : Result ℕ Fault)
+        × NormalisesFile doc (R.left first.old) (R.failures first.old)
+        (R.failures first.new) W.held W.failures out.old out.new answer
+        × Tells done_status E.held E.failures err.old err.new answer result }
+{
+    match normalise(alloc, doc, first, out) {
+        Ok(_) => 0,
+        Err(fault) => tell(&fault, err),
+    }
+}
+
+/// Checks a file, and writes that it is accepted.
+fn write_verdict<R: Source, W: Sink>(
+    alloc: Global,
+    doc: Doc,
+    first: &mut R,
+    out: &mut W,
+) -> Result<(), Fault>
+    ensures { ChecksFile doc (R.left first.old) (R.failures first.old)
+        (R.failures first.new) W.held W.failures out.old out.new result }
+{
+    let paragraphs = check(alloc, doc, first)?;
+    let line = ok_line(alloc, paragraphs)?;
+    put_all(out, line.as_bytes())
+}
+
+fn ok_line(alloc: Global, paragraphs: u64) -> Result<String, AllocError>
+    ensures { IfOk result (λ line. string_bytes line ≡ ok_line paragraphs) }
+{
+    format!(in alloc; "ok {paragraphs}\n")
+}

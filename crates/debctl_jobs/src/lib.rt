@@ -1,0 +1,19 @@
+//! The commands of the program `debctl` over readers and writers, and over the files and streams of
+//! the system.
+//!
+//! - [`run`] does a job over readers and writers, tells on one of them why it wasn't done, and
+//!   answers the status. It reads no path and knows no stream of the system.
+//! - [`run_program`] does what the program's words ask for: it opens the paths, hands `run` the files
+//!   and the standard streams, and flushes what was written.
+#![tactic(auto)]
+
+mod command;
+mod document_jobs;
+mod query_job;
+mod same_job;
+mod streams;
+mod tell;
+mod version_jobs;
+
+pub use command::run;
+pub use streams::run_program;

@@ -1,0 +1,135 @@
+//! The jobs on versions: `compare` and `canon-version`.
+
+ghost use Rattle.std.specs.Prelude.{◌≡◌, ◌<◌, ◌⊎◌, true, false, Bool, Result, ⊤};
+ghost use Rattle.std.specs.Io.KnownBytes.{Appends};
+ghost use Rattle.deb_base.specs.Lines.{refusal_line};
+ghost use Rattle.deb_base.specs.declared.fault.Fault.{Fault};
+ghost use Rattle.debctl_jobs.specs.Telling.{done_status, Tells};
+ghost use Rattle.debctl_jobs.specs.VersionJobs.{bad_version, holds, verdict_status, Canonicalises, Compared, Compares, GivesLine, IsNoVersion, ParsesWord, WritesLine};
+
+use crate::tell::tell;
+use deb_base::{Code, Fault, Refusal, Sink, put_all};
+use deb_version::{Version, compare};
+use debctl_words::Cmp;
+use std::alloc::Global;
+use std::cmp::Ordering;
+
+/// Compares two versions, and answers the status. It writes nothing but a fault's line on `err`.
+///
+/// - 0 and 1: they compare as the operator asks, and they don't.
+/// - 2: one of them is no version. `err` has `line 0: 18 BadVersion`.
+/// - 3: memory was wanting, and `err` has `fault: memory`; or a write on `err` failed, and `err`
+///   has a prefix of its line.
+pub(crate) fn run_compare<E: Sink>(
+    alloc: Global,
+    left: &str,
+    operator: Cmp,
+    right: &str,
+    err: &mut E,
+) -> u8
+    ensures yes { result ≡ 0 → (err.new ≡ err.old) × Compared left.now operator right.now true }
+    ensures no { result ≡ 1 → (err.new ≡ err.old) × Compared left.now operator right.now false }
+    ensures refused { result ≡ 2 → (IsNoVersion left.now ⊎ IsNoVersion right.now)
+        × Appends (E.held err.old) (E.held err.new) (refusal_line bad_version) }
+
+    // Where a write failed, the status is 3.
+    ensures telling_failed { E.failures err.old < E.failures err.new → result ≡ 3 }
+
+    // Whatever the status: there is an answer, and that is told.
+    ensures told { (answer : Result Bool Fault) × Compares left.now operator right.now answer
+        × Tells verdict_status E.held E.failures err.old err.new answer result }
+{
+    match compare_words(alloc, left, operator, right) {
+        Ok(true) => 0,
+        Ok(false) => 1,
+        Err(fault) => tell(&fault, err),
+    }
+}
+
+/// Writes the canonical text of a version with a newline on `out`, and answers the status.
+///
+/// - 0: that line was written, and nothing on `err`.
+/// - 2: this is no version. Nothing was written on `out`, and `line 0: 18 BadVersion` on `err`.
+/// - 3: memory was wanting, or a write failed. `err` has `fault: memory` or `fault: write`; where a
+///   write on `err` failed, a prefix of its line.
+pub(crate) fn run_canon_version<W: Sink, E: Sink>(
+    alloc: Global,
+    version: &str,
+    out: &mut W,
+    err: &mut E,
+) -> u8
+    ensures done { result ≡ 0 → (err.new ≡ err.old)
+        × WritesLine version.now W.held W.failures out.old out.new }
+    ensures refused { result ≡ 2 → (out.new ≡ out.old) × IsNoVersion version.now
+        × Appends (E.held err.old) (E.held err.new) (refusal_line bad_version) }
+
+    // Where a write failed, the status is 3.
+    ensures write_failed { W.failures out.old < W.failures out.new → result ≡ 3 }
+    ensures telling_failed { E.failures err.old < E.failures err.new → result ≡ 3 }
+
+    // Whatever the status: there is an answer, and that is told.
+    ensures told { (answer : Result ⊤ Fault)
+        × Canonicalises version.now W.held W.failures out.old out.new answer
+        × Tells done_status E.held E.failures err.old err.new answer result }
+{
+    match write_canonical(alloc, version, out) {
+        Ok(()) => 0,
+        Err(fault) => tell(&fault, err),
+    }
+}
+
+/// Whether two versions compare as the operator asks.
+fn compare_words(alloc: Global, left: &str, operator: Cmp, right: &str) -> Result<bool, Fault>
+    ensures { Compares left.now operator right.now result }
+{
+    let left = parse_word(left)?;
+    let right = parse_word(right)?;
+    match compare(alloc, &left, &right) {
+        Ok(order) => Ok(holds(operator, order)),
+        Err(_) => Err(Fault::Memory),
+    }
+}
+
+/// Writes the canonical text of a version with a newline.
+fn write_canonical<W: Sink>(alloc: Global, version: &str, out: &mut W) -> Result<(), Fault>
+    ensures { Canonicalises version.now W.held W.failures out.old out.new result }
+{
+    let line = canonical_line(alloc, version)?;
+    put_all(out, line.as_slice())
+}
+
+fn canonical_line(alloc: Global, version: &str) -> Result<Vec<u8>, Fault>
+    ensures { GivesLine (λ line. line.items) version.now result }
+{
+    let version = parse_word(version)?;
+    let mut line = Vec::new(alloc);
+    version.canon_into(&mut line)?;
+    line.push(b'\n')?;
+    Ok(line)
+}
+
+/// A version that stands on the command line.
+fn parse_word(word: &str) -> Result<Version<'_>, Fault>
+    ensures { ParsesWord word.now result }
+{
+    match Version::parse(word.as_bytes()) {
+        Ok(version) => Ok(version),
+        Err(_) => Err(Fault::Refused(Refusal {
+            code: Code::BadVersion,
+            line: 0,
+        })),
+    }
+}
+
+fn holds(operator: Cmp, order: Ordering) -> bool
+    ensures { result ≡ holds operator order }
+{
+    match operator {
+        Cmp::Less => order == Ordering::Less,
+        Cmp::LessOrEqual => order != Ordering::Greater,
+        Cmp::Equal => order == Ordering::Equal,
+        Cmp::NotEqual => order != Ordering::Equal,
+        Cmp::GreaterOrEqual => order != Ordering::Less,
+        Cmp::Greater => order == Ordering::Greater,
+    }
+}

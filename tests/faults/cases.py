@@ -1,0 +1,210 @@
+"""The cases of the fault runs: what a command reads, and what it answers when nothing fails.
+
+A file of `cases/` has lines of these forms, beside empty lines and comments behind `#`:
+
+    file NAME         a file in the folder that the commands of this file are run in
+    $ debctl WORDS    a case: a command; `< NAME` at its end gives it standard input
+    out, err          what it writes on standard output and on standard error, if anything
+    out begins, ..    what that begins with; all of it is then what the first run writes
+    status N          its exit status, as the last line of the case
+    | TEXT            a line of the file, or of what is written, named last
+
+In TEXT `\\t` is a tab, `\\xNN` a byte, `\\\\` a backslash, and `\\c` at the end leaves the newline
+away. Cases of long texts are made by the functions below.
+"""
+import re
+import shlex
+from dataclasses import dataclass, field, replace
+from pathlib import Path
+from typing import Dict, List, Optional
+
+ESCAPE = re.compile(rb"\\(?:(t)|x([0-9a-f]{2})|(\\))")
+
+
+class Malformed(Exception):
+    """A file of cases that can't be read; the text names its file and line."""
+
+
+@dataclass(frozen=True)
+class Case:
+    """A command and its answer."""
+
+    place: str
+    words: List[str]
+    files: Dict[str, bytes]
+    stdin: Optional[str] = None
+    out: bytes = b""
+    err: bytes = b""
+    status: int = 0
+    open_ended: tuple = ()
+
+    @property
+    def command(self):
+        """The command as a line."""
+        given = f" < {self.stdin}" if self.stdin else ""
+        return shlex.join(["debctl", *self.words]) + given
+
+    @property
+    def paths(self):
+        """The files that the command opens."""
+        return [word for word in self.words[1:] if word in self.files]
+
+    @property
+    def inputs(self):
+        """The bytes of the files that the command is given."""
+        names = [*self.paths, *([self.stdin] if self.stdin else [])]
+        return [self.files[name] for name in names]
+
+    @property
+    def is_job(self):
+        """Whether the words ask for a job and its files can be opened. Only then its answer goes
+        through a buffered writer, which asks again where a write was interrupted."""
+        told = (b"usage: ", b"error: ", b"fault: ")
+        return self.words[0] != "help" and not self.err.startswith(told)
+
+    def completed(self, answer):
+        """The case with the whole texts that its first run wrote, where only their beginnings
+        are known."""
+        texts = {name: getattr(answer, name) for name in self.open_ended}
+        return replace(self, open_ended=(), **texts)
+
+
+@dataclass
+class Reading:
+    """How far a file of cases has been read."""
+
+    path: Path
+    files: Dict[str, bytes] = field(default_factory=dict)
+    cases: List[Case] = field(default_factory=list)
+    texts: Dict[str, bytes] = field(default_factory=dict)
+    begun: Optional[Case] = None
+    named: Optional[str] = None
+    number: int = 0
+
+    def refuse(self, why):
+        """Stops at this line."""
+        raise Malformed(f"{self.path}:{self.number}: {why}")
+
+    def read(self):
+        """Reads the whole file, and gives its cases."""
+        for self.number, line in enumerate(self.path.read_bytes().splitlines(), 1):
+            if line and not line.startswith(b"#"):
+                self.read_line(line)
+        if self.begun:
+            self.refuse("the last case has no status")
+        if not self.cases:
+            self.refuse("there is no case")
+        return self.cases
+
+    def read_line(self, line):
+        """Reads one line, by its first word."""
+        word, _, rest = line.partition(b" ")
+        if word == b"|":
+            self.add_text(rest)
+        elif word == b"file" and rest and not self.begun:
+            self.named = rest.decode()
+            self.files[self.named] = b""
+        elif word == b"$" and not self.begun:
+            self.begin_case(rest.decode())
+        elif word in (b"out", b"err") and self.begun and rest in (b"", b"begins"):
+            self.name_output(word.decode(), rest == b"begins")
+        elif word == b"status" and self.begun and rest.isdigit():
+            self.end_case(int(rest))
+        else:
+            self.refuse("this line has no meaning here")
+
+    def add_text(self, text):
+        """Adds a line to the file or to the text that was named last."""
+        if self.named is None:
+            self.refuse("this text belongs to nothing")
+        is_whole = not text.endswith(b"\\c")
+        text = ESCAPE.sub(byte_of, text if is_whole else text[:-2])
+        held = self.texts if self.begun else self.files
+        held[self.named] += text + b"\n" * is_whole
+
+    def begin_case(self, line):
+        """Begins a case with its command."""
+        words = shlex.split(line)
+        stdin = None
+        if words[-2:-1] == ["<"]:
+            words, stdin = words[:-2], words[-1]
+        if words[:1] != ["debctl"] or (stdin and stdin not in self.files):
+            self.refuse("this is no command of debctl, or its input is no file")
+        place = f"{self.path.name}:{self.number}"
+        self.begun = Case(place, words[1:], self.files, stdin)
+        self.named = None
+        self.texts = {}
+
+    def name_output(self, name, is_open):
+        """Begins the text that the command writes."""
+        if name in self.texts:
+            self.refuse(f"{name} stood before")
+        self.texts[name] = b""
+        self.named = name
+        if is_open:
+            self.begun = replace(self.begun, open_ended=(*self.begun.open_ended, name))
+
+    def end_case(self, status):
+        """Ends a case."""
+        self.cases.append(replace(self.begun, status=status, **self.texts))
+        self.begun = self.named = None
+
+
+def byte_of(escape):
+    """The byte that an escape in a text stands for."""
+    tab, number, backslash = escape.groups()
+    return b"\t" if tab else backslash or bytes([int(number, 16)])
+
+
+def read_cases(folder):
+    """The cases of the files in a folder, and the long ones."""
+    cases = []
+    for path in sorted(folder.glob("*.case")):
+        cases += Reading(path).read()
+    if not cases:
+        raise Malformed(f"{folder}: there is no file of cases")
+    return [*cases, *many_fields(), *long_paragraph(), *many_groups()]
+
+
+P3 = b"Package: aa\nVersion: 1\nArchitecture: all\n"
+
+
+def many_fields():
+    """More fields than are compared one with another, and a name that stood before as the last."""
+    more = b"".join(b"F%02d: x\n" % number for number in range(4, 41))
+    again = P3 + more.replace(b"F40", b"f04")
+    canonical = b"Architecture: all\n" + more + b"Package: aa\nVersion: 1\n"
+    files = {"forty": P3 + more, "again": again}
+    refusal = b"line 40: 7 DuplicateField\n"
+    return [
+        Case("40 fields", ["check"], files, "forty", b"ok 1\n"),
+        Case("40 fields", ["normalise", "forty"], files, None, canonical),
+        Case("39 fields and one again", ["check", "again"], files, None, b"", refusal, 2),
+        Case("39 fields and one again", ["normalise"], files, "again", b"", refusal, 2),
+    ]
+
+
+def long_paragraph():
+    """A paragraph longer than the pieces of 65,536 bytes in which a file is read, and another."""
+    long = b"X: " + b"x" * 70000 + b"\n"
+    canonical = b"Architecture: all\nPackage: aa\nVersion: 1\n"
+    files = {"long": P3 + long + b"\n" + P3}
+    written = canonical + long + b"\n" + canonical
+    return [
+        Case("70,000 bytes", ["check"], files, "long", b"ok 2\n"),
+        Case("70,000 bytes", ["normalise", "long"], files, None, written),
+    ]
+
+
+def many_groups():
+    """Relations of 200 groups, in an order that isn't the canonical one."""
+    names = [b"p%03d" % number for number in range(1, 201)]
+    backwards = b", ".join(reversed(names))
+    files = {"groups": P3 + b"Depends: " + backwards + b"\n"}
+    written = b"Architecture: all\nDepends: " + b", ".join(names) + b"\nPackage: aa\nVersion: 1\n"
+    report = b"".join(b"unmet " + name + b"\n" for name in names)
+    query = ["query", "--arch", "amd64", backwards.decode(), "groups"]
+    return [
+        Case("200 groups", ["normalise"], files, "groups", written),
+        Case("200 groups", query, files, None, report, b"", 1),
+    ]

@@ -1,0 +1,244 @@
+"""Faults of a program's calls: runs a case with one, and says what is wrong with the answer."""
+import errno
+import os
+import subprocess
+from dataclasses import dataclass
+from typing import Dict, Optional
+
+from faults.cases import Case
+
+SECONDS = 10
+FAULT_STATUS = 3
+FAULT_LINES = {
+    "growth": b"fault: memory\n",
+    "read": b"fault: read\n",
+    "open": b"fault: read\n",
+    "stat": b"fault: read\n",
+    "write": b"fault: write\n",
+}
+
+
+@dataclass(frozen=True)
+class Fault:
+    """What becomes of the k-th call of a kind, or of all from it on: it fails with an error, or
+    without one moves one byte. Where it is slow, all other calls of the kind move one byte."""
+
+    name: str
+    calls: str = ""
+    error: Optional[int] = None
+    is_lasting: bool = False
+    is_slow: bool = False
+
+    @property
+    def counted(self):
+        """The name under which the library counts these calls."""
+        return self.calls + "s"
+
+    def environment(self, k):
+        """The variables that ask the library for it."""
+        asked = {"FAULTS_CALLS": self.calls, "FAULTS_FIRST": str(k)}
+        if not self.is_lasting:
+            asked["FAULTS_LAST"] = str(k)
+        if self.error is not None:
+            asked["FAULTS_ERROR"] = str(self.error)
+        if self.is_slow:
+            asked["FAULTS_SLOW"] = self.calls
+        return asked
+
+
+# Those of which one run of a case is enough.
+NOTHING = Fault("nothing fails")
+SLOW_READS = Fault("every read moves one byte", "read", is_lasting=True)
+SLOW_WRITES = Fault("every write moves one byte", "write", is_lasting=True)
+
+# Those that are tried at every k. An error of 0 is a write that takes nothing.
+FAULTS = [
+    Fault("growth k is refused", "growth", errno.ENOMEM),
+    Fault("growths from k on are refused", "growth", errno.ENOMEM, is_lasting=True),
+    Fault("read k fails with EIO", "read", errno.EIO),
+    Fault("read k fails with EINTR", "read", errno.EINTR),
+    Fault("read k moves one byte", "read"),
+    Fault("read k fails with EIO, those before it move one byte", "read", errno.EIO, is_slow=True),
+    Fault("write k fails with EIO", "write", errno.EIO),
+    Fault("write k fails with ENOSPC", "write", errno.ENOSPC),
+    Fault("write k fails with EINTR", "write", errno.EINTR),
+    Fault("write k takes nothing", "write", 0),
+    Fault("writes from k on fail with EIO", "write", errno.EIO, is_lasting=True),
+    Fault("write k moves one byte", "write"),
+    Fault("write k fails with EIO, others move one byte", "write", errno.EIO, is_slow=True),
+    Fault("open k fails with EIO", "open", errno.EIO),
+    Fault("open k fails with EINTR", "open", errno.EINTR),
+    Fault("stat k fails with EIO", "stat", errno.EIO),
+]
+
+
+@dataclass(frozen=True)
+class Answer:
+    """What a run wrote, its status, and the library's record, empty where there is none."""
+
+    out: bytes
+    err: bytes
+    status: Optional[int]
+    record: Dict[str, int]
+
+
+@dataclass(frozen=True)
+class Wanted:
+    """The answer that is wanted: of each text all of it, or what the rule says."""
+
+    out: bytes
+    err: bytes
+    status: int
+    out_rule: str = "all"
+    err_rule: str = "all"
+    most_paragraphs: Optional[int] = None
+
+
+def run(program, library, case: Case, folder, fault: Fault, k=1):
+    """Runs a case in the folder that holds its files, with a fault at a call."""
+    record = os.memfd_create("record")
+    stdin = os.open(folder / case.stdin if case.stdin else os.devnull, os.O_RDONLY)
+    asked = {"LD_PRELOAD": library, "FAULTS_RECORD": str(record), **fault.environment(k)}
+    try:
+        ran = subprocess.run(
+            [program, *case.words],
+            stdin=stdin,
+            capture_output=True,
+            cwd=folder,
+            env=asked,
+            pass_fds=[record],
+            timeout=SECONDS,
+            check=False,
+        )
+        pairs = os.pread(record, 4096, 0).decode().split()
+        numbers = {name: int(number) for name, _, number in (it.partition("=") for it in pairs)}
+        return Answer(ran.stdout, ran.stderr, ran.returncode, numbers)
+    except subprocess.TimeoutExpired as late:
+        return Answer(late.stdout or b"", late.stderr or b"", None, {})
+    finally:
+        os.close(record)
+        os.close(stdin)
+
+
+def is_asked_again(case: Case, fault: Fault, record):
+    """Whether std made an interrupted call once more, as if nothing had happened. It does so with
+    each open, and with a write that empties the buffer before standard output or standard error,
+    but not with one that goes past the buffer, or where there is none."""
+    if fault.error != errno.EINTR or not record.get("met"):
+        return False
+    is_again = case.is_job and record["asked_after_failure"] == 1
+    return fault.calls == "open" or (fault.calls == "write" and is_again)
+
+
+def wanted_of(case: Case, fault: Fault, record):
+    """The answer that is wanted of a run of which this is the record."""
+    if fault.error is None or not record.get("met") or is_asked_again(case, fault, record):
+        rules = ["begins" if name in case.open_ended else "all" for name in ("out", "err")]
+        return Wanted(case.out, case.err, case.status, *rules)
+    line = FAULT_LINES[fault.calls]
+    if fault.calls == "write":
+        on_stderr = record["met_on_stderr"]
+        if on_stderr == record["met"]:
+            return Wanted(case.out, case.err, FAULT_STATUS, err_rule="part")
+        return Wanted(case.out, line, FAULT_STATUS, "part", "part" if on_stderr else "all")
+    if case.words[0] != "normalise":
+        return Wanted(b"", line, FAULT_STATUS)
+    most = paragraphs_read(case, record) if fault.calls == "read" else None
+    return Wanted(case.out, line, FAULT_STATUS, "whole paragraphs", most_paragraphs=most)
+
+
+def paragraphs_read(case: Case, record):
+    """How many paragraphs of the one input were read up to the newline of a blank line."""
+    [text] = case.inputs
+    ended, is_inside = 0, False
+    for line in text[: record["bytes_read"]].split(b"\n")[:-1]:
+        is_blank = not line.strip(b" \t")
+        ended += is_inside and is_blank
+        is_inside = not is_blank
+    return ended
+
+
+def fits(seen, text, rule, most=None):
+    """Whether what was written is all of a text, begins with it, is a part of it that lacks some
+    of its end, or is whole paragraphs from its beginning, at most so many, without a separator
+    behind the last."""
+    if rule == "begins":
+        return seen.startswith(text)
+    if rule == "part":
+        return text.startswith(seen) and seen != text
+    if rule == "whole paragraphs":
+        paragraphs = text[:-1].split(b"\n\n") if text else []
+        counts = range(len(paragraphs) + 1 if most is None else min(most, len(paragraphs)) + 1)
+        return any(seen == b"\n\n".join(paragraphs[:n]) + b"\n" * (n > 0) for n in counts)
+    return seen == text
+
+
+def wrong_end(answer: Answer, case: Case, fault: Fault):
+    """What is wrong with how a run ended and with what it asked of its devices, if anything."""
+    if answer.status is None:
+        return f"it took more than {SECONDS} seconds"
+    if answer.status < 0:
+        return f"it was ended by signal {-answer.status}"
+    if not answer.record:
+        return "it left no record: it didn't load the library, or ended by `_exit`"
+    number = answer.record["asked_after_failure"]
+    if number and not (fault.calls == "write" and is_asked_again(case, fault, answer.record)):
+        return f"after a call had failed, {number} more were made on its descriptor"
+    if answer.record["asked_after_end"]:
+        return "it read on behind the end of its input"
+    return None
+
+
+def wrong_calls(answer: Answer, case: Case, fault: Fault, is_met):
+    """What is wrong with the calls of a run, if anything: whether it met its fault as it was to,
+    and whether the library sees them all where nothing fails."""
+    record = answer.record
+    if is_met != bool(record["met"]):
+        return f"it met the fault at {record['met']} calls"
+    if fault != NOTHING:
+        return None
+    least = {
+        "growths": 1,
+        "reads": bool(case.inputs) and case.is_job,
+        "writes": bool(case.out or case.err),
+        "opens": len(case.paths),
+    }
+    for name, number in least.items():
+        if record[name] < number:
+            return f"the library saw {record[name]} {name}, and not {int(number)} at least"
+    return None
+
+
+def wrong_texts(answer: Answer, wanted: Wanted):
+    """What is wrong with what a run answered, if anything."""
+    if answer.status != wanted.status:
+        return f"its status is {answer.status}"
+    if not fits(answer.out, wanted.out, wanted.out_rule, wanted.most_paragraphs):
+        return "standard output differs"
+    if not fits(answer.err, wanted.err, wanted.err_rule):
+        return "standard error differs"
+    return None
+
+
+def complaint(case: Case, fault: Fault, k, is_met, answer: Answer):
+    """Says in some lines what is wrong with a run, or None. It is to meet its fault, or not to."""
+    wanted = wanted_of(case, fault, answer.record)
+    why = (
+        wrong_end(answer, case, fault)
+        or wrong_texts(answer, wanted)
+        or wrong_calls(answer, case, fault, is_met)
+    )
+    if not why:
+        return None
+    place = f"{case.place}: {case.command[:200]}"
+    return f"""failed: {place}
+  {fault.name}, k = {k}: {why}
+  wanted: status {wanted.status}; {wanted.out_rule} of {shown(wanted.out)}; \
+on standard error {wanted.err_rule} of {shown(wanted.err)}
+  seen: status {answer.status}; {shown(answer.out)}; on standard error {shown(answer.err)}"""
+
+
+def shown(text):
+    """A text on one line, its middle cut out where it is long."""
+    line = repr(text)[1:]
+    return line if len(line) < 600 else f"{line[:300]} .. {line[-250:]}"
