@@ -87,9 +87,12 @@ class Reading:
 
     def read(self):
         """Reads the whole file, and gives its cases."""
-        for self.number, line in enumerate(self.path.read_bytes().splitlines(), 1):
-            if line and not line.startswith(b"#"):
-                self.read_line(line)
+        for self.number, line in enumerate(self.path.read_bytes().split(b"\n"), 1):
+            try:
+                if line and not line.startswith(b"#"):
+                    self.read_line(line)
+            except ValueError as error:
+                self.refuse(error)
         if self.begun:
             self.refuse("the last case has no status")
         if not self.cases:

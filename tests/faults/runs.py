@@ -101,7 +101,9 @@ def run(program, library, case: Case, folder, fault: Fault, k=1):
     asked = {"LD_PRELOAD": library, "FAULTS_RECORD": str(record), **fault.environment(k)}
     try:
         ran = subprocess.run(
-            [program, *case.words],
+            # The name of the program takes memory too: so the counts are the same wherever it lies.
+            ["debctl", *case.words],
+            executable=program,
             stdin=stdin,
             capture_output=True,
             cwd=folder,
