@@ -72,8 +72,8 @@ impl Checked {
     /// - `Fault::Refused`: the file is refused there. Where the kind of document has one paragraph,
     ///   that there is none (`NoParagraph`, at the line behind the last one) or a second one
     ///   (`TooManyParagraphs`, at its first line, whatever it holds). Else the first of these that
-    ///   holds of the next paragraph: what `Paragraphs::next` refuses, what `Paragraph::build` does,
-    ///   and that the canonical text of the file has more than 4,294,967,295 bytes with it
+    ///   holds of the next paragraph: what `Paragraphs::next` refuses, what `Paragraph::build`
+    ///   does, and that the canonical text of the file has more than 4,294,967,295 bytes with it
     ///   (`FileTooLong`, at its first line).
     /// - `Fault::Memory`: a growth of memory was refused.
     /// - `Fault::Read`: a read of `reader` failed in this call.

@@ -3,8 +3,8 @@
 //!
 //! - [`run`] does a job over readers and writers, tells on one of them why it wasn't done, and
 //!   answers the status. It reads no path and knows no stream of the system.
-//! - [`run_program`] does what the program's words ask for: it opens the paths, hands `run` the files
-//!   and the standard streams, and flushes what was written.
+//! - [`run_program`] does what the program's words ask for: it opens the paths, hands `run` the
+//!   files and the standard streams, and flushes what was written.
 #![tactic(auto)]
 
 mod command;
