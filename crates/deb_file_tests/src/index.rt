@@ -1,217 +1,175 @@
-//! Indexes, and what they tell of relations.
+//! Indexes, and what they tell of relations: each call once, short and long, what is found, and
+//! devices that fail.
 
-mod devices;
-mod memory;
-mod refused;
-mod writing;
-
-use deb_base::Input;
+use crate::devices::{Pieces, SIZES, Slow, Then};
+use deb_base::{Code, Fault, Input, Output, Refusal};
 use deb_index::Verdict::{Ignored, Met, Unmet};
-use deb_index::{Index, QueryFault, Report, Verdict};
+use deb_index::{Index, Report};
 use deb_relation::{Env, Relation};
 use std::alloc::Global;
+use std::io::Write;
 use std::process::Abort;
 use std::test::Fail;
-
-/// A relation, and of each of its groups in the order of their canonical texts the verdict and the
-/// numbers of the packages that meet it.
-#[derive(Clone, Copy)]
-struct Row(&'static str, &'static [(Verdict, &'static [u64])]);
 
 const HELLO: &[u8] = b"Package: hello\nVersion: 1\nArchitecture: amd64\nProvides: vv\n\n\
     Package: world\nVersion: 1.0-0\nArchitecture: all\nProvides: vv (= 2.00)\n";
 
-/// The index that a file is.
-fn index_of(rt: &impl Abort, alloc: Global, file: &[u8], len: usize) -> Result<Index, Fail> {
-    let index = Index::read(alloc, &mut Input::new(file))?;
-    assert_eq!(rt; index.len(), len);
-    Ok(index)
-}
+/// A relation, and what is written of it.
+const RELATION: &[u8] = b"ww | aa, vv, world(>=1), bb <!nocheck>";
 
-/// What an index tells of relations for the target amd64 with the profile nocheck, and whether all
-/// groups are met.
-fn assert_rows(rt: &impl Abort, alloc: Global, index: &Index, rows: &[Row]) -> Result<(), Fail> {
-    let environment = Env::new(alloc, b"amd64", &[b"nocheck"])?;
-    for Row(text, wanted) in rows {
-        let relation = Relation::parse(alloc, text.as_bytes())?;
-        let Ok(report) = index.query(alloc, &relation, &environment) else {
-            return Err("no report")?;
-        };
-        assert_report(rt, text, &report, wanted);
+const TEXT: &[u8] = b"ignored bb <!nocheck>\nmet vv\n 1 hello 1 amd64\n 2 world 1.0 all\n\
+    met world (>= 1)\n 2 world 1.0 all\nunmet ww | aa\n";
+
+#[test]
+fn what_is_found(rt: HostRuntime) -> Result<(), Fail> {
+    let environment = Env::new(rt.alloc(), b"amd64", &[b"nocheck"])?;
+    let relation = Relation::parse(rt.alloc(), RELATION)?;
+    for size in SIZES {
+        let mut reader = Pieces::new(HELLO, size, 0);
+        let index = Index::read(rt.alloc(), &mut Input::new(&mut reader))?;
+        let report = index
+            .query(rt.alloc(), &relation, &environment)
+            .or(Err("no report"))?;
+        assert!(rt; index.len() == 2 && !report.all_met(), "pieces of {size}");
+        assert!(rt; is_told(&report) == Some(true), "pieces of {size}");
     }
+    let index = Index::read(rt.alloc(), &mut Input::new(b"\n".as_slice()))?;
+    let report = index
+        .query(rt.alloc(), &relation, &environment)
+        .or(Err("no report"))?;
+    assert!(rt;
+        index.len() == 0 && !report.all_met(),
+        "an index of no package"
+    );
     Ok(())
 }
 
-fn assert_report(rt: &impl Abort, text: &str, report: &Report<'_>, wanted: &[(Verdict, &[u64])]) {
-    assert_eq!(rt; report.answers().len(), wanted.len(), "{text}");
-    for (answer, (verdict, numbers)) in report.answers().iter().zip(wanted.iter()) {
-        assert_eq!(rt; answer.verdict(), *verdict, "{text}");
-        assert_eq!(rt; answer.packages().len(), numbers.len(), "{text}");
-        for (found, number) in answer.packages().iter().zip(numbers.iter()) {
-            assert_eq!(rt; found.number(), *number, "{text}");
+/// Whether each group is there with its verdict and what meets it.
+fn is_told(report: &Report<'_>) -> Option<bool> {
+    let [ignored, provided, bounded, unmet] = report.answers() else {
+        return None;
+    };
+    let [hello, world] = provided.packages() else {
+        return None;
+    };
+    Some(
+        ignored.verdict() == Ignored
+            && provided.verdict() == Met
+            && bounded.verdict() == Met
+            && unmet.verdict() == Unmet
+            && unmet.text() == b"ww | aa".as_slice()
+            && unmet.packages().is_empty()
+            && hello.number() == 1
+            && world.number() == 2
+            && world.package().name() == b"world".as_slice()
+            && world.package().version() == b"1.0".as_slice()
+            && world.package().architecture() == b"all".as_slice(),
+    )
+}
+
+/// The text of a report on what a reader gives.
+fn written(alloc: Global, file: &[u8], relation: &[u8]) -> Result<Vec<u8>, Fail> {
+    let index = Index::read(alloc, &mut Input::new(file))?;
+    let relation = Relation::parse(alloc, relation)?;
+    let environment = Env::new(alloc, b"amd64", &[b"nocheck"])?;
+    let report = index
+        .query(alloc, &relation, &environment)
+        .or(Err("no report"))?;
+    let mut held = Vec::new(alloc);
+    report.write(&mut Output::new(&mut held))?;
+    Ok(held)
+}
+
+#[test]
+fn reports(rt: HostRuntime) -> Result<(), Fail> {
+    let held = written(rt.alloc(), HELLO, RELATION)?;
+    assert!(rt; held.as_slice() == TEXT);
+    let held = written(rt.alloc(), HELLO, b"")?;
+    assert!(rt; held.is_empty());
+    Ok(())
+}
+
+/// A thousand packages, and a relation to each of them and to as many others.
+#[test]
+fn a_thousand_packages(rt: HostRuntime) -> Result<(), Fail> {
+    let mut file = Vec::new(rt.alloc());
+    let mut relation = Vec::new(rt.alloc());
+    for number in 1_000..2_000u32 {
+        write!(
+            file,
+            "Package: p{number}\nVersion: 1\nArchitecture: all\n\n"
+        )?;
+        write!(relation, "q{number}, p{number}, ")?;
+    }
+    let held = written(rt.alloc(), &file, &relation)?;
+    assert!(rt; held.starts_with(b"met p1000\n 1 p1000 1 all\nmet p1001\n 2 p1001 1 all\n"));
+    assert!(rt; held.ends_with(b"\nunmet q1998\nunmet q1999\n"));
+    Ok(())
+}
+
+/// A file that is no index, in pieces of each size.
+#[test]
+fn a_file_that_is_refused(rt: HostRuntime) {
+    let file = b"Package: aa\nVersion: 1\nArchitecture: all\n\nPackage: bb\nVersion: 1-\n";
+    let code = Code::BadVersion;
+    for size in SIZES {
+        let mut reader = Pieces::new(file, size, 0);
+        let fault = Index::read(rt.alloc(), &mut Input::new(&mut reader)).err();
+        assert!(rt;
+            fault == Some(Fault::Refused(Refusal { code, line: 6 })),
+            "{fault:?}"
+        );
+    }
+}
+
+/// The reader fails once, at each of its calls, and would then go on.
+#[test]
+fn a_failed_read(rt: HostRuntime) -> Result<(), Fail> {
+    for size in SIZES {
+        let mut reader = Pieces::new(HELLO, size, 0);
+        let index = Index::read(rt.alloc(), &mut Input::new(&mut reader))?;
+        assert!(rt; index.len() == 2, "pieces of {size}");
+        for failing in 1..reader.calls.saturating_add(1) {
+            let mut reader = Pieces::new(HELLO, size, failing);
+            let fault = Index::read(rt.alloc(), &mut Input::new(&mut reader)).err();
+            assert!(rt;
+                fault == Some(Fault::Read) && reader.calls == failing,
+                "call {failing} in pieces of {size}: {fault:?}"
+            );
         }
     }
-    let all_met = wanted.iter().all(|(verdict, _)| *verdict != Unmet);
-    assert_eq!(rt; report.all_met(), all_met, "{text}");
-}
-
-#[test]
-fn provided_names_and_bounds(rt: HostRuntime) -> Result<(), Fail> {
-    let index = index_of(&rt, rt.alloc(), HELLO, 2)?;
-    let rows = [
-        Row("vv (>= 2) | ww", &[(Met, &[2])]),
-        Row("vv", &[(Met, &[1, 2])]),
-        Row("vv (= 2.0)", &[(Met, &[2])]),
-        Row("vv (= 2)", &[(Unmet, &[])]),
-        Row("vv (>= 0)", &[(Met, &[2])]),
-        Row("ww", &[(Unmet, &[])]),
-        Row("vv, ww", &[(Met, &[1, 2]), (Unmet, &[])]),
-        Row("", &[]),
-        Row(
-            "hello (= 1) | world (= 1.0), world (= 1)",
-            &[(Met, &[1, 2]), (Unmet, &[])],
-        ),
-        Row("hello:native", &[(Met, &[1])]),
-        Row("hello:amd64", &[(Met, &[1])]),
-        Row("world:native, world:amd64", &[(Met, &[2]), (Met, &[2])]),
-        Row("world:all", &[(Unmet, &[])]),
-        Row("world:i386", &[(Unmet, &[])]),
-        Row("hello:any, vv:any", &[(Unmet, &[]), (Unmet, &[])]),
-    ];
-    assert_rows(&rt, rt.alloc(), &index, &rows)?;
-
-    // what is found is what the index keeps
-    let environment = Env::new(rt.alloc(), b"amd64", &[])?;
-    let relation = Relation::parse(rt.alloc(), b"world")?;
-    let Ok(report) = index.query(rt.alloc(), &relation, &environment) else {
-        return Err("no report")?;
-    };
-    let [answer] = report.answers() else {
-        return Err("one answer")?;
-    };
-    let [found] = answer.packages() else {
-        return Err("one package")?;
-    };
-    assert_eq!(rt; answer.text(), b"world".as_slice());
-    assert_eq!(rt; found.package().name(), b"world".as_slice());
-    assert_eq!(rt; found.package().version(), b"1.0".as_slice());
-    assert_eq!(rt; found.package().architecture(), b"all".as_slice());
     Ok(())
 }
 
+/// The writer fails after so many good calls, or takes nothing from then on.
 #[test]
-fn no_packages(rt: HostRuntime) -> Result<(), Fail> {
-    for file in [b"".as_slice(), b"\n \n"] {
-        let index = index_of(&rt, rt.alloc(), file, 0)?;
-        let rows = [
-            Row("aa", &[(Unmet, &[])]),
-            Row("aa [!amd64]", &[(Ignored, &[])]),
-            Row("", &[]),
-        ];
-        assert_rows(&rt, rt.alloc(), &index, &rows)?;
-    }
-    Ok(())
-}
-
-#[test]
-fn entries_that_provide_nothing(rt: HostRuntime) -> Result<(), Fail> {
-    let file = b"Package: aa\nVersion: 1\nArchitecture: all\n\
-        Provides: vv:any, vv [amd64], vv [linux-any], vv <!nodoc>, vv:amd64 (= 1), ww [any], xx\n";
-    let index = index_of(&rt, rt.alloc(), file, 1)?;
-    let rows = [
-        Row("vv", &[(Unmet, &[])]),
-        Row("vv:any | vv:amd64 | vv [amd64] | vv (= 1)", &[(Unmet, &[])]),
-        Row("ww, xx", &[(Unmet, &[]), (Met, &[1])]),
-    ];
-    assert_rows(&rt, rt.alloc(), &index, &rows)
-}
-
-#[test]
-fn qualifiers_and_what_applies(rt: HostRuntime) -> Result<(), Fail> {
-    let file = b"Package: aa\nVersion: 1\nArchitecture: amd64\n\n\
-        Package: aa\nVersion: 2\nArchitecture: i386\nMulti-Arch: allowed\n";
-    let index = index_of(&rt, rt.alloc(), file, 2)?;
-    let rows = [
-        Row(
-            "dd, aa:any, cc <!nocheck>, bb [!amd64]",
-            &[(Met, &[2]), (Ignored, &[]), (Ignored, &[]), (Unmet, &[])],
-        ),
-        Row("aa", &[(Met, &[1])]),
-        Row("aa:i386", &[(Met, &[2])]),
-        Row("aa | aa:any | aa:i386", &[(Met, &[1, 2])]),
-        Row("aa [!amd64] | dd", &[(Unmet, &[])]),
-        Row("aa [i386] | aa:any (>> 1)", &[(Met, &[2])]),
-        Row("aa:any (<< 2)", &[(Unmet, &[])]),
-    ];
-    assert_rows(&rt, rt.alloc(), &index, &rows)
-}
-
-#[test]
-fn words_of_multi_arch(rt: HostRuntime) -> Result<(), Fail> {
-    let file = b"Package: aa\nVersion: 1\nArchitecture: i386\nMulti-Arch: no\n\n\
-        Package: aa\nVersion: 1\nArchitecture: i386\nMulti-Arch: same\n\n\
-        Package: aa\nVersion: 1\nArchitecture: i386\nMulti-Arch: foreign\nProvides: vv\n\n\
-        Package: aa\nVersion: 1\nArchitecture: i386\nMulti-Arch: allowed\nProvides: vv\n\n\
-        Package: aa\nVersion: 1\nArchitecture: linux-any\n\n\
-        Package: aa\nVersion: 1\nArchitecture: any\n";
-    let index = index_of(&rt, rt.alloc(), file, 6)?;
-    let rows = [
-        Row("aa", &[(Met, &[3])]),
-        Row("aa:any", &[(Met, &[4])]),
-        Row("vv", &[(Met, &[3])]),
-        Row("vv:any", &[(Met, &[4])]),
-        Row("aa:native", &[(Unmet, &[])]),
-        Row("aa:i386", &[(Met, &[1, 2, 3, 4])]),
-        Row("aa:linux-any", &[(Met, &[5])]),
-        Row("aa:all", &[(Unmet, &[])]),
-    ];
-    assert_rows(&rt, rt.alloc(), &index, &rows)
-}
-
-#[test]
-fn versions_of_one_package(rt: HostRuntime) -> Result<(), Fail> {
-    let file = b"Package: aa\nVersion: 1\nArchitecture: amd64\nProvides: aa (= 5), aa\n\n\
-        Package: aa\nVersion: 1:2\nArchitecture: amd64\n\n\
-        Package: aa\nVersion: 1.00-0\nArchitecture: i386\n\n\
-        Package: aa\nVersion: 3~rc1\nArchitecture: all\n";
-    let index = index_of(&rt, rt.alloc(), file, 4)?;
-    let rows = [
-        Row("aa", &[(Met, &[1, 2, 4])]),
-        Row(
-            "aa (= 5), aa (= 1), aa (= 4)",
-            &[(Met, &[1]), (Unmet, &[]), (Met, &[1])],
-        ),
-        Row("aa (>= 3)", &[(Met, &[1, 2])]),
-        Row("aa (<< 3)", &[(Met, &[1, 4])]),
-        Row("aa (>> 5)", &[(Met, &[2])]),
-        Row("aa (<= 1:0002)", &[(Met, &[1, 2, 4])]),
-        Row("aa:i386 (= 1.0)", &[(Met, &[3])]),
-    ];
-    assert_rows(&rt, rt.alloc(), &index, &rows)
-}
-
-#[test]
-fn wildcards(rt: HostRuntime) -> Result<(), Fail> {
-    let environment = Env::new(rt.alloc(), b"amd64", &[])?;
-    for file in [b"".as_slice(), HELLO] {
-        let index = Index::read(rt.alloc(), &mut Input::new(file))?;
-        let relations = [
-            ("aa [linux-any]", true),
-            ("hello | aa [any]", true),
-            ("bb, aa [!any-i386] <!nocheck>", true),
-            ("aa:any, aa [all], aa:linux-any", false),
-            ("", false),
-        ];
-        for (text, is_wildcard) in relations {
-            let relation = Relation::parse(rt.alloc(), text.as_bytes())?;
-            match index.query(rt.alloc(), &relation, &environment) {
-                Ok(_) => assert!(rt; !is_wildcard, "{text}"),
-                Err(fault) => {
-                    assert_eq!(rt; fault, QueryFault::Wildcard, "{text}");
-                    assert!(rt; is_wildcard, "{text}");
-                }
+fn a_failed_write(rt: HostRuntime) -> Result<(), Fail> {
+    let index = Index::read(rt.alloc(), &mut Input::new(HELLO))?;
+    let relation = Relation::parse(rt.alloc(), RELATION)?;
+    let environment = Env::new(rt.alloc(), b"amd64", &[b"nocheck"])?;
+    let report = index
+        .query(rt.alloc(), &relation, &environment)
+        .or(Err("no report"))?;
+    for most in [1, 7, 100] {
+        for calls in 0..140u8 {
+            for then in [Then::Fails, Then::TakesNone] {
+                let writer = Slow::new(rt.alloc(), most, u64::from(calls), then);
+                assert!(rt; writes(&report, writer), "{calls} calls of {most} bytes");
             }
         }
     }
     Ok(())
+}
+
+/// Whether all is written, or a prefix up to the one bad write, which is told.
+fn writes(report: &Report<'_>, mut writer: Slow) -> bool {
+    let answer = report.write(&mut Output::new(&mut writer));
+    let held = writer.held.as_slice();
+    if writer.failures == 0 {
+        return answer == Ok(()) && held == TEXT;
+    }
+    answer == Err(Fault::Write)
+        && writer.failures == 1
+        && TEXT.starts_with(held)
+        && held.len() < TEXT.len()
 }

@@ -58,9 +58,3 @@ is_field-at text (p ∷ ps) (suc i) d h are = is_field-at text ps i d (omega ari
 -- the parts of the test of one field
 pub is_field-body : (field : Field) → is_field field ≡ true → IsBody field.body
 is_field-body field h = IsBody-from_test field.body (and_parts (is_name field.name) (is_body field.body) h).1
-
--- the first of fields that are a paragraph's
-pub IsBody-first : (fields more : List Field) (field : Field) → fields ≡ field ∷ more → are_fields fields ≡ true → IsBody field.body
-IsBody-first fields more field is are =
-    let parts = and_parts (is_field field && not (has_name field.name more)) (are_fields more) (subst (λ fs. are_fields fs ≡ true) is are) in
-    is_field-body field (and_parts (is_field field) _ parts.0).0

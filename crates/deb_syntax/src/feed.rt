@@ -177,6 +177,3 @@ impl Feed {
         self.window.keep(count);
     }
 }
-
-#[cfg(test)]
-mod tests;

@@ -240,6 +240,3 @@ fn begins_comment(line: &[u8]) -> bool
 {
     matches!(line, [b'#', ..])
 }
-
-#[cfg(test)]
-mod tests;

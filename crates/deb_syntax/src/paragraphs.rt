@@ -356,6 +356,3 @@ fn pass_paragraph<R: Source>(
         Err(fault) => Err(fault),
     }
 }
-
-#[cfg(test)]
-mod tests;

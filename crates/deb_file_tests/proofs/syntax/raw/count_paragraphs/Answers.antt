@@ -2,7 +2,7 @@ use Rattle.std.proofs.Common.{◌∙◌, [], ◌∷◌, length, length-append, s
 use Rattle.deb_syntax.specs.Lines.{paragraphs_of}
 use Rattle.deb_syntax.specs.Reading.{Advances}
 use Rattle.deb_syntax.proofs.Callers.{goes-from_passes, sound-from_passes}
-use Rattle.deb_syntax.proofs.paragraphs.tests.callers.count_paragraphs.Goals as goal
+use Rattle.deb_file_tests.proofs.syntax.raw.count_paragraphs.Goals as goal
 
 pub returns-in_default : goal.returns-in_default
 returns-in_default g c = λ text told.

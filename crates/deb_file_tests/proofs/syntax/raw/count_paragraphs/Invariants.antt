@@ -2,7 +2,7 @@ use Rattle.std.proofs.Common.{◌≡◌, ℕ, List, Some, None, length}
 use Rattle.deb_syntax.specs.Lines.{paragraphs_of}
 use Rattle.deb_syntax.specs.Reading.{Fits}
 use Rattle.deb_syntax.specs.Paragraphs.{state_of}
-use Rattle.deb_syntax.proofs.paragraphs.tests.callers.count_paragraphs.Given as goal
+use Rattle.deb_file_tests.proofs.syntax.raw.count_paragraphs.Given as goal
 
 -- the paragraphs so far are those of a front of the file
 abbrev pub invariant-loop-count : goal.invariant-loop-count

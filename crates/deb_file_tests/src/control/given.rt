@@ -1,0 +1,121 @@
+//! What a paragraph that is given shows: its fields as they stand in the file, and their values.
+
+use super::*;
+use deb_control::Accepted;
+use deb_field::{Canon, Value};
+
+/// A field as it stands in the file: its name, its line and its body.
+struct Field(&'static [u8], u64, &'static [u8]);
+
+/// A paragraph's first line, its fields, the canonical text of its version, and its own.
+struct Shown(u64, [Field; 4], &'static [u8], &'static [u8]);
+
+const FILE: &[u8] = b"\nSOURCE:bb (01)\nPackage: aa\nVersion: 1\nArchitecture: all\n\n \n\
+    version:\t2-0 \nX:\n y \n z \npackage:bb\narchitecture: any";
+
+const SHOWN: [Shown; 2] = [
+    Shown(
+        2,
+        [
+            Field(b"SOURCE", 2, b"bb (01)"),
+            Field(b"Package", 3, b"aa"),
+            Field(b"Version", 4, b"1"),
+            Field(b"Architecture", 5, b"all"),
+        ],
+        b"1",
+        b"Architecture: all\nPackage: aa\nSource: bb (1)\nVersion: 1\n",
+    ),
+    Shown(
+        8,
+        [
+            Field(b"version", 8, b"2-0"),
+            Field(b"X", 9, b"\n y \n z"),
+            Field(b"package", 12, b"bb"),
+            Field(b"architecture", 13, b"any"),
+        ],
+        b"2",
+        b"Architecture: any\nPackage: bb\nVersion: 2\nX:\n y \n z\n",
+    ),
+];
+
+#[test]
+fn paragraphs_that_are_given(rt: HostRuntime) -> Result<(), Fail> {
+    for size in SIZES {
+        let mut input = Input::new(Pieces::new(FILE, size, 0));
+        let mut checked = Checked::new(rt.alloc(), Doc::Packages);
+        for shown in &SHOWN {
+            let paragraph = checked.next(&mut input)?.ok_or("no paragraph")?;
+            assert!(rt; shows(&paragraph, shown), "fields in pieces of {size}");
+            assert!(rt; finds(&paragraph, shown), "names in pieces of {size}");
+            let has_values = has_values(rt.alloc(), &paragraph, shown)?;
+            assert!(rt; has_values, "values in pieces of {size}");
+            let is_typed = is_typed(rt.alloc(), &paragraph, shown)?;
+            assert!(rt; is_typed, "all values in pieces of {size}");
+        }
+        assert!(rt; checked.next(&mut input)?.is_none(), "the end");
+    }
+    Ok(())
+}
+
+/// Whether the first line, the canonical text, and the fields in the order of the file are right.
+fn shows(paragraph: &Accepted<'_>, shown: &Shown) -> bool {
+    let Shown(first_line, wanted, _, text) = shown;
+    let mut fields = paragraph.fields();
+    for Field(name, line, body) in wanted {
+        let found = fields
+            .next()
+            .map(|field| (field.name, field.line, field.body));
+        if found != Some((*name, *line, *body)) {
+            return false;
+        }
+    }
+    fields.next().is_none()
+        && paragraph.first_line() == *first_line
+        && paragraph.canonical_text() == *text
+}
+
+/// Whether fields are found by their names, in any case and whole.
+fn finds(paragraph: &Accepted<'_>, shown: &Shown) -> bool {
+    for Field(name, line, body) in &shown.1 {
+        let found = paragraph.get(name).map(|field| (field.line, field.body));
+        if found != Some((*line, *body)) {
+            return false;
+        }
+    }
+    paragraph.get(b"vErSiOn").map(|field| field.line)
+        == paragraph.get(b"Version").map(|field| field.line)
+        && paragraph.get(b"vErSiOn").is_some()
+        && paragraph.get(b"Versio").is_none()
+        && paragraph.get(b"").is_none()
+}
+
+/// Whether single values are right.
+fn has_values(alloc: Global, paragraph: &Accepted<'_>, shown: &Shown) -> Result<bool, Fail> {
+    let name = paragraph.value(alloc, b"pACKAGE")?.ok_or("no name")?;
+    let version = paragraph.value(alloc, b"VERSION")?.ok_or("no version")?;
+    let absent = paragraph.value(alloc, b"Absent")?;
+    let mut text = Vec::new(alloc);
+    version.canon_into(&mut text)?;
+    Ok(
+        matches!(name, Value::Name(_))
+            && matches!(version, Value::Version(_))
+            && absent.is_none()
+            && text.as_slice() == shown.2,
+    )
+}
+
+/// Whether the typed paragraph is right, and its text behind a byte that stood there.
+fn is_typed(alloc: Global, paragraph: &Accepted<'_>, shown: &Shown) -> Result<bool, Fail> {
+    let typed = paragraph.paragraph(alloc)?;
+    let mut text = Vec::new(alloc);
+    text.push(b'=')?;
+    typed.canon_into(&mut text)?;
+    Ok(
+        text.first() == Some(&b'=')
+            && text.get(1..) == Some(shown.3)
+            && typed.canon_len() == shown.3.len() as u64
+            && typed.fields().len() == 4
+            && matches!(typed.get(b"pACKAGE"), Some(Value::Name(_)))
+            && typed.get(b"Absent").is_none(),
+    )
+}
