@@ -1,5 +1,4 @@
 pub mod KeptVersions
-pub mod Scans
 pub mod ListedValues
 pub mod Copies
 pub mod Indexed

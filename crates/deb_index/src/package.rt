@@ -1,6 +1,6 @@
 //! Listed packages.
 
-ghost use Rattle.std.specs.Prelude.{◌≡◌, ◌&&◌, IfOk, map};
+ghost use Rattle.std.specs.Prelude.{◌≡◌, ◌&&◌, map};
 ghost use Rattle.std.specs.List.{list_any};
 ghost use Rattle.std.specs.Option.{option_copied};
 ghost use Rattle.std.specs.Str.{bytes_eq};
@@ -15,7 +15,6 @@ use crate::canonical_version::CanonicalVersion;
 use crate::provision::{Provision, meets_bound, some_provision_meets};
 use deb_field::MultiArch;
 use deb_relation::{Alternative, Env};
-use std::alloc::{AllocError, Global};
 
 /// What an index keeps of a package.
 #[derive(Debug, Drop)]
@@ -52,71 +51,49 @@ impl Package {
     }
 
     /// Whether this meets a group by an alternative that applies.
-    pub(crate) fn meets_group(
-        &self,
-        alloc: Global,
-        group: &[Alternative<'_>],
-        environment: &Env,
-    ) -> Result<bool, AllocError>
-        ensures { IfOk result (λ met. met
-            ≡ meets_group (environment_of environment.now) (map alternative_of group.now)
-            (listed_of self.now)) }
+    pub(crate) fn meets_group(&self, group: &[Alternative<'_>], environment: &Env) -> bool
+        ensures { result ≡ meets_group (environment_of environment.now)
+            (map alternative_of group.now) (listed_of self.now) }
     {
-        for alternative in group {
-            if self.meets_applying(alloc, alternative, environment)? {
-                return Ok(true);
-            }
-        }
-        Ok(false)
+        self.meets_some(group, environment)
+    }
+
+    fn meets_some(&self, group: &[Alternative<'_>], environment: &Env) -> bool
+        ensures { result ≡ list_any
+            (λ a. applies (alternative_of a) (environment_of environment.now)
+            && meets (environment_of environment.now) (alternative_of a) (listed_of self.now))
+            group.now }
+    {
+        group.iter().any(|alternative| self.meets_applying(alternative, environment))
     }
 
     /// Whether an alternative applies and this meets it.
-    fn meets_applying(
-        &self,
-        alloc: Global,
-        alternative: &Alternative<'_>,
-        environment: &Env,
-    ) -> Result<bool, AllocError>
-        ensures { IfOk result (λ met. met
+    fn meets_applying(&self, alternative: &Alternative<'_>, environment: &Env) -> bool
+        ensures { result
             ≡ (applies (alternative_of alternative.now) (environment_of environment.now)
             && meets (environment_of environment.now) (alternative_of alternative.now)
-            (listed_of self.now))) }
+            (listed_of self.now)) }
     {
-        Ok(alternative.applies(environment) && self.meets(alloc, alternative, environment)?)
+        alternative.applies(environment) && self.meets(alternative, environment)
     }
 
     /// Whether this meets an alternative, by name and by qualifier (Debian Policy 7.1).
-    fn meets(
-        &self,
-        alloc: Global,
-        alternative: &Alternative<'_>,
-        environment: &Env,
-    ) -> Result<bool, AllocError>
-        ensures { IfOk result (λ met. met
-            ≡ meets (environment_of environment.now) (alternative_of alternative.now)
-            (listed_of self.now)) }
+    fn meets(&self, alternative: &Alternative<'_>, environment: &Env) -> bool
+        ensures { result ≡ meets (environment_of environment.now)
+            (alternative_of alternative.now) (listed_of self.now) }
     {
-        Ok(
-            self.meets_by_name(alloc, alternative)?
-                && self.meets_qualifier(alternative.qualifier(), environment.target()),
-        )
+        self.meets_by_name(alternative)
+            && self.meets_qualifier(alternative.qualifier(), environment.target())
     }
 
     /// Whether this has the name in a version that meets the bound, or provides it so (7.5).
-    fn meets_by_name(
-        &self,
-        alloc: Global,
-        alternative: &Alternative<'_>,
-    ) -> Result<bool, AllocError>
-        ensures { IfOk result (λ met. met
-            ≡ meets_by_name (alternative_of alternative.now) (listed_of self.now)) }
+    fn meets_by_name(&self, alternative: &Alternative<'_>) -> bool
+        ensures { result
+            ≡ meets_by_name (alternative_of alternative.now) (listed_of self.now) }
     {
-        if self.name.as_slice() == alternative.name()
-            && meets_bound(alloc, alternative.bound(), &self.version)?
-        {
-            return Ok(true);
-        }
-        some_provision_meets(alloc, &self.provisions, alternative)
+        (self.name.as_slice() == alternative.name()
+            && meets_bound(alternative.bound(), &self.version))
+            || some_provision_meets(&self.provisions, alternative)
     }
 
     /// Whether this is of the architecture that a qualifier asks, or of a Multi-Arch that serves.

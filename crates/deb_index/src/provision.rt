@@ -12,7 +12,7 @@ ghost use Rattle.deb_index.specs.Meeting.{meets_bound, provided_meets_bound, pro
 
 use crate::canonical_version::CanonicalVersion;
 use deb_relation::{Alternative, Group, Op, Relation};
-use deb_version::{Version, compare};
+use deb_version::Version;
 use std::alloc::{AllocError, Global};
 
 /// A name that a package provides, with its version, if one is told (Debian Policy 7.5).
@@ -37,14 +37,12 @@ impl Provision {
     }
 
     /// Whether the name is that of an alternative, and meets its bound.
-    fn meets(&self, alloc: Global, alternative: &Alternative<'_>) -> Result<bool, AllocError>
-        ensures { IfOk result (λ meets. meets
-            ≡ provision_meets (alternative_of alternative.now) (provision_of self.now)) }
+    fn meets(&self, alternative: &Alternative<'_>) -> bool
+        ensures { result
+            ≡ provision_meets (alternative_of alternative.now) (provision_of self.now) }
     {
-        Ok(
-            self.name.as_slice() == alternative.name()
-                && provided_meets_bound(alloc, alternative.bound(), &self.version)?,
-        )
+        self.name.as_slice() == alternative.name()
+            && provided_meets_bound(alternative.bound(), &self.version)
     }
 }
 
@@ -85,53 +83,42 @@ fn is_plain(entry: &Alternative<'_>) -> bool
 
 /// Whether a provided name with this version meets a bound.
 fn provided_meets_bound(
-    alloc: Global,
     bound: Option<(Op, &Version<'_>)>,
     version: &Option<CanonicalVersion>,
-) -> Result<bool, AllocError>
-    ensures { IfOk result (λ meets. meets
-        ≡ provided_meets_bound (option_map lent_bound_of bound.entry)
-        (option_map kept_version version.now)) }
+) -> bool
+    ensures { result ≡ provided_meets_bound (option_map lent_bound_of bound.entry)
+        (option_map kept_version version.now) }
 {
     match (bound, version) {
-        (None, _) => Ok(true),
-        (Some(_), None) => Ok(false),
-        (Some(bound), Some(version)) => meets_bound(alloc, Some(bound), version),
+        (None, _) => true,
+        (Some(_), None) => false,
+        (Some(bound), Some(version)) => meets_bound(Some(bound), version),
     }
 }
 
 /// Whether a version meets a bound.
-pub(crate) fn meets_bound(
-    alloc: Global,
-    bound: Option<(Op, &Version<'_>)>,
-    version: &CanonicalVersion,
-) -> Result<bool, AllocError>
-    ensures { IfOk result (λ meets. meets
-        ≡ meets_bound (option_map lent_bound_of bound.entry) (kept_version version.now)) }
+pub(crate) fn meets_bound(bound: Option<(Op, &Version<'_>)>, version: &CanonicalVersion) -> bool
+    ensures { result ≡ meets_bound (option_map lent_bound_of bound.entry) (kept_version version.now) }
 {
     match bound {
-        None => Ok(true),
-        Some((operator, wanted)) => {
-            let order = compare(alloc, &version.version(), wanted)?;
-            Ok(operator.holds(order))
-        }
+        None => true,
+        Some((operator, wanted)) => operator.holds(version.version().cmp(wanted)),
     }
 }
 
 /// Whether some provided name meets an alternative.
-pub(crate) fn some_provision_meets(
-    alloc: Global,
-    provisions: &[Provision],
-    alternative: &Alternative<'_>,
-) -> Result<bool, AllocError>
-    ensures { IfOk result (λ meets. meets
-        ≡ list_any (provision_meets (alternative_of alternative.now))
-        (map provision_of provisions.now)) }
+pub(crate) fn some_provision_meets(provisions: &[Provision], alternative: &Alternative<'_>) -> bool
+    ensures { result ≡ list_any (provision_meets (alternative_of alternative.now))
+        (map provision_of provisions.now) }
 {
-    for provision in provisions {
-        if provision.meets(alloc, alternative)? {
-            return Ok(true);
-        }
-    }
-    Ok(false)
+    some_meets(provisions, alternative)
+}
+
+fn some_meets(provisions: &[Provision], alternative: &Alternative<'_>) -> bool
+    ensures { result ≡ list_any
+        (λ p. provision_meets (alternative_of alternative.now) (provision_of p)) provisions.now }
+{
+    provisions
+        .iter()
+        .any(|provision| provision.meets(alternative))
 }

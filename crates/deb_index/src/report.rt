@@ -153,7 +153,7 @@ fn packages_meeting<'a>(
 {
     let mut found = Vec::new(alloc);
     for (index, package) in packages.iter().enumerate() {
-        if package.meets_group(alloc, group, environment)? {
+        if package.meets_group(group, environment) {
             let number = index as u64 + 1;
             found.push(Found { number, package })?;
         }

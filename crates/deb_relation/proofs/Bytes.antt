@@ -9,7 +9,7 @@ use Rattle.deb_version.specs.Parts.{Meaning as Version}
 use Rattle.deb_version.specs.Grammar.{SpellsVersion, Components, AreComponents, IsEpoch, IsRevision, is_upstream_byte, is_revision_byte, spelling, epoch_text, revision_text}
 use Rattle.deb_version.proofs.ByteLemmas.{differs, all_pass-fact, empty-test}
 use Rattle.deb_version.proofs.CanonicalComponent.{All-append, All-weaker}
-use Rattle.deb_version.proofs.PartsLemmas.{cons_not_nil}
+use Rattle.deb_version.specs.PartsLemmas.{cons_not_nil}
 use Rattle.deb_version.specs.Faults.{first_fault}
 use Rattle.deb_version.specs.declared.fault.BadVersion.TheVariants.{Empty}
 use Rattle.deb_version.proofs.FaultLemmas.{no_fault-from_spells}

@@ -11,7 +11,7 @@ use Rattle.deb_base.proofs.GraphicBodies.{IsGraphic, each, IsBody-line}
 use Rattle.deb_version.specs.Parts.{Meaning as Version}
 use Rattle.deb_version.specs.Grammar.{SpellsVersion}
 use Rattle.deb_version.specs.Canonical.{version_text}
-use Rattle.deb_version.proofs.PartsLemmas.{cons_not_nil}
+use Rattle.deb_version.specs.PartsLemmas.{cons_not_nil}
 use Rattle.deb_relation.specs.declared.operator.Op.{Op}
 use Rattle.deb_relation.specs.declared.operator.Op.TheVariants.{Earlier, EarlierEqual, Equal, LaterEqual, Later}
 use Rattle.deb_relation.specs.Grammar.{SpellsRelation}

@@ -18,7 +18,7 @@ use Rattle.deb_relation.specs.Texts.{joined, separated, operator_text, signed_te
 use Rattle.deb_relation.proofs.Bytes.{arch_some, profile_some}
 use Rattle.deb_relation.proofs.Regular.{list_regular, items_regular, group_regular}
 use Rattle.deb_relation.proofs.Bytes.{signed-some}
-use Rattle.deb_version.proofs.PartsLemmas.{cons_not_nil}
+use Rattle.deb_version.specs.PartsLemmas.{cons_not_nil}
 
 -- lengths added up
 sum_of : {A : Type 0} → (A → ℕ) → List A → ℕ

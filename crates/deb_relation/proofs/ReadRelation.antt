@@ -7,7 +7,7 @@ use Rattle.deb_relation.specs.Reading.{Reading, Next, and_then, and_next, gather
 use Rattle.deb_relation.specs.Texts.{group_text}
 use Rattle.std.proofs.lemmas.Bool.{false≢true}
 use Rattle.std.proofs.lemmas.List.{length-append}
-use Rattle.deb_version.proofs.PartsLemmas.{cons_not_nil}
+use Rattle.deb_version.specs.PartsLemmas.{cons_not_nil}
 use Rattle.deb_relation.proofs.Bytes.{at_end-some}
 use Rattle.deb_relation.proofs.Gathering.{IsStep}
 use Rattle.deb_relation.proofs.ReadLists.{architectures_took, formula_took, none_some, some_none, some_same, err_some}

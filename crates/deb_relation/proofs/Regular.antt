@@ -13,7 +13,7 @@ use Rattle.deb_relation.specs.Laws.{Ascends}
 use Rattle.deb_relation.specs.Meaning.{Restrictions, Alternative, Group, Relation}
 use Rattle.deb_relation.specs.Sets.{itself}
 use Rattle.deb_relation.specs.Texts.{item_text, restrictions_text, group_text}
-use Rattle.deb_version.proofs.PartsLemmas.{cons_not_nil}
+use Rattle.deb_version.specs.PartsLemmas.{cons_not_nil}
 use Rattle.deb_relation.proofs.SetLemmas.{all-set_with, ascends-set_with}
 use Rattle.deb_relation.proofs.SpelledLists.{set_of-some}
 

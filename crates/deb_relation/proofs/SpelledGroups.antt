@@ -13,7 +13,7 @@ use Rattle.deb_relation.proofs.ReadRelation.{step-next_alternative, step-next_pi
 use Rattle.deb_relation.proofs.Runs.{Passes, white-past}
 use Rattle.deb_base.specs.PackageNames.{is_package_byte}
 use Rattle.deb_relation.proofs.SpelledRelation.{Starts, is_end, alternative_read}
-use Rattle.deb_version.proofs.PartsLemmas.{cons_not_nil}
+use Rattle.deb_version.specs.PartsLemmas.{cons_not_nil}
 
 -- what may stand behind a piece
 abbrev is_piece_end : ℕ → Bool

@@ -15,7 +15,7 @@ use Rattle.deb_relation.proofs.Bytes.{signed-some, arch_bytes, profile_bytes, ar
 use Rattle.deb_relation.proofs.Gathering.{IsStep, gather-none, gather-some}
 use Rattle.deb_relation.proofs.ReadLists.{step-next_architecture, step-next_restriction, step-next_restrictions}
 use Rattle.deb_relation.proofs.Runs.{Passes, Stops, run_of-whole, behind_run-whole, white-past}
-use Rattle.deb_version.proofs.PartsLemmas.{cons_not_nil}
+use Rattle.deb_version.specs.PartsLemmas.{cons_not_nil}
 
 insert-some : {A : Type 0} (text : A → List ℕ) (x : A) (ys : List A) → insert_by text x ys ≢ []
 insert-some text x [] e = cons_not_nil x [] e

@@ -10,7 +10,7 @@ use Rattle.deb_relation.specs.Grammar.{IsWhite, SpellsAlternative, SpellsRelatio
 use Rattle.deb_relation.specs.Meaning.{Alternative}
 use Rattle.deb_relation.specs.Reading.{alternative_with}
 use Rattle.deb_relation.specs.Texts.{group_text}
-use Rattle.deb_version.proofs.PartsLemmas.{cons_not_nil}
+use Rattle.deb_version.specs.PartsLemmas.{cons_not_nil}
 
 -- a name alone
 bare : List ℕ → Alternative

@@ -1,9 +1,11 @@
 //! Versions: the first fault of a text that is none, and canonical text and order of short and of
 //! long ones.
 
-use deb_version::{BadVersion, Version, compare};
+use deb_version::{BadVersion, Version};
+use indexmap::IndexMap;
 use std::alloc::Global;
 use std::cmp::Ordering;
+use std::collections::{BTreeMap, HashSet};
 use std::test::Fail;
 
 /// A text, and the first fault that it has.
@@ -57,15 +59,63 @@ fn canonical_text(rt: HostRuntime) {
     assert!(rt; has_text(rt.alloc(), b"01.0-a00-00", b"1.0-a-0") == Some(true));
 }
 
-/// How two versions compare; None where a call fails.
-fn order_of(alloc: Global, a: &[u8], b: &[u8]) -> Option<Ordering> {
-    compare(alloc, &Version::parse(a).ok()?, &Version::parse(b).ok()?).ok()
+/// How two versions compare; None where one is none.
+fn order_of(a: &[u8], b: &[u8]) -> Option<Ordering> {
+    Some(Version::parse(a).ok()?.cmp(&Version::parse(b).ok()?))
 }
 
 #[test]
 fn order(rt: HostRuntime) {
-    assert!(rt; order_of(rt.alloc(), b"1.0~rc1", b"1.0") == Some(Ordering::Less));
-    assert!(rt; order_of(rt.alloc(), b"0:1.0-0", b"1.00") == Some(Ordering::Equal));
+    assert!(rt; order_of(b"1.0~rc1", b"1.0") == Some(Ordering::Less));
+    assert!(rt; order_of(b"0:1.0-0", b"1.00") == Some(Ordering::Equal));
+}
+
+/// Spellings of one version.
+const SPELLINGS: [&[u8]; 4] = [b"1.01", b"1.1", b"0:1.1-0", b"01.001"];
+
+/// Whether the spellings are one key of each kind of set and map; None where a call fails.
+fn are_one_key(alloc: Global) -> Option<bool> {
+    let mut set = HashSet::new(alloc);
+    let mut tree = BTreeMap::new(alloc);
+    let mut index = IndexMap::new(alloc);
+    for text in SPELLINGS {
+        let version = Version::parse(text).ok()?;
+        set.insert(version).ok()?;
+        tree.insert(version, 0).ok()?;
+        index.insert(version, 0).ok()?;
+    }
+    Some(set.len() == 1 && tree.len() == 1 && index.len() == 1)
+}
+
+#[test]
+fn keys(rt: HostRuntime) {
+    assert!(rt; are_one_key(rt.alloc()) == Some(true));
+}
+
+/// Versions in their order.
+const ASCENDING: [&[u8]; 6] = [b"1.0~rc1", b"1.0", b"1.0-1", b"1.9", b"1.10", b"1:0"];
+
+/// Whether std's sort puts them into that order; None where a call fails.
+fn are_sorted(alloc: Global) -> Option<bool> {
+    let mut versions = Vec::new(alloc);
+    for text in ASCENDING.iter().rev() {
+        versions.push(Version::parse(text).ok()?).ok()?;
+    }
+    versions.sort().ok()?;
+    for (version, text) in versions.iter().zip(ASCENDING.iter()) {
+        if *version != Version::parse(text).ok()? {
+            return Some(false);
+        }
+    }
+    match versions.as_slice() {
+        [first, second, ..] => Some(first < second),
+        _ => Some(false),
+    }
+}
+
+#[test]
+fn sorting(rt: HostRuntime) {
+    assert!(rt; are_sorted(rt.alloc()) == Some(true));
 }
 
 /// So many zeros, and a million digits behind them.
@@ -89,9 +139,9 @@ fn canonical_text_of_a_long_version(rt: HostRuntime) -> Result<(), Fail> {
 fn order_of_long_versions(rt: HostRuntime) -> Result<(), Fail> {
     let earlier = long_version(rt.alloc(), 1_000_000, b'7').ok_or("memory")?;
     let later = long_version(rt.alloc(), 0, b'8').ok_or("memory")?;
-    assert!(rt; order_of(rt.alloc(), &later, &later) == Some(Ordering::Equal));
-    assert!(rt; order_of(rt.alloc(), &earlier, &later) == Some(Ordering::Less));
-    assert!(rt; order_of(rt.alloc(), &later, &earlier) == Some(Ordering::Greater));
+    assert!(rt; order_of(&later, &later) == Some(Ordering::Equal));
+    assert!(rt; order_of(&earlier, &later) == Some(Ordering::Less));
+    assert!(rt; order_of(&later, &earlier) == Some(Ordering::Greater));
     Ok(())
 }
 

@@ -7,7 +7,7 @@ use Rattle.std.proofs.lemmas.Bool.Decides.{Decides-eqb}
 use Rattle.std.proofs.lemmas.Bool.{false≢true}
 use Rattle.deb_version.specs.Parts.{value_of, Cut, Part, joined, IsDigits, AreCuts, part_of, parts_of_cuts, HasParts}
 use Rattle.deb_version.specs.Canonical.{digits_of, ends_in_letter, last_digits_of, component_text}
-use Rattle.deb_version.proofs.PartsLemmas.{cons_not_nil}
+use Rattle.deb_version.specs.PartsLemmas.{cons_not_nil}
 use Rattle.deb_version.proofs.CanonicalDigits.{value_of-digits_of, IsDigits-digits_of, digits_of-some, length-digits_of-value_of}
 
 -- the cuts of the canonical text

@@ -11,7 +11,7 @@ use Rattle.deb_version.specs.Cuts.{cuts_after}
 use Rattle.deb_version.specs.Canonical.{digits_of, ends_in_letter, last_digits_of, component_text, is_no_revision}
 use Rattle.deb_version.proofs.Emptiness.{nil_of_length}
 use Rattle.deb_version.proofs.ByteLemmas.{empty-fact, none_equal}
-use Rattle.deb_version.proofs.PartsLemmas.{cons_not_nil, joined-cuts_of, AreCuts-cuts_of}
+use Rattle.deb_version.specs.PartsLemmas.{cons_not_nil, joined-cuts_of, AreCuts-cuts_of}
 use Rattle.deb_version.proofs.ValueLemmas.{value_after-le}
 use Rattle.deb_version.proofs.LeadingZeros.{without_zeros, without_zeros-zero, without_zeros-other, value_of-zero}
 use Rattle.deb_version.proofs.CanonicalComponent.{IsDigits-last_digits_of}

@@ -6,7 +6,7 @@ use Rattle.std.proofs.lemmas.Int.Digits.{number_lt, digits_of_step, length-digit
 use Rattle.std.proofs.lemmas.List.{append-nil, append_assoc, length-map}
 use Rattle.deb_version.specs.Parts.{value_after, value_of, IsDigits}
 use Rattle.deb_version.specs.Canonical.{digits_of}
-use Rattle.deb_version.proofs.PartsLemmas.{cons_not_nil}
+use Rattle.deb_version.specs.PartsLemmas.{cons_not_nil}
 
 -- the digits of numbers below ten
 abbrev written : List ℕ → List ℕ

@@ -12,7 +12,7 @@ use Rattle.deb_version.specs.Canonical.{digits_of, component_text, is_no_revisio
 use Rattle.deb_version.specs.CanonicalLaws.{CanonicalTextSpells, CanonicalTextDecides, CanonicalTextStays, CanonicalTextIsShort}
 use Rattle.deb_version.proofs.Emptiness.{nil_of_length, some_length}
 use Rattle.deb_version.proofs.ByteLemmas.{differs, none_equal-test, none_equal-fact}
-use Rattle.deb_version.proofs.PartsLemmas.{has_parts}
+use Rattle.deb_version.specs.PartsLemmas.{has_parts}
 use Rattle.deb_version.proofs.CanonicalDigits.{value_of-digits_of, IsDigits-digits_of, digits_of-some, length-digits_of-value_of}
 use Rattle.deb_version.proofs.CanonicalComponent.{HasParts-component_text, All-weaker, All-component_text, component_text-some, length-component_text}
 use Rattle.deb_version.proofs.MeaningLemmas.{one_version}

@@ -10,7 +10,7 @@ use Rattle.deb_version.specs.CanonicalLaws.{EqualVersionsHaveOneText}
 use Rattle.deb_version.specs.Version.{components_of, meaning_of}
 use Rattle.deb_version.proofs.AllowedLemmas.{well_formed_of}
 use Rattle.deb_version.proofs.MeaningLemmas.{has_meaning}
-use Rattle.deb_version.proofs.OrderLemmas.{HasTexts-from_spelled, version_same}
+use Rattle.deb_version.specs.OrderLemmas.{HasTexts-from_spelled, version_same}
 use Rattle.deb_version.proofs.CanonicalVersion.{canonical_text_decides}
 
 pub equal_versions_have_one_text : EqualVersionsHaveOneText
@@ -27,8 +27,3 @@ pub equal_where_one_text : (a b : Version) (o : Ordering) → o ≡ version_cmp 
 equal_where_one_text a b o is =
     let law = equal_versions_have_one_text _ _ (meaning_of a) (meaning_of b) (spelled a) (spelled b) in
     (λ e. law.0 (sym is ∙ e), λ e. is ∙ law.1 e)
-
-pub ok_where_one_text : {E : Type 0} (a b : Version) (r : Result Ordering E) → IfOk r (λ o. o ≡ version_cmp (meaning_of a) (meaning_of b))
-    → IfOk r (λ o. (o ≡ Equal) ↔ (version_text (meaning_of a) ≡ version_text (meaning_of b)))
-ok_where_one_text a b (Ok o) is = equal_where_one_text a b o is
-ok_where_one_text a b (Err e) is = tt

@@ -8,7 +8,7 @@ use Rattle.deb_version.specs.Parts.{Cut, AreCuts, HasNoDigit, IsDigits, with_dig
 use Rattle.deb_version.specs.Cuts.{cuts_after}
 use Rattle.deb_version.proofs.FirstPlace.{StartsWith, before_place, first_place, from_place, place_here, place_later}
 use Rattle.deb_version.proofs.ByteLemmas.{all_pass-test}
-use Rattle.deb_version.proofs.PartsLemmas.{AreCuts-cuts_of, cons_not_nil}
+use Rattle.deb_version.specs.PartsLemmas.{AreCuts-cuts_of, cons_not_nil}
 
 -- a byte that isn't a digit
 abbrev pub is_other : ℕ → Bool

@@ -1,4 +1,3 @@
-pub mod PartsLemmas
 pub mod CutLemmas
 pub mod ByteLemmas
 pub mod ComponentsLemmas
@@ -10,8 +9,6 @@ pub mod ParseLemmas
 pub mod FirstPlace
 pub mod FirstCut
 pub mod NumberOrder
-pub mod ContinuedOrder
-pub mod OrderLemmas
 pub mod Emptiness
 pub mod LeadingZeros
 pub mod CanonicalDigits
@@ -21,3 +18,4 @@ pub mod CanonicalCuts
 pub mod CanonicalWritten
 pub mod CanonicalFits
 pub mod EqualTexts
+pub mod Walks

@@ -3,7 +3,7 @@ use Rattle.std.proofs.Common.{◌≡◌, ℕ, List, Option, Some, None, MatchOpt
 use Rattle.deb_version.specs.Parts.{Part, HasParts, Meaning, no_revision, parts_of, value_of}
 use Rattle.deb_version.specs.Grammar.{Components, AreComponents, HasMeaning, SpellsVersion, epoch_value, revision_parts, meaning_of_components}
 use Rattle.deb_version.specs.Places.{components_in}
-use Rattle.deb_version.proofs.PartsLemmas.{has_parts, one_parts}
+use Rattle.deb_version.specs.PartsLemmas.{has_parts, one_parts}
 use Rattle.deb_version.proofs.ComponentsLemmas.{components_in-spelling, spelling-components_in}
 
 -- Components mean what `meaning_of_components` says.

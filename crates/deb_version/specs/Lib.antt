@@ -9,3 +9,8 @@ pub mod Version
 pub mod Cuts
 pub mod Canonical
 pub mod CanonicalLaws
+pub mod Hashes
+pub mod PartsLemmas
+pub mod ContinuedOrder
+pub mod OrderLemmas
+pub mod HashLaws

@@ -140,7 +140,7 @@ fn append_component(component: &[u8], out: &mut Vec<u8>) -> Result<(), AllocErro
 
 /// The number of a cut without leading zeros; in the last cut the number 0 is left out exactly if
 /// the cut's text ends in a letter.
-fn canonical_digits(cut: Cut<'_>, is_last: bool) -> &[u8]
+pub(crate) fn canonical_digits(cut: Cut<'_>, is_last: bool) -> &[u8]
     ensures { result.now ≡
         (if is_last then last_digits_of (part_of (cut_of cut.entry)) else digits_of
         (value_of cut.entry.run.now)) }

@@ -4,8 +4,6 @@ ghost use Rattle.std.specs.Prelude.{◌≡◌, ◌-◌, ◌≤◌, ◌∷◌, ma
 ghost use Rattle.std.specs.Char.{is_ascii_digit};
 ghost use Rattle.std.specs.List.{list_all};
 
-use std::alloc::{AllocError, Global};
-
 /// A text without digits, and the run of digits that follows it. Either may be empty.
 #[derive(Clone, Copy)]
 pub(crate) struct Cut<'a> {
@@ -18,12 +16,6 @@ impl<'a> Cut<'a> {
     ghost use Rattle.deb_version.specs.Cuts.{cut_of, cuts_after};
     ghost use Rattle.deb_version.specs.Parts.{cuts_of};
 
-    /// The cut that continues the shorter of two lists of cuts.
-    pub(crate) const EMPTY: Cut<'static> = Cut {
-        text: &[],
-        run: &[],
-    };
-
     /// The first cut of a component, and what follows it.
     pub(crate) fn first(bytes: &'a [u8]) -> (Self, &'a [u8])
         ensures cuts { cuts_of bytes.now ≡ cut_of result.0 ∷ cuts_after result.1.now }
@@ -32,22 +24,6 @@ impl<'a> Cut<'a> {
         let (text, digits) = bytes.split_at(first_digit(bytes).unwrap_or(bytes.len()));
         let (run, after) = digits.split_at(first_other(digits).unwrap_or(digits.len()));
         (Cut { text, run }, after)
-    }
-
-    /// All cuts of a component, from the left.
-    pub(crate) fn all(alloc: Global, component: &'a [u8]) -> Result<Vec<Cut<'a>>, AllocError>
-        ensures { IfOk result (λ cuts. map cut_of cuts.items ≡ cuts_of component.now) }
-    {
-        let mut cuts = Vec::new(alloc);
-        let mut rest = component;
-        loop {
-            let (cut, after) = Cut::first(rest);
-            cuts.push(cut)?;
-            if after.is_empty() {
-                return Ok(cuts);
-            }
-            rest = after;
-        }
     }
 }
 

@@ -1,75 +1,93 @@
 //! Debian's order of versions.
 
-ghost use Rattle.std.specs.Prelude.{◌≡◌, ◌↔◌, map, IfOk, IsTrue, slice_index_or};
+ghost use Rattle.std.specs.Prelude.{◌≡◌, ◌↔◌, IsTrue};
 ghost use Rattle.std.specs.Char.{is_ascii_digit};
+ghost use Rattle.std.specs.Cmp.{eq_by_cmp_equiv, on_equiv, on_per, on_po, on_total, partial_equiv_from_equiv, po};
 ghost use Rattle.std.specs.List.{list_all};
-ghost use Rattle.std.specs.Ordering.{nat_cmp};
+ghost use Rattle.std.specs.Ordering.{as_partial_cmp, eq_by_cmp, nat_cmp, on};
+ghost use Rattle.std.specs.Prelude.{map, refl, slice_index_or};
 ghost use Rattle.std.specs.declared.cmp.Ordering.TheVariants.{Equal};
+ghost use Rattle.deb_version.specs.OrderLemmas.{version_total};
 ghost use Rattle.deb_version.specs.Canonical.{version_text};
 ghost use Rattle.deb_version.specs.Cuts.{cut_of};
-ghost use Rattle.deb_version.specs.Order.{component_cmp, empty_part, end_rank, part_cmp, rank_of, text_cmp, version_cmp};
-ghost use Rattle.deb_version.specs.Parts.{part_of, parts_of, parts_of_cuts, value_of};
+ghost use Rattle.deb_version.specs.Order.{component_cmp, end_rank, part_cmp, rank_of, text_cmp, version_cmp};
+ghost use Rattle.deb_version.specs.Parts.{part_of, parts_of, value_of};
 ghost use Rattle.deb_version.specs.Version.{meaning_of};
 
 use crate::cut::Cut;
 use crate::run::without_zeros;
 use crate::version::Version;
-use std::alloc::{AllocError, Global};
 use std::cmp::Ordering;
 
-/// Which of two versions is later, in Debian's order: by epoch, then by upstream version, then by
-/// revision (Debian Policy 5.6.12; deb-version(7), "Sorting algorithm").
-///
 /// Versions of different spelling can be equal, as `1.01` and `0:1.1-0`: exactly those are whose
-/// canonical texts are one. Numbers have no largest length. The answer is `AllocError` only if
-/// memory for the lists of parts is refused.
-pub fn compare(alloc: Global, a: &Version<'_>, b: &Version<'_>) -> Result<Ordering, AllocError>
-    ensures ok { IfOk result (λ o. o ≡ version_cmp (meaning_of a.now) (meaning_of b.now)) }
-    ensures canonical { IfOk result
-        (λ o. (o ≡ Equal) ↔ (version_text (meaning_of a.now) ≡ version_text (meaning_of b.now))) }
-{
-    let order = compare_runs(a.epoch.unwrap_or(&[]), b.epoch.unwrap_or(&[]));
-    if order.is_ne() {
-        return Ok(order);
+/// canonical texts are one.
+impl PartialEq for Version<'_> {
+    ghost eq = { on meaning_of (eq_by_cmp version_cmp) };
+
+    ghost laws = { on_per meaning_of (partial_equiv_from_equiv (eq_by_cmp_equiv version_total)) };
+
+    fn eq(&self, other: &Self) -> bool {
+        self.cmp(other).is_eq()
     }
-    let order = compare_components(alloc, a.upstream, b.upstream)?;
-    if order.is_ne() {
-        return Ok(order);
-    }
-    compare_components(alloc, a.revision.unwrap_or(&[]), b.revision.unwrap_or(&[]))
 }
 
-/// Two upstream versions, or two revisions.
-fn compare_components(alloc: Global, a: &[u8], b: &[u8]) -> Result<Ordering, AllocError>
-    ensures { IfOk result (λ o. o ≡ component_cmp (parts_of a.now) (parts_of b.now)) }
-{
-    let a = Cut::all(alloc, a)?;
-    let b = Cut::all(alloc, b)?;
-    Ok(compare_cuts(&a, &b))
+impl Eq for Version<'_> {
+    ghost laws = { on_equiv meaning_of (eq_by_cmp_equiv version_total) };
 }
 
-/// Two lists of cuts: the first place that differs decides.
-fn compare_cuts(a: &[Cut<'_>], b: &[Cut<'_>]) -> Ordering
-    ensures { result ≡ component_cmp (parts_of_cuts (map cut_of a.now))
-        (parts_of_cuts (map cut_of b.now)) }
-{
-    for i in 0..a.len().max(b.len()) {
-        let order = compare_parts(cut_at(a, i), cut_at(b, i));
+impl PartialOrd for Version<'_> {
+    ghost partial_cmp = { on meaning_of (as_partial_cmp version_cmp) };
+
+    ghost laws = { on_po meaning_of (po version_total (λ a b. refl)) };
+
+    fn partial_cmp(&self, other: &Self) -> Option<Ordering> {
+        Some(self.cmp(other))
+    }
+}
+
+/// Debian's order: by epoch, then by upstream version, then by revision (Debian Policy 5.6.12;
+/// deb-version(7), "Sorting algorithm"). Numbers have no largest length. No memory is taken.
+impl Ord for Version<'_> {
+    ghost cmp = { on meaning_of version_cmp };
+
+    ghost total = { on_total meaning_of version_total };
+
+    ghost matches_partial_cmp = { λ a b. refl };
+
+    ghost matches_eq = { λ a b. refl };
+
+    fn cmp(&self, other: &Self) -> Ordering
+        ensures order { result ≡ version_cmp (meaning_of self.now) (meaning_of other.now) }
+        ensures canonical { (result ≡ Equal)
+            ↔ (version_text (meaning_of self.now) ≡ version_text (meaning_of other.now)) }
+    {
+        let order = compare_runs(self.epoch.unwrap_or(&[]), other.epoch.unwrap_or(&[]));
         if order.is_ne() {
             return order;
         }
+        let order = compare_components(self.upstream, other.upstream);
+        if order.is_ne() {
+            return order;
+        }
+        compare_components(self.revision.unwrap_or(&[]), other.revision.unwrap_or(&[]))
     }
-    Ordering::Equal
 }
 
-/// The cut at a place, or an empty one past the end.
-fn cut_at<'a>(cuts: &[Cut<'a>], i: usize) -> Cut<'a>
-    ensures { part_of (cut_of result)
-        ≡ slice_index_or (parts_of_cuts (map cut_of cuts.now)) i empty_part }
+/// Two upstream versions, or two revisions: the first cuts that differ decide.
+fn compare_components(a: &[u8], b: &[u8]) -> Ordering
+    ensures { result ≡ component_cmp (parts_of a.now) (parts_of b.now) }
 {
-    match cuts.get(i) {
-        Some(cut) => *cut,
-        None => Cut::EMPTY,
+    let mut rest_a = a;
+    let mut rest_b = b;
+    loop {
+        let (cut_a, after_a) = Cut::first(rest_a);
+        let (cut_b, after_b) = Cut::first(rest_b);
+        let order = compare_parts(cut_a, cut_b);
+        if order.is_ne() || (after_a.is_empty() && after_b.is_empty()) {
+            return order;
+        }
+        rest_a = after_a;
+        rest_b = after_b;
     }
 }
 

@@ -118,6 +118,15 @@ IfUnread (Compare former operator latter) P = P
 IfUnread (CanonVersion version) P = P
 IfUnread (Query arch profiles relation) P = Unit {0}
 
+-- Comparing two versions takes no memory.
+abbrev pub IfCompare : Job → Type 0 → Type 0
+IfCompare (Check doc) P = Unit {0}
+IfCompare (Normalise doc) P = Unit {0}
+IfCompare (Same doc) P = Unit {0}
+IfCompare (Compare former operator latter) P = P
+IfCompare (CanonVersion version) P = Unit {0}
+IfCompare (Query arch profiles relation) P = Unit {0}
+
 -- Every job but `same` leaves the second reader as it was.
 abbrev pub IfSecondUnread : Job → Type 0 → Type 0
 IfSecondUnread (Check doc) P = P

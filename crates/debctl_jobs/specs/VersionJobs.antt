@@ -79,7 +79,7 @@ abbrev pub Compares : List ℕ → Cmp → List ℕ → Result Bool Fault → Ty
 Compares left operator right (Ok answer) = Compared left operator right answer
 Compares left operator right (Err (Refused refusal)) =
     (refusal ≡ bad_version) × (IsNoVersion left ⊎ IsNoVersion right)
-Compares left operator right (Err Memory) = IsVersion left × IsVersion right
+Compares left operator right (Err Memory) = ⊥
 Compares left operator right (Err Read) = ⊥
 Compares left operator right (Err Write) = ⊥
 

@@ -1,7 +1,8 @@
 //! A whole command, over two readers and two writers.
 
 ghost use Rattle.std.specs.Prelude.{◌≡◌, ◌<◌};
-ghost use Rattle.debctl_jobs.specs.Running.{Done, IfSecondUnread, IfUnread, IsRefused, SaysNo, Told};
+ghost use Rattle.deb_base.specs.Devices.{one_more};
+ghost use Rattle.debctl_jobs.specs.Running.{Done, IfCompare, IfSecondUnread, IfUnread, IsRefused, SaysNo, Told};
 
 use crate::document_jobs::{run_check, run_normalise};
 use crate::query_job::run_query;
@@ -24,7 +25,7 @@ use std::alloc::Global;
 /// - 2: a file or a word is refused. `err` has the refusal's line, by `same` with `first: ` or
 ///   `second: ` before it, and `out` nothing but, by `normalise`, the canonical text of the
 ///   paragraphs before the first that fails.
-/// - 3: memory was wanting, a read failed, or a write failed. `err` has `fault: memory`,
+/// - 3: memory was wanting, a read failed, or a write failed; by `compare` only the last, on `err`. `err` has `fault: memory`,
 ///   `fault: read` or `fault: write`; where a write on `err` failed, a prefix of the line that was
 ///   to be written there.
 pub fn run<R: Source, S: Source, W: Sink, E: Sink>(
@@ -53,6 +54,10 @@ pub fn run<R: Source, S: Source, W: Sink, E: Sink>(
     ensures unread { IfUnread job.now (first.new ≡ first.old) }
     ensures second { IfSecondUnread job.now (second.new ≡ second.old) }
 
+    // Comparing takes no memory: its status is 3 only where a write failed on `err`.
+    ensures compared { IfCompare job.now
+        (result ≡ 3 → E.failures err.new ≡ one_more (E.failures err.old)) }
+
     // Whatever the status: there is an answer to the job, and that is told.
     ensures told { Told job.now (R.left first.old) (R.failures first.old) (R.failures first.new)
         (S.left second.old) (S.failures second.old) (S.failures second.new)
@@ -63,7 +68,7 @@ pub fn run<R: Source, S: Source, W: Sink, E: Sink>(
         Job::Normalise(doc) => run_normalise(alloc, *doc, first, out, err),
         Job::Same(doc) => run_same(alloc, *doc, first, second, out, err),
         Job::Compare(left, operator, right) => {
-            run_compare(alloc, left.as_str(), *operator, right.as_str(), err)
+            run_compare(left.as_str(), *operator, right.as_str(), err)
         }
         Job::CanonVersion(version) => run_canon_version(alloc, version.as_str(), out, err),
         Job::Query {

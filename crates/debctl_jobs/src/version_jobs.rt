@@ -2,6 +2,7 @@
 
 ghost use Rattle.std.specs.Prelude.{◌≡◌, ◌<◌, ◌⊎◌, true, false, Bool, Result, ⊤};
 ghost use Rattle.std.specs.Io.KnownBytes.{Appends};
+ghost use Rattle.deb_base.specs.Devices.{one_more};
 ghost use Rattle.deb_base.specs.Lines.{refusal_line};
 ghost use Rattle.deb_base.specs.declared.fault.Fault.{Fault};
 ghost use Rattle.debctl_jobs.specs.Telling.{done_status, Tells};
@@ -9,7 +10,7 @@ ghost use Rattle.debctl_jobs.specs.VersionJobs.{bad_version, holds, verdict_stat
 
 use crate::tell::tell;
 use deb_base::{Code, Fault, Refusal, Sink, put_all};
-use deb_version::{Version, compare};
+use deb_version::Version;
 use debctl_words::Cmp;
 use std::alloc::Global;
 use std::cmp::Ordering;
@@ -18,28 +19,22 @@ use std::cmp::Ordering;
 ///
 /// - 0 and 1: they compare as the operator asks, and they don't.
 /// - 2: one of them is no version. `err` has `line 0: 18 BadVersion`.
-/// - 3: memory was wanting, and `err` has `fault: memory`; or a write on `err` failed, and `err`
-///   has a prefix of its line.
-pub(crate) fn run_compare<E: Sink>(
-    alloc: Global,
-    left: &str,
-    operator: Cmp,
-    right: &str,
-    err: &mut E,
-) -> u8
+/// - 3: a write on `err` failed, and `err` has a prefix of its line. No memory is taken.
+pub(crate) fn run_compare<E: Sink>(left: &str, operator: Cmp, right: &str, err: &mut E) -> u8
     ensures yes { result ≡ 0 → (err.new ≡ err.old) × Compared left.now operator right.now true }
     ensures no { result ≡ 1 → (err.new ≡ err.old) × Compared left.now operator right.now false }
     ensures refused { result ≡ 2 → (IsNoVersion left.now ⊎ IsNoVersion right.now)
         × Appends (E.held err.old) (E.held err.new) (refusal_line bad_version) }
 
-    // Where a write failed, the status is 3.
+    // Where a write failed, the status is 3, and nowhere else.
     ensures telling_failed { E.failures err.old < E.failures err.new → result ≡ 3 }
+    ensures fault { result ≡ 3 → E.failures err.new ≡ one_more (E.failures err.old) }
 
     // Whatever the status: there is an answer, and that is told.
     ensures told { (answer : Result Bool Fault) × Compares left.now operator right.now answer
         × Tells verdict_status E.held E.failures err.old err.new answer result }
 {
-    match compare_words(alloc, left, operator, right) {
+    match compare_words(left, operator, right) {
         Ok(true) => 0,
         Ok(false) => 1,
         Err(fault) => tell(&fault, err),
@@ -79,15 +74,12 @@ pub(crate) fn run_canon_version<W: Sink, E: Sink>(
 }
 
 /// Whether two versions compare as the operator asks.
-fn compare_words(alloc: Global, left: &str, operator: Cmp, right: &str) -> Result<bool, Fault>
+fn compare_words(left: &str, operator: Cmp, right: &str) -> Result<bool, Fault>
     ensures { Compares left.now operator right.now result }
 {
     let left = parse_word(left)?;
     let right = parse_word(right)?;
-    match compare(alloc, &left, &right) {
-        Ok(order) => Ok(holds(operator, order)),
-        Err(_) => Err(Fault::Memory),
-    }
+    Ok(holds(operator, left.cmp(&right)))
 }
 
 /// Writes the canonical text of a version with a newline.

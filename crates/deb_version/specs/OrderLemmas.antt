@@ -10,7 +10,7 @@ use Rattle.std.specs.declared.cmp.Ordering.TheVariants.{Less, Equal, Greater}
 use Rattle.std.proofs.lemmas.Bool.{false≢true, true≢false}
 use Rattle.std.proofs.lemmas.List.{append-nil}
 use Rattle.std.proofs.lemmas.Bool.Decides.{nat_tests}
-use Rattle.deb_version.proofs.ContinuedOrder.{continued_total, then-Equal}
+use Rattle.deb_version.specs.ContinuedOrder.{continued_total, then-Equal}
 use Rattle.deb_version.specs.Grammar.{SpellsVersion}
 use Rattle.deb_version.specs.Order.{component_cmp, empty_part, end_rank, part_cmp, rank_of, text_cmp, version_cmp}
 use Rattle.deb_version.specs.OrderLaws.{FirstDifferenceDecides, HasTexts}

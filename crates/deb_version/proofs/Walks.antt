@@ -1,0 +1,60 @@
+-- One step of a walk over the cuts of a component, or of two components at once.
+use Rattle.std.proofs.Common.{◌≡◌, ◌≢◌, ℕ, List, [], ◌∷◌, Bool, true, false, map, refl, sym, ap, ◌∙◌, fold}
+use Rattle.std.specs.Hash.{HashWrites}
+use Rattle.std.specs.Hash as fed
+use Rattle.std.specs.Ordering.{is_ne, ordering_then}
+use Rattle.std.specs.declared.cmp.Ordering.{Ordering}
+use Rattle.std.specs.declared.cmp.Ordering.TheVariants.{Less, Equal, Greater}
+use Rattle.deb_version.specs.Canonical.{digits_of}
+use Rattle.deb_version.specs.Cuts.{cuts_after}
+use Rattle.deb_version.specs.Hashes.{component_writes}
+use Rattle.deb_version.specs.Order.{component_cmp, empty_part, part_cmp}
+use Rattle.deb_version.specs.Parts.{Cut, Part, cuts_of, part_of, parts_of, parts_of_cuts, value_of}
+
+-- no parts compare as one empty part
+left_end : (ps : List Part) → component_cmp [] ps ≡ component_cmp (empty_part ∷ []) ps
+left_end [] = refl
+left_end (p ∷ ps) = refl
+
+right_end : (ps : List Part) → component_cmp ps [] ≡ component_cmp ps (empty_part ∷ [])
+right_end [] = refl
+right_end (p ∷ ps) = refl
+
+rests : (a b : List ℕ) → component_cmp (parts_of_cuts (cuts_after a)) (parts_of_cuts (cuts_after b)) ≡ component_cmp (parts_of a) (parts_of b)
+rests [] [] = refl
+rests [] (y ∷ b) = left_end (parts_of (y ∷ b))
+rests (x ∷ a) [] = right_end (parts_of (x ∷ a))
+rests (x ∷ a) (y ∷ b) = refl
+
+-- The first cuts decide, and else what follows them.
+pub component_cmp-step : (a b after_a after_b : List ℕ) (x y : Cut) → cuts_of a ≡ x ∷ cuts_after after_a → cuts_of b ≡ y ∷ cuts_after after_b
+    → component_cmp (parts_of a) (parts_of b) ≡ ordering_then (part_cmp (part_of x) (part_of y)) (component_cmp (parts_of after_a) (parts_of after_b))
+component_cmp-step a b after_a after_b x y is_a is_b =
+    ap (λ l. component_cmp (parts_of_cuts l) (parts_of b)) is_a ∙ ap (λ l. component_cmp (parts_of_cuts (x ∷ cuts_after after_a)) (parts_of_cuts l)) is_b
+    ∙ ap (ordering_then (part_cmp (part_of x) (part_of y))) (rests after_a after_b)
+
+pub then-ne : (o p : Ordering) → is_ne o ≡ true → ordering_then o p ≡ o
+then-ne Less p e = refl
+then-ne Equal p e = cc e
+then-ne Greater p e = refl
+
+pub then-eq : (o p : Ordering) → is_ne o ≡ false → ordering_then o p ≡ p
+then-eq Less p e = cc e
+then-eq Equal p e = refl
+then-eq Greater p e = cc e
+
+pub then-Equal_right : (o : Ordering) → ordering_then o Equal ≡ o
+then-Equal_right Less = refl
+then-Equal_right Equal = refl
+then-Equal_right Greater = refl
+
+-- What follows the first cut is fed behind it, or the end.
+
+pub writes-more : (bytes after : List ℕ) (cut : Cut) → cuts_of bytes ≡ cut ∷ cuts_after after → after ≢ []
+    → component_writes (parts_of bytes) ≡ cut.0 ∷ digits_of (value_of cut.1) ∷ component_writes (parts_of after)
+writes-more bytes [] cut is some = absurd (some refl)
+writes-more bytes (b ∷ after) cut is some = ap (λ l. component_writes (parts_of_cuts l)) is
+
+pub writes-last : (bytes after : List ℕ) (cut : Cut) → cuts_of bytes ≡ cut ∷ cuts_after after → after ≡ []
+    → component_writes (parts_of bytes) ≡ cut.0 ∷ digits_of (value_of cut.1) ∷ fed.u8 255
+writes-last bytes after cut is none = ap (λ l. component_writes (parts_of_cuts l)) is ∙ ap (λ l. cut.0 ∷ digits_of (value_of cut.1) ∷ component_writes (parts_of_cuts (cuts_after l))) none
