@@ -1,5 +1,5 @@
-//! Paragraphs and their fields, as a caller reads them, in pieces of several sizes, with and without
-//! `begins` before each `next`.
+//! Paragraphs and their fields, as a caller reads them, in pieces of several sizes, with and
+//! without `begins` before each `next`.
 
 mod failing;
 mod raw;
@@ -68,7 +68,8 @@ fn next_within(
     Ok(found)
 }
 
-/// Whether the buffer, and the bytes that each read was lent, are as few as they may be at a return.
+/// Whether the buffer, and the bytes that each read was lent, are as few as they may be at a
+/// return.
 fn is_within(paragraphs: &Paragraphs, reader: &Pieces<'_>) -> bool {
     paragraphs.held() <= 16_842_752 && reader.longest <= 65_536
 }
@@ -157,8 +158,8 @@ fn begins_at(found: Result<Option<u64>, Fault>, line: u64) -> bool {
     }
 }
 
-/// A file, what is told of its paragraphs, and how many lines it has or the code and the line of its
-/// refusal.
+/// A file, what is told of its paragraphs, and how many lines it has or the code and the line of
+/// its refusal.
 struct Row(&'static [u8], &'static str, Result<u64, (Code, u64)>);
 
 const ROWS: [Row; 6] = [

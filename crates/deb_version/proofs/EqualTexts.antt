@@ -1,5 +1,5 @@
 -- Versions are equal in Debian's order exactly if they have one canonical text.
-use Rattle.std.proofs.Common.{◌≡◌, ◌↔◌, sym, ◌∙◌, Ok, Err, IfOk, Result, refl}
+use Rattle.std.proofs.Common.{◌≡◌, ◌↔◌, sym, ◌∙◌, refl}
 use Rattle.std.specs.declared.cmp.Ordering.{Ordering}
 use Rattle.std.specs.declared.cmp.Ordering.TheVariants.{Equal}
 use Rattle.deb_version.specs.declared.version.Version.{Version}

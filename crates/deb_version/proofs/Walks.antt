@@ -1,6 +1,5 @@
 -- One step of a walk over the cuts of a component, or of two components at once.
-use Rattle.std.proofs.Common.{◌≡◌, ◌≢◌, ℕ, List, [], ◌∷◌, Bool, true, false, map, refl, sym, ap, ◌∙◌, fold}
-use Rattle.std.specs.Hash.{HashWrites}
+use Rattle.std.proofs.Common.{◌≡◌, ◌≢◌, ℕ, List, [], ◌∷◌, true, false, refl, ap, ◌∙◌}
 use Rattle.std.specs.Hash as fed
 use Rattle.std.specs.Ordering.{is_ne, ordering_then}
 use Rattle.std.specs.declared.cmp.Ordering.{Ordering}

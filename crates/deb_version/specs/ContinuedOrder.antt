@@ -1,4 +1,5 @@
--- The order of two lists of which the shorter is continued by one value: it is total where the order of the values is.
+-- The order of two lists of which the shorter is continued by one value: it is total where the
+-- order of the values is.
 use Rattle.std.proofs.Common.{◌≡◌, List, [], ◌∷◌, refl, sym, ap, ◌∙◌}
 use Rattle.std.specs.Ordering.{ordering_then, ordering_reverse}
 use Rattle.std.specs.Cmp.{IsTotalOrder, alike_right, tied_itself}
@@ -12,13 +13,15 @@ then-Equal Less s e = cc e
 then-Equal Equal s e = (refl, e)
 then-Equal Greater s e = cc e
 
-then-reverse : (r s : Ordering) → ordering_then (ordering_reverse r) (ordering_reverse s) ≡ ordering_reverse (ordering_then r s)
+then-reverse : (r s : Ordering)
+    → ordering_then (ordering_reverse r) (ordering_reverse s) ≡ ordering_reverse (ordering_then r s)
 then-reverse Less s = refl
 then-reverse Equal s = refl
 then-reverse Greater s = refl
 
 -- a first comparison before Less: it is Less, or Equal and the second is Less
-then-Less : {P : Type 0} → (r s : Ordering) → ordering_then r s ≡ Less → (r ≡ Less → P) → (r ≡ Equal → s ≡ Less → P) → P
+then-Less : {P : Type 0} → (r s : Ordering) → ordering_then r s ≡ Less → (r ≡ Less → P)
+    → (r ≡ Equal → s ≡ Less → P) → P
 then-Less Less s e f g = f refl
 then-Less Equal s e f g = g refl e
 then-Less Greater s e f g = cc e
@@ -26,7 +29,8 @@ then-Less Greater s e f g = cc e
 module _ {K : Type 0} {R : K → K → Ordering} (o : IsTotalOrder R) where
   -- one place in front of two comparisons that are chained
   step-trans : (a b c : K) (p q r : Ordering) → (p ≡ Less → q ≡ Less → r ≡ Less)
-      → ordering_then (R a b) p ≡ Less → ordering_then (R b c) q ≡ Less → ordering_then (R a c) r ≡ Less
+      → ordering_then (R a b) p ≡ Less → ordering_then (R b c) q ≡ Less
+      → ordering_then (R a c) r ≡ Less
   step-trans a b c p q r chain ab bc =
       then-Less (R a b) p ab
       (λ less. then-Less (R b c) q bc
@@ -42,35 +46,43 @@ module _ {K : Type 0} {R : K → K → Ordering} (o : IsTotalOrder R) where
       let both = then-Equal (R a b) p ab in
       ap (λ v. ordering_then v q) (o.congr a b c both.0) ∙ ap (ordering_then (R b c)) (alike both.1)
 
-  step-reverse : (a b : K) (p q : Ordering) → p ≡ ordering_reverse q → ordering_then (R a b) p ≡ ordering_reverse (ordering_then (R b a) q)
+  step-reverse : (a b : K) (p q : Ordering) → p ≡ ordering_reverse q
+      → ordering_then (R a b) p ≡ ordering_reverse (ordering_then (R b a) q)
   step-reverse a b p q e =
-      ap (λ v. ordering_then v p) (o.antisymm a b) ∙ ap (ordering_then (ordering_reverse (R b a))) e ∙ then-reverse (R b a) q
+      ap (λ v. ordering_then v p) (o.antisymm a b) ∙ ap (ordering_then (ordering_reverse (R b a))) e
+      ∙ then-reverse (R b a) q
 
   module _ (z : K) where
-    reverses : (xs ys : List K) → continued_cmp R z xs ys ≡ ordering_reverse (continued_cmp R z ys xs)
+    reverses : (xs ys : List K)
+        → continued_cmp R z xs ys ≡ ordering_reverse (continued_cmp R z ys xs)
     reverses [] [] = refl
     reverses [] (y ∷ ys) = step-reverse z y _ _ (reverses [] ys)
     reverses (x ∷ xs) [] = step-reverse x z _ _ (reverses xs [])
     reverses (x ∷ xs) (y ∷ ys) = step-reverse x y _ _ (reverses xs ys)
 
-    chains : (xs ys zs : List K) → continued_cmp R z xs ys ≡ Less → continued_cmp R z ys zs ≡ Less → continued_cmp R z xs zs ≡ Less
+    chains : (xs ys zs : List K) → continued_cmp R z xs ys ≡ Less → continued_cmp R z ys zs ≡ Less
+        → continued_cmp R z xs zs ≡ Less
     chains [] [] [] p q = p
     chains [] [] (c ∷ cs) p q = q
     chains [] (b ∷ bs) [] p q =
-        sym (ap (λ v. ordering_then v Equal) (tied_itself o z)) ∙ step-trans z b z _ _ Equal (chains [] bs []) p q
+        sym (ap (λ v. ordering_then v Equal) (tied_itself o z))
+        ∙ step-trans z b z _ _ Equal (chains [] bs []) p q
     chains [] (b ∷ bs) (c ∷ cs) p q = step-trans z b c _ _ _ (chains [] bs cs) p q
     chains (a ∷ l) [] [] p q = p
     chains (a ∷ l) [] (c ∷ cs) p q = step-trans a z c _ _ _ (chains l [] cs) p q
     chains (a ∷ l) (b ∷ bs) [] p q = step-trans a b z _ _ _ (chains l bs []) p q
     chains (a ∷ l) (b ∷ bs) (c ∷ cs) p q = step-trans a b c _ _ _ (chains l bs cs) p q
 
-    congruent : (xs ys zs : List K) → continued_cmp R z xs ys ≡ Equal → continued_cmp R z xs zs ≡ continued_cmp R z ys zs
+    congruent : (xs ys zs : List K) → continued_cmp R z xs ys ≡ Equal
+        → continued_cmp R z xs zs ≡ continued_cmp R z ys zs
     congruent [] [] zs p = refl
     congruent [] (b ∷ bs) [] p =
-        sym (ap (λ v. ordering_then v Equal) (tied_itself o z)) ∙ step-congr z b z _ Equal _ (congruent [] bs []) p
+        sym (ap (λ v. ordering_then v Equal) (tied_itself o z))
+        ∙ step-congr z b z _ Equal _ (congruent [] bs []) p
     congruent [] (b ∷ bs) (c ∷ cs) p = step-congr z b c _ _ _ (congruent [] bs cs) p
     congruent (a ∷ l) [] [] p =
-        step-congr a z z _ _ Equal (congruent l [] []) p ∙ ap (λ v. ordering_then v Equal) (tied_itself o z)
+        step-congr a z z _ _ Equal (congruent l [] []) p
+        ∙ ap (λ v. ordering_then v Equal) (tied_itself o z)
     congruent (a ∷ l) [] (c ∷ cs) p = step-congr a z c _ _ _ (congruent l [] cs) p
     congruent (a ∷ l) (b ∷ bs) [] p = step-congr a b z _ _ _ (congruent l bs []) p
     congruent (a ∷ l) (b ∷ bs) (c ∷ cs) p = step-congr a b c _ _ _ (congruent l bs cs) p

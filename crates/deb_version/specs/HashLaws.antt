@@ -12,13 +12,20 @@ use Rattle.deb_version.specs.PartsLemmas.{has_parts}
 
 -- components mean the parts of texts
 has_texts : (c : Components) → HasTexts (meaning_of_components c)
-has_texts c = record { upstream = (c.upstream, has_parts c.upstream); revision = of_revision c.revision }
+has_texts c = record {
+  upstream = (c.upstream, has_parts c.upstream);
+  revision = of_revision
+      c.revision;
+}
   where
     of_revision : (r : Option (List ℕ)) → (text : List ℕ) × HasParts text (revision_parts r)
     of_revision None = ([], has_parts [])
     of_revision (Some revision) = (revision, has_parts revision)
 
-pub equal_feed_alike : (c d : Components) → IsTrue (eq_by_cmp version_cmp (meaning_of_components c) (meaning_of_components d))
+pub equal_feed_alike : (c d : Components)
+    → IsTrue (eq_by_cmp version_cmp (meaning_of_components c) (meaning_of_components d))
     → version_writes (meaning_of_components c) ≡ version_writes (meaning_of_components d)
 equal_feed_alike c d equal =
-    ap version_writes ((version_same (meaning_of_components c) (meaning_of_components d) (has_texts c) (has_texts d)).0 ((Equal-is (version_cmp (meaning_of_components c) (meaning_of_components d))).0 equal))
+    ap version_writes ((version_same (meaning_of_components c) (meaning_of_components d)
+    (has_texts c) (has_texts d)).0 ((Equal-is
+    (version_cmp (meaning_of_components c) (meaning_of_components d))).0 equal))

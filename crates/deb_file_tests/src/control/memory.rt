@@ -30,18 +30,38 @@ fn next_fault(checked: &mut Checked, reader: &mut Pieces<'_>) -> Option<Fault> {
 /// Each second growth is one of `canon_into`.
 #[test]
 fn want_of_memory_leaves_what_stands_before_a_paragraph(rt: HostRuntime) -> Result<(), Fail> {
-    let mut paragraphs = Paragraphs::new(rt.alloc());
-    let raw = paragraphs
-        .next(&mut Input::new(PACKAGE))?
-        .ok_or("no paragraph")?;
-    let typed = Paragraph::build(rt.alloc(), Doc::Packages, &raw)?;
-    for _ in 0..150 {
-        assert!(rt; has_all_or_none(rt.alloc(), &typed) == Some(true));
-    }
+    let appends = appends_or_leaves(rt.alloc())?;
+    assert!(rt; appends);
     Ok(())
 }
 
-/// Whether the canonical text stands behind what stood there, or nothing where memory was wanted.
+/// The same with one growth before it, so that in one of the two it is one of `canon_into` that is
+/// refused.
+#[test]
+fn want_of_memory_a_growth_later(rt: HostRuntime) -> Result<(), Fail> {
+    let spent = vec![in rt.alloc(); b'='; 1]?;
+    let appends = appends_or_leaves(rt.alloc())?;
+    assert!(rt; appends && spent.len() == 1);
+    Ok(())
+}
+
+/// Whether the canonical text is appended to lists, and where memory was wanted nothing.
+fn appends_or_leaves(alloc: Global) -> Result<bool, Fail> {
+    let mut paragraphs = Paragraphs::new(alloc);
+    let raw = paragraphs
+        .next(&mut Input::new(PACKAGE))?
+        .ok_or("no paragraph")?;
+    let typed = Paragraph::build(alloc, Doc::Packages, &raw)?;
+    for _ in 0..150 {
+        if has_all_or_none(alloc, &typed) == Some(false) {
+            return Ok(false);
+        }
+    }
+    Ok(true)
+}
+
+/// Whether the canonical text stands behind what stood there, or nothing where memory was wanted;
+/// None where the list itself has no memory.
 fn has_all_or_none(alloc: Global, typed: &Paragraph<'_>) -> Option<bool> {
     let mut out = vec![in alloc; b'='; 3].ok()?;
     let wanted: &[u8] = match typed.canon_into(&mut out) {
