@@ -3,17 +3,16 @@ use Rattle.std.proofs.Common.{◌≡◌, ℕ, Bool, true, false, List, [], ◌�
 use Rattle.std.specs.Char.{is_ascii_digit}
 use Rattle.std.specs.List.{AllByRecursion}
 use Rattle.deb_version.specs.Parts.{Meaning}
-use Rattle.deb_version.specs.Grammar.{SpellsVersion, Components, AreComponents, is_upstream_byte, is_revision_byte, IsEpoch, IsRevision, spelling, epoch_text, revision_text}
+use Rattle.deb_version.specs.Grammar.{SpellsVersion, Components, are_components, is_upstream_byte, is_revision_byte, spelling, epoch_text, revision_text}
 use Rattle.deb_version.specs.Canonical.{version_text}
 use Rattle.deb_base.specs.declared.code.Code.TheVariants.{BadVersion}
 use Rattle.deb_version.specs.Faults.{first_fault}
 use Rattle.deb_version.specs.Places.{components_in}
 use Rattle.deb_version.specs.Grammar.{meaning_of_components}
 use Rattle.deb_version.proofs.FaultLemmas.{no_fault-from_spells, spells-from_no_fault}
-use Rattle.deb_version.proofs.MeaningLemmas.{one_version, has_meaning}
-use Rattle.deb_version.proofs.AllowedLemmas.{well_formed_of}
-use Rattle.deb_version.specs.declared.version.Version.{Version}
-use Rattle.deb_version.specs.Version.{components_of, meaning_of}
+use Rattle.deb_version.proofs.MeaningLemmas.{one_version}
+pub use Rattle.deb_version.proofs.MeaningLemmas.{version_spelled}
+use Rattle.deb_version.proofs.AllowedLemmas.{IsEpoch, IsRevision, are_components-fact}
 use Rattle.deb_version.proofs.CanonicalVersion.{canonical_text_spells, canonical_text_is_short}
 use Rattle.deb_base.specs.Bodies.{IsBody}
 use Rattle.deb_field.specs.CanonLaw.{CanonLaw, RefusalLaw}
@@ -51,8 +50,10 @@ of_revision (Some bytes) h = (
       bytes h.1,
 )
 
-of_components : (c : Components) → AreComponents c → AllByRecursion IsGraphic (spelling c)
-of_components c are =
+of_components : (c : Components) → IsTrue (are_components c)
+    → AllByRecursion IsGraphic (spelling c)
+of_components c allowed =
+    let are = are_components-fact c allowed in
     join IsGraphic (epoch_text c.epoch) (c.upstream ++ revision_text c.revision)
     (of_epoch c.epoch are.epoch)
     (join IsGraphic c.upstream (revision_text c.revision)
@@ -76,16 +77,6 @@ version_law = record {
   is_body = λ body m is s. IsBody-version (version_text m) m (canonical_text_spells body m s);
   is_short = λ body m s. canonical_text_is_short body m s;
 }
-
--- each version is spelled by its components
-pub version_spelled : (v : Version) → SpellsVersion (spelling (components_of v)) (meaning_of v)
-version_spelled v =
-    record {
-      components = components_of v;
-      spelt = refl;
-      allowed = well_formed_of v;
-      means = has_meaning (components_of v);
-    }
 
 none-from_test : {A : Type 0} (o : Option A) → is_none o ≡ true → o ≡ None
 none-from_test None h = refl

@@ -6,7 +6,8 @@ use Rattle.std.proofs.lemmas.Bool.Decides.{Decides-eqb}
 use Rattle.std.proofs.lemmas.Bool.{and_parts, ne_eqb, false≢true}
 use Rattle.deb_base.specs.PackageNames.{is_small_or_digit, is_package_byte, is_arch_byte, is_package_name, is_arch_name, is_profile_name}
 use Rattle.deb_version.specs.Parts.{Meaning as Version}
-use Rattle.deb_version.specs.Grammar.{SpellsVersion, Components, AreComponents, IsEpoch, IsRevision, is_upstream_byte, is_revision_byte, spelling, epoch_text, revision_text}
+use Rattle.deb_version.specs.Grammar.{SpellsVersion, Components, are_components, is_upstream_byte, is_revision_byte, spelling, epoch_text, revision_text}
+use Rattle.deb_version.proofs.AllowedLemmas.{IsEpoch, IsRevision, are_components-fact}
 use Rattle.deb_version.proofs.ByteLemmas.{differs, all_pass-fact, empty-test}
 use Rattle.deb_version.proofs.CanonicalComponent.{All-append, All-weaker}
 use Rattle.deb_version.specs.PartsLemmas.{cons_not_nil}
@@ -118,8 +119,9 @@ of_revision : (revision : Option (List ℕ)) → IfSome revision IsRevision → 
 of_revision None h = tt
 of_revision (Some bytes) h = (refl, All-weaker _ _ revision_version bytes h.1)
 
-of_components : (c : Components) → AreComponents c → Passes is_version_byte (spelling c)
-of_components c are =
+of_components : (c : Components) → IsTrue (are_components c) → Passes is_version_byte (spelling c)
+of_components c allowed =
+    let are = are_components-fact c allowed in
     All-append _ (epoch_text c.epoch) (c.upstream ++ revision_text c.revision) (of_epoch c.epoch are.epoch)
     (All-append _ c.upstream (revision_text c.revision) (All-weaker _ _ (upstream_version (is_some c.epoch)) c.upstream are.upstream_bytes) (of_revision c.revision are.revision))
 

@@ -57,8 +57,8 @@ const REFUSED: [Refused; 52] = [
         7,
     ),
     Refused(
-        "aa (= 2147483648:1)",
-        Reason::Version(BadVersion::EpochTooBig),
+        "aa (= 2147483648:1_)",
+        Reason::Version(BadVersion::UpstreamByte { at: 12 }),
         6,
     ),
     Refused("aa (= 1) (= 2)", Reason::Trailing, 9),

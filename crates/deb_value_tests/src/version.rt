@@ -11,13 +11,14 @@ use std::test::Fail;
 /// A text, and the first fault that it has.
 struct Refused(&'static str, BadVersion);
 
-const REFUSED: [Refused; 21] = [
+const REFUSED: [Refused; 20] = [
     Refused("", BadVersion::Empty),
     Refused(":1", BadVersion::EpochEmpty),
     Refused("a:1", BadVersion::EpochNotNumber),
     Refused("+1:1", BadVersion::EpochNotNumber),
-    Refused("2147483648:1", BadVersion::EpochTooBig),
-    Refused("18446744073709551617:1", BadVersion::EpochTooBig),
+    // an epoch may have any size, and a fault behind it is found
+    Refused("2147483648:", BadVersion::UpstreamEmpty),
+    Refused("2147483648:1_", BadVersion::UpstreamByte { at: 12 }),
     Refused("1-", BadVersion::RevisionEmpty),
     Refused("2:1-", BadVersion::RevisionEmpty),
     Refused("1:", BadVersion::UpstreamEmpty),
@@ -30,7 +31,6 @@ const REFUSED: [Refused; 21] = [
     // of several faults the first is answered
     Refused(":-", BadVersion::EpochEmpty),
     Refused("a:1-", BadVersion::EpochNotNumber),
-    Refused("2147483648:1-", BadVersion::EpochTooBig),
     Refused("1:-", BadVersion::RevisionEmpty),
     Refused("-_", BadVersion::UpstreamEmpty),
     Refused("1_-_", BadVersion::UpstreamByte { at: 1 }),
@@ -70,15 +70,16 @@ fn order(rt: HostRuntime) {
     assert!(rt; order_of(b"0:1.0-0", b"1.00") == Some(Ordering::Equal));
 }
 
-/// Spellings of one version.
+/// Spellings of one version, and of one with a long epoch.
 const SPELLINGS: [&[u8]; 4] = [b"1.01", b"1.1", b"0:1.1-0", b"01.001"];
+const LONG_EPOCHS: [&[u8]; 2] = [b"99999999999999999999:1", b"00099999999999999999999:1-0"];
 
-/// Whether the spellings are one key of each kind of set and map; None where a call fails.
-fn are_one_key(alloc: Global) -> Option<bool> {
+/// Whether spellings are one key of each kind of set and map; None where a call fails.
+fn are_one_key(alloc: Global, spellings: &[&[u8]]) -> Option<bool> {
     let mut set = HashSet::new(alloc);
     let mut tree = BTreeMap::new(alloc);
     let mut index = IndexMap::new(alloc);
-    for text in SPELLINGS {
+    for text in spellings {
         let version = Version::parse(text).ok()?;
         set.insert(version).ok()?;
         tree.insert(version, 0).ok()?;
@@ -89,7 +90,8 @@ fn are_one_key(alloc: Global) -> Option<bool> {
 
 #[test]
 fn keys(rt: HostRuntime) {
-    assert!(rt; are_one_key(rt.alloc()) == Some(true));
+    assert!(rt; are_one_key(rt.alloc(), &SPELLINGS) == Some(true));
+    assert!(rt; are_one_key(rt.alloc(), &LONG_EPOCHS) == Some(true));
 }
 
 /// Versions in their order.
@@ -142,6 +144,33 @@ fn order_of_long_versions(rt: HostRuntime) -> Result<(), Fail> {
     assert!(rt; order_of(&later, &later) == Some(Ordering::Equal));
     assert!(rt; order_of(&earlier, &later) == Some(Ordering::Less));
     assert!(rt; order_of(&later, &earlier) == Some(Ordering::Greater));
+    let alike = long_version(rt.alloc(), 0, b'7').ok_or("memory")?;
+    assert!(rt; order_of(&alike, &later) == Some(Ordering::Less));
+    Ok(())
+}
+
+/// An epoch of a million digits.
+fn long_epoch(alloc: Global, last: u8) -> Option<Vec<u8>> {
+    let mut text = vec![in alloc; b'9'; 999_999].ok()?;
+    text.extend_from_slice(&[last, b':', b'1']).ok()?;
+    Some(text)
+}
+
+#[test]
+fn order_of_long_epochs(rt: HostRuntime) -> Result<(), Fail> {
+    let later = long_epoch(rt.alloc(), b'9').ok_or("memory")?;
+    let earlier = long_epoch(rt.alloc(), b'8').ok_or("memory")?;
+    assert!(rt; order_of(&later, &earlier) == Some(Ordering::Greater));
+    assert!(rt; has_text(rt.alloc(), &later, &later) == Some(true));
+    Ok(())
+}
+
+#[test]
+fn order_of_many_tildes(rt: HostRuntime) -> Result<(), Fail> {
+    let fewer = vec![in rt.alloc(); b'~'; 1_000_000].map_err(|_| "memory")?;
+    let more = vec![in rt.alloc(); b'~'; 1_000_001].map_err(|_| "memory")?;
+    assert!(rt; order_of(&more, &fewer) == Some(Ordering::Less));
+    assert!(rt; order_of(&fewer, &fewer) == Some(Ordering::Equal));
     Ok(())
 }
 

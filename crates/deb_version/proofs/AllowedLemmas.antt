@@ -1,42 +1,82 @@
--- The test whether components are allowed holds exactly where they are; a version's components are.
-use Rattle.std.proofs.Common.{◌≡◌, ◌≢◌, ℕ, ◌==◌, ◌||◌, not, true, List, [], length, Option, Some, None, is_some, IfSome, IfNone, refl}
-use Rattle.std.specs.List.{AllByRecursion, list_any, list_all}
-use Rattle.std.specs.Option.{option_map_or}
+-- Components without fault, as facts of their bytes.
+use Rattle.std.proofs.Common.{option_and_then, ◌≡◌, ◌≢◌, ℕ, ◌==◌, ◌||◌, not, true, false, Bool, List, [], ◌∷◌, ◌++◌, Option, Some, None, is_some, unwrap_or, Bor, option_copied, IfSome, IfNone, IsTrue, ◌+◌, refl, ap, ◌∙◌}
+use Rattle.std.specs.List.{AllByRecursion, list_all, list_any, position}
+use Rattle.std.specs.Option.{is_none, option_map, option_or}
 use Rattle.std.specs.Char.{is_ascii_digit}
-use Rattle.std.proofs.lemmas.Bool.{and_parts, and_from, not-true, not_from_false, le-leb, leb-true}
+use Rattle.std.proofs.lemmas.Bool.{and_parts, and_from, not-true, not_from_false}
+use Rattle.deb_version.specs.declared.fault.BadVersion.{BadVersion}
+use Rattle.deb_version.specs.declared.fault.BadVersion.TheVariants.{Empty, UpstreamByte, RevisionByte}
 use Rattle.deb_version.specs.declared.version.Version.{Version}
-use Rattle.deb_version.specs.Parts.{value_of}
-use Rattle.deb_version.specs.Grammar.{Components, AreComponents, IsEpoch, IsRevision, epoch_limit, is_nonempty, is_epoch, is_revision, is_upstream, are_components, is_upstream_byte, is_revision_byte}
+use Rattle.deb_version.specs.Parts.{IsDigits}
+use Rattle.deb_version.specs.Grammar.{Components, epoch_text, revision_text, spelling, upstream_at, revision_at, is_empty, is_upstream_byte, is_revision_byte, is_bad_in_revision, some_passes, fault_if, first_of, epoch_faults, rest_faults, fault_of, is_cut_at_hyphen, are_components}
 use Rattle.deb_version.specs.Version.{components_of}
-use Rattle.deb_version.proofs.ByteLemmas.{empty-test, empty-fact, all_pass-test, all_pass-fact, none_equal-test, none_equal-fact}
+use Rattle.deb_version.proofs.ByteLemmas.{all_pass-test, empty-test, empty-fact, none_fails-test, none_fails-fact, none_equal-test, none_equal-fact, position_none-test, position_none-fact}
 
-nonempty-test : (text : List ℕ) → text ≢ [] → is_nonempty text ≡ true
-nonempty-test text some = not_from_false (length text == 0) (empty-test text some)
+-- one or more digits; one or more bytes of a revision
+abbrev pub IsEpoch : List ℕ → Type 0
+IsEpoch digits = (digits ≢ []) × IsDigits digits
 
-nonempty-fact : (text : List ℕ) → is_nonempty text ≡ true → text ≢ []
-nonempty-fact text some = empty-fact text (not-true (length text == 0) some)
+abbrev pub IsRevision : List ℕ → Type 0
+IsRevision revision = (revision ≢ []) × AllByRecursion (λ b. IsTrue (is_revision_byte b)) revision
 
-epoch-test : (e : Option (List ℕ)) → IfSome e IsEpoch → option_map_or is_epoch e true ≡ true
+pub record AreComponents (c : Components) : Type 0 where
+  pub epoch : IfSome c.epoch IsEpoch
+  pub upstream_some : c.upstream ≢ []
+  pub upstream_bytes : AllByRecursion (λ b. IsTrue (is_upstream_byte (is_some c.epoch) b)) c.upstream
+  pub upstream_hyphen : IfNone c.revision (AllByRecursion (λ b. b ≢ 45) c.upstream)
+  pub revision : IfSome c.revision IsRevision
+
+-- no fault is the first of some where each of them is none
+none_of : (faults : List (Option BadVersion)) → first_of faults ≡ None → AllByRecursion (λ fault. fault ≡ None) faults
+none_of [] none = tt
+none_of (None ∷ faults) none = (refl, none_of faults none)
+none_of (Some fault ∷ faults) none = absurd cc
+
+first_of-none : (faults : List (Option BadVersion)) → AllByRecursion (λ fault. fault ≡ None) faults → first_of faults ≡ None
+first_of-none [] none = refl
+first_of-none (fault ∷ faults) none = ap (λ f. option_or f (first_of faults)) none.0 ∙ first_of-none faults none.1
+
+stands_not : (b : Bool) (fault : BadVersion) → fault_if b fault ≡ None → b ≡ false
+stands_not true fault none = absurd cc
+stands_not false fault none = refl
+
+no_fault_if : (b : Bool) (fault : BadVersion) → b ≡ false → fault_if b fault ≡ None
+no_fault_if b fault e = ap (λ v. fault_if v fault) e
+
+none_mapped : (f : ℕ → BadVersion) (o : Option ℕ) → option_map f o ≡ None → o ≡ None
+none_mapped f None e = refl
+none_mapped f (Some at) e = absurd cc
+
+pub is_none-none : (o : Option BadVersion) → is_none o ≡ true → o ≡ None
+is_none-none None e = refl
+is_none-none (Some fault) e = absurd cc
+
+sides_none : (a b : Option BadVersion) → option_or a b ≡ None → (a ≡ None) × (b ≡ None)
+sides_none None b e = (refl, e)
+sides_none (Some fault) b e = absurd cc
+
+epoch-fact : (e : Option (List ℕ)) → first_of (epoch_faults e) ≡ None → IfSome e IsEpoch
+epoch-fact None none = tt
+epoch-fact (Some digits) none =
+    let each = none_of (epoch_faults (Some digits)) none in
+    (empty-fact digits (stands_not _ _ each.0), none_fails-fact is_ascii_digit digits (stands_not _ _ each.1.0))
+
+epoch-test : (e : Option (List ℕ)) → IfSome e IsEpoch → first_of (epoch_faults e) ≡ None
 epoch-test None is = refl
 epoch-test (Some digits) is =
-    and_from _ _ (nonempty-test digits is.0) (and_from _ _ (all_pass-test is_ascii_digit digits is.1) (le-leb (value_of digits) epoch_limit is.2))
+    first_of-none (epoch_faults (Some digits)) (no_fault_if _ _ (empty-test digits is.0), (no_fault_if _ _ (none_fails-test is_ascii_digit digits is.1), tt))
 
-epoch-fact : (e : Option (List ℕ)) → option_map_or is_epoch e true ≡ true → IfSome e IsEpoch
-epoch-fact None is = tt
-epoch-fact (Some digits) is =
-    let some = and_parts (is_nonempty digits) _ is in
-    let rest = and_parts (list_all is_ascii_digit digits) _ some.1 in
-    (nonempty-fact digits some.0, all_pass-fact is_ascii_digit digits rest.0, leb-true (value_of digits) epoch_limit rest.1)
+revision-fact : (r : Option (List ℕ)) → some_passes is_empty r ≡ false → option_and_then (position is_bad_in_revision) r ≡ None → IfSome r IsRevision
+revision-fact None some bytes = tt
+revision-fact (Some revision) some bytes = (empty-fact revision some, position_none-fact is_revision_byte revision bytes)
 
-revision-test : (r : Option (List ℕ)) → IfSome r IsRevision → option_map_or is_revision r true ≡ true
-revision-test None is = refl
-revision-test (Some revision) is = and_from _ _ (nonempty-test revision is.0) (all_pass-test is_revision_byte revision is.1)
+revision_some : (r : Option (List ℕ)) → IfSome r IsRevision → some_passes is_empty r ≡ false
+revision_some None is = refl
+revision_some (Some revision) is = empty-test revision is.0
 
-revision-fact : (r : Option (List ℕ)) → option_map_or is_revision r true ≡ true → IfSome r IsRevision
-revision-fact None is = tt
-revision-fact (Some revision) is =
-    let some = and_parts (is_nonempty revision) _ is in
-    (nonempty-fact revision some.0, all_pass-fact is_revision_byte revision some.1)
+revision_bytes : (r : Option (List ℕ)) → IfSome r IsRevision → option_and_then (position is_bad_in_revision) r ≡ None
+revision_bytes None is = refl
+revision_bytes (Some revision) is = position_none-test is_revision_byte revision is.1
 
 hyphen-test : (r : Option (List ℕ)) (upstream : List ℕ) → IfNone r (AllByRecursion (λ b. b ≢ 45) upstream) → (is_some r || not (list_any (λ b. b == 45) upstream)) ≡ true
 hyphen-test None upstream none = not_from_false (list_any (λ b. b == 45) upstream) (none_equal-test 45 upstream none)
@@ -46,27 +86,48 @@ hyphen-fact : (r : Option (List ℕ)) (upstream : List ℕ) → (is_some r || no
 hyphen-fact None upstream none = none_equal-fact 45 upstream (not-true (list_any (λ b. b == 45) upstream) none)
 hyphen-fact (Some revision) upstream none = tt
 
--- Allowed components pass the test.
-pub are_components-test : (c : Components) → AreComponents c → are_components c ≡ true
-are_components-test c allowed =
-    let upstream : is_upstream (is_some c.epoch) (is_some c.revision) c.upstream ≡ true = and_from _ _ (nonempty-test c.upstream allowed.upstream_some) (and_from _ _ (all_pass-test (is_upstream_byte (is_some c.epoch)) c.upstream allowed.upstream_bytes) (hyphen-test c.revision c.upstream allowed.upstream_hyphen)) in
-    and_from _ _ (epoch-test c.epoch allowed.epoch) (and_from _ _ upstream (revision-test c.revision allowed.revision))
+-- a spelling with an upstream version isn't empty
+spelling_some : (c : Components) → c.upstream ≢ [] → spelling c ≢ []
+spelling_some c some e = some (nil_inside c.upstream (epoch_text c.epoch) (revision_text c.revision) e)
+  where
+    nil_inside : (u x y : List ℕ) → x ++ (u ++ y) ≡ [] → u ≡ []
+    nil_inside [] x y h = refl
+    nil_inside (b ∷ u) [] y h = absurd cc
+    nil_inside (b ∷ u) (a ∷ x) y h = absurd cc
 
--- Components that pass the test are allowed.
+-- Components without fault have these bytes.
 pub are_components-fact : (c : Components) → are_components c ≡ true → AreComponents c
 are_components-fact c passes =
-    let epoch = and_parts (option_map_or is_epoch c.epoch true) _ passes in
-    let rest = and_parts (is_upstream (is_some c.epoch) (is_some c.revision) c.upstream) _ epoch.1 in
-    let some = and_parts (is_nonempty c.upstream) _ rest.0 in
-    let bytes = and_parts (list_all (is_upstream_byte (is_some c.epoch)) c.upstream) _ some.1 in
+    let sides = and_parts (is_none (fault_of c)) (is_cut_at_hyphen c) passes in
+    let none = sides_none (fault_if (is_empty (spelling c)) Empty) _ (is_none-none (fault_of c) sides.0) in
+    let parts = sides_none (first_of (epoch_faults c.epoch)) (first_of (rest_faults c)) none.1 in
+    let rest = none_of (rest_faults c) parts.1 in
     record {
-      epoch = epoch-fact c.epoch epoch.0;
-      upstream_some = nonempty-fact c.upstream some.0;
-      upstream_bytes = all_pass-fact (is_upstream_byte (is_some c.epoch)) c.upstream bytes.0;
-      upstream_hyphen = hyphen-fact c.revision c.upstream bytes.1;
-      revision = revision-fact c.revision rest.1;
+      epoch = epoch-fact c.epoch parts.0;
+      upstream_some = empty-fact c.upstream (stands_not _ _ rest.1.0);
+      upstream_bytes = position_none-fact (is_upstream_byte (is_some c.epoch)) c.upstream (none_mapped _ _ rest.1.1.0);
+      upstream_hyphen = hyphen-fact c.revision c.upstream sides.1;
+      revision = revision-fact c.revision (stands_not _ _ rest.0) (none_mapped _ _ rest.1.1.1.0);
     }
 
--- The components of a version are allowed.
-pub well_formed_of : (v : Version) → AreComponents (components_of v)
-well_formed_of v = are_components-fact (components_of v) v.well_formed
+-- And those of these bytes have no fault.
+pub are_components-test : (c : Components) → AreComponents c → are_components c ≡ true
+are_components-test c are =
+    let upstream = ap (option_map (λ at. UpstreamByte (upstream_at c + at))) (position_none-test (is_upstream_byte (is_some c.epoch)) c.upstream are.upstream_bytes) in
+    let revision = ap (option_map (λ at. RevisionByte (revision_at c + at))) (revision_bytes c.revision are.revision) in
+    let rest : first_of (rest_faults c) ≡ None =
+    first_of-none (rest_faults c)
+    (no_fault_if _ _ (revision_some c.revision are.revision), (no_fault_if _ _ (empty-test c.upstream are.upstream_some), (upstream, (revision, tt)))) in
+    let text = no_fault_if (is_empty (spelling c)) Empty (empty-test (spelling c) (spelling_some c are.upstream_some)) in
+    let none : fault_of c ≡ None =
+    ap (λ f. option_or f (option_or (first_of (epoch_faults c.epoch)) (first_of (rest_faults c)))) text
+    ∙ ap (λ f. option_or f (first_of (rest_faults c))) (epoch-test c.epoch are.epoch) ∙ rest in
+    and_from _ _ (ap is_none none) (hyphen-test c.revision c.upstream are.upstream_hyphen)
+
+-- the epoch of a version has digits alone, and so has what stands for an absent one
+pub epoch_digits : (v : Version) (absent : Bor (List ℕ)) → absent.now ≡ [] → list_all is_ascii_digit (unwrap_or v.epoch absent).now ≡ true
+epoch_digits v absent none = of_epoch v.epoch (are_components-fact (components_of v) v.well_formed).epoch
+  where
+    of_epoch : (e : Option (Bor (List ℕ))) → IfSome (option_copied e) IsEpoch → list_all is_ascii_digit (unwrap_or e absent).now ≡ true
+    of_epoch None is = ap (list_all is_ascii_digit) none
+    of_epoch (Some digits) is = all_pass-test is_ascii_digit digits.now is.1

@@ -4,8 +4,6 @@ use Rattle.std.proofs.lemmas.List.{length-append}
 use Rattle.deb_version.specs.Parts.{Meaning}
 use Rattle.deb_version.specs.Grammar.{Components, spelling, epoch_text, revision_text, meaning_of_components, are_components}
 use Rattle.deb_version.specs.Canonical.{component_text, canonical_epoch, canonical_revision, version_text}
-use Rattle.deb_version.proofs.AllowedLemmas.{are_components-fact}
-use Rattle.deb_version.proofs.MeaningLemmas.{has_meaning}
 use Rattle.deb_version.proofs.CanonicalVersion.{canonical_text_is_short}
 
 pub length-version_text : (m : Meaning) → length (version_text m) ≡ length (epoch_text (canonical_epoch m)) + (length (component_text m.upstream) + length (revision_text (canonical_revision m)))
@@ -17,7 +15,7 @@ length-version_text m =
 -- The canonical text of allowed components is at most twice as long as their spelling.
 pub length-canonical : (c : Components) → are_components c ≡ true → length (version_text (meaning_of_components c)) ≤ 2 * length (spelling c)
 length-canonical c allowed =
-    canonical_text_is_short (spelling c) (meaning_of_components c) (record { components = c; spelt = refl; allowed = are_components-fact c allowed; means = has_meaning c })
+    canonical_text_is_short (spelling c) (meaning_of_components c) (record { components = c; spelt = refl; allowed = allowed; means = refl })
 
 -- Allowed components of fewer than 2 ^ 63 bytes have canonical text of fewer than 2 ^ 64.
 pub canonical_fits : (c : Components) → are_components c ≡ true → length (spelling c) < 2 ^ 63 → length (version_text (meaning_of_components c)) < 2 ^ 64

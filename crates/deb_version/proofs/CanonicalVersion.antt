@@ -1,18 +1,19 @@
 -- The laws of canonical text.
-use Rattle.std.proofs.Common.{◌≡◌, ◌≢◌, ℕ, ◌*◌, ◌≤◌, ◌==◌, ◌&&◌, ◌||◌, Bool, true, false, not, cond, List, [], ◌∷◌, ◌++◌, length, Option, Some, None, is_some, IfSome, IfNone, MatchOption, refl, sym, ap, ◌∙◌, subst, arith, IsTrue, ◌⊎◌, inl, inr}
+use Rattle.std.proofs.Common.{◌≡◌, ◌≢◌, ℕ, ◌*◌, ◌≤◌, ◌==◌, ◌&&◌, ◌||◌, Bool, true, false, not, cond, List, [], ◌∷◌, ◌++◌, length, Option, Some, None, is_some, IfSome, IfNone, refl, sym, ap, ◌∙◌, subst, arith, IsTrue, ◌⊎◌, inl, inr}
 use Rattle.std.specs.Char.{is_ascii_digit}
 use Rattle.std.specs.Int.{is_in_range}
 use Rattle.std.specs.List.{AllByRecursion, list_any}
 use Rattle.std.proofs.lemmas.List.{length-append}
 use Rattle.std.proofs.lemmas.Bool.Decides.{Decides-eqb}
 use Rattle.std.proofs.lemmas.Bool.{false≢true}
-use Rattle.deb_version.specs.Parts.{value_of, Part, HasParts, Meaning, no_revision}
-use Rattle.deb_version.specs.Grammar.{epoch_limit, is_revision_byte, is_upstream_byte, epoch_text, revision_text, IsEpoch, IsRevision, SpellsVersion}
+use Rattle.deb_version.specs.Parts.{Part, HasParts, Meaning, no_revision}
+use Rattle.deb_version.specs.Grammar.{is_revision_byte, is_upstream_byte, epoch_text, revision_text, epoch_value, revision_parts, meaning_of_components, SpellsVersion}
 use Rattle.deb_version.specs.Canonical.{digits_of, component_text, is_no_revision, holds_colon, holds_hyphen, canonical_epoch, canonical_revision, canonical_components, version_text}
 use Rattle.deb_version.specs.CanonicalLaws.{CanonicalTextSpells, CanonicalTextDecides, CanonicalTextStays, CanonicalTextIsShort}
+use Rattle.deb_version.proofs.AllowedLemmas.{AreComponents, IsEpoch, IsRevision, are_components-fact, are_components-test}
 use Rattle.deb_version.proofs.Emptiness.{nil_of_length, some_length}
 use Rattle.deb_version.proofs.ByteLemmas.{differs, none_equal-test, none_equal-fact}
-use Rattle.deb_version.specs.PartsLemmas.{has_parts}
+use Rattle.deb_version.specs.PartsLemmas.{has_parts, one_parts}
 use Rattle.deb_version.proofs.CanonicalDigits.{value_of-digits_of, IsDigits-digits_of, digits_of-some, length-digits_of-value_of}
 use Rattle.deb_version.proofs.CanonicalComponent.{HasParts-component_text, All-weaker, All-component_text, component_text-some, length-component_text}
 use Rattle.deb_version.proofs.MeaningLemmas.{one_version}
@@ -78,33 +79,40 @@ revision_cases m = cases m.revision (holds_hyphen (component_text m.upstream))
           | false ↦ λ h. inr refl
         ] refl
 
--- the epoch's value is within the limit
-epoch_within : (o : Option (List ℕ)) (e : ℕ) → IfSome o IsEpoch → MatchOption o (e ≡ 0) (λ digits. e ≡ value_of digits) → e ≤ epoch_limit
-epoch_within None e allowed means = omega arith
-epoch_within (Some digits) e allowed means = omega (arith, allowed.2)
-
 -- a text that has the parts of the revision, of bytes that a revision may hold
-revision_spelt : (o : Option (List ℕ)) (parts : List Part) → IfSome o IsRevision → MatchOption o (parts ≡ no_revision) (λ revision. HasParts revision parts)
+revision_spelt : (o : Option (List ℕ)) (parts : List Part) → IfSome o IsRevision → parts ≡ revision_parts o
     → (text : List ℕ) × HasParts text parts × AllByRecursion (λ b. IsTrue (is_revision_byte b)) text
 revision_spelt None parts allowed means = ([], subst (λ p. HasParts [] p) (sym means) (has_parts []), tt)
-revision_spelt (Some revision) parts allowed means = (revision, means, allowed.1)
+revision_spelt (Some revision) parts allowed means = (revision, subst (λ p. HasParts revision p) (sym means) (has_parts revision), allowed.1)
 
+-- what a spelled version means, and the bytes of its components
 module _ (text : List ℕ) (m : Meaning) (spells : SpellsVersion text m) where
-  upstream_has_parts : HasParts (component_text m.upstream) m.upstream
-  upstream_has_parts = HasParts-component_text spells.components.upstream m.upstream spells.means.upstream
+  are : AreComponents spells.components
+  are = are_components-fact spells.components spells.allowed
 
+  upstream_means : HasParts spells.components.upstream m.upstream
+  upstream_means = subst (λ p. HasParts spells.components.upstream p) (sym (ap (λ (n : Meaning). n.upstream) spells.means)) (has_parts spells.components.upstream)
+
+  epoch_means : (o : Option (List ℕ)) → spells.components.epoch ≡ o → m.epoch ≡ epoch_value o
+  epoch_means o e = ap (λ (n : Meaning). n.epoch) spells.means ∙ ap epoch_value e
+
+  revision_means : (o : Option (List ℕ)) → spells.components.revision ≡ o → m.revision ≡ revision_parts o
+  revision_means o e = ap (λ (n : Meaning). n.revision) spells.means ∙ ap revision_parts e
+
+-- the canonical components are those of a version, with the same meaning
+module _ (text : List ℕ) (m : Meaning) (spells : SpellsVersion text m) where
   allowed_epoch : IfSome (canonical_epoch m) IsEpoch
   allowed_epoch =
       elim (epoch_cases m) [
         | inl out ↦ subst (λ o. IfSome o IsEpoch) (sym out.2) tt
         | inr written ↦ subst (λ o. IfSome o IsEpoch) (sym written)
-            (digits_of-some m.epoch, IsDigits-digits_of m.epoch, subst (λ n. n ≤ epoch_limit) (sym (value_of-digits_of m.epoch)) (epoch_within spells.components.epoch m.epoch spells.allowed.epoch spells.means.epoch))
+            (digits_of-some m.epoch, IsDigits-digits_of m.epoch)
       ]
 
   upstream_bytes_with_epoch : AllByRecursion (λ b. IsTrue (is_upstream_byte true b)) (component_text m.upstream)
   upstream_bytes_with_epoch =
-      All-component_text (λ b. IsTrue (is_upstream_byte true b)) (upstream_digit true) spells.components.upstream m.upstream spells.means.upstream
-      (All-weaker (λ b. IsTrue (is_upstream_byte (is_some spells.components.epoch) b)) (λ b. IsTrue (is_upstream_byte true b)) (upstream_with_epoch (is_some spells.components.epoch)) spells.components.upstream spells.allowed.upstream_bytes)
+      All-component_text (λ b. IsTrue (is_upstream_byte true b)) (upstream_digit true) spells.components.upstream m.upstream (upstream_means text m spells)
+      (All-weaker (λ b. IsTrue (is_upstream_byte (is_some spells.components.epoch) b)) (λ b. IsTrue (is_upstream_byte true b)) (upstream_with_epoch (is_some spells.components.epoch)) spells.components.upstream (are text m spells).upstream_bytes)
 
   allowed_upstream : AllByRecursion (λ b. IsTrue (is_upstream_byte (is_some (canonical_epoch m)) b)) (component_text m.upstream)
   allowed_upstream =
@@ -123,7 +131,7 @@ module _ (text : List ℕ) (m : Meaning) (spells : SpellsVersion text m) where
       ]
 
   revision_is_spelt : (spelt : List ℕ) × HasParts spelt m.revision × AllByRecursion (λ b. IsTrue (is_revision_byte b)) spelt
-  revision_is_spelt = revision_spelt spells.components.revision m.revision spells.allowed.revision spells.means.revision
+  revision_is_spelt = revision_spelt spells.components.revision m.revision (are text m spells).revision (revision_means text m spells spells.components.revision refl)
 
   allowed_revision : IfSome (canonical_revision m) IsRevision
   allowed_revision =
@@ -135,37 +143,38 @@ module _ (text : List ℕ) (m : Meaning) (spells : SpellsVersion text m) where
         )
       ]
 
-  means_epoch : MatchOption (canonical_epoch m) (m.epoch ≡ 0) (λ digits. m.epoch ≡ value_of digits)
-  means_epoch =
+  epoch_stays : m.epoch ≡ epoch_value (canonical_epoch m)
+  epoch_stays =
       elim (epoch_cases m) [
-        | inl out ↦ subst (λ o. MatchOption o (m.epoch ≡ 0) (λ digits. m.epoch ≡ value_of digits)) (sym out.2) out.0
-        | inr written ↦ subst (λ o. MatchOption o (m.epoch ≡ 0) (λ digits. m.epoch ≡ value_of digits)) (sym written) (sym (value_of-digits_of m.epoch))
+        | inl out ↦ out.0 ∙ sym (ap epoch_value out.2)
+        | inr written ↦ sym (value_of-digits_of m.epoch) ∙ sym (ap epoch_value written)
       ]
 
-  means_revision : MatchOption (canonical_revision m) (m.revision ≡ no_revision) (λ revision. HasParts revision m.revision)
-  means_revision =
+  revision_stays : m.revision ≡ revision_parts (canonical_revision m)
+  revision_stays =
       elim (revision_cases m) [
-        | inl out ↦ subst (λ o. MatchOption o (m.revision ≡ no_revision) (λ revision. HasParts revision m.revision)) (sym out.2) out.0
-        | inr written ↦ subst (λ o. MatchOption o (m.revision ≡ no_revision) (λ revision. HasParts revision m.revision)) (sym written) (HasParts-component_text revision_is_spelt.0 m.revision revision_is_spelt.1)
+        | inl out ↦ out.0 ∙ sym (ap revision_parts out.2)
+        | inr written ↦ one_parts (component_text m.revision) m.revision (HasParts-component_text revision_is_spelt.0 m.revision revision_is_spelt.1) ∙ sym (ap revision_parts written)
       ]
+
+  meaning_stays : m ≡ meaning_of_components (canonical_components m)
+  meaning_stays =
+      let upstream = one_parts (component_text m.upstream) m.upstream (HasParts-component_text spells.components.upstream m.upstream (upstream_means text m spells)) in
+      λ i. record { epoch = epoch_stays i; upstream = upstream i; revision = revision_stays i }
 
 -- Canonical text is accepted, with the same meaning.
 pub canonical_text_spells : CanonicalTextSpells
 canonical_text_spells text m spells = record {
   components = canonical_components m;
   spelt = refl;
-  allowed = record {
+  allowed = are_components-test (canonical_components m) (record {
     epoch = allowed_epoch text m spells;
-    upstream_some = component_text-some spells.components.upstream m.upstream spells.means.upstream;
+    upstream_some = component_text-some spells.components.upstream m.upstream (upstream_means text m spells);
     upstream_bytes = allowed_upstream text m spells;
     upstream_hyphen = allowed_hyphen text m spells;
     revision = allowed_revision text m spells;
-  };
-  means = record {
-    epoch = means_epoch text m spells;
-    upstream = upstream_has_parts text m spells;
-    revision = means_revision text m spells;
-  };
+  });
+  means = meaning_stays text m spells;
 }
 
 pub canonical_text_decides : CanonicalTextDecides
@@ -200,14 +209,14 @@ component_without c text parts other h all = none_equal-test c (component_text p
 module _ (text : List ℕ) (m : Meaning) (spells : SpellsVersion text m) where
   length-epoch : (o : Option (List ℕ)) → spells.components.epoch ≡ o → length (epoch_text (canonical_epoch m)) ≤ length (epoch_text o)
   length-epoch None e =
-      let zero_is = subst (λ o. MatchOption o (m.epoch ≡ 0) (λ digits. m.epoch ≡ value_of digits)) e spells.means.epoch in
+      let zero_is = epoch_means text m spells None e in
       let absent = ap is_some e in
-      let bytes = All-weaker (λ b. IsTrue (is_upstream_byte (is_some spells.components.epoch) b)) (λ b. b ≢ 58) (λ b. no_colon (is_some spells.components.epoch) b absent) spells.components.upstream spells.allowed.upstream_bytes in
-      let colon = component_without 58 spells.components.upstream m.upstream refl spells.means.upstream bytes in
+      let bytes = All-weaker (λ b. IsTrue (is_upstream_byte (is_some spells.components.epoch) b)) (λ b. b ≢ 58) (λ b. no_colon (is_some spells.components.epoch) b absent) spells.components.upstream (are text m spells).upstream_bytes in
+      let colon = component_without 58 spells.components.upstream m.upstream refl (upstream_means text m spells) bytes in
       omega (arith, ap (λ o. length (epoch_text o)) (epoch_none m zero_is colon))
   length-epoch (Some digits) e =
-      let value = subst (λ o. MatchOption o (m.epoch ≡ 0) (λ digits. m.epoch ≡ value_of digits)) e spells.means.epoch in
-      let allowed = subst (λ o. IfSome o IsEpoch) e spells.allowed.epoch in
+      let value = epoch_means text m spells (Some digits) e in
+      let allowed = subst (λ o. IfSome o IsEpoch) e (are text m spells).epoch in
       let shorter = length-digits_of-value_of digits allowed.1 allowed.0 in
       let same = ap (λ n. length (digits_of n)) value in
       let colon_behind = length-append (digits_of m.epoch) (58 ∷ []) in
@@ -219,12 +228,12 @@ module _ (text : List ℕ) (m : Meaning) (spells : SpellsVersion text m) where
 
   length-revision : (o : Option (List ℕ)) → spells.components.revision ≡ o → length (revision_text (canonical_revision m)) ≤ 2 * length (revision_text o)
   length-revision None e =
-      let none_is = subst (λ o. MatchOption o (m.revision ≡ no_revision) (λ revision. HasParts revision m.revision)) e spells.means.revision in
-      let bytes = subst (λ o. IfNone o (AllByRecursion (λ b. b ≢ 45) spells.components.upstream)) e spells.allowed.upstream_hyphen in
-      let hyphen = component_without 45 spells.components.upstream m.upstream refl spells.means.upstream bytes in
+      let none_is = revision_means text m spells None e in
+      let bytes = subst (λ o. IfNone o (AllByRecursion (λ b. b ≢ 45) spells.components.upstream)) e (are text m spells).upstream_hyphen in
+      let hyphen = component_without 45 spells.components.upstream m.upstream refl (upstream_means text m spells) bytes in
       omega (arith, ap (λ o. length (revision_text o)) (revision_none m none_is hyphen))
   length-revision (Some revision) e =
-      let means = subst (λ o. MatchOption o (m.revision ≡ no_revision) (λ revision. HasParts revision m.revision)) e spells.means.revision in
+      let means = subst (λ p. HasParts revision p) (sym (revision_means text m spells (Some revision) e)) (has_parts revision) in
       let short = length-component_text revision m.revision means in
       elim (revision_cases m) [
         | inl out ↦ omega (arith, ap (λ o. length (revision_text o)) out.2)
@@ -235,8 +244,8 @@ pub canonical_text_is_short : CanonicalTextIsShort
 canonical_text_is_short text m spells =
     let c = spells.components in
     let epoch = length-epoch text m spells c.epoch refl in
-    let upstream = length-component_text c.upstream m.upstream spells.means.upstream in
-    let some = some_length c.upstream spells.allowed.upstream_some in
+    let upstream = length-component_text c.upstream m.upstream (upstream_means text m spells) in
+    let some = some_length c.upstream (are text m spells).upstream_some in
     let revision = length-revision text m spells c.revision refl in
     let spelt = ap length spells.spelt in
     let spelt_front = length-append (epoch_text c.epoch) (c.upstream ++ revision_text c.revision) in

@@ -1,13 +1,12 @@
 -- Where canonical text has an epoch and a revision, by the texts of the components.
-use Rattle.std.proofs.Common.{◌≡◌, ℕ, ◌==◌, ◌&&◌, Bool, true, false, not, cond, List, [], ◌∷◌, length, Option, Some, None, Bor, refl, sym, ap, ◌∙◌, unwrap_or}
-use Rattle.std.specs.Char.{is_ascii_digit}
-use Rattle.std.specs.List.{list_any, list_all}
-use Rattle.std.specs.Option.{option_copied, option_map_or}
-use Rattle.std.proofs.lemmas.Bool.{and_parts}
+use Rattle.std.proofs.Common.{◌≡◌, ℕ, ◌==◌, ◌&&◌, Bool, true, false, not, cond, List, [], ◌∷◌, length, Option, Some, None, IfSome, Bor, refl, sym, ap, ◌∙◌, unwrap_or}
+use Rattle.std.specs.List.{list_any}
+use Rattle.std.specs.Option.{option_copied}
 use Rattle.deb_version.specs.Parts.{value_of, IsDigits, parts_of}
-use Rattle.deb_version.specs.Grammar.{Components, epoch_value, revision_parts, meaning_of_components, is_nonempty, is_epoch, are_components}
+use Rattle.deb_version.specs.Grammar.{Components, epoch_value, revision_parts, meaning_of_components, are_components}
 use Rattle.deb_version.specs.Canonical.{digits_of, component_text, is_no_revision, holds_colon, holds_hyphen, canonical_epoch, canonical_revision}
-use Rattle.deb_version.proofs.ByteLemmas.{all_pass-fact, empty-fact}
+use Rattle.deb_version.proofs.AllowedLemmas.{IsEpoch, are_components-fact}
+use Rattle.deb_version.proofs.ByteLemmas.{empty-fact}
 use Rattle.deb_version.proofs.Emptiness.{nil_of_length}
 use Rattle.deb_version.proofs.LeadingZeros.{without_zeros}
 use Rattle.deb_version.proofs.CanonicalCuts.{without_zeros-none, without_zeros-some, positive_of_digits, list_any-component_text}
@@ -30,11 +29,11 @@ revision_parts-or_zero (Some revision) = refl
 
 -- the epoch of allowed components has digits alone
 pub IsDigits-epoch : (c : Components) → are_components c ≡ true → IsDigits (or_zero c.epoch)
-IsDigits-epoch c allowed = of_epoch c.epoch (and_parts (option_map_or is_epoch c.epoch true) _ allowed).0
+IsDigits-epoch c allowed = of_epoch c.epoch (are_components-fact c allowed).epoch
   where
-    of_epoch : (o : Option (List ℕ)) → option_map_or is_epoch o true ≡ true → IsDigits (or_zero o)
+    of_epoch : (o : Option (List ℕ)) → IfSome o IsEpoch → IsDigits (or_zero o)
     of_epoch None h = (refl, tt)
-    of_epoch (Some digits) h = all_pass-fact is_ascii_digit digits (and_parts (list_all is_ascii_digit digits) _ (and_parts (is_nonempty digits) _ h).1).0
+    of_epoch (Some digits) h = h.1
 
 module _ (c : Components) (left : List ℕ) (is : left ≡ without_zeros (or_zero c.epoch)) where
   -- digits are left: the epoch isn't 0

@@ -1,15 +1,16 @@
 -- The components of a text: every text is spelled by them, and allowed components are those of their spelling.
-use Rattle.std.proofs.Common.{◌≡◌, ◌≢◌, ℕ, ◌+◌, ◌<◌, ◌≤◌, arith, All, length, get_or, take, drop, Bool, true, false, cond, ◌==◌, ◌||◌, List, [], ◌∷◌, ◌++◌, Option, Some, None, is_some, IfSome, IfNone, refl, sym, ap, ◌∙◌, subst, IsTrue, append_assoc, append-nil}
+use Rattle.std.proofs.Common.{◌≡◌, ◌≢◌, ℕ, ◌+◌, ◌<◌, ◌≤◌, arith, All, length, get_or, take, drop, Bool, true, false, not, cond, ◌==◌, ◌||◌, List, [], ◌∷◌, ◌++◌, Option, Some, None, is_some, IfSome, IfNone, refl, sym, ap, ◌∙◌, subst, IsTrue, append_assoc, append-nil}
 use Rattle.std.specs.List.{AllByRecursion, list_any, before_first, after_first, before_last, after_last}
 use Rattle.std.specs.Char.{is_ascii_digit}
 use Rattle.std.proofs.lemmas.Bool.{eqb-true, ne_eqb}
 use Rattle.std.proofs.lemmas.List.{take-append-drop, drop_more, length-take-le, length-drop, get_or-take, get_or-drop}
 use Rattle.std.proofs.lemmas.List.Elements.{All-from_get_or, All-weaker}
 use Rattle.std.proofs.lemmas.List.Folds.{list_any-append, list_any_none}
-use Rattle.deb_version.specs.Grammar.{Components, AreComponents, IsEpoch, IsRevision, epoch_text, revision_text, spelling, is_upstream_byte, is_revision_byte}
+use Rattle.deb_version.specs.Grammar.{Components, are_components, epoch_text, revision_text, spelling, is_upstream_byte, is_revision_byte}
 use Rattle.deb_version.specs.Places.{is_colon, is_hyphen, epoch_in, rest_in, revision_in, upstream_in, components_in}
+use Rattle.deb_version.proofs.AllowedLemmas.{IsEpoch, IsRevision, are_components-fact}
 use Rattle.deb_version.proofs.CutLemmas.{join_first, join_last, before_first-at, after_first-at, list_any-at, before_last-at, after_last-at}
-use Rattle.deb_version.proofs.ByteLemmas.{none_equal, none_equal-test, none_equal-fact}
+use Rattle.deb_version.proofs.ByteLemmas.{none_equal, none_equal-test}
 
 -- the epoch and the rest join to the text
 epoch_rest : (text : List ℕ) → epoch_text (epoch_in text) ++ rest_in text ≡ text
@@ -91,21 +92,22 @@ with_epoch (Some digits) rest upstream revision is_epoch no_colons is_upstream i
     ap components_in (append_assoc digits (58 ∷ []) rest) ∙ components_made (digits ++ 58 ∷ rest) rest (Some digits) upstream revision w.0 w.1 is_upstream is_revision
 
 -- Allowed components are those of their spelling.
-pub components_in-spelling : (c : Components) → AreComponents c → components_in (spelling c) ≡ c
+pub components_in-spelling : (c : Components) → IsTrue (are_components c) → components_in (spelling c) ≡ c
 components_in-spelling c allowed =
-    let parts = rest_parts c.upstream c.revision allowed.upstream_hyphen allowed.revision in
-    let bytes : AllByRecursion (λ b. IsTrue (is_upstream_byte (is_some c.epoch) b)) c.upstream = allowed.upstream_bytes in
+    let are = are_components-fact c allowed in
+    let parts = rest_parts c.upstream c.revision are.upstream_hyphen are.revision in
+    let bytes : AllByRecursion (λ b. IsTrue (is_upstream_byte (is_some c.epoch) b)) c.upstream = are.upstream_bytes in
     let no_colons : is_some c.epoch ≡ false → list_any is_colon (c.upstream ++ revision_text c.revision) ≡ false = λ e.
-    rest_no_colon c.upstream c.revision (subst (λ v. AllByRecursion (λ b. IsTrue (is_upstream_byte v b)) c.upstream) e bytes) allowed.revision in
-    with_epoch c.epoch (c.upstream ++ revision_text c.revision) c.upstream c.revision allowed.epoch no_colons parts.0 parts.1
+    rest_no_colon c.upstream c.revision (subst (λ v. AllByRecursion (λ b. IsTrue (is_upstream_byte v b)) c.upstream) e bytes) are.revision in
+    with_epoch c.epoch (c.upstream ++ revision_text c.revision) c.upstream c.revision are.epoch no_colons parts.0 parts.1
 
--- the upstream version of a text without revision has no hyphen
-pub upstream_in-hyphen : (rest : List ℕ) → IfNone (revision_in rest) (AllByRecursion (λ b. b ≢ 45) (upstream_in rest))
-upstream_in-hyphen rest = by_cases (list_any is_hyphen rest) refl
+-- the components of a text are cut at its last hyphen
+pub cut_at_hyphen : (rest : List ℕ) → (is_some (revision_in rest) || not (list_any is_hyphen (upstream_in rest))) ≡ true
+cut_at_hyphen rest = by_cases (list_any is_hyphen rest) refl
   where
-    by_cases : (v : Bool) → list_any is_hyphen rest ≡ v → IfNone (cond v (Some (after_last is_hyphen rest)) None) (AllByRecursion (λ b. b ≢ 45) (cond v (before_last is_hyphen rest) rest))
-    by_cases true e = tt
-    by_cases false e = none_equal-fact 45 rest e
+    by_cases : (v : Bool) → list_any is_hyphen rest ≡ v → (is_some (cond v (Some (after_last is_hyphen rest)) None) || not (list_any is_hyphen (cond v (before_last is_hyphen rest) rest))) ≡ true
+    by_cases true e = refl
+    by_cases false e = ap not e
 
 -- a text is its front, the byte at i and the rest
 split_around : (text : List ℕ) (i n : ℕ) → i < length text → get_or text i 0 ≡ n → text ≡ take i text ++ n ∷ drop (i + 1) text

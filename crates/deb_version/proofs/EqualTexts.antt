@@ -1,15 +1,13 @@
 -- Versions are equal in Debian's order exactly if they have one canonical text.
-use Rattle.std.proofs.Common.{◌≡◌, ◌↔◌, sym, ◌∙◌, refl}
+use Rattle.std.proofs.Common.{◌≡◌, ◌↔◌, sym, ◌∙◌}
 use Rattle.std.specs.declared.cmp.Ordering.{Ordering}
 use Rattle.std.specs.declared.cmp.Ordering.TheVariants.{Equal}
 use Rattle.deb_version.specs.declared.version.Version.{Version}
-use Rattle.deb_version.specs.Grammar.{SpellsVersion, spelling}
 use Rattle.deb_version.specs.Order.{version_cmp}
 use Rattle.deb_version.specs.Canonical.{version_text}
 use Rattle.deb_version.specs.CanonicalLaws.{EqualVersionsHaveOneText}
-use Rattle.deb_version.specs.Version.{components_of, meaning_of}
-use Rattle.deb_version.proofs.AllowedLemmas.{well_formed_of}
-use Rattle.deb_version.proofs.MeaningLemmas.{has_meaning}
+use Rattle.deb_version.specs.Version.{meaning_of}
+use Rattle.deb_version.proofs.MeaningLemmas.{version_spelled}
 use Rattle.deb_version.specs.OrderLemmas.{HasTexts-from_spelled, version_same}
 use Rattle.deb_version.proofs.CanonicalVersion.{canonical_text_decides}
 
@@ -19,11 +17,8 @@ equal_versions_have_one_text s t m n p q =
     let texts = canonical_text_decides s t m n p q in
     (λ e. texts.1 (same.0 e), λ e. same.1 (texts.0 e))
 
-spelled : (v : Version) → SpellsVersion (spelling (components_of v)) (meaning_of v)
-spelled v = record { components = components_of v; spelt = refl; allowed = well_formed_of v; means = has_meaning (components_of v) }
-
 -- What the order of two versions is, is `Equal` exactly if they have one canonical text.
 pub equal_where_one_text : (a b : Version) (o : Ordering) → o ≡ version_cmp (meaning_of a) (meaning_of b) → (o ≡ Equal) ↔ (version_text (meaning_of a) ≡ version_text (meaning_of b))
 equal_where_one_text a b o is =
-    let law = equal_versions_have_one_text _ _ (meaning_of a) (meaning_of b) (spelled a) (spelled b) in
+    let law = equal_versions_have_one_text _ _ (meaning_of a) (meaning_of b) (version_spelled a) (version_spelled b) in
     (λ e. law.0 (sym is ∙ e), λ e. is ∙ law.1 e)

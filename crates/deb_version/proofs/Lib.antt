@@ -19,3 +19,4 @@ pub mod CanonicalWritten
 pub mod CanonicalFits
 pub mod EqualTexts
 pub mod Walks
+pub mod CommonFront

@@ -4,14 +4,13 @@ use Rattle.std.proofs.lemmas.Result.{IfOk-from_err}
 use Rattle.deb_version.specs.declared.fault.BadVersion.{BadVersion}
 use Rattle.deb_version.specs.declared.version.Version.{Version}
 use Rattle.deb_version.specs.Parts.{Meaning}
-use Rattle.deb_version.specs.Grammar.{SpellsVersion, components_with, spelling, meaning_of_components, are_components}
+use Rattle.deb_version.specs.Grammar.{SpellsVersion, components_with, spelling, meaning_of_components, are_components, is_empty, first_of, epoch_faults, rest_faults}
 use Rattle.deb_version.specs.Places.{epoch_in, rest_in, upstream_in, revision_in, components_in}
-use Rattle.deb_version.specs.Faults.{is_empty, first_of, epoch_faults, rest_faults, first_fault}
+use Rattle.deb_version.specs.Faults.{first_fault}
 use Rattle.deb_version.specs.Version.{meaning_of}
 use Rattle.deb_version.proofs.ComponentsLemmas.{components_made, spelling-components_in}
 use Rattle.deb_version.proofs.MeaningLemmas.{spelled_components}
-use Rattle.deb_version.proofs.FaultLemmas.{allowed_from_no_fault, no_fault-from_spells, spells-from_no_fault, fault_epoch, fault_rest}
-use Rattle.deb_version.proofs.AllowedLemmas.{are_components-test}
+use Rattle.deb_version.proofs.FaultLemmas.{no_fault-from_spells, spells-from_no_fault, fault_epoch, fault_rest}
 
 -- a text with a fault spells nothing
 pub spells_nothing : (text : List ℕ) (fault : BadVersion) (m : Meaning) → first_fault text ≡ Some fault → SpellsVersion text m → ⊥
@@ -52,7 +51,7 @@ module _ (text rest : List ℕ) (epoch : Option (List ℕ)) (upstream : List ℕ
   -- without fault the pieces are allowed components, which spell the text and have its one meaning
   module _ (none : first_fault text ≡ None) where
     pub cut_allowed : are_components (components_with epoch upstream revision) ≡ true
-    cut_allowed = ap are_components cut_components ∙ are_components-test (components_in text) (allowed_from_no_fault text none)
+    cut_allowed = ap are_components cut_components ∙ (spelled_components text _ (spells-from_no_fault text none)).0
 
     pub cut_spells : SpellsVersion text (meaning_of_components (components_with epoch upstream revision))
     cut_spells = subst (λ c. SpellsVersion text (meaning_of_components c)) (sym cut_components) (spells-from_no_fault text none)

@@ -42,6 +42,11 @@ then-eq Less p e = cc e
 then-eq Equal p e = refl
 then-eq Greater p e = cc e
 
+pub not_ne : (o : Ordering) → is_ne o ≡ false → o ≡ Equal
+not_ne Less e = cc e
+not_ne Equal e = refl
+not_ne Greater e = cc e
+
 pub then-Equal_right : (o : Ordering) → ordering_then o Equal ≡ o
 then-Equal_right Less = refl
 then-Equal_right Equal = refl

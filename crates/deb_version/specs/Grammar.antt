@@ -1,13 +1,11 @@
 -- What spells a version, and which one. Debian Policy 5.6.12; deb-version(7).
-use Rattle.std.specs.Prelude.{◌≡◌, ◌≢◌, ℕ, ◌≤◌, ◌==◌, nat_le, ◌&&◌, ◌||◌, not, Bool, true, false, List, [], ◌∷◌, ◌++◌, length, Option, Some, None, is_some, IfSome, IfNone, MatchOption, IsTrue, codes, refl}
-use Rattle.std.specs.List.{AllByRecursion, list_any, list_all}
-use Rattle.std.specs.Option.{option_map_or}
+use Rattle.std.specs.Prelude.{◌≡◌, ℕ, ◌+◌, ◌==◌, ◌&&◌, ◌||◌, not, Bool, true, false, List, [], ◌∷◌, ◌++◌, length, Option, Some, None, is_some, IsTrue, if◌then◌else◌, codes, refl}
+use Rattle.std.specs.List.{list_any, list_all, position}
+use Rattle.std.specs.Option.{is_none, option_and_then, option_map, option_map_or, option_or}
 use Rattle.std.specs.Char.{is_ascii_digit, is_ascii_alphanumeric}
-use Rattle.deb_version.specs.Parts.{IsDigits, value_of, Part, HasParts, parts_of, Meaning, no_revision}
-
--- the largest epoch that is accepted
-abbrev pub epoch_limit : ℕ
-epoch_limit = 2147483647
+use Rattle.deb_version.specs.declared.fault.BadVersion.{BadVersion}
+use Rattle.deb_version.specs.declared.fault.BadVersion.TheVariants.{Empty, EpochEmpty, EpochNotNumber, RevisionEmpty, UpstreamEmpty, UpstreamByte, RevisionByte}
+use Rattle.deb_version.specs.Parts.{value_of, Part, parts_of, Meaning, no_revision}
 
 -- letters, digits, `+`, `.` and `~`
 abbrev pub is_revision_byte : ℕ → Bool
@@ -40,59 +38,75 @@ revision_text (Some revision) = 45 ∷ revision
 abbrev pub spelling : Components → List ℕ
 spelling c = epoch_text c.epoch ++ (c.upstream ++ revision_text c.revision)
 
--- one or more digits, of a value within the limit
-abbrev pub IsEpoch : List ℕ → Type 0
-IsEpoch digits = (digits ≢ []) × IsDigits digits × (value_of digits ≤ epoch_limit)
+-- Components without fault are those of a version. One list of tests says so, in the order in which
+-- they are judged, and with the fault that each of them gives: those of an epoch, which may be
+-- absent, and then those of the rest. The tests are Debian Policy's 5.6.12; their order and the
+-- places are this project's.
 
-abbrev pub IsRevision : List ℕ → Type 0
-IsRevision revision = (revision ≢ []) × AllByRecursion (λ b. IsTrue (is_revision_byte b)) revision
+abbrev pub is_empty : List ℕ → Bool
+is_empty text = length text == 0
 
--- The texts of a version are looked at in four ways: what each of them may be (`AreComponents`),
--- the same as a test that computes (`are_components`), what they mean as a relation (`HasMeaning`),
--- and that meaning as a function (`meaning_of_components`). Laws join them: the test passes exactly
--- where the fact holds, and the function gives the only meaning. `SpellsVersion` is made of the two
--- facts.
+-- the bytes that aren't allowed in an epoch, in an upstream version and in a revision
+abbrev pub is_no_digit : ℕ → Bool
+is_no_digit b = not (is_ascii_digit b)
 
--- what the texts of a version may be: the upstream version has no hyphen where there is no revision
-pub record AreComponents (c : Components) : Type 0 where
-  pub epoch : IfSome c.epoch IsEpoch
-  pub upstream_some : c.upstream ≢ []
-  pub upstream_bytes : AllByRecursion
-      (λ b. IsTrue (is_upstream_byte (is_some c.epoch) b)) c.upstream
-  pub upstream_hyphen : IfNone c.revision (AllByRecursion (λ b. b ≢ 45) c.upstream)
-  pub revision : IfSome c.revision IsRevision
+abbrev pub is_bad_in_upstream : Bool → ℕ → Bool
+is_bad_in_upstream has_epoch b = not (is_upstream_byte has_epoch b)
 
--- the same as a test, which holds exactly where the fact does
-abbrev pub is_nonempty : List ℕ → Bool
-is_nonempty text = not (length text == 0)
+abbrev pub is_bad_in_revision : ℕ → Bool
+is_bad_in_revision b = not (is_revision_byte b)
 
-abbrev pub is_epoch : List ℕ → Bool
-is_epoch digits =
-    is_nonempty digits && (list_all is_ascii_digit digits && nat_le (value_of digits) epoch_limit)
+-- where the upstream version and the revision begin in the whole text
+abbrev pub upstream_at : Components → ℕ
+upstream_at c = length (epoch_text c.epoch)
 
-abbrev pub is_revision : List ℕ → Bool
-is_revision revision = is_nonempty revision && list_all is_revision_byte revision
+abbrev pub revision_at : Components → ℕ
+revision_at c = upstream_at c + length c.upstream + 1
 
-abbrev pub is_upstream : Bool → Bool → List ℕ → Bool
-is_upstream has_epoch has_revision upstream =
-    is_nonempty upstream &&
-    (list_all (is_upstream_byte has_epoch) upstream &&
-    (has_revision || not (list_any (λ b. b == 45) upstream)))
+abbrev pub fault_if : Bool → BadVersion → Option BadVersion
+fault_if stands fault = if stands then Some fault else None
 
+-- a component that may be absent is there, and passes the test
+abbrev pub some_passes : (List ℕ → Bool) → Option (List ℕ) → Bool
+some_passes test component = option_map_or test component false
+
+-- the first of some faults
+abbrev pub first_of : List (Option BadVersion) → Option BadVersion
+first_of [] = None
+first_of (fault ∷ faults) = option_or fault (first_of faults)
+
+-- the faults that an epoch may have, and those of the other components
+abbrev pub epoch_faults : Option (List ℕ) → List (Option BadVersion)
+epoch_faults epoch =
+    fault_if (some_passes is_empty epoch) EpochEmpty
+    ∷ fault_if (some_passes (list_any is_no_digit) epoch) EpochNotNumber
+    ∷ []
+
+abbrev pub rest_faults : Components → List (Option BadVersion)
+rest_faults c =
+    fault_if (some_passes is_empty c.revision) RevisionEmpty
+    ∷ fault_if (is_empty c.upstream) UpstreamEmpty
+    ∷ option_map (λ at. UpstreamByte (upstream_at c + at))
+    (position (is_bad_in_upstream (is_some c.epoch)) c.upstream)
+    ∷ option_map (λ at. RevisionByte (revision_at c + at))
+    (option_and_then (position is_bad_in_revision) c.revision)
+    ∷ []
+
+-- the first fault of components, if they have one
+abbrev pub fault_of : Components → Option BadVersion
+fault_of c =
+    option_or (fault_if (is_empty (spelling c)) Empty)
+    (option_or (first_of (epoch_faults c.epoch)) (first_of (rest_faults c)))
+
+-- the upstream version has no hyphen where there is no revision, which stands behind the last one
+abbrev pub is_cut_at_hyphen : Components → Bool
+is_cut_at_hyphen c = is_some c.revision || not (list_any (λ b. b == 45) c.upstream)
+
+-- whether these are the components of a version
 abbrev pub are_components : Components → Bool
-are_components c =
-    option_map_or is_epoch c.epoch true &&
-    (is_upstream (is_some c.epoch)
-    (is_some c.revision) c.upstream && option_map_or is_revision c.revision true)
+are_components c = is_none (fault_of c) && is_cut_at_hyphen c
 
--- what the texts mean: an absent epoch is 0, an absent revision is the revision 0
-pub record HasMeaning (c : Components) (m : Meaning) : Type 0 where
-  pub epoch : MatchOption c.epoch (m.epoch ≡ 0) (λ digits. m.epoch ≡ value_of digits)
-  pub upstream : HasParts c.upstream m.upstream
-  pub revision : MatchOption c.revision (m.revision ≡ no_revision)
-      (λ revision. HasParts revision m.revision)
-
--- the one meaning of the texts of a version
+-- what the components mean: an absent epoch is 0, an absent revision is the revision 0
 abbrev pub epoch_value : Option (List ℕ) → ℕ
 epoch_value None = 0
 epoch_value (Some digits) = value_of digits
@@ -113,8 +127,8 @@ meaning_of_components c =
 pub record SpellsVersion (text : List ℕ) (m : Meaning) : Type 0 where
   pub components : Components
   pub spelt : text ≡ spelling components
-  pub allowed : AreComponents components
-  pub means : HasMeaning components m
+  pub allowed : IsTrue (are_components components)
+  pub means : m ≡ meaning_of_components components
 
 -- 00:1:02-0 and 1.0
 worked-epoch : meaning_of_components
@@ -130,8 +144,10 @@ worked-allowed : are_components
     (components_with (Some (codes "2147483647")) (codes "1:2-") (Some (codes "a~"))) ≡ true
 worked-allowed = refl
 
-worked-limit : are_components (components_with (Some (codes "2147483648")) (codes "1") None) ≡ false
-worked-limit = refl
+-- an epoch may have any size
+worked-long_epoch : are_components
+    (components_with (Some (codes "99999999999999999999")) (codes "1") None) ≡ true
+worked-long_epoch = refl
 
 worked-hyphen : are_components (components_with None (codes "1-0") None) ≡ false
 worked-hyphen = refl

@@ -1,8 +1,9 @@
 -- The laws of the grammar of versions: what the definitions of `Parts`, `Grammar`, `Places` and
 -- `Faults` amount to. Debian Policy 5.6.12; deb-version(7).
-use Rattle.std.specs.Prelude.{◌≡◌, ◌↔◌, List, ℕ, None, IsTrue}
+use Rattle.std.specs.Prelude.{◌≡◌, ◌≢◌, ◌↔◌, List, ℕ, Some, None, IsTrue}
+use Rattle.deb_version.specs.declared.fault.BadVersion.TheVariants.{EpochTooBig}
 use Rattle.deb_version.specs.Parts.{Part, HasParts, parts_of, Meaning}
-use Rattle.deb_version.specs.Grammar.{Components, AreComponents, SpellsVersion, are_components, spelling}
+use Rattle.deb_version.specs.Grammar.{Components, SpellsVersion, are_components, spelling}
 use Rattle.deb_version.specs.Places.{components_in}
 use Rattle.deb_version.specs.Faults.{first_fault}
 use Rattle.deb_version.specs.declared.version.Version.{Version}
@@ -29,11 +30,12 @@ abbrev pub ComponentsSpell : Type 0
 ComponentsSpell = (text : List ℕ) → spelling (components_in text) ≡ text
 
 abbrev pub AllowedComponentsStand : Type 0
-AllowedComponentsStand = (c : Components) → AreComponents c → components_in (spelling c) ≡ c
+AllowedComponentsStand =
+    (c : Components) → IsTrue (are_components c) → components_in (spelling c) ≡ c
 
--- The test whether components are allowed passes exactly where they are.
-abbrev pub TestTellsAllowed : Type 0
-TestTellsAllowed = (c : Components) → IsTrue (are_components c) ↔ AreComponents c
+-- An epoch has no largest value: it is never too big.
+abbrev pub EpochHasAnySize : Type 0
+EpochHasAnySize = (text : List ℕ) → first_fault text ≢ Some EpochTooBig
 
 -- A `Version` spells a text with its meaning: that of its components.
 abbrev pub VersionSpells : Version → Type 0

@@ -1,26 +1,11 @@
 -- Equal versions mean the same, and so feed a hasher alike. The law of `Hash` cites this.
-use Rattle.std.proofs.Common.{◌≡◌, ℕ, List, [], Option, Some, None, ap, IsTrue}
+use Rattle.std.proofs.Common.{◌≡◌, ap, IsTrue}
 use Rattle.std.specs.Cmp.{Equal-is}
 use Rattle.std.specs.Ordering.{eq_by_cmp}
-use Rattle.deb_version.specs.Grammar.{Components, meaning_of_components, revision_parts}
+use Rattle.deb_version.specs.Grammar.{Components, meaning_of_components}
 use Rattle.deb_version.specs.Hashes.{version_writes}
 use Rattle.deb_version.specs.Order.{version_cmp}
-use Rattle.deb_version.specs.OrderLaws.{HasTexts}
-use Rattle.deb_version.specs.Parts.{HasParts}
-use Rattle.deb_version.specs.OrderLemmas.{version_same}
-use Rattle.deb_version.specs.PartsLemmas.{has_parts}
-
--- components mean the parts of texts
-has_texts : (c : Components) → HasTexts (meaning_of_components c)
-has_texts c = record {
-  upstream = (c.upstream, has_parts c.upstream);
-  revision = of_revision
-      c.revision;
-}
-  where
-    of_revision : (r : Option (List ℕ)) → (text : List ℕ) × HasParts text (revision_parts r)
-    of_revision None = ([], has_parts [])
-    of_revision (Some revision) = (revision, has_parts revision)
+use Rattle.deb_version.specs.OrderLemmas.{version_same, has_texts}
 
 pub equal_feed_alike : (c d : Components)
     → IsTrue (eq_by_cmp version_cmp (meaning_of_components c) (meaning_of_components d))

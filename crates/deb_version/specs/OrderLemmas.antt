@@ -1,5 +1,5 @@
 -- Debian's order of versions is total, and equal only of equal meanings.
-use Rattle.std.proofs.Common.{◌≡◌, ◌≢◌, ℕ, ◌+◌, ◌<◌, ◌||◌, ◌↔◌, false, Option, Some, None, MatchOption, List, [], ◌∷◌, ◌++◌, map, refl, sym, ap, ◌∙◌, subst, IsTrue, IsFalse, arith}
+use Rattle.std.proofs.Common.{◌≡◌, ◌≢◌, ℕ, ◌+◌, ◌<◌, ◌||◌, ◌↔◌, false, Option, Some, None, List, [], ◌∷◌, ◌++◌, map, refl, sym, ap, ◌∙◌, subst, IsTrue, IsFalse, arith}
 use Rattle.std.specs.Char.{is_ascii_alphabetic}
 use Rattle.std.specs.Cmp.{IsTotalOrder, nat_cmp_is, nat_cmp_total, on_total, then_total, tied_itself, upto}
 use Rattle.std.specs.FinMap.{nat_cmp-IsAntisymmetric}
@@ -11,10 +11,11 @@ use Rattle.std.proofs.lemmas.Bool.{false≢true, true≢false}
 use Rattle.std.proofs.lemmas.List.{append-nil}
 use Rattle.std.proofs.lemmas.Bool.Decides.{nat_tests}
 use Rattle.deb_version.specs.ContinuedOrder.{continued_total, then-Equal}
-use Rattle.deb_version.specs.Grammar.{SpellsVersion}
+use Rattle.deb_version.specs.Grammar.{Components, SpellsVersion, meaning_of_components, revision_parts}
 use Rattle.deb_version.specs.Order.{component_cmp, empty_part, end_rank, part_cmp, rank_of, text_cmp, version_cmp}
 use Rattle.deb_version.specs.OrderLaws.{FirstDifferenceDecides, HasTexts}
-use Rattle.deb_version.specs.Parts.{AreCuts, Cut, HasParts, Meaning, Part, no_revision, part_of}
+use Rattle.deb_version.specs.Parts.{AreCuts, Cut, HasParts, Meaning, Part, part_of}
+use Rattle.deb_version.specs.PartsLemmas.{has_parts}
 
 pub text_total : IsTotalOrder text_cmp
 text_total = on_total (map rank_of) (continued_total nat_cmp_total end_rank)
@@ -224,15 +225,17 @@ version_same a b s t = (same, λ e. ap (version_cmp a) (sym e) ∙ tied_itself v
         (component_of_text _ _ t.revision.1) components.1 in
         λ i. record { epoch = epoch i; upstream = upstream i; revision = revision i }
 
--- a spelled version's components are the parts of texts
-pub HasTexts-from_spelled : (text : List ℕ) (m : Meaning) → SpellsVersion text m → HasTexts m
-HasTexts-from_spelled text m h = record {
-  upstream = (h.components.upstream, h.means.upstream);
-  revision = of_revision h.components.revision h.means.revision;
+-- components mean the parts of texts, and so does what a text spells
+pub has_texts : (c : Components) → HasTexts (meaning_of_components c)
+has_texts c = record {
+  upstream = (c.upstream, has_parts c.upstream);
+  revision = of_revision
+      c.revision;
 }
   where
-    of_revision : (o : Option (List ℕ))
-        → MatchOption o (m.revision ≡ no_revision) (λ revision. HasParts revision m.revision)
-        → (t : List ℕ) × HasParts t m.revision
-    of_revision None e = ([], (([], []) ∷ [], (tt, tt), refl, e))
-    of_revision (Some revision) e = (revision, e)
+    of_revision : (r : Option (List ℕ)) → (text : List ℕ) × HasParts text (revision_parts r)
+    of_revision None = ([], has_parts [])
+    of_revision (Some revision) = (revision, has_parts revision)
+
+pub HasTexts-from_spelled : (text : List ℕ) (m : Meaning) → SpellsVersion text m → HasTexts m
+HasTexts-from_spelled text m h = subst HasTexts (sym h.means) (has_texts h.components)

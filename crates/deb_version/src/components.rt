@@ -1,17 +1,12 @@
 //! The components of a version text: where they stand, and whether they are allowed.
 
-ghost use Rattle.std.specs.Prelude.{◌≡◌, ◌^◌, ◌<◌, length, IsTrue, All, option_copied};
-ghost use Rattle.std.specs.Char.{is_ascii_digit};
+ghost use Rattle.std.specs.Prelude.{◌≡◌, ◌^◌, ◌<◌, length, option_copied};
 ghost use Rattle.std.specs.List.{position};
 ghost use Rattle.std.specs.Result.{result_err};
-ghost use Rattle.deb_version.specs.Grammar.{components_with, epoch_text, spelling, is_upstream_byte, is_revision_byte};
+ghost use Rattle.deb_version.specs.Grammar.{components_with, epoch_text, spelling, is_upstream_byte, is_revision_byte, is_empty, some_passes, is_bad_in_upstream, is_bad_in_revision, first_of, epoch_faults, rest_faults};
 ghost use Rattle.deb_version.specs.Places.{epoch_in, rest_in, upstream_in, revision_in};
-ghost use Rattle.deb_version.specs.Faults.{is_empty, some_passes, is_too_big, is_bad_in_upstream, is_bad_in_revision, first_of, epoch_faults, rest_faults};
 
 use crate::fault::BadVersion;
-
-// The largest epoch that is accepted.
-const EPOCH_LIMIT: u64 = 2_147_483_647;
 
 /// The epoch, which ends at the first colon, if there is a colon; and what follows it.
 pub(crate) fn cut_epoch(text: &[u8]) -> (Option<&[u8]>, &[u8])
@@ -33,21 +28,6 @@ pub(crate) fn cut_revision(rest: &[u8]) -> (&[u8], Option<&[u8]>)
         Some(at) => (&rest[..at], Some(&rest[at + 1..])),
         None => (rest, None),
     }
-}
-
-// Whether digits have a value above the limit, however many they are.
-fn is_above_limit(digits: &[u8]) -> bool
-    requires { All (λ b. IsTrue (is_ascii_digit b)) digits.now }
-    ensures { result ≡ is_too_big digits.now }
-{
-    let mut value = 0;
-    for digit in digits {
-        value = 10 * value + u64::from(*digit - b'0');
-        if value > EPOCH_LIMIT {
-            return true;
-        }
-    }
-    false
 }
 
 fn is_allowed_in_revision(b: u8) -> bool
@@ -74,9 +54,6 @@ pub(crate) fn judge_epoch(epoch: Option<&[u8]>) -> Result<(), BadVersion>
     }
     if digits.iter().any(|b| !b.is_ascii_digit()) {
         return Err(BadVersion::EpochNotNumber);
-    }
-    if is_above_limit(digits) {
-        return Err(BadVersion::EpochTooBig);
     }
     Ok(())
 }

@@ -12,7 +12,7 @@ pub enum BadVersion {
     EpochEmpty,
     /// What stands before the first colon isn't made of decimal digits alone.
     EpochNotNumber,
-    /// The epoch's value is above 2,147,483,647.
+    /// Never given: an epoch may have any size. It stands here for callers that match on it.
     EpochTooBig,
     /// Nothing follows the last hyphen after the epoch.
     RevisionEmpty,

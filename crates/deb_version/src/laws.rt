@@ -6,7 +6,7 @@
 ghost use Rattle.std.specs.Prelude.{◌≡◌, IsTrue, fold};
 ghost use Rattle.std.specs.Hash.DefaultHasher as sip;
 ghost use Rattle.deb_version.specs.CanonicalLaws.{CanonicalTextSpells, CanonicalTextDecides, CanonicalTextStays, CanonicalTextIsShort, EqualVersionsHaveOneText};
-ghost use Rattle.deb_version.specs.GrammarLaws.{SpellsOneVersion, SpellsWhereFaultless, HasOneListOfParts, ComponentsSpell, AllowedComponentsStand, TestTellsAllowed, VersionSpells};
+ghost use Rattle.deb_version.specs.GrammarLaws.{SpellsOneVersion, SpellsWhereFaultless, HasOneListOfParts, ComponentsSpell, AllowedComponentsStand, EpochHasAnySize, VersionSpells};
 ghost use Rattle.deb_version.specs.OrderLaws.{EqualCompareAlike, EqualOnlyIfSame, EqualOnlyIfSameSpelled, EqualTransitive, FirstDifferenceDecides, GreaterOrEqualTransitive, LessOrEqualTransitive, LessTransitive, Reflexive, Reversed, Total, TotalOrder};
 
 use crate::version::Version;
@@ -34,9 +34,9 @@ pub fn components_stand()
     ensures stand { AllowedComponentsStand }
 {}
 
-/// The test of a `Version`'s components passes exactly where the grammar allows them.
-pub fn test_tells_allowed()
-    ensures { TestTellsAllowed }
+/// An epoch may have any size: no text has the fault `EpochTooBig`.
+pub fn epoch_has_any_size()
+    ensures { EpochHasAnySize }
 {}
 
 /// Each `Version`, however it was made, spells a text with its meaning: the text of its components.

@@ -1,8 +1,9 @@
 //! Debian's order of versions.
 
-ghost use Rattle.std.specs.Prelude.{◌≡◌, ◌↔◌, IsTrue};
+ghost use Rattle.std.specs.Prelude.{◌≡◌, ◌↔◌, ◌≢◌, ◌≤◌, ◌-◌, length, take, IsTrue, IsFalse};
 ghost use Rattle.std.specs.Char.{is_ascii_digit};
 ghost use Rattle.std.specs.Cmp.{eq_by_cmp_equiv, on_equiv, on_per, on_po, on_total, partial_equiv_from_equiv, po};
+ghost use Rattle.std.specs.Cmp.Lexicographic.{slice_cmp};
 ghost use Rattle.std.specs.List.{list_all};
 ghost use Rattle.std.specs.Ordering.{as_partial_cmp, eq_by_cmp, nat_cmp, on};
 ghost use Rattle.std.specs.Prelude.{map, refl, slice_index_or};
@@ -61,7 +62,7 @@ impl Ord for Version<'_> {
         ensures canonical { (result ≡ Equal)
             ↔ (version_text (meaning_of self.now) ≡ version_text (meaning_of other.now)) }
     {
-        let order = compare_runs(self.epoch.unwrap_or(&[]), other.epoch.unwrap_or(&[]));
+        let order = compare_epochs(self, other);
         if order.is_ne() {
             return order;
         }
@@ -73,8 +74,59 @@ impl Ord for Version<'_> {
     }
 }
 
-/// Two upstream versions, or two revisions: the first cuts that differ decide.
+/// The epochs of two versions by their values, of which an absent one is 0.
+fn compare_epochs(a: &Version<'_>, b: &Version<'_>) -> Ordering
+    ensures { result ≡ nat_cmp (meaning_of a.now).epoch (meaning_of b.now).epoch }
+{
+    if a.epoch == b.epoch {
+        return Ordering::Equal;
+    }
+    compare_runs(a.epoch.unwrap_or(&[]), b.epoch.unwrap_or(&[]))
+}
+
+/// Two upstream versions, or two revisions: what both begin with doesn't decide, and behind it the
+/// first cuts that differ do.
 fn compare_components(a: &[u8], b: &[u8]) -> Ordering
+    ensures { result ≡ component_cmp (parts_of a.now) (parts_of b.now) }
+{
+    let same = same_len(a, b);
+    if same == a.len() && same == b.len() {
+        return Ordering::Equal;
+    }
+    let front = len_before_run(&a[..same]);
+    compare_cuts(&a[front..], &b[front..])
+}
+
+/// How many bytes two components begin with alike.
+fn same_len(a: &[u8], b: &[u8]) -> usize
+    ensures in_a { result ≤ length a.now }
+    ensures in_b { result ≤ length b.now }
+    ensures same { take result a.now ≡ take result b.now }
+{
+    let len = a.len().min(b.len());
+    for place in 0..len {
+        if a[place] != b[place] {
+            return place;
+        }
+    }
+    len
+}
+
+/// How much of a text stands before the run of digits in which it ends. A run goes on behind it,
+/// so it is compared whole.
+fn len_before_run(text: &[u8]) -> usize
+    ensures within { result ≤ length text.now }
+    ensures other_before { (result ≢ 0)
+        → IsFalse (is_ascii_digit (slice_index_or text.now (result - 1) 0)) }
+{
+    match text.iter().rposition(|byte| !byte.is_ascii_digit()) {
+        Some(place) => place + 1,
+        None => 0,
+    }
+}
+
+/// Two components: the first cuts that differ decide.
+fn compare_cuts(a: &[u8], b: &[u8]) -> Ordering
     ensures { result ≡ component_cmp (parts_of a.now) (parts_of b.now) }
 {
     let mut rest_a = a;
@@ -133,5 +185,21 @@ fn compare_runs(a: &[u8], b: &[u8]) -> Ordering
 {
     let a = without_zeros(a);
     let b = without_zeros(b);
-    a.len().cmp(&b.len()).then_with(|| a.cmp(&b))
+    let order = a.len().cmp(&b.len());
+    if order.is_ne() {
+        return order;
+    }
+    compare_digits(a, b)
+}
+
+/// Two runs of one length: the first digits that differ decide.
+fn compare_digits(a: &[u8], b: &[u8]) -> Ordering
+    ensures { (length a.now ≡ length b.now) → result ≡ slice_cmp nat_cmp a.now b.now }
+{
+    for place in 0..a.len().min(b.len()) {
+        if a[place] != b[place] {
+            return a[place].cmp(&b[place]);
+        }
+    }
+    Ordering::Equal
 }

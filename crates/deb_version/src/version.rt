@@ -29,8 +29,8 @@ impl<'a> Version<'a> {
 
     /// The version that a text spells: `[epoch:]upstream[-revision]` (Debian Policy 5.6.12).
     ///
-    /// The epoch ends at the first colon, and is at most 2,147,483,647. The revision follows the
-    /// last hyphen after that. The version borrows the text, and no memory is taken.
+    /// The epoch ends at the first colon, and may have any size. The revision follows the last
+    /// hyphen after that. The version borrows the text, and no memory is taken.
     ///
     /// # Errors
     ///

@@ -1,15 +1,10 @@
 use Rattle.std.proofs.Common.{rules, option_copied, ap}
 use Rattle.std.specs.Char.{is_ascii_digit}
 use Rattle.deb_version.proofs.ByteLemmas.{none_fails-all}
-use Rattle.deb_version.proofs.FaultLemmas.{epoch_too_big, epoch_allowed}
+use Rattle.deb_version.proofs.FaultLemmas.{epoch_allowed}
 use Rattle.deb_version.proofs.components.judge_epoch.Goals as goal
-
-pub returns-then-is_above_limit : goal.returns-then-is_above_limit
-returns-then-is_above_limit c =
-    let only_digits = none_fails-all is_ascii_digit c.in-Some.digits.now (search rules) in
-    epoch_too_big (option_copied c.args.epoch) c.in-Some.digits.now (ap option_copied c.in-Some.is) (search rules) only_digits (search rules)
 
 pub returns : goal.returns
 returns c =
     let only_digits = none_fails-all is_ascii_digit c.in-Some.digits.now (search rules) in
-    epoch_allowed (option_copied c.args.epoch) c.in-Some.digits.now (ap option_copied c.in-Some.is) (search rules) only_digits (search rules)
+    epoch_allowed (option_copied c.args.epoch) c.in-Some.digits.now (ap option_copied c.in-Some.is) (search rules) only_digits

@@ -4,7 +4,7 @@ use Rattle.deb_version.proofs.EqualTexts.{equal_where_one_text}
 use Rattle.deb_version.proofs.order.VersionOrd.cmp.Goals as goal
 
 pub returns-then-is_ne-clause-canonical : goal.returns-then-is_ne-clause-canonical
-returns-then-is_ne-clause-canonical c = equal_where_one_text c.args.self.now c.args.other.now c.compare_runs-order.result (search rules)
+returns-then-is_ne-clause-canonical c = equal_where_one_text c.args.self.now c.args.other.now c.compare_epochs-order.result (search rules)
 
 pub returns-then-is_ne-2-clause-canonical : goal.returns-then-is_ne-2-clause-canonical
 returns-then-is_ne-2-clause-canonical c = equal_where_one_text c.args.self.now c.args.other.now c.compare_components-order.result (search rules)

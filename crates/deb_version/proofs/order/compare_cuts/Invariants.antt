@@ -2,7 +2,7 @@
 use Rattle.std.proofs.Common.{◌≡◌, ◌+◌, length}
 use Rattle.deb_version.specs.Order.{component_cmp}
 use Rattle.deb_version.specs.Parts.{parts_of}
-use Rattle.deb_version.proofs.order.compare_components.Given as goal
+use Rattle.deb_version.proofs.order.compare_cuts.Given as goal
 
 abbrev pub invariant-loop-after_a : goal.invariant-loop-after_a
 invariant-loop-after_a l = component_cmp (parts_of l.a) (parts_of l.b) ≡ component_cmp (parts_of l.rest_a) (parts_of l.rest_b)

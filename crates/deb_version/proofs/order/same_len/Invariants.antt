@@ -1,0 +1,6 @@
+-- What stands before the place is the same.
+use Rattle.std.proofs.Common.{◌≡◌, take}
+use Rattle.deb_version.proofs.order.same_len.Given as goal
+
+abbrev pub invariant-loop-place : goal.invariant-loop-place
+invariant-loop-place l = take l.place l.a ≡ take l.place l.b
