@@ -6,7 +6,7 @@ use Rattle.deb_base.specs.declared.code.Code.{Code}
 use Rattle.deb_version.specs.Parts.{Meaning as VersionMeaning}
 use Rattle.deb_version.specs.Grammar.{SpellsVersion}
 use Rattle.deb_version.specs.Canonical.{version_text}
-use Rattle.deb_version.proofs.CanonicalVersion.{canonical_text_is_short}
+use Rattle.deb_version.proofs.CanonicalTexts.{canonical_text_is_short}
 use Rattle.deb_base.proofs.Trims.{trailing_cut, trimmed_cut}
 use Rattle.deb_field.specs.Sources.{SourceMeaning, source_of, SpellsSource, source_text, is_open, has_version, is_closed, without_last}
 use Rattle.deb_field.specs.SourceNames.{source_meaning, ReadsAround}

@@ -17,7 +17,7 @@ use Rattle.deb_version.specs.Grammar.{SpellsVersion}
 use Rattle.deb_version.specs.Canonical.{version_text}
 use Rattle.deb_version.specs.Faults.{first_fault}
 use Rattle.deb_version.proofs.CutLemmas.{before_first-at, after_first-at, join_first}
-use Rattle.deb_version.proofs.CanonicalVersion.{canonical_text_spells, canonical_text_is_short}
+use Rattle.deb_version.proofs.CanonicalTexts.{canonical_text_spells, canonical_text_is_short}
 use Rattle.deb_version.proofs.MeaningLemmas.{one_version}
 use Rattle.deb_field.specs.CanonLaw.{CanonLaw, RefusalLaw}
 use Rattle.deb_field.specs.OneLine.{holds_newline, refusal_unless}

@@ -13,7 +13,7 @@ use Rattle.deb_version.proofs.FaultLemmas.{no_fault-from_spells, spells-from_no_
 use Rattle.deb_version.proofs.MeaningLemmas.{one_version}
 pub use Rattle.deb_version.proofs.MeaningLemmas.{version_spelled}
 use Rattle.deb_version.proofs.AllowedLemmas.{IsEpoch, IsRevision, are_components-fact}
-use Rattle.deb_version.proofs.CanonicalVersion.{canonical_text_spells, canonical_text_is_short}
+use Rattle.deb_version.proofs.CanonicalTexts.{canonical_text_spells, canonical_text_is_short}
 use Rattle.deb_base.specs.Bodies.{IsBody}
 use Rattle.deb_field.specs.CanonLaw.{CanonLaw, RefusalLaw}
 use Rattle.deb_field.specs.OneLine.{refusal_unless}

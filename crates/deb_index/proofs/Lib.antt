@@ -1,4 +1,3 @@
-pub mod KeptVersions
 pub mod ListedValues
 pub mod Copies
 pub mod Indexed

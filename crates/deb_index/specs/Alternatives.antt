@@ -3,7 +3,7 @@
 use Rattle.std.specs.Prelude.{ℕ, Bool, false, List, [], ◌∷◌, Some, None}
 use Rattle.deb_relation.specs.Meaning.{Alternative}
 use Rattle.deb_relation.specs.declared.operator.Op.{Op}
-use Rattle.deb_index.specs.Versions.{version_in}
+use Rattle.deb_version.specs.Places.{version_in}
 
 -- a name alone
 abbrev pub alone : List ℕ → Alternative

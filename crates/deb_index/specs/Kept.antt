@@ -1,16 +1,11 @@
 -- What the values that an index keeps stand for.
 use Rattle.std.specs.Prelude.{map, Option, Some, None, List, [], ◌∷◌}
 use Rattle.std.specs.Option.{option_map}
-use Rattle.deb_version.specs.Parts.{Meaning as Version}
 use Rattle.deb_relation.specs.Meaning.{Alternative}
 use Rattle.deb_index.specs.Listed.{Provision, Listed, provision_in}
-use Rattle.deb_index.specs.Versions.{version_in}
-use Rattle.deb_index.specs.declared.canonical_version.CanonicalVersion.{CanonicalVersion}
+use Rattle.deb_version.specs.Kept.{kept_version}
 use Rattle.deb_index.specs.declared.package.Package.{Package}
 use Rattle.deb_index.specs.declared.provision.Provision.{Provision as Provided}
-
-abbrev pub kept_version : CanonicalVersion → Version
-kept_version version = version_in version.text.items
 
 abbrev pub provision_of : Provided → Provision
 provision_of p = record { name = p.name.items; version = option_map kept_version p.version }

@@ -1,4 +1,3 @@
-pub mod Versions
 pub mod Alternatives
 pub mod Listed
 pub mod Meeting

@@ -9,7 +9,7 @@ use Rattle.deb_relation.specs.declared.operator.Op.{Op}
 use Rattle.deb_relation.specs.declared.operator.Op.TheVariants.{Equal}
 use Rattle.deb_field.specs.declared.flag.MultiArch.{MultiArch}
 use Rattle.deb_index.specs.Alternatives.{alone, with_bound, with_qualifier, with_list, with_formula}
-use Rattle.deb_index.specs.Versions.{version_in}
+use Rattle.deb_version.specs.Places.{version_in}
 
 -- a name that a package provides, with its version, if one is told
 pub record Provision : Type 0 where

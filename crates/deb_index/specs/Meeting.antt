@@ -13,7 +13,7 @@ use Rattle.deb_field.specs.declared.flag.MultiArch.{MultiArch}
 use Rattle.deb_field.specs.declared.flag.MultiArch.TheVariants.{No, Same, Foreign, Allowed}
 use Rattle.deb_index.specs.Alternatives.{alone, with_bound, with_qualifier}
 use Rattle.deb_index.specs.Listed.{Provision, Listed}
-use Rattle.deb_index.specs.Versions.{version_in}
+use Rattle.deb_version.specs.Places.{version_in}
 
 -- A version meets a bound if it stands in the bound's operator to the bound's version. Every
 -- version meets no bound.

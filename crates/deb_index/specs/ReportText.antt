@@ -6,7 +6,7 @@ use Rattle.std.specs.Fmt.{decimal, digits}
 use Rattle.std.specs.List.{concat, flat_map}
 use Rattle.deb_version.specs.Canonical.{version_text}
 use Rattle.deb_index.specs.Reports.{Numbered, Answer}
-use Rattle.deb_index.specs.Versions.{version_in}
+use Rattle.deb_version.specs.Places.{version_in}
 use Rattle.deb_index.specs.declared.verdict.Verdict.{Verdict}
 use Rattle.deb_index.specs.declared.verdict.Verdict.TheVariants.{Ignored, Met, Unmet}
 

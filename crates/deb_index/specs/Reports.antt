@@ -11,7 +11,7 @@ use Rattle.deb_field.specs.declared.flag.MultiArch.TheVariants.{Allowed}
 use Rattle.deb_index.specs.Alternatives.{alone, with_qualifier, with_list, with_formula}
 use Rattle.deb_index.specs.Listed.{Provision, Listed}
 use Rattle.deb_index.specs.Meeting.{meets}
-use Rattle.deb_index.specs.Versions.{version_in}
+use Rattle.deb_version.specs.Places.{version_in}
 use Rattle.deb_index.specs.declared.verdict.Verdict.{Verdict}
 use Rattle.deb_index.specs.declared.verdict.Verdict.TheVariants.{Ignored, Met, Unmet}
 

@@ -14,7 +14,6 @@
 //! packages meet it. `laws` says that canonical text changes nothing of that.
 #![tactic(auto)]
 
-mod canonical_version;
 mod fault;
 mod index;
 pub mod laws;

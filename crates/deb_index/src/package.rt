@@ -11,10 +11,10 @@ ghost use Rattle.deb_version.specs.Canonical.{version_text};
 ghost use Rattle.deb_index.specs.Meeting.{effective, is_allowed, is_foreign, meets, meets_by_name, meets_qualifier, multi_arch_or_no};
 ghost use Rattle.deb_index.specs.Reports.{meets_group};
 
-use crate::canonical_version::CanonicalVersion;
 use crate::provision::{Provision, meets_bound, some_provision_meets};
 use deb_field::MultiArch;
 use deb_relation::{Alternative, Env};
+use deb_version::CanonicalVersion;
 
 /// What an index keeps of a package.
 #[derive(Debug, Drop)]

@@ -5,16 +5,16 @@ ghost use Rattle.std.specs.Option.{option_map};
 ghost use Rattle.deb_field.specs.Values.{NameMeans, VersionMeans, ArchitectureMeans, MultiArchMeans};
 ghost use Rattle.deb_control.specs.CheckedStates.{passing_of};
 ghost use Rattle.deb_control.specs.PassingValues.{HasValue};
-ghost use Rattle.deb_index.specs.Kept.{kept_version, listed_of, provision_of};
+ghost use Rattle.deb_version.specs.Kept.{kept_version};
+ghost use Rattle.deb_index.specs.Kept.{listed_of, provision_of};
 ghost use Rattle.deb_index.specs.Listing.{HasProvisions, SeenLists};
 
-use crate::canonical_version::CanonicalVersion;
 use crate::package::Package;
 use crate::provision::{Provision, provisions_of};
 use deb_control::Accepted;
 use deb_field::{Doc, MultiArch};
 use deb_relation::{Relation, RelationFault};
-use deb_version::Version;
+use deb_version::{CanonicalVersion, Version};
 use std::alloc::{AllocError, Global};
 
 /// The package that a paragraph of an index lists.

@@ -6,13 +6,13 @@ ghost use Rattle.std.specs.Option.{option_map};
 ghost use Rattle.deb_relation.specs.Relations.{relation_of};
 ghost use Rattle.deb_relation.specs.Groups.{group_of};
 ghost use Rattle.deb_relation.specs.Views.{alternative_of, lent_bound_of};
-ghost use Rattle.deb_index.specs.Kept.{entry_provisions, kept_version, provision_of};
+ghost use Rattle.deb_version.specs.Kept.{kept_version};
+ghost use Rattle.deb_index.specs.Kept.{entry_provisions, provision_of};
 ghost use Rattle.deb_index.specs.Listed.{is_plain, provided_by, provision_in, provisions_of};
 ghost use Rattle.deb_index.specs.Meeting.{meets_bound, provided_meets_bound, provision_meets};
 
-use crate::canonical_version::CanonicalVersion;
 use deb_relation::{Alternative, Group, Op, Relation};
-use deb_version::Version;
+use deb_version::{CanonicalVersion, Version};
 use std::alloc::{AllocError, Global};
 
 /// A name that a package provides, with its version, if one is told (Debian Policy 7.5).

@@ -9,7 +9,7 @@ use Rattle.std.specs.declared.cmp.Ordering.TheVariants.{Less, Equal, Greater}
 use Rattle.deb_base.specs.PackageNames.{is_package_name, is_arch_name, is_profile_name, begins_small_or_digit, is_package_byte}
 use Rattle.deb_version.specs.Parts.{Meaning as Version}
 use Rattle.deb_version.specs.Canonical.{version_text}
-use Rattle.deb_version.proofs.CanonicalVersion.{canonical_text_is_short as version_is_short}
+use Rattle.deb_version.proofs.CanonicalTexts.{canonical_text_is_short as version_is_short}
 use Rattle.deb_relation.specs.declared.operator.Op.{Op}
 use Rattle.deb_relation.specs.Grammar.{SpellItems, SpellBetween, SpellInTurn, SpellsQualifier, SpellsBound, SpellsArchitectures, SpellsRestrictions, SpellsAlternative, SpellsGroup, SpellsPiece, groups_of, SpellsRelation, set_with, set_of}
 use Rattle.deb_relation.specs.Meaning.{Restrictions, Alternative, Group, Relation}

@@ -6,7 +6,7 @@ use Rattle.deb_base.specs.PackageNames.{is_package_name, is_arch_name, is_profil
 use Rattle.deb_version.specs.Parts.{Meaning as Version}
 use Rattle.deb_version.specs.Grammar.{SpellsVersion}
 use Rattle.deb_version.specs.Canonical.{version_text}
-use Rattle.deb_version.proofs.CanonicalVersion.{canonical_text_spells}
+use Rattle.deb_version.proofs.CanonicalTexts.{canonical_text_spells}
 use Rattle.deb_relation.specs.declared.operator.Op.{Op}
 use Rattle.deb_relation.specs.Grammar.{SpellBetween, SpellInTurn, SpellsQualifier, SpellsBound, SpellsArchitectures, SpellsRestrictions, SpellsAlternative, SpellsGroup, SpellsPiece, groups_of, SpellsRelation}
 use Rattle.deb_relation.specs.Laws.{Ascends}

@@ -4,7 +4,7 @@ use Rattle.std.proofs.lemmas.List.{length-append}
 use Rattle.deb_version.specs.Parts.{Meaning}
 use Rattle.deb_version.specs.Grammar.{Components, spelling, epoch_text, revision_text, meaning_of_components, are_components}
 use Rattle.deb_version.specs.Canonical.{component_text, canonical_epoch, canonical_revision, version_text}
-use Rattle.deb_version.proofs.CanonicalVersion.{canonical_text_is_short}
+use Rattle.deb_version.proofs.CanonicalTexts.{canonical_text_is_short}
 
 pub length-version_text : (m : Meaning) → length (version_text m) ≡ length (epoch_text (canonical_epoch m)) + (length (component_text m.upstream) + length (revision_text (canonical_revision m)))
 length-version_text m =

@@ -9,7 +9,7 @@ use Rattle.deb_version.specs.CanonicalLaws.{EqualVersionsHaveOneText}
 use Rattle.deb_version.specs.Version.{meaning_of}
 use Rattle.deb_version.proofs.MeaningLemmas.{version_spelled}
 use Rattle.deb_version.specs.OrderLemmas.{HasTexts-from_spelled, version_same}
-use Rattle.deb_version.proofs.CanonicalVersion.{canonical_text_decides}
+use Rattle.deb_version.proofs.CanonicalTexts.{canonical_text_decides}
 
 pub equal_versions_have_one_text : EqualVersionsHaveOneText
 equal_versions_have_one_text s t m n p q =

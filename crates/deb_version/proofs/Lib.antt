@@ -6,6 +6,7 @@ pub mod FaultLemmas
 pub mod ValueLemmas
 pub mod AllowedLemmas
 pub mod ParseLemmas
+pub mod KeptVersions
 pub mod FirstPlace
 pub mod FirstCut
 pub mod NumberOrder
@@ -13,7 +14,7 @@ pub mod Emptiness
 pub mod LeadingZeros
 pub mod CanonicalDigits
 pub mod CanonicalComponent
-pub mod CanonicalVersion
+pub mod CanonicalTexts
 pub mod CanonicalCuts
 pub mod CanonicalWritten
 pub mod CanonicalFits

@@ -1,5 +1,5 @@
 -- What a text that is cut and judged spells, or which fault it has.
-use Rattle.std.proofs.Common.{Result, Err, is_err, IsOk, IfOk, IsOkAnd, IfErr, ◌↔◌, ◌≡◌, true, false, List, Option, Some, None, sym, ap, ◌∙◌, subst, ℕ, ◌<◌, ◌^◌, length}
+use Rattle.std.proofs.Common.{Result, Err, is_err, IsOk, IfOk, IsOkAnd, IfErr, ◌↔◌, ◌≡◌, Bool, true, false, List, Option, Some, None, refl, sym, ap, ◌∙◌, subst, ℕ, ◌<◌, ◌^◌, length}
 use Rattle.std.proofs.lemmas.Result.{IfOk-from_err}
 use Rattle.deb_version.specs.declared.fault.BadVersion.{BadVersion}
 use Rattle.deb_version.specs.declared.version.Version.{Version}
@@ -10,11 +10,19 @@ use Rattle.deb_version.specs.Faults.{first_fault}
 use Rattle.deb_version.specs.Version.{meaning_of}
 use Rattle.deb_version.proofs.ComponentsLemmas.{components_made, spelling-components_in}
 use Rattle.deb_version.proofs.MeaningLemmas.{spelled_components}
-use Rattle.deb_version.proofs.FaultLemmas.{no_fault-from_spells, spells-from_no_fault, fault_epoch, fault_rest}
+use Rattle.deb_version.proofs.FaultLemmas.{no_fault-from_spells, spells-from_no_fault, fault_empty, fault_epoch, fault_rest}
 
 -- a text with a fault spells nothing
 pub spells_nothing : (text : List ℕ) (fault : BadVersion) (m : Meaning) → first_fault text ≡ Some fault → SpellsVersion text m → ⊥
 spells_nothing text fault m faulty s = let none = no_fault-from_spells text m s in cc
+
+-- a text without fault isn't empty
+pub faultless_some : (text : List ℕ) → first_fault text ≡ None → is_empty text ≡ false
+faultless_some text none = by_cases (is_empty text) refl
+  where
+    by_cases : (v : Bool) → is_empty text ≡ v → is_empty text ≡ false
+    by_cases true e = let empty = fault_empty text e in absurd cc
+    by_cases false e = e
 
 -- what is answered of a text with a fault
 module _ (text : List ℕ) (r : Result Version BadVersion) (fault : BadVersion) (is : r ≡ Err fault) (faulty : first_fault text ≡ Some fault) where

@@ -3,7 +3,8 @@
 -- after that.
 use Rattle.std.specs.Prelude.{◌≡◌, ℕ, ◌==◌, Bool, List, Option, Some, None, if◌then◌else◌, codes, refl}
 use Rattle.std.specs.List.{list_any, before_first, after_first, before_last, after_last}
-use Rattle.deb_version.specs.Grammar.{Components}
+use Rattle.deb_version.specs.Grammar.{Components, meaning_of_components}
+use Rattle.deb_version.specs.Parts.{Meaning}
 
 abbrev pub is_colon : ℕ → Bool
 is_colon b = b == 58
@@ -35,6 +36,10 @@ components_in text =
       revision = revision_in
           (rest_in text);
     }
+
+-- the version that a text spells, if it spells one: what the components that stand in it mean
+abbrev pub version_in : List ℕ → Meaning
+version_in text = meaning_of_components (components_in text)
 
 -- 2:1--0, 1.0 and 1:2-3:4
 worked-hyphens : components_in (codes "2:1--0")

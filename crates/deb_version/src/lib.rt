@@ -19,6 +19,7 @@
 #![tactic(auto)]
 
 mod canonical;
+mod canonical_version;
 mod components;
 mod cut;
 mod fault;
@@ -28,5 +29,6 @@ mod order;
 mod run;
 mod version;
 
+pub use canonical_version::CanonicalVersion;
 pub use fault::BadVersion;
 pub use version::Version;

@@ -25,6 +25,7 @@ impl<'a> Version<'a> {
     ghost use Rattle.deb_version.specs.Parts.{Meaning};
     ghost use Rattle.deb_version.specs.Grammar.{SpellsVersion};
     ghost use Rattle.deb_version.specs.Faults.{first_fault};
+    ghost use Rattle.deb_version.specs.Places.{version_in};
     ghost use Rattle.deb_version.specs.Version.{components_of, meaning_of};
 
     /// The version that a text spells: `[epoch:]upstream[-revision]` (Debian Policy 5.6.12).
@@ -55,5 +56,19 @@ impl<'a> Version<'a> {
             upstream,
             revision,
         })
+    }
+
+    // The version that a text without fault spells, which is cut, and not judged again.
+    pub(crate) fn of_faultless(text: &'a [u8]) -> Version<'a>
+        requires { first_fault text.now ≡ None }
+        ensures { meaning_of result ≡ version_in text.now }
+    {
+        let (epoch, rest) = cut_epoch(text);
+        let (upstream, revision) = cut_revision(rest);
+        Version {
+            epoch,
+            upstream,
+            revision,
+        }
     }
 }

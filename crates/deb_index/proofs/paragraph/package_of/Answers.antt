@@ -1,6 +1,7 @@
 use Rattle.std.proofs.Common.{map}
 use Rattle.deb_syntax.specs.Paragraphs.{seen_of}
-use Rattle.deb_index.specs.Kept.{kept_version, provision_of}
+use Rattle.deb_version.specs.Kept.{kept_version}
+use Rattle.deb_index.specs.Kept.{provision_of}
 use Rattle.deb_index.proofs.ListedValues.{lists-read}
 use Rattle.deb_index.proofs.paragraph.package_of.Goals as goal
 

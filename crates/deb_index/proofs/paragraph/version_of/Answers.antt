@@ -5,7 +5,7 @@ use Rattle.deb_version.specs.Version.{meaning_of}
 use Rattle.deb_field.specs.Values.{VersionMeans}
 use Rattle.deb_field.specs.declared.kind.Doc.TheVariants.{Packages}
 use Rattle.deb_control.specs.PassingValues.{HasValue}
-use Rattle.deb_index.specs.Kept.{kept_version}
+use Rattle.deb_version.specs.Kept.{kept_version}
 use Rattle.deb_index.proofs.Copies.{of_kept}
 use Rattle.deb_index.proofs.ListedValues.{version-there, version-read}
 use Rattle.deb_index.proofs.paragraph.version_of.Goals as goal

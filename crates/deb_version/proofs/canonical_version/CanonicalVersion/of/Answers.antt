@@ -1,8 +1,8 @@
 use Rattle.std.proofs.Common.{◌≡◌}
 use Rattle.deb_version.specs.Canonical.{version_text}
 use Rattle.deb_version.specs.Version.{meaning_of}
-use Rattle.deb_index.proofs.KeptVersions.{kept-faultless, kept-version, kept-canonical}
-use Rattle.deb_index.proofs.canonical_version.CanonicalVersion.of.Goals as goal
+use Rattle.deb_version.proofs.KeptVersions.{kept-faultless, kept-version, kept-canonical}
+use Rattle.deb_version.proofs.canonical_version.CanonicalVersion.of.Goals as goal
 
 pub invariant_of-result : goal.invariant_of-result
 invariant_of-result c =
