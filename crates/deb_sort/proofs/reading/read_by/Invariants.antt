@@ -1,0 +1,14 @@
+-- What was read so far is what the source has no longer.
+use Rattle.std.proofs.Common.{◌≡◌, ◌-◌, ◌<◌, length}
+use Rattle.std.specs.Io.KnownBytes.{Consumes}
+use Rattle.deb_sort.proofs.reading.read_by.Given as goal
+
+abbrev pub invariant-loop-piece : goal.invariant-loop-piece
+invariant-loop-piece g l = record {
+  room : 0 < length l.piece;
+  bytes : Consumes (g.R.Source.left l.initial.source) (g.R.Source.left l.source) l.text.items;
+  counted : g.R.Source.failures l.source ≡ g.R.Source.failures l.initial.source;
+}
+
+abbrev pub decreases-loop-piece : goal.decreases-loop-piece
+decreases-loop-piece g l = 4294967296 - length l.text.items

@@ -1,0 +1,5 @@
+pub mod Files
+pub mod Reading
+pub mod Refusals
+pub mod Sorting
+pub mod VersionLines

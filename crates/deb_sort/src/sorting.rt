@@ -1,0 +1,61 @@
+//! Sorting the lines of a file.
+
+ghost use Rattle.std.specs.Prelude.{◌≡◌, OnOk, IfErr};
+ghost use Rattle.deb_base.specs.Devices.{write_failures_after, Puts};
+ghost use Rattle.deb_syntax.specs.Lines.{with_newlines};
+ghost use Rattle.deb_sort.specs.Files.{SortsFile};
+ghost use Rattle.deb_sort.specs.Sorting.{Sorts};
+ghost use Rattle.deb_sort.specs.VersionLines.{texts_of};
+
+use crate::cut::version_lines;
+use crate::reading::read_text;
+use crate::version_line::VersionLine;
+use deb_base::{Fault, Sink, Source, put_pieces};
+use std::alloc::{AllocError, Global};
+
+/// Writes the lines of a file in Debian's order of the versions that they spell, or in reverse
+/// order, each as it stands and with a newline behind it. Lines of equal versions keep the order
+/// that they had.
+///
+/// A newline behind the last line may be missing. Refused is a file that is too long
+/// (`FileTooLong`, at the line that is cut off), and else the first line that is no version
+/// (`BadVersion`); the empty line is none. Nothing is written before the file was read to its end
+/// and all of its lines were found good.
+pub fn sort<R: Source, W: Sink>(
+    alloc: Global,
+    source: &mut R,
+    reverse: bool,
+    out: &mut W,
+) -> Result<(), Fault>
+    ensures { SortsFile reverse (R.left source.old) (R.failures source.old)
+        (R.failures source.new) W.held W.failures out.old out.new result }
+{
+    let text = read_text(alloc, source)?;
+    let mut lines = version_lines(alloc, text.as_slice())?;
+    sort_lines(&mut lines, reverse)?;
+    write_lines(out, lines.as_slice())
+}
+
+/// Puts lines in the order of their versions.
+fn sort_lines(lines: &mut Vec<VersionLine<'_>>, reverse: bool) -> Result<(), AllocError>
+    ensures { OnOk result (Sorts reverse (texts_of lines.old.items) (texts_of lines.new.items)) }
+{
+    if reverse {
+        lines.sort_by(|line, other| other.version.cmp(&line.version))
+    } else {
+        lines.sort_by(|line, other| line.version.cmp(&other.version))
+    }
+}
+
+/// Writes lines, each with a newline behind it.
+fn write_lines<W: Sink>(out: &mut W, lines: &[VersionLine<'_>]) -> Result<(), Fault>
+    ensures written { Puts (W.held out.old) (W.held out.new) result
+        (with_newlines (texts_of lines.now)) }
+    ensures fault { IfErr result (λ fault. fault ≡ Fault.Write) }
+    ensures counted { W.failures out.new ≡ write_failures_after (W.failures out.old) result }
+{
+    for line in lines {
+        put_pieces(out, &[line.text, b"\n"])?;
+    }
+    Ok(())
+}
