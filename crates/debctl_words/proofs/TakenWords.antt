@@ -215,7 +215,7 @@ each_given : (rows : List Row) (rules : List Rule) → list_any (λ a. a.require
 each_given rows [] e = refl
 each_given rows (a ∷ rest) e = given_first a.required (is_given a.id rows) _ _ (each_given rows rest) e
 
--- no argument has a default value or a rule on another
+-- the default values are such as their arguments take, and no argument has a rule on another
 abbrev pub is_bare : Shape → Bool
 is_bare s = list_all default_passes s.rules && list_all (λ a. a.is_free) s.rules
 

@@ -8,7 +8,7 @@ use Rattle.clap.specs.Simple.{subcommand_of}
 use Rattle.clap.specs.Walk.{Row, Text, first_of}
 use Rattle.clap.specs.declared.error.kind.ErrorKind.{ErrorKind}
 use Rattle.clap.specs.declared.error.kind.ErrorKind.TheVariants.{DisplayHelp, DisplayVersion, OutOfMemory}
-use Rattle.debctl_words.specs.Commands.{debctl_app, check_word, normalise_word, same_word, compare_word, canon_version_word, query_word, help_word}
+use Rattle.debctl_words.specs.Commands.{debctl_app, check_word, normalise_word, same_word, compare_word, canon_version_word, sort_word, query_word, help_word}
 use Rattle.deb_field.specs.declared.kind.Doc.{Doc}
 use Rattle.deb_field.specs.declared.kind.Doc.TheVariants.{Binary, Packages, Source}
 use Rattle.debctl_words.specs.declared.jobs.Call.{Call}
@@ -54,6 +54,11 @@ abbrev pub profiles_asked : Option Text → List Text
 profiles_asked None = []
 profiles_asked (Some word) = comma_pieces word
 
+-- whether the reverse order is asked for: `clap` reads a flag that is given as `true`
+abbrev pub reverse_asked : Option Text → Bool
+reverse_asked None = false
+reverse_asked (Some word) = bytes_eq word (codes "true")
+
 -- the word names a command
 abbrev pub is_command : Text → Bool
 is_command word =
@@ -62,6 +67,7 @@ is_command word =
     else if bytes_eq word same_word then true
     else if bytes_eq word compare_word then true
     else if bytes_eq word canon_version_word then true
+    else if bytes_eq word sort_word then true
     else if bytes_eq word query_word then true
     else bytes_eq word help_word
 
@@ -74,6 +80,7 @@ pub data Wanted : Type 0 where
   tells_same : Doc → Wanted
   compares : Text → Cmp → Text → Wanted
   canonicalises : Text → Wanted
+  sorts : Bool → Wanted
   queries : Text → List Text → Text → Wanted
 
 -- a call, with the bytes of its words and paths
@@ -89,6 +96,7 @@ wanted_of (job.Same kind) = tells_same kind
 wanted_of (job.Compare left operator right) =
     compares (string_bytes left) operator (string_bytes right)
 wanted_of (job.CanonVersion version) = canonicalises (string_bytes version)
+wanted_of (job.Sort reverse) = sorts reverse
 wanted_of (job.Query arch profiles relation) =
     queries (string_bytes arch) (map string_bytes profiles.items) (string_bytes relation)
 
@@ -148,6 +156,15 @@ canon_version_asked rows =
       second = None;
     })
 
+-- `sort`, by its order
+abbrev pub sort_asked : List Row → Asked
+sort_asked rows =
+    asks (record {
+      wanted = sorts (reverse_asked (first_of (codes "reverse") rows));
+      first = first_of (codes "path") rows;
+      second = None;
+    })
+
 -- `query`, by its architecture, its profiles and its relation
 abbrev pub query_asked : List Row → Asked
 query_asked rows =
@@ -170,6 +187,7 @@ asked_by name rows =
     else if bytes_eq name same_word then same_asked rows
     else if bytes_eq name compare_word then compare_asked rows
     else if bytes_eq name canon_version_word then canon_version_asked rows
+    else if bytes_eq name sort_word then sort_asked rows
     else if bytes_eq name query_word then query_asked rows
     else help_asked (first_of (codes "command") rows)
 

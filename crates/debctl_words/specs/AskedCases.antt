@@ -1,11 +1,11 @@
 -- Worked cases of what words ask: rows of words, with what `clap` and this project make of them.
-use Rattle.std.specs.Prelude.{◌≡◌, List, [], ◌∷◌, Option, Some, None, true, codes, refl}
+use Rattle.std.specs.Prelude.{◌≡◌, List, [], ◌∷◌, Option, Some, None, true, false, codes, refl}
 use Rattle.clap.proofs.OnLiterals.{clap_on_literals}
 use Rattle.clap.specs.Faults.{fault_of}
 use Rattle.clap.specs.Takes.{takes}
 use Rattle.clap.specs.Walk.{Text}
 use Rattle.clap.specs.declared.error.kind.ErrorKind.TheVariants as kind
-use Rattle.debctl_words.specs.Asked.{asked_of, asks, asks_help, canonicalises, checks, comma_pieces, compares, normalises, profiles_asked, queries, tells_same, unknown_command, unknown_kind, unknown_operator, Asked}
+use Rattle.debctl_words.specs.Asked.{asked_of, asks, asks_help, canonicalises, checks, comma_pieces, compares, normalises, profiles_asked, queries, sorts, tells_same, unknown_command, unknown_kind, unknown_operator, Asked}
 use Rattle.debctl_words.specs.Commands.{debctl_app}
 use Rattle.deb_field.specs.declared.kind.Doc.TheVariants.{Binary, Packages, Source}
 use Rattle.debctl_words.specs.declared.jobs.Cmp.TheVariants as cmp
@@ -58,6 +58,16 @@ version_with_hyphen : asked_of (line (codes "canon-version" ∷ codes "--" ∷ c
     ≡ Some (asks (record { wanted = canonicalises (codes "-1-1"); first = None; second = None }))
 unfolding clap_on_literals
 version_with_hyphen = refl
+
+sort_alone : asked_of (line (codes "sort" ∷ []))
+    ≡ Some (asks (record { wanted = sorts false; first = None; second = None }))
+unfolding clap_on_literals
+sort_alone = refl
+
+sort_in_reverse : asked_of (line (codes "sort" ∷ codes "--reverse" ∷ codes "x" ∷ []))
+    ≡ Some (asks (record { wanted = sorts true; first = Some (codes "x"); second = None }))
+unfolding clap_on_literals
+sort_in_reverse = refl
 
 -- the pieces of a text between its commas, and the profiles where nothing names them
 two_pieces : comma_pieces (codes "a,b") ≡ codes "a" ∷ codes "b" ∷ []
@@ -141,6 +151,12 @@ missing_path : fault_of debctl_app (line (codes "same" ∷ codes "x" ∷ []))
     ≡ kind.MissingRequiredArgument ∷ []
 unfolding clap_on_literals
 missing_path = refl
+
+reverse_twice : fault_of debctl_app
+    (line (codes "sort" ∷ codes "--reverse" ∷ codes "--reverse" ∷ []))
+    ≡ kind.ArgumentConflict ∷ []
+unfolding clap_on_literals
+reverse_twice = refl
 
 kind_twice : fault_of debctl_app
     (line (codes "check" ∷ codes "--kind" ∷ codes "source" ∷ codes "--kind" ∷ codes "source" ∷ []))

@@ -3,6 +3,7 @@
 use Rattle.std.specs.Prelude.{◌≡◌, true, false, Some, codes}
 use Rattle.clap.specs.Simple.{App, app_of, new_app, new_rule, on_top, with_rule, with_subcommand}
 use Rattle.clap.specs.Walk.{Rule, Text}
+use Rattle.clap.specs.declared.builder.action.ArgAction.TheVariants.{SetTrue}
 use Rattle.clap.specs.declared.builder.command.Command.{Command}
 use Rattle.clap.specs.declared.builder.command.Command.TheViews.{out-Command}
 
@@ -20,6 +21,11 @@ arch_rule =
 abbrev pub profiles_rule : Rule
 profiles_rule =
     record (new_rule (codes "profiles")) { long = Some (codes "profiles"); value_names = 1 }
+
+-- `--reverse`, which takes no value
+abbrev pub reverse_rule : Rule
+reverse_rule =
+    record (new_rule (codes "reverse")) { long = Some (codes "reverse"); action = Some SetTrue }
 
 -- a word that may stand there, and one that has to
 abbrev pub optional_rule : Text → Rule
@@ -42,6 +48,9 @@ compare_word = codes "compare"
 
 abbrev pub canon_version_word : Text
 canon_version_word = codes "canon-version"
+
+abbrev pub sort_word : Text
+sort_word = codes "sort"
 
 abbrev pub query_word : Text
 query_word = codes "query"
@@ -69,6 +78,10 @@ compare_app =
 abbrev pub canon_version_app : App
 canon_version_app = with_rule (new_app canon_version_word) (required_rule (codes "version"))
 
+-- `sort [--reverse] [PATH]`
+abbrev pub sort_app : App
+sort_app = with_rule (with_rule (new_app sort_word) reverse_rule) (optional_rule (codes "path"))
+
 -- `query --arch A [--profiles P,P] RELATION [PATH]`
 abbrev pub query_app : App
 query_app =
@@ -90,9 +103,9 @@ bare_app =
 abbrev pub debctl_app : App
 debctl_app =
     with_subcommand (with_subcommand (with_subcommand (with_subcommand (with_subcommand
-    (with_subcommand (with_subcommand bare_app (document_app check_word).top)
+    (with_subcommand (with_subcommand (with_subcommand bare_app (document_app check_word).top)
     (document_app normalise_word).top) same_app.top) compare_app.top) canon_version_app.top)
-    query_app.top) help_app.top
+    sort_app.top) query_app.top) help_app.top
 
 -- the command is what `clap` reads so, and none of its arguments is global
 pub record IsShaped (app : App) (command : Command) : Type 0 where

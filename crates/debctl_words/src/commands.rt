@@ -2,9 +2,9 @@
 
 ghost use Rattle.std.specs.Prelude.{◌≡◌, IfOk, false};
 ghost use Rattle.clap.specs.Words.{rule_of};
-ghost use Rattle.debctl_words.specs.Commands.{arch_rule, bare_app, canon_version_app, check_word, normalise_word, compare_app, debctl_app, document_app, help_app, kind_rule, optional_rule, profiles_rule, query_app, required_rule, same_app, IsShaped};
+ghost use Rattle.debctl_words.specs.Commands.{arch_rule, bare_app, canon_version_app, check_word, normalise_word, compare_app, debctl_app, document_app, help_app, kind_rule, optional_rule, profiles_rule, query_app, required_rule, reverse_rule, same_app, sort_app, IsShaped};
 
-use clap::{Arg, Command};
+use clap::{Arg, ArgAction, Command};
 use std::alloc::{AllocError, Global};
 
 const DEBCTL_HELP: &str = "\
@@ -109,6 +109,23 @@ A version that begins with a hyphen comes after `--`:
   $ debctl canon-version -- -1-1
   -1-1";
 
+const SORT_HELP: &str = "\
+Each line of the file is a version. The lines are printed in Debian's order, each
+as it is spelled; those of equal versions keep the order that they have. The
+whole file is held in memory, and nothing is printed before it was read.
+
+Statuses:
+  0  the lines are printed in order
+  2  a line is no version, or the file is too long: standard error has
+     `line N: CODE NAME`, for the first such line; an empty line is no version
+  3  a word is wrong, memory is wanting, or a read or a write failed
+
+Example:
+  $ printf '1.10\\n1.9\\n1.10~rc1\\n' | debctl sort
+  1.9
+  1.10~rc1
+  1.10";
+
 const QUERY_HELP: &str = "\
 For each group of the relation (what stands between its commas), in byte order,
 one line is printed:
@@ -157,6 +174,7 @@ pub(crate) fn debctl_command<'a>(alloc: Global) -> Result<Command<'a>, AllocErro
         .subcommand(same_command(alloc)?)?
         .subcommand(compare_command(alloc)?)?
         .subcommand(canon_version_command(alloc)?)?
+        .subcommand(sort_command(alloc)?)?
         .subcommand(query_command(alloc)?)?
         .subcommand(help_command(alloc)?)
 }
@@ -167,7 +185,7 @@ fn bare_command<'a>(alloc: Global) -> Command<'a>
 {
     Command::new(alloc, "debctl")
         .version("0.1.0")
-        .about("Checks, normalises, compares and queries Debian control data and versions")
+        .about("Checks, normalises, compares, sorts and queries Debian control data and versions")
         .after_help(DEBCTL_HELP)
         .subcommand_required(true)
         .disable_help_subcommand(true)
@@ -252,6 +270,22 @@ pub(crate) fn canon_version_command<'a>(alloc: Global) -> Result<Command<'a>, Al
         .arg(required_word(alloc, "version", "V", "A version"))
 }
 
+/// `sort [--reverse] [PATH]`
+pub(crate) fn sort_command<'a>(alloc: Global) -> Result<Command<'a>, AllocError>
+    ensures { IfOk result (IsShaped sort_app) }
+{
+    Command::new(alloc, "sort")
+        .about("Writes the lines of a file, each a version, in Debian's order")
+        .after_help(SORT_HELP)
+        .arg(reverse_option(alloc))?
+        .arg(optional_word(
+            alloc,
+            "path",
+            "PATH",
+            "The file; without it standard input is read",
+        ))
+}
+
 /// `query --arch A [--profiles P,P] RELATION [PATH]`
 pub(crate) fn query_command<'a>(alloc: Global) -> Result<Command<'a>, AllocError>
     ensures { IfOk result (IsShaped query_app) }
@@ -298,6 +332,17 @@ fn kind_option<'a>(alloc: Global) -> Arg<'a>
         .long("kind")
         .value_name("K")
         .help(KIND_HELP)
+}
+
+/// `--reverse`
+fn reverse_option<'a>(alloc: Global) -> Arg<'a>
+    ensures rule { rule_of result ≡ reverse_rule }
+    ensures local { result.global ≡ false }
+{
+    Arg::new(alloc, "reverse")
+        .long("reverse")
+        .help("The latest version first; lines of equal versions keep their order")
+        .action(ArgAction::SetTrue)
 }
 
 /// `--arch A`

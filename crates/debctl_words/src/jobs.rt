@@ -32,6 +32,10 @@ pub enum Job {
     Compare(String, Cmp, String),
     /// `canon-version`: write the canonical text of a version.
     CanonVersion(String),
+    /// `sort`: write the lines of a file, each a version, in Debian's order or in reverse.
+    Sort {
+        reverse: bool,
+    },
     /// `query`: tell which packages of an index meet a relation, for an architecture and the build
     /// profiles that are active.
     Query {
@@ -43,7 +47,7 @@ pub enum Job {
 
 /// A command and the paths of the files that it reads.
 ///
-/// Where `check`, `normalise` or `query` has no path, the file is standard input. `same` has both
+/// Where `check`, `normalise`, `sort` or `query` has no path, the file is standard input. `same` has both
 /// paths, and no other job has a second one.
 #[derive(Debug, PartialEq, Eq, Drop)]
 pub struct Call {

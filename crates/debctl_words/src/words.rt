@@ -2,12 +2,12 @@
 
 ghost use Rattle.std.specs.Prelude.{◌≡◌, [], Some, None, map, true, codes, string_bytes, option_map, IfOk, IfErr, option_copied};
 ghost use Rattle.clap.specs.Words.{fault_of, first_of, found_of, has_subcommand, kind_of, rows_of, subcommand_rows_of, takes};
-ghost use Rattle.debctl_words.specs.Asked.{asked_by, asked_in, asked_of, asks, canon_version_asked, checks, comma_pieces, compare_asked, document_asked, help_asked, kind_asked, normalises, profiles_asked, query_asked, request_of, same_asked, word_in, Answers, AnswersError, AnswersMet, IsHelp, MeansError, MeansKind, Request, TellsKind, UsesText};
+ghost use Rattle.debctl_words.specs.Asked.{asked_by, asked_in, asked_of, asks, canon_version_asked, checks, comma_pieces, compare_asked, document_asked, help_asked, kind_asked, normalises, profiles_asked, query_asked, request_of, reverse_asked, same_asked, sort_asked, word_in, Answers, AnswersError, AnswersMet, IsHelp, MeansError, MeansKind, Request, TellsKind, UsesText};
 ghost use Rattle.debctl_words.specs.Commands.{debctl_app};
 
 use crate::commands::{
     canon_version_command, check_command, compare_command, debctl_command, help_command,
-    normalise_command, query_command, same_command,
+    normalise_command, query_command, same_command, sort_command,
 };
 use crate::jobs::{Call, Job};
 use crate::kind_word::{kind_named, operator_named};
@@ -43,8 +43,8 @@ impl From<AllocError> for UsageFault {
 /// The call that the program's words ask for; the first word is the program's name.
 ///
 /// `check [--kind K] [PATH]`, `normalise [--kind K] [PATH]`, `same [--kind K] PATH PATH`,
-/// `compare V OP V`, `canon-version V` and `query --arch A [--profiles P,P] RELATION [PATH]` ask
-/// for a call. `help [COMMAND]` asks for help, and so do `--help` and `--version`.
+/// `compare V OP V`, `canon-version V`, `sort [--reverse] [PATH]` and
+/// `query --arch A [--profiles P,P] RELATION [PATH]` ask for a call. `help [COMMAND]` asks for help, and so do `--help` and `--version`.
 ///
 /// The profiles of `query` are what stands between the commas of its P,P; without it there are
 /// none. Of a version, an architecture, a profile and a relation any text is taken: whether it is
@@ -123,6 +123,7 @@ fn call_by(alloc: Global, name: &str, found: &ArgMatches<'_>) -> Result<Call, Us
         "same" => same_call(alloc, found),
         "compare" => compare_call(alloc, found),
         "canon-version" => canon_version_call(alloc, found),
+        "sort" => sort_call(alloc, found),
         "query" => query_call(alloc, found),
         _ => Err(help_on(alloc, given(found, "command"))),
     }
@@ -189,6 +190,17 @@ fn canon_version_call(alloc: Global, found: &ArgMatches<'_>) -> Result<Call, Usa
     })
 }
 
+fn sort_call(alloc: Global, found: &ArgMatches<'_>) -> Result<Call, UsageFault>
+    ensures { Answers (sort_asked (rows_of (found_of found.now))) result }
+{
+    let reverse = reverse_in(found);
+    Ok(Call {
+        job: Job::Sort { reverse },
+        first: path_in(alloc, found)?,
+        second: None,
+    })
+}
+
 fn query_call(alloc: Global, found: &ArgMatches<'_>) -> Result<Call, UsageFault>
     ensures { Answers (query_asked (rows_of (found_of found.now))) result }
 {
@@ -217,6 +229,16 @@ fn kind_in(alloc: Global, found: &ArgMatches<'_>) -> Result<Doc, UsageFault>
     match kind_named(word) {
         Some(kind) => Ok(kind),
         None => Err(usage(alloc, "usage: unknown kind")),
+    }
+}
+
+/// Whether `--reverse` is given.
+fn reverse_in(found: &ArgMatches<'_>) -> bool
+    ensures { result ≡ reverse_asked (first_of (codes "reverse") (rows_of (found_of found.now))) }
+{
+    match given(found, "reverse") {
+        Some(word) => word == "true",
+        None => false,
     }
 }
 
@@ -287,6 +309,7 @@ fn help_on(alloc: Global, word: Option<&str>) -> UsageFault
             canon_version_command(alloc),
             "debctl canon-version",
         ),
+        Some("sort") => help_of(alloc, sort_command(alloc), "debctl sort"),
         Some("query") => help_of(alloc, query_command(alloc), "debctl query"),
         Some("help") => help_of(alloc, help_command(alloc), "debctl help"),
         Some(_) => usage(alloc, "usage: unknown command"),
