@@ -5,20 +5,19 @@ use Rattle.std.specs.List.Sorted.{IsPermutation, IsSortedBy, IsStableBy}
 use Rattle.std.specs.Ordering.{is_lt}
 use Rattle.std.proofs.lemmas.List.Sorted.{IsPermutation-map, IsStrictWeakOrder-flip, ranks_by}
 use Rattle.deb_sort.proofs.Mapped.{sorted-map, stable-map}
-use Rattle.deb_sort.specs.Sorting.{is_earlier, meaning_in, stands_before, Sorts}
+use Rattle.deb_sort.specs.Sorting.{is_earlier, stands_before, Sorts}
 use Rattle.deb_sort.specs.VersionLines.{texts_of}
 use Rattle.deb_sort.specs.declared.version_line.VersionLine.{VersionLine}
-use Rattle.deb_version.proofs.AllowedLemmas.{well_formed_of}
 use Rattle.deb_version.proofs.ComponentsLemmas.{components_in-spelling}
 use Rattle.deb_version.specs.Grammar.{meaning_of_components}
 use Rattle.deb_version.specs.Order.{version_cmp}
 use Rattle.deb_version.specs.OrderLemmas.{version_total}
-use Rattle.deb_version.specs.Places.{components_in}
+use Rattle.deb_version.specs.Places.{components_in, version_in}
 use Rattle.deb_version.specs.Version.{components_of, meaning_of}
 
-meaning_of-line : (l : VersionLine) → meaning_of l.version ≡ meaning_in l.text.now
+meaning_of-line : (l : VersionLine) → meaning_of l.version ≡ version_in l.text.now
 meaning_of-line l =
-    ap meaning_of_components (sym (ap components_in l.spelled ∙ components_in-spelling (components_of l.version) (well_formed_of l.version)))
+    ap meaning_of_components (sym (ap components_in l.spelled ∙ components_in-spelling (components_of l.version) l.version.well_formed))
 
 -- the order of lines by their versions, and its reverse
 abbrev pub by_version : Bool → VersionLine → VersionLine → Bool
@@ -30,8 +29,8 @@ by_version_is_weak false = ranks_by version_total (λ (l : VersionLine). meaning
 by_version_is_weak true = IsStrictWeakOrder-flip (by_version false) (ranks_by version_total (λ (l : VersionLine). meaning_of l.version))
 
 stands_before_is_weak : (reverse : Bool) → IsStrictWeakOrder (stands_before reverse)
-stands_before_is_weak false = ranks_by version_total meaning_in
-stands_before_is_weak true = IsStrictWeakOrder-flip is_earlier (ranks_by version_total meaning_in)
+stands_before_is_weak false = ranks_by version_total version_in
+stands_before_is_weak true = IsStrictWeakOrder-flip is_earlier (ranks_by version_total version_in)
 
 abbrev by_text : Bool → VersionLine → VersionLine → Bool
 by_text reverse a b = stands_before reverse a.text.now b.text.now

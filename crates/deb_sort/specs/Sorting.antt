@@ -4,18 +4,12 @@ use Rattle.std.specs.Prelude.{◌≡◌, Bool, true, false, List, codes, refl}
 use Rattle.std.specs.List.Sorted.{IsPermutation, IsSortedBy, IsStableBy}
 use Rattle.std.specs.Ordering.{is_lt}
 use Rattle.deb_base.specs.Bodies.{Line}
-use Rattle.deb_version.specs.Grammar.{meaning_of_components}
 use Rattle.deb_version.specs.Order.{version_cmp}
-use Rattle.deb_version.specs.Parts.{Meaning}
-use Rattle.deb_version.specs.Places.{components_in}
-
--- what the epoch, the upstream version and the revision that stand in a line mean
-abbrev pub meaning_in : Line → Meaning
-meaning_in line = meaning_of_components (components_in line)
+use Rattle.deb_version.specs.Places.{version_in}
 
 -- the version of one line is earlier than that of another
 abbrev pub is_earlier : Line → Line → Bool
-is_earlier a b = is_lt (version_cmp (meaning_in a) (meaning_in b))
+is_earlier a b = is_lt (version_cmp (version_in a) (version_in b))
 
 -- one line stands before another: its version is earlier, or in reverse order later
 abbrev pub stands_before : Bool → Line → Line → Bool
