@@ -72,6 +72,7 @@ fn order(rt: HostRuntime) {
 
 /// Spellings of one version, and of one with a long epoch.
 const SPELLINGS: [&[u8]; 4] = [b"1.01", b"1.1", b"0:1.1-0", b"01.001"];
+
 const LONG_EPOCHS: [&[u8]; 2] = [b"99999999999999999999:1", b"00099999999999999999999:1-0"];
 
 /// Whether spellings are one key of each kind of set and map; None where a call fails.
@@ -167,8 +168,8 @@ fn order_of_long_epochs(rt: HostRuntime) -> Result<(), Fail> {
 
 #[test]
 fn order_of_many_tildes(rt: HostRuntime) -> Result<(), Fail> {
-    let fewer = vec![in rt.alloc(); b'~'; 1_000_000].map_err(|_| "memory")?;
-    let more = vec![in rt.alloc(); b'~'; 1_000_001].map_err(|_| "memory")?;
+    let fewer = vec![in rt.alloc(); b'~'; 1_000_000].ok().ok_or("memory")?;
+    let more = vec![in rt.alloc(); b'~'; 1_000_001].ok().ok_or("memory")?;
     assert!(rt; order_of(&more, &fewer) == Some(Ordering::Less));
     assert!(rt; order_of(&fewer, &fewer) == Some(Ordering::Equal));
     Ok(())

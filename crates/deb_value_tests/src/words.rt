@@ -16,7 +16,7 @@ fn words(alloc: Global, line: &str) -> Result<Vec<String>, AllocError> {
 }
 
 /// A command line, and the call or the fault that it has.
-const LINES: [(&str, &str); 9] = [
+const LINES: [(&str, &str); 10] = [
     (
         "check",
         "Ok(Call { job: Check(Packages), first: None, second: None })",
@@ -40,6 +40,10 @@ const LINES: [(&str, &str); 9] = [
     (
         "canon-version 00:1:02-0",
         "Ok(Call { job: CanonVersion(\"00:1:02-0\"), first: None, second: None })",
+    ),
+    (
+        "sort --reverse x",
+        "Ok(Call { job: Sort { reverse: true }, first: Some(\"x\"), second: None })",
     ),
     (
         "query --arch amd64 --profiles a,,b aa x",

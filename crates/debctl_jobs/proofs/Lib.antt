@@ -2,5 +2,6 @@ pub mod DocumentTelling
 pub mod JobRefusals
 pub mod QueryTelling
 pub mod SameTelling
+pub mod SortTelling
 pub mod Telling
 pub mod VersionTelling

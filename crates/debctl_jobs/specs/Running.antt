@@ -7,13 +7,15 @@ use Rattle.deb_base.specs.Lines.{refusal_line}
 use Rattle.deb_base.specs.declared.fault.Fault.{Fault}
 use Rattle.deb_control.specs.Calls.{WritesCanonical}
 use Rattle.deb_control.specs.declared.side.SideFault.{SideFault}
+use Rattle.deb_sort.specs.Files.{SortsFile, WritesSorted}
 use Rattle.debctl_jobs.specs.DocumentJobs.{ChecksFile, NormalisesFile, TellsRefusal, TellsRefusalBehind, WritesOk}
 use Rattle.debctl_jobs.specs.QueryJob.{QueriesFile, Question, TellsQueryRefusal, WritesReport, question}
 use Rattle.debctl_jobs.specs.SameJob.{ComparesFiles, TellsComparison, TellsRefusedSide, WritesSame}
+use Rattle.debctl_jobs.specs.SortJob.{TellsLineRefusal}
 use Rattle.debctl_jobs.specs.Telling.{done_status, Tells}
 use Rattle.debctl_jobs.specs.VersionJobs.{bad_version, verdict_status, Canonicalises, Compared, Compares, IsNoVersion, WritesLine}
 use Rattle.debctl_words.specs.declared.jobs.Job.{Job}
-use Rattle.debctl_words.specs.declared.jobs.Job.TheVariants.{Check, Normalise, Same, Compare, CanonVersion, Query}
+use Rattle.debctl_words.specs.declared.jobs.Job.TheVariants.{Check, Normalise, Same, Compare, CanonVersion, Sort, Query}
 
 -- the question that a query's words are
 abbrev pub asked : String Global → Vec (String Global) Global → String Global → Question
@@ -24,7 +26,7 @@ asked arch profiles relation =
 -- tell.
 
 -- Status 0: `ok N` for an accepted file, its canonical text, `same`, yes, a version's canonical
--- text with a newline, and a report without an unmet group.
+-- text with a newline, the sorted lines of a file, and a report without an unmet group.
 abbrev pub Done : {W : Type 0} → Job → Option (List ℕ) → Option (List ℕ) →
     (W → Option (List ℕ)) → (W → ℕ) → W → W → Type 0
 Done (Check doc) left other held failures out new =
@@ -37,6 +39,8 @@ Done (Compare former operator latter) left other held failures out new =
     (new ≡ out) × Compared (string_bytes former) operator (string_bytes latter) true
 Done (CanonVersion version) left other held failures out new =
     WritesLine (string_bytes version) held failures out new
+Done (Sort reverse) left other held failures out new =
+    (text : List ℕ) → left ≡ Some text → WritesSorted reverse text (held out) (held new)
 Done (Query arch profiles relation) left other held failures out new =
     (text : List ℕ) → left ≡ Some text
     → WritesReport (asked arch profiles relation) text (held out) (held new) true
@@ -50,6 +54,7 @@ SaysNo (Same doc) left other held out new = WritesSame doc left other (held out)
 SaysNo (Compare former operator latter) left other held out new =
     (new ≡ out) × Compared (string_bytes former) operator (string_bytes latter) false
 SaysNo (CanonVersion version) left other held out new = ⊥
+SaysNo (Sort reverse) left other held out new = ⊥
 SaysNo (Query arch profiles relation) left other held out new =
     (text : List ℕ) → left ≡ Some text
     → WritesReport (asked arch profiles relation) text (held out) (held new) false
@@ -71,6 +76,8 @@ IsRefused (Compare former operator latter) left other held out new err err_after
 IsRefused (CanonVersion version) left other held out new err err_after =
     (new ≡ out) × IsNoVersion (string_bytes version)
     × Appends err err_after (refusal_line bad_version)
+IsRefused (Sort reverse) left other held out new err err_after =
+    (new ≡ out) × TellsLineRefusal left err err_after
 IsRefused (Query arch profiles relation) left other held out new err err_after =
     (new ≡ out) × TellsQueryRefusal (asked arch profiles relation) left err err_after
 
@@ -103,6 +110,11 @@ Told (CanonVersion version) left n n_after other m m_after held writes out new h
     (answer : Result ⊤ Fault)
     × Canonicalises (string_bytes version) held writes out new answer
     × Tells done_status held_err tells err err_after answer status
+Told (Sort reverse) left n n_after other m m_after held writes out new held_err tells err err_after
+    status =
+    (answer : Result ⊤ Fault)
+    × SortsFile reverse left n n_after held writes out new answer
+    × Tells done_status held_err tells err err_after answer status
 Told (Query arch profiles relation) left n n_after other m m_after held writes out new held_err
     tells err err_after status =
     (answer : Result Bool Fault)
@@ -116,6 +128,7 @@ IfUnread (Normalise doc) P = Unit {0}
 IfUnread (Same doc) P = Unit {0}
 IfUnread (Compare former operator latter) P = P
 IfUnread (CanonVersion version) P = P
+IfUnread (Sort reverse) P = Unit {0}
 IfUnread (Query arch profiles relation) P = Unit {0}
 
 -- Comparing two versions takes no memory.
@@ -125,6 +138,7 @@ IfCompare (Normalise doc) P = Unit {0}
 IfCompare (Same doc) P = Unit {0}
 IfCompare (Compare former operator latter) P = P
 IfCompare (CanonVersion version) P = Unit {0}
+IfCompare (Sort reverse) P = Unit {0}
 IfCompare (Query arch profiles relation) P = Unit {0}
 
 -- Every job but `same` leaves the second reader as it was.
@@ -134,4 +148,5 @@ IfSecondUnread (Normalise doc) P = P
 IfSecondUnread (Same doc) P = Unit {0}
 IfSecondUnread (Compare former operator latter) P = P
 IfSecondUnread (CanonVersion version) P = P
+IfSecondUnread (Sort reverse) P = P
 IfSecondUnread (Query arch profiles relation) P = P

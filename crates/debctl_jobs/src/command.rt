@@ -7,6 +7,7 @@ ghost use Rattle.debctl_jobs.specs.Running.{Done, IfCompare, IfSecondUnread, IfU
 use crate::document_jobs::{run_check, run_normalise};
 use crate::query_job::run_query;
 use crate::same_job::run_same;
+use crate::sort_job::run_sort;
 use crate::version_jobs::{run_canon_version, run_compare};
 use deb_base::{Sink, Source};
 use debctl_words::Job;
@@ -14,20 +15,20 @@ use std::alloc::Global;
 
 /// Does a job over readers and writers, tells on `err` why it wasn't done, and answers the status.
 ///
-/// `check`, `normalise` and `query` read `first`, and `same` reads both; a reader that a job
-/// doesn't use is left as it was.
+/// `check`, `normalise`, `sort` and `query` read `first`, and `same` reads both; a reader that a
+/// job doesn't use is left as it was.
 ///
 /// - 0: done, or the answer is yes. `out` has `ok N` and a newline, the canonical text of the file,
-///   `same` and a newline, nothing, the canonical version and a newline, or the report. Nothing was
-///   written on `err`.
+///   `same` and a newline, nothing, the canonical version and a newline, the sorted lines, or the
+///   report. Nothing was written on `err`.
 /// - 1: the answer of `same` or `compare` is no, or by `query` some group is unmet. By `same`,
 ///   `out` has `different` and a newline, by `query` the report; nothing else was written.
 /// - 2: a file or a word is refused. `err` has the refusal's line, by `same` with `first: ` or
 ///   `second: ` before it, and `out` nothing but, by `normalise`, the canonical text of the
 ///   paragraphs before the first that fails.
-/// - 3: memory was wanting, a read failed, or a write failed; by `compare` only the last, on `err`. `err` has `fault: memory`,
-///   `fault: read` or `fault: write`; where a write on `err` failed, a prefix of the line that was
-///   to be written there.
+/// - 3: memory was wanting, a read failed, or a write failed; by `compare` only the last, on `err`.
+///   `err` has `fault: memory`, `fault: read` or `fault: write`; where a write on `err` failed, a
+///   prefix of the line that was to be written there.
 pub fn run<R: Source, S: Source, W: Sink, E: Sink>(
     alloc: Global,
     job: &Job,
@@ -71,6 +72,7 @@ pub fn run<R: Source, S: Source, W: Sink, E: Sink>(
             run_compare(left.as_str(), *operator, right.as_str(), err)
         }
         Job::CanonVersion(version) => run_canon_version(alloc, version.as_str(), out, err),
+        Job::Sort { reverse } => run_sort(alloc, *reverse, first, out, err),
         Job::Query {
             arch,
             profiles,

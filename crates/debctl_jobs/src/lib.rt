@@ -11,6 +11,7 @@ mod command;
 mod document_jobs;
 mod query_job;
 mod same_job;
+mod sort_job;
 mod streams;
 mod tell;
 mod version_jobs;

@@ -105,10 +105,11 @@ fn run_on_streams(rt: &HostRuntime, call: &Call) -> Result<u8, Fault> {
 /// reads.
 fn first_reader(rt: &HostRuntime, call: &Call) -> Result<Reader, Fault> {
     match &call.job {
-        Job::Check(_) | Job::Normalise(_) | Job::Query { .. } => match &call.first {
-            Some(path) => opened(rt, path.as_str()),
-            None => Ok(Reader::Standard(rt.stdin())),
-        },
+        Job::Check(_) | Job::Normalise(_) | Job::Sort { .. } | Job::Query { .. } =>
+            match &call.first {
+                Some(path) => opened(rt, path.as_str()),
+                None => Ok(Reader::Standard(rt.stdin())),
+            },
         Job::Same(_) => reader_of(rt, &call.first),
         Job::Compare(..) | Job::CanonVersion(_) => Ok(Reader::Nothing),
     }

@@ -47,8 +47,8 @@ pub enum Job {
 
 /// A command and the paths of the files that it reads.
 ///
-/// Where `check`, `normalise`, `sort` or `query` has no path, the file is standard input. `same` has both
-/// paths, and no other job has a second one.
+/// Where `check`, `normalise`, `sort` or `query` has no path, the file is standard input. `same`
+/// has both paths, and no other job has a second one.
 #[derive(Debug, PartialEq, Eq, Drop)]
 pub struct Call {
     pub job: Job,

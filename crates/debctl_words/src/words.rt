@@ -44,7 +44,8 @@ impl From<AllocError> for UsageFault {
 ///
 /// `check [--kind K] [PATH]`, `normalise [--kind K] [PATH]`, `same [--kind K] PATH PATH`,
 /// `compare V OP V`, `canon-version V`, `sort [--reverse] [PATH]` and
-/// `query --arch A [--profiles P,P] RELATION [PATH]` ask for a call. `help [COMMAND]` asks for help, and so do `--help` and `--version`.
+/// `query --arch A [--profiles P,P] RELATION [PATH]` ask for a call. `help [COMMAND]` asks for
+/// help, and so do `--help` and `--version`.
 ///
 /// The profiles of `query` are what stands between the commas of its P,P; without it there are
 /// none. Of a version, an architecture, a profile and a relation any text is taken: whether it is
