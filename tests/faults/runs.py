@@ -132,9 +132,19 @@ def is_asked_again(case: Case, fault: Fault, record):
     return fault.calls == "open" or (fault.calls == "write" and is_again)
 
 
+def is_asked_for_less(case: Case, fault: Fault, record):
+    """Whether std asked once more for memory, for less of it. It does so in `collect`, by which
+    `sort` gathers its lines: where the room for all that may come is refused, it asks for that of
+    one line. Then there are more growths than where nothing fails."""
+    if fault.calls != "growth" or fault.is_lasting or case.words[0] != "sort":
+        return False
+    return record.get("growths", 0) > case.growths
+
+
 def wanted_of(case: Case, fault: Fault, record):
     """The answer that is wanted of a run of which this is the record."""
-    if fault.error is None or not record.get("met") or is_asked_again(case, fault, record):
+    is_made_up_for = is_asked_again(case, fault, record) or is_asked_for_less(case, fault, record)
+    if fault.error is None or not record.get("met") or is_made_up_for:
         rules = ["begins" if name in case.open_ended else "all" for name in ("out", "err")]
         return Wanted(case.out, case.err, case.status, *rules)
     line = FAULT_LINES[fault.calls]
