@@ -98,7 +98,8 @@ fn provided_meets_bound(
 
 /// Whether a version meets a bound.
 pub(crate) fn meets_bound(bound: Option<(Op, &Version<'_>)>, version: &CanonicalVersion) -> bool
-    ensures { result ≡ meets_bound (option_map lent_bound_of bound.entry) (kept_version version.now) }
+    ensures { result
+        ≡ meets_bound (option_map lent_bound_of bound.entry) (kept_version version.now) }
 {
     match bound {
         None => true,

@@ -47,8 +47,8 @@ const LINES: [(&str, &str); 10] = [
     ),
     (
         "query --arch amd64 --profiles a,,b aa x",
-        "Ok(Call { job: Query { arch: \"amd64\", profiles: [\"a\", \"\", \"b\"], relation: \"aa\" }, \
-        first: Some(\"x\"), second: None })",
+        "Ok(Call { job: Query { arch: \"amd64\", profiles: [\"a\", \"\", \"b\"], relation: \"aa\" \
+        }, first: Some(\"x\"), second: None })",
     ),
     ("compare 1 xx 2", "Err(Usage(\"usage: unknown operator\"))"),
     ("check --kind foo", "Err(Usage(\"usage: unknown kind\"))"),

@@ -57,7 +57,8 @@ fn is_cut_off(alloc: Global, size: usize, failing: u64) -> bool {
             .any(|(written, read)| held.len() == *written && taken >= *read)
 }
 
-/// Whether `check` tells it, and `next`, also when it is asked again, though the reader would go on.
+/// Whether `check` tells it, and `next`, also when it is asked again, though the reader would go
+/// on.
 fn is_told_by_all(rt: &impl Abort, alloc: Global, size: usize, failing: u64) -> Result<bool, Fail> {
     let mut reader = Pieces::new(FILE, size, failing);
     let checked = check(alloc, Doc::Packages, &mut Input::new(&mut reader));
