@@ -1,15 +1,16 @@
 -- Components without fault, as facts of their bytes.
-use Rattle.std.proofs.Common.{option_and_then, ◌≡◌, ◌≢◌, ℕ, ◌==◌, ◌||◌, not, true, false, Bool, List, [], ◌∷◌, ◌++◌, Option, Some, None, is_some, unwrap_or, Bor, option_copied, IfSome, IfNone, IsTrue, ◌+◌, refl, ap, ◌∙◌}
+use Rattle.std.proofs.Common.{option_and_then, ◌≡◌, ◌≢◌, ℕ, ◌==◌, ◌||◌, not, true, false, Bool, List, [], ◌∷◌, ◌++◌, Option, Some, None, is_some, unwrap_or, Bor, option_copied, IfSome, IfNone, IsTrue, refl, ap}
 use Rattle.std.specs.List.{AllByRecursion, list_all, list_any, position}
 use Rattle.std.specs.Option.{is_none, option_map, option_or}
 use Rattle.std.specs.Char.{is_ascii_digit}
 use Rattle.std.proofs.lemmas.Bool.{and_parts, and_from, not-true, not_from_false}
 use Rattle.deb_version.specs.declared.fault.BadVersion.{BadVersion}
-use Rattle.deb_version.specs.declared.fault.BadVersion.TheVariants.{Empty, UpstreamByte, RevisionByte}
+use Rattle.deb_version.specs.declared.fault.BadVersion.TheVariants.{Empty, EpochEmpty, EpochNotNumber, RevisionEmpty, UpstreamEmpty}
 use Rattle.deb_version.specs.declared.version.Version.{Version}
 use Rattle.deb_version.specs.Parts.{IsDigits}
-use Rattle.deb_version.specs.Grammar.{Components, epoch_text, revision_text, spelling, upstream_at, revision_at, is_empty, is_upstream_byte, is_revision_byte, is_bad_in_revision, some_passes, fault_if, first_of, epoch_faults, rest_faults, fault_of, is_cut_at_hyphen, are_components}
+use Rattle.deb_version.specs.Grammar.{Components, epoch_text, revision_text, spelling, is_empty, is_no_digit, is_upstream_byte, is_revision_byte, is_bad_in_revision, some_passes, fault_if, first_of, fault_of, is_cut_at_hyphen, are_components}
 use Rattle.deb_version.specs.Version.{components_of}
+use Rattle.deb_version.proofs.Emptiness.{append_some, append_some_front}
 use Rattle.deb_version.proofs.ByteLemmas.{all_pass-test, empty-test, empty-fact, none_fails-test, none_fails-fact, none_equal-test, none_equal-fact, position_none-test, position_none-fact}
 
 -- one or more digits; one or more bytes of a revision
@@ -26,22 +27,23 @@ pub record AreComponents (c : Components) : Type 0 where
   pub upstream_hyphen : IfNone c.revision (AllByRecursion (λ b. b ≢ 45) c.upstream)
   pub revision : IfSome c.revision IsRevision
 
--- no fault is the first of some where each of them is none
-none_of : (faults : List (Option BadVersion)) → first_of faults ≡ None → AllByRecursion (λ fault. fault ≡ None) faults
-none_of [] none = tt
-none_of (None ∷ faults) none = (refl, none_of faults none)
-none_of (Some fault ∷ faults) none = absurd cc
+-- the first fault of components, by what each test of them gives
+abbrev pub by_tests : (text epoch digits revision upstream : Bool) (byte other_byte : Option BadVersion) → Option BadVersion
+by_tests text epoch digits revision upstream byte other_byte =
+    option_or (fault_if text Empty) (option_or (first_of (fault_if epoch EpochEmpty ∷ fault_if digits EpochNotNumber ∷ []))
+    (first_of (fault_if revision RevisionEmpty ∷ fault_if upstream UpstreamEmpty ∷ byte ∷ other_byte ∷ [])))
 
-first_of-none : (faults : List (Option BadVersion)) → AllByRecursion (λ fault. fault ≡ None) faults → first_of faults ≡ None
-first_of-none [] none = refl
-first_of-none (fault ∷ faults) none = ap (λ f. option_or f (first_of faults)) none.0 ∙ first_of-none faults none.1
-
-stands_not : (b : Bool) (fault : BadVersion) → fault_if b fault ≡ None → b ≡ false
-stands_not true fault none = absurd cc
-stands_not false fault none = refl
-
-no_fault_if : (b : Bool) (fault : BadVersion) → b ≡ false → fault_if b fault ≡ None
-no_fault_if b fault e = ap (λ v. fault_if v fault) e
+-- there is none exactly where no test stands
+none_stands : (a b c d e : Bool) (f g : Option BadVersion) → by_tests a b c d e f g ≡ None
+    → (b ≡ false) × (c ≡ false) × (d ≡ false) × (e ≡ false) × (f ≡ None) × (g ≡ None)
+none_stands true b c d e f g none = absurd cc
+none_stands false true c d e f g none = absurd cc
+none_stands false false true d e f g none = absurd cc
+none_stands false false false true e f g none = absurd cc
+none_stands false false false false true f g none = absurd cc
+none_stands false false false false false (Some fault) g none = absurd cc
+none_stands false false false false false None (Some fault) none = absurd cc
+none_stands false false false false false None None none = (refl, refl, refl, refl, refl, refl)
 
 none_mapped : (f : ℕ → BadVersion) (o : Option ℕ) → option_map f o ≡ None → o ≡ None
 none_mapped f None e = refl
@@ -51,32 +53,21 @@ pub is_none-none : (o : Option BadVersion) → is_none o ≡ true → o ≡ None
 is_none-none None e = refl
 is_none-none (Some fault) e = absurd cc
 
-sides_none : (a b : Option BadVersion) → option_or a b ≡ None → (a ≡ None) × (b ≡ None)
-sides_none None b e = (refl, e)
-sides_none (Some fault) b e = absurd cc
+epoch-fact : (e : Option (List ℕ)) → some_passes is_empty e ≡ false → some_passes (list_any is_no_digit) e ≡ false → IfSome e IsEpoch
+epoch-fact None some digits = tt
+epoch-fact (Some epoch) some digits = (empty-fact epoch some, none_fails-fact is_ascii_digit epoch digits)
 
-epoch-fact : (e : Option (List ℕ)) → first_of (epoch_faults e) ≡ None → IfSome e IsEpoch
-epoch-fact None none = tt
-epoch-fact (Some digits) none =
-    let each = none_of (epoch_faults (Some digits)) none in
-    (empty-fact digits (stands_not _ _ each.0), none_fails-fact is_ascii_digit digits (stands_not _ _ each.1.0))
-
-epoch-test : (e : Option (List ℕ)) → IfSome e IsEpoch → first_of (epoch_faults e) ≡ None
-epoch-test None is = refl
-epoch-test (Some digits) is =
-    first_of-none (epoch_faults (Some digits)) (no_fault_if _ _ (empty-test digits is.0), (no_fault_if _ _ (none_fails-test is_ascii_digit digits is.1), tt))
+epoch-test : (e : Option (List ℕ)) → IfSome e IsEpoch → (some_passes is_empty e ≡ false) × (some_passes (list_any is_no_digit) e ≡ false)
+epoch-test None is = (refl, refl)
+epoch-test (Some epoch) is = (empty-test epoch is.0, none_fails-test is_ascii_digit epoch is.1)
 
 revision-fact : (r : Option (List ℕ)) → some_passes is_empty r ≡ false → option_and_then (position is_bad_in_revision) r ≡ None → IfSome r IsRevision
 revision-fact None some bytes = tt
 revision-fact (Some revision) some bytes = (empty-fact revision some, position_none-fact is_revision_byte revision bytes)
 
-revision_some : (r : Option (List ℕ)) → IfSome r IsRevision → some_passes is_empty r ≡ false
-revision_some None is = refl
-revision_some (Some revision) is = empty-test revision is.0
-
-revision_bytes : (r : Option (List ℕ)) → IfSome r IsRevision → option_and_then (position is_bad_in_revision) r ≡ None
-revision_bytes None is = refl
-revision_bytes (Some revision) is = position_none-test is_revision_byte revision is.1
+revision-test : (r : Option (List ℕ)) → IfSome r IsRevision → (some_passes is_empty r ≡ false) × (option_and_then (position is_bad_in_revision) r ≡ None)
+revision-test None is = (refl, refl)
+revision-test (Some revision) is = (empty-test revision is.0, position_none-test is_revision_byte revision is.1)
 
 hyphen-test : (r : Option (List ℕ)) (upstream : List ℕ) → IfNone r (AllByRecursion (λ b. b ≢ 45) upstream) → (is_some r || not (list_any (λ b. b == 45) upstream)) ≡ true
 hyphen-test None upstream none = not_from_false (list_any (λ b. b == 45) upstream) (none_equal-test 45 upstream none)
@@ -88,40 +79,28 @@ hyphen-fact (Some revision) upstream none = tt
 
 -- a spelling with an upstream version isn't empty
 spelling_some : (c : Components) → c.upstream ≢ [] → spelling c ≢ []
-spelling_some c some e = some (nil_inside c.upstream (epoch_text c.epoch) (revision_text c.revision) e)
-  where
-    nil_inside : (u x y : List ℕ) → x ++ (u ++ y) ≡ [] → u ≡ []
-    nil_inside [] x y h = refl
-    nil_inside (b ∷ u) [] y h = absurd cc
-    nil_inside (b ∷ u) (a ∷ x) y h = absurd cc
+spelling_some c some = append_some (epoch_text c.epoch) (c.upstream ++ revision_text c.revision) (append_some_front c.upstream (revision_text c.revision) some)
 
 -- Components without fault have these bytes.
 pub are_components-fact : (c : Components) → are_components c ≡ true → AreComponents c
 are_components-fact c passes =
     let sides = and_parts (is_none (fault_of c)) (is_cut_at_hyphen c) passes in
-    let none = sides_none (fault_if (is_empty (spelling c)) Empty) _ (is_none-none (fault_of c) sides.0) in
-    let parts = sides_none (first_of (epoch_faults c.epoch)) (first_of (rest_faults c)) none.1 in
-    let rest = none_of (rest_faults c) parts.1 in
+    let none = none_stands _ _ _ _ _ _ _ (is_none-none (fault_of c) sides.0) in
     record {
-      epoch = epoch-fact c.epoch parts.0;
-      upstream_some = empty-fact c.upstream (stands_not _ _ rest.1.0);
-      upstream_bytes = position_none-fact (is_upstream_byte (is_some c.epoch)) c.upstream (none_mapped _ _ rest.1.1.0);
+      epoch = epoch-fact c.epoch none.0 none.1;
+      upstream_some = empty-fact c.upstream none.3;
+      upstream_bytes = position_none-fact (is_upstream_byte (is_some c.epoch)) c.upstream (none_mapped _ _ none.4);
       upstream_hyphen = hyphen-fact c.revision c.upstream sides.1;
-      revision = revision-fact c.revision (stands_not _ _ rest.0) (none_mapped _ _ rest.1.1.1.0);
+      revision = revision-fact c.revision none.2 (none_mapped _ _ none.5);
     }
 
 -- And those of these bytes have no fault.
 pub are_components-test : (c : Components) → AreComponents c → are_components c ≡ true
 are_components-test c are =
-    let upstream = ap (option_map (λ at. UpstreamByte (upstream_at c + at))) (position_none-test (is_upstream_byte (is_some c.epoch)) c.upstream are.upstream_bytes) in
-    let revision = ap (option_map (λ at. RevisionByte (revision_at c + at))) (revision_bytes c.revision are.revision) in
-    let rest : first_of (rest_faults c) ≡ None =
-    first_of-none (rest_faults c)
-    (no_fault_if _ _ (revision_some c.revision are.revision), (no_fault_if _ _ (empty-test c.upstream are.upstream_some), (upstream, (revision, tt)))) in
-    let text = no_fault_if (is_empty (spelling c)) Empty (empty-test (spelling c) (spelling_some c are.upstream_some)) in
+    let epoch = epoch-test c.epoch are.epoch in
+    let revision = revision-test c.revision are.revision in
     let none : fault_of c ≡ None =
-    ap (λ f. option_or f (option_or (first_of (epoch_faults c.epoch)) (first_of (rest_faults c)))) text
-    ∙ ap (λ f. option_or f (first_of (rest_faults c))) (epoch-test c.epoch are.epoch) ∙ rest in
+    rw (empty-test (spelling c) (spelling_some c are.upstream_some), epoch.0, epoch.1, revision.0, empty-test c.upstream are.upstream_some, position_none-test (is_upstream_byte (is_some c.epoch)) c.upstream are.upstream_bytes, revision.1) refl in
     and_from _ _ (ap is_none none) (hyphen-test c.revision c.upstream are.upstream_hyphen)
 
 -- the epoch of a version has digits alone, and so has what stands for an absent one

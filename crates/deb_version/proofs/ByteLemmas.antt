@@ -1,7 +1,8 @@
 -- Tests of each byte of a text, as facts, and the bytes that separate components.
-use Rattle.std.proofs.Common.{inl, inr, ◌≡◌, ◌≢◌, ℕ, suc, ◌+◌, All, Bool, true, false, cond, not, ◌==◌, ◌||◌, nat_lt, List, [], ◌∷◌, Some, None, length, refl, sym, ap, ◌∙◌, IsTrue, arith}
-use Rattle.std.specs.List.{AllByRecursion, list_any, list_all, position, position_or_len}
-use Rattle.std.proofs.lemmas.Bool.{true≢false, eqb-false, ne_eqb, and_parts, and_from, not-false, not_from_true, cases_lt, lt-ltb, le-ltb}
+use Rattle.std.proofs.Common.{◌≡◌, ◌≢◌, ℕ, ◌+◌, All, Bool, true, false, cond, not, ◌==◌, ◌||◌, List, [], ◌∷◌, Some, None, length, refl, sym, ap, ◌∙◌, IsTrue, arith}
+use Rattle.std.specs.List.{AllByRecursion, list_any, list_all, position, position_from}
+use Rattle.std.proofs.lemmas.Bool.{true≢false, eqb-false, ne_eqb, and_parts, and_from, not-false, not_from_true}
+use Rattle.std.proofs.lemmas.Iterator.Adapters.{position_from-zero}
 use Rattle.std.proofs.lemmas.List.Elements.{All-weaker}
 use Rattle.std.proofs.lemmas.List.Folds.{list_any_none}
 use Rattle.deb_version.proofs.CutLemmas.{or_sides}
@@ -60,28 +61,21 @@ empty-fact text some e = true≢false (sym (ap (λ t. length t == 0) e) ∙ some
 pub none_fails-all : (test : ℕ → Bool) (text : List ℕ) → All (λ b. IsTrue (test b)) text → list_any (λ b. not (test b)) text ≡ false
 none_fails-all test text all = list_any_none (λ b. not (test b)) text (All-weaker (λ b. IsTrue (test b)) (λ b. not (test b) ≡ false) (λ b passes. not_from_true (test b) passes) text all)
 
--- what a search for a bad byte gives
-list_any-position : (test : ℕ → Bool) (text : List ℕ) → list_any test text ≡ nat_lt (position_or_len test text) (length text)
-list_any-position test [] = refl
-list_any-position test (b ∷ text) = by_cases (test b) (list_any-position test text)
-  where
-    by_cases : (v : Bool) → list_any test text ≡ nat_lt (position_or_len test text) (length text)
-        → (v || list_any test text) ≡ nat_lt (cond (not v) (1 + position_or_len test text) 0) (suc (length text))
-    by_cases true h = sym (lt-ltb 0 (suc (length text)) (omega arith))
-    by_cases false h = h ∙ one_more (position_or_len test text) (length text)
-      where
-        one_more : (m n : ℕ) → nat_lt m n ≡ nat_lt (1 + m) (suc n)
-        one_more m n = elim (cases_lt m n) [ inl less ↦ lt-ltb m n less ∙ sym (lt-ltb (1 + m) (suc n) (omega arith)) | inr more ↦ le-ltb m n more ∙ sym (le-ltb (1 + m) (suc n) (omega arith)) ]
-
 -- that a search for a byte that fails finds none, as a test and as a fact
+from_none-test : (test : ℕ → Bool) (at : ℕ) (text : List ℕ) → AllByRecursion (λ b. IsTrue (test b)) text → position_from (λ b. not (test b)) at text ≡ None
+from_none-test test at [] all = refl
+from_none-test test at (b ∷ text) all = rw all.0 (from_none-test test (at + 1) text all.1)
+
+from_none-fact : (test : ℕ → Bool) (at : ℕ) (text : List ℕ) → position_from (λ b. not (test b)) at text ≡ None → AllByRecursion (λ b. IsTrue (test b)) text
+from_none-fact test at [] none = tt
+from_none-fact test at (b ∷ text) none =
+    elim (test b) as (λ v. test b ≡ v → cond (not v) (Some at) (position_from (λ x. not (test x)) (at + 1) text) ≡ None → AllByRecursion (λ x. IsTrue (test x)) (b ∷ text)) [
+      | true ↦ λ passes h. (passes, from_none-fact test (at + 1) text h)
+      | false ↦ λ fails h. absurd cc
+    ] refl none
+
 pub position_none-test : (test : ℕ → Bool) (text : List ℕ) → AllByRecursion (λ b. IsTrue (test b)) text → position (λ b. not (test b)) text ≡ None
-position_none-test test text all =
-    ap (λ v. cond v (Some (position_or_len (λ b. not (test b)) text)) None) (sym (list_any-position (λ b. not (test b)) text) ∙ none_fails-test test text all)
+position_none-test test text all = position_from-zero (λ b. not (test b)) text ∙ from_none-test test 0 text all
 
 pub position_none-fact : (test : ℕ → Bool) (text : List ℕ) → position (λ b. not (test b)) text ≡ None → AllByRecursion (λ b. IsTrue (test b)) text
-position_none-fact test text e = by_cases (nat_lt (position_or_len (λ b. not (test b)) text) (length text)) refl e
-  where
-    by_cases : (v : Bool) → nat_lt (position_or_len (λ b. not (test b)) text) (length text) ≡ v → cond v (Some (position_or_len (λ b. not (test b)) text)) None ≡ None
-        → AllByRecursion (λ b. IsTrue (test b)) text
-    by_cases true within h = absurd cc
-    by_cases false within h = none_fails-fact test text (list_any-position (λ b. not (test b)) text ∙ within)
+position_none-fact test text none = from_none-fact test 0 text (sym (position_from-zero (λ b. not (test b)) text) ∙ none)

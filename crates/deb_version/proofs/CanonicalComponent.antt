@@ -1,13 +1,14 @@
 -- The canonical text of parts has those parts, and holds only what their texts hold, and digits.
-use Rattle.std.proofs.Common.{◌≡◌, ◌≢◌, ℕ, ◌+◌, ◌≤◌, ◌==◌, ◌&&◌, Bool, true, false, cond, List, [], ◌∷◌, ◌++◌, length, refl, sym, ap, ◌∙◌, subst, arith, IsTrue, ◌⊎◌, inl, inr}
+use Rattle.std.proofs.Common.{◌≡◌, ◌≢◌, ℕ, ◌+◌, ◌≤◌, ◌==◌, ◌&&◌, true, false, cond, List, [], ◌∷◌, ◌++◌, length, refl, sym, ap, ◌∙◌, subst, arith, IsTrue, ◌⊎◌, inl, inr}
 use Rattle.std.specs.Char.{is_ascii_digit}
 use Rattle.std.specs.List.{AllByRecursion}
 use Rattle.std.proofs.lemmas.List.{append-nil, length-append}
-use Rattle.std.proofs.lemmas.Bool.Decides.{Decides-eqb}
-use Rattle.std.proofs.lemmas.Bool.{false≢true}
+use Rattle.std.proofs.lemmas.Bool.{false≢true, eqb-true}
 use Rattle.deb_version.specs.Parts.{value_of, Cut, Part, joined, IsDigits, AreCuts, part_of, parts_of_cuts, HasParts}
 use Rattle.deb_version.specs.Canonical.{digits_of, ends_in_letter, last_digits_of, component_text}
 use Rattle.deb_version.specs.PartsLemmas.{cons_not_nil}
+use Rattle.deb_version.proofs.Emptiness.{append_some, append_some_front}
+use Rattle.deb_version.proofs.Choices.{left_or_written}
 use Rattle.deb_version.proofs.CanonicalDigits.{value_of-digits_of, IsDigits-digits_of, digits_of-some, length-digits_of-value_of}
 
 -- the cuts of the canonical text
@@ -22,23 +23,12 @@ joined-canonical_cuts (part ∷ []) = ap (λ l. part.0 ++ l) (append-nil (last_d
 joined-canonical_cuts (part ∷ next ∷ parts) = ap (λ l. part.0 ++ (digits_of part.1 ++ l)) (joined-canonical_cuts (next ∷ parts))
 
 -- the number of the last part is left out, or written
-last_digits_cases : (part : Part) → ((part.1 ≡ 0) × (ends_in_letter part.0 ≡ true) × (last_digits_of part ≡ [])) ⊎ (last_digits_of part ≡ digits_of part.1)
-last_digits_cases part = cases part.1 (ends_in_letter part.0)
-  where
-    when_zero : (n : ℕ) (letter : Bool) → n ≡ 0 → ((n ≡ 0) × (letter ≡ true) × (cond letter [] (digits_of n) ≡ [])) ⊎ (cond letter [] (digits_of n) ≡ digits_of n)
-    when_zero n true zero_is = inl (zero_is, refl, refl)
-    when_zero n false zero_is = inr refl
-
-    cases : (n : ℕ) (letter : Bool) → ((n ≡ 0) × (letter ≡ true) × (cond ((n == 0) && letter) [] (digits_of n) ≡ [])) ⊎ (cond ((n == 0) && letter) [] (digits_of n) ≡ digits_of n)
-    cases n letter =
-        elim (n == 0) as (λ v. (n == 0) ≡ v → ((n ≡ 0) × (letter ≡ true) × (cond (v && letter) [] (digits_of n) ≡ [])) ⊎ (cond (v && letter) [] (digits_of n) ≡ digits_of n)) [
-          | true ↦ λ e. when_zero n letter ((Decides-eqb n 0).0 e)
-          | false ↦ λ e. inr refl
-        ] refl
+last_digits_cases : (part : Part) → (((part.1 == 0) ≡ true) × (ends_in_letter part.0 ≡ true) × (last_digits_of part ≡ [])) ⊎ (last_digits_of part ≡ digits_of part.1)
+last_digits_cases part = left_or_written (part.1 == 0) (ends_in_letter part.0) [] (digits_of part.1)
 
 value_of-last_digits_of : (part : Part) → value_of (last_digits_of part) ≡ part.1
 value_of-last_digits_of part =
-    elim (last_digits_cases part) [ inl out ↦ ap value_of out.2 ∙ sym out.0 | inr written ↦ ap value_of written ∙ value_of-digits_of part.1 ]
+    elim (last_digits_cases part) [ inl out ↦ ap value_of out.2 ∙ sym (eqb-true part.1 0 out.0) | inr written ↦ ap value_of written ∙ value_of-digits_of part.1 ]
 
 pub IsDigits-last_digits_of : (part : Part) → IsDigits (last_digits_of part)
 IsDigits-last_digits_of part =
@@ -98,14 +88,6 @@ module _ (P : ℕ → Type 0) (digit : (b : ℕ) → IsTrue (is_ascii_digit b) �
   pub All-component_text : (text : List ℕ) (parts : List Part) → HasParts text parts → AllByRecursion P text → AllByRecursion P (component_text parts)
   All-component_text text parts h all =
       subst (λ l. AllByRecursion P (component_text l)) (sym h.3) (All-joined h.0 (subst (λ l. AllByRecursion P l) h.2 all))
-
-append_some : (xs ys : List ℕ) → ys ≢ [] → (xs ++ ys) ≢ []
-append_some [] ys some = some
-append_some (x ∷ xs) ys some = cons_not_nil x (xs ++ ys)
-
-append_some_front : (xs ys : List ℕ) → xs ≢ [] → (xs ++ ys) ≢ []
-append_some_front [] ys some = absurd (some refl)
-append_some_front (x ∷ xs) ys some = cons_not_nil x (xs ++ ys)
 
 last_text_some : (part : Part) → (part.0 ++ last_digits_of part) ≢ []
 last_text_some part =

@@ -4,8 +4,8 @@ use Rattle.std.specs.Char.{is_ascii_digit}
 use Rattle.std.specs.List.{list_any}
 use Rattle.std.proofs.lemmas.List.{append-nil}
 use Rattle.std.proofs.lemmas.List.Folds.{list_any-append}
-use Rattle.std.proofs.lemmas.Bool.{false≢true, ne_eqb, eqb-true}
-use Rattle.std.proofs.lemmas.Bool.Decides.{Decides-eqb, nat_tests}
+use Rattle.std.proofs.lemmas.Bool.{false≢true, true≢false, ne_eqb}
+use Rattle.std.proofs.lemmas.Bool.Decides.{nat_tests}
 use Rattle.deb_version.specs.Parts.{value_of, Cut, Part, joined, IsDigits, AreCuts, part_of, parts_of_cuts, with_digit, with_byte, cuts_of, parts_of}
 use Rattle.deb_version.specs.Cuts.{cuts_after}
 use Rattle.deb_version.specs.Canonical.{digits_of, ends_in_letter, last_digits_of, component_text, is_no_revision}
@@ -13,7 +13,9 @@ use Rattle.deb_version.proofs.Emptiness.{nil_of_length}
 use Rattle.deb_version.proofs.ByteLemmas.{empty-fact, none_equal}
 use Rattle.deb_version.specs.PartsLemmas.{cons_not_nil, joined-cuts_of, AreCuts-cuts_of}
 use Rattle.deb_version.proofs.ValueLemmas.{value_after-le}
-use Rattle.deb_version.proofs.LeadingZeros.{without_zeros, without_zeros-zero, without_zeros-other, value_of-zero}
+use Rattle.deb_version.proofs.LeadingZeros.{by_zero, is_nonzero, without_zeros, without_zeros-zero, without_zeros-other, without_zeros-starts, value_of-zero, value_of-without_zeros}
+use Rattle.deb_version.proofs.FirstPlace.{StartsWith}
+use Rattle.deb_version.proofs.NumberOrder.{IsDigits-drop}
 use Rattle.deb_version.proofs.CanonicalComponent.{IsDigits-last_digits_of}
 use Rattle.deb_version.proofs.CanonicalDigits.{digits_of-value_of, IsDigits-digits_of}
 
@@ -46,36 +48,31 @@ component_text-first bytes (b ∷ after) cut e =
 
 -- Where nothing is left without leading zeros the value is 0.
 pub without_zeros-none : (run : List ℕ) → without_zeros run ≡ [] → value_of run ≡ 0
-without_zeros-none [] e = refl
-without_zeros-none (b ∷ run) e =
-    elim (b == 48) as (λ v. (b == 48) ≡ v → value_of (b ∷ run) ≡ 0) [
-      | true ↦ λ h. let is = eqb-true b 48 h in value_of-zero b run is ∙ without_zeros-none run (sym (without_zeros-zero b run is) ∙ e)
-      | false ↦ λ h. absurd (cons_not_nil b run (sym (without_zeros-other b run (λ is. false≢true (sym h ∙ (Decides-eqb b 48).1 is))) ∙ e))
-    ] refl
-
--- What is left without leading zeros, if anything, is the number in canonical digits.
-pub without_zeros-some : (run : List ℕ) → IsDigits run → without_zeros run ≢ [] → without_zeros run ≡ digits_of (value_of run)
-without_zeros-some [] digits some = absurd (some refl)
-without_zeros-some (b ∷ run) digits some =
-    elim (b == 48) as (λ v. (b == 48) ≡ v → without_zeros (b ∷ run) ≡ digits_of (value_of (b ∷ run))) [
-      | true ↦ λ h. let is = eqb-true b 48 h in let same = without_zeros-zero b run is in
-          same ∙ without_zeros-some run digits.1 (λ e. some (same ∙ e)) ∙ ap digits_of (sym (value_of-zero b run is))
-      | false ↦ λ h. let other = λ (is : b ≡ 48). false≢true (sym h ∙ (Decides-eqb b 48).1 is) in without_zeros-other b run other ∙ sym (digits_of-value_of b run digits other)
-    ] refl
+without_zeros-none run e = sym (value_of-without_zeros run) ∙ ap value_of e
 
 first_positive : (b : ℕ) (run : List ℕ) → IsTrue (is_ascii_digit b) → b ≢ 48 → 0 < value_of (b ∷ run)
 first_positive b run digit other =
     let above : 48 < b = grind (arith, nat_tests) in
     omega (arith, above, value_after-le (10 * 0 + (b - 48)) run)
 
-pub positive_of_digits : (run : List ℕ) → IsDigits run → without_zeros run ≢ [] → (value_of run == 0) ≡ false
-positive_of_digits [] digits some = absurd (some refl)
-positive_of_digits (b ∷ run) digits some =
-    elim (b == 48) as (λ v. (b == 48) ≡ v → (value_of (b ∷ run) == 0) ≡ false) [
-      | true ↦ λ h. let is = eqb-true b 48 h in
-          ap (λ n. n == 0) (value_of-zero b run is) ∙ positive_of_digits run digits.1 (λ e. some (without_zeros-zero b run is ∙ e))
-      | false ↦ λ h. let positive = first_positive b run digits.0 (λ is. false≢true (sym h ∙ (Decides-eqb b 48).1 is)) in ne_eqb (value_of (b ∷ run)) 0 (λ e. omega arith)
-    ] refl
+-- a run that begins with no zero is the number in canonical digits, and that isn't 0
+number_left : (left : List ℕ) → IsDigits left → StartsWith is_nonzero left → left ≢ [] → (left ≡ digits_of (value_of left)) × ((value_of left == 0) ≡ false)
+number_left [] digits starts some = absurd (some refl)
+number_left (b ∷ left) digits starts some =
+    let other = λ (is : b ≡ 48). true≢false (sym starts ∙ ap is_nonzero is) in
+    let positive = first_positive b left digits.0 other in
+    (sym (digits_of-value_of b left digits other), ne_eqb (value_of (b ∷ left)) 0 (λ e. omega arith))
+
+-- So is what is left without leading zeros, if anything.
+module _ (run : List ℕ) (digits : IsDigits run) (some : without_zeros run ≢ []) where
+  left : (without_zeros run ≡ digits_of (value_of (without_zeros run))) × ((value_of (without_zeros run) == 0) ≡ false)
+  left = number_left (without_zeros run) (IsDigits-drop _ run digits) (without_zeros-starts run) some
+
+  pub without_zeros-some : without_zeros run ≡ digits_of (value_of run)
+  without_zeros-some = left.0 ∙ ap digits_of (value_of-without_zeros run)
+
+  pub positive_of_digits : (value_of run == 0) ≡ false
+  positive_of_digits = ap (λ n. n == 0) (sym (value_of-without_zeros run)) ∙ left.1
 
 -- The three numbers that the code writes: the digits that are left, nothing, and one zero.
 module _ (cut : Cut) (left : List ℕ) (is : left ≡ without_zeros cut.1) where
@@ -108,10 +105,8 @@ module _ (cut : Cut) (left : List ℕ) (is : left ≡ without_zeros cut.1) where
 
 zero_value : (b : ℕ) (run : List ℕ) → IsTrue (is_ascii_digit b) → (value_of (b ∷ run) == 0) ≡ ((b == 48) && (value_of run == 0))
 zero_value b run digit =
-    elim (b == 48) as (λ v. (b == 48) ≡ v → (value_of (b ∷ run) == 0) ≡ (v && (value_of run == 0))) [
-      | true ↦ λ h. ap (λ n. n == 0) (value_of-zero b run (eqb-true b 48 h))
-      | false ↦ λ h. let positive = first_positive b run digit (λ is. false≢true (sym h ∙ (Decides-eqb b 48).1 is)) in ne_eqb (value_of (b ∷ run)) 0 (λ e. omega arith)
-    ] refl
+    by_zero (λ v. (value_of (b ∷ run) == 0) ≡ (v && (value_of run == 0))) b (λ is. ap (λ n. n == 0) (value_of-zero b run is))
+    (λ other. let positive = first_positive b run digit other in ne_eqb (value_of (b ∷ run)) 0 (λ e. omega arith))
 
 never : (v : Bool) → false ≡ (v && false)
 never true = refl
@@ -145,14 +140,9 @@ is_no_revision-with_byte b (cut ∷ cuts) are =
 pub is_no_revision-parts_of : (revision : List ℕ) → is_no_revision (parts_of revision) ≡ (length (without_zeros revision) == 0)
 is_no_revision-parts_of [] = refl
 is_no_revision-parts_of (b ∷ revision) =
-    is_no_revision-with_byte b (cuts_of revision) (AreCuts-cuts_of revision) ∙ ap (λ v. (b == 48) && v) (is_no_revision-parts_of revision) ∙ left_behind
-  where
-    left_behind : ((b == 48) && (length (without_zeros revision) == 0)) ≡ (length (without_zeros (b ∷ revision)) == 0)
-    left_behind =
-        elim (b == 48) as (λ v. (b == 48) ≡ v → (v && (length (without_zeros revision) == 0)) ≡ (length (without_zeros (b ∷ revision)) == 0)) [
-          | true ↦ λ h. ap (λ l. length l == 0) (sym (without_zeros-zero b revision (eqb-true b 48 h)))
-          | false ↦ λ h. sym (ap (λ l. length l == 0) (without_zeros-other b revision (λ is. false≢true (sym h ∙ (Decides-eqb b 48).1 is))) ∙ ne_eqb (length (b ∷ revision)) 0 (λ e. omega arith))
-        ] refl
+    is_no_revision-with_byte b (cuts_of revision) (AreCuts-cuts_of revision) ∙ ap (λ v. (b == 48) && v) (is_no_revision-parts_of revision)
+    ∙ by_zero (λ v. (v && (length (without_zeros revision) == 0)) ≡ (length (without_zeros (b ∷ revision)) == 0)) b (λ is. ap (λ l. length l == 0) (sym (without_zeros-zero b revision is)))
+    (λ other. sym (ap (λ l. length l == 0) (without_zeros-other b revision other) ∙ ne_eqb (length (b ∷ revision)) 0 (λ e. omega arith)))
 
 list_any-behind : (c : ℕ) (run others : List ℕ) → is_ascii_digit c ≡ false → IsDigits run → list_any (λ b. b == c) (run ++ others) ≡ list_any (λ b. b == c) others
 list_any-behind c run others other digits =

@@ -5,12 +5,13 @@ use Rattle.std.specs.Int.{is_in_range}
 use Rattle.std.specs.List.{AllByRecursion, list_any}
 use Rattle.std.proofs.lemmas.List.{length-append}
 use Rattle.std.proofs.lemmas.Bool.Decides.{Decides-eqb}
-use Rattle.std.proofs.lemmas.Bool.{false≢true}
+use Rattle.std.proofs.lemmas.Bool.{false≢true, eqb-true, not-true}
 use Rattle.deb_version.specs.Parts.{Part, HasParts, Meaning, no_revision}
 use Rattle.deb_version.specs.Grammar.{is_revision_byte, is_upstream_byte, epoch_text, revision_text, epoch_value, revision_parts, meaning_of_components, SpellsVersion}
 use Rattle.deb_version.specs.Canonical.{digits_of, component_text, is_no_revision, holds_colon, holds_hyphen, canonical_epoch, canonical_revision, canonical_components, version_text}
 use Rattle.deb_version.specs.CanonicalLaws.{CanonicalTextSpells, CanonicalTextDecides, CanonicalTextStays, CanonicalTextIsShort}
 use Rattle.deb_version.proofs.AllowedLemmas.{AreComponents, IsEpoch, IsRevision, are_components-fact, are_components-test}
+use Rattle.deb_version.proofs.Choices.{left_or_written}
 use Rattle.deb_version.proofs.Emptiness.{nil_of_length, some_length}
 use Rattle.deb_version.proofs.ByteLemmas.{differs, none_equal-test, none_equal-fact}
 use Rattle.deb_version.specs.PartsLemmas.{has_parts, one_parts}
@@ -40,20 +41,14 @@ both : (P Q : ℕ → Type 0) (xs : List ℕ) → AllByRecursion P xs → AllByR
 both P Q [] p q = tt
 both P Q (x ∷ xs) p q = ((p.0, q.0), both P Q xs p.1 q.1)
 
--- the epoch is left out, or written
-epoch_cases : (m : Meaning) → ((m.epoch ≡ 0) × (holds_colon (component_text m.upstream) ≡ false) × (canonical_epoch m ≡ None)) ⊎ (canonical_epoch m ≡ Some (digits_of m.epoch))
-epoch_cases m = cases m.epoch (holds_colon (component_text m.upstream))
-  where
-    left_out : (e : ℕ) (colon : Bool) → e ≡ 0 → ((e ≡ 0) × (colon ≡ false) × (cond (not colon) None (Some (digits_of e)) ≡ None)) ⊎ (cond (not colon) None (Some (digits_of e)) ≡ Some (digits_of e))
-    left_out e true zero_is = inr refl
-    left_out e false zero_is = inl (zero_is, refl, refl)
+-- the epoch is left out, or written; and so is the revision
+epoch_cases : (m : Meaning)
+    → (((m.epoch == 0) ≡ true) × (not (holds_colon (component_text m.upstream)) ≡ true) × (canonical_epoch m ≡ None)) ⊎ (canonical_epoch m ≡ Some (digits_of m.epoch))
+epoch_cases m = left_or_written (m.epoch == 0) (not (holds_colon (component_text m.upstream))) None (Some (digits_of m.epoch))
 
-    cases : (e : ℕ) (colon : Bool) → ((e ≡ 0) × (colon ≡ false) × (cond ((e == 0) && not colon) None (Some (digits_of e)) ≡ None)) ⊎ (cond ((e == 0) && not colon) None (Some (digits_of e)) ≡ Some (digits_of e))
-    cases e colon =
-        elim (e == 0) as (λ v. (e == 0) ≡ v → ((e ≡ 0) × (colon ≡ false) × (cond (v && not colon) None (Some (digits_of e)) ≡ None)) ⊎ (cond (v && not colon) None (Some (digits_of e)) ≡ Some (digits_of e))) [
-          | true ↦ λ h. left_out e colon ((Decides-eqb e 0).0 h)
-          | false ↦ λ h. inr refl
-        ] refl
+revision_cases : (m : Meaning)
+    → ((is_no_revision m.revision ≡ true) × (not (holds_hyphen (component_text m.upstream)) ≡ true) × (canonical_revision m ≡ None)) ⊎ (canonical_revision m ≡ Some (component_text m.revision))
+revision_cases m = left_or_written (is_no_revision m.revision) (not (holds_hyphen (component_text m.upstream))) None (Some (component_text m.revision))
 
 no_revision_of_test : (parts : List Part) → is_no_revision parts ≡ true → parts ≡ no_revision
 no_revision_of_test [] e = absurd (false≢true e)
@@ -63,21 +58,6 @@ no_revision_of_test (part ∷ []) e =
       | false ↦ λ h k. absurd (false≢true k)
     ] refl e
 no_revision_of_test (part ∷ next ∷ parts) e = absurd (false≢true e)
-
--- the revision is left out, or written
-revision_cases : (m : Meaning) → ((m.revision ≡ no_revision) × (holds_hyphen (component_text m.upstream) ≡ false) × (canonical_revision m ≡ None)) ⊎ (canonical_revision m ≡ Some (component_text m.revision))
-revision_cases m = cases m.revision (holds_hyphen (component_text m.upstream))
-  where
-    left_out : (r : List Part) (hyphen : Bool) → r ≡ no_revision → ((r ≡ no_revision) × (hyphen ≡ false) × (cond (not hyphen) None (Some (component_text r)) ≡ None)) ⊎ (cond (not hyphen) None (Some (component_text r)) ≡ Some (component_text r))
-    left_out r true none_is = inr refl
-    left_out r false none_is = inl (none_is, refl, refl)
-
-    cases : (r : List Part) (hyphen : Bool) → ((r ≡ no_revision) × (hyphen ≡ false) × (cond (is_no_revision r && not hyphen) None (Some (component_text r)) ≡ None)) ⊎ (cond (is_no_revision r && not hyphen) None (Some (component_text r)) ≡ Some (component_text r))
-    cases r hyphen =
-        elim (is_no_revision r) as (λ v. is_no_revision r ≡ v → ((r ≡ no_revision) × (hyphen ≡ false) × (cond (v && not hyphen) None (Some (component_text r)) ≡ None)) ⊎ (cond (v && not hyphen) None (Some (component_text r)) ≡ Some (component_text r))) [
-          | true ↦ λ h. left_out r hyphen (no_revision_of_test r h)
-          | false ↦ λ h. inr refl
-        ] refl
 
 -- a text that has the parts of the revision, of bytes that a revision may hold
 revision_spelt : (o : Option (List ℕ)) (parts : List Part) → IfSome o IsRevision → parts ≡ revision_parts o
@@ -99,68 +79,49 @@ module _ (text : List ℕ) (m : Meaning) (spells : SpellsVersion text m) where
   revision_means : (o : Option (List ℕ)) → spells.components.revision ≡ o → m.revision ≡ revision_parts o
   revision_means o e = ap (λ (n : Meaning). n.revision) spells.means ∙ ap revision_parts e
 
--- the canonical components are those of a version, with the same meaning
-module _ (text : List ℕ) (m : Meaning) (spells : SpellsVersion text m) where
-  allowed_epoch : IfSome (canonical_epoch m) IsEpoch
-  allowed_epoch =
-      elim (epoch_cases m) [
-        | inl out ↦ subst (λ o. IfSome o IsEpoch) (sym out.2) tt
-        | inr written ↦ subst (λ o. IfSome o IsEpoch) (sym written)
-            (digits_of-some m.epoch, IsDigits-digits_of m.epoch)
-      ]
+-- the epoch of canonical components is allowed, allows the bytes behind it, and has the same value
+abbrev EpochStays : Meaning → Option (List ℕ) → Type 0
+EpochStays m o =
+    IfSome o IsEpoch × AllByRecursion (λ b. IsTrue (is_upstream_byte (is_some o) b)) (component_text m.upstream) × (m.epoch ≡ epoch_value o)
 
+-- the revision is allowed, and absent only where there is no hyphen, and has the same parts
+abbrev RevisionStays : Meaning → Option (List ℕ) → Type 0
+RevisionStays m o = IfSome o IsRevision × IfNone o (AllByRecursion (λ b. b ≢ 45) (component_text m.upstream)) × (m.revision ≡ revision_parts o)
+
+module _ (text : List ℕ) (m : Meaning) (spells : SpellsVersion text m) where
   upstream_bytes_with_epoch : AllByRecursion (λ b. IsTrue (is_upstream_byte true b)) (component_text m.upstream)
   upstream_bytes_with_epoch =
       All-component_text (λ b. IsTrue (is_upstream_byte true b)) (upstream_digit true) spells.components.upstream m.upstream (upstream_means text m spells)
       (All-weaker (λ b. IsTrue (is_upstream_byte (is_some spells.components.epoch) b)) (λ b. IsTrue (is_upstream_byte true b)) (upstream_with_epoch (is_some spells.components.epoch)) spells.components.upstream (are text m spells).upstream_bytes)
 
-  allowed_upstream : AllByRecursion (λ b. IsTrue (is_upstream_byte (is_some (canonical_epoch m)) b)) (component_text m.upstream)
-  allowed_upstream =
-      elim (epoch_cases m) [
-        | inl out ↦ subst (λ o. AllByRecursion (λ b. IsTrue (is_upstream_byte (is_some o) b)) (component_text m.upstream)) (sym out.2)
-            (All-weaker (λ b. IsTrue (is_upstream_byte true b) × (b ≢ 58)) (λ b. IsTrue (is_upstream_byte false b)) upstream_without_epoch (component_text m.upstream)
-            (both (λ b. IsTrue (is_upstream_byte true b)) (λ b. b ≢ 58) (component_text m.upstream) upstream_bytes_with_epoch (none_equal-fact 58 (component_text m.upstream) out.1)))
-        | inr written ↦ subst (λ o. AllByRecursion (λ b. IsTrue (is_upstream_byte (is_some o) b)) (component_text m.upstream)) (sym written) upstream_bytes_with_epoch
-      ]
-
-  allowed_hyphen : IfNone (canonical_revision m) (AllByRecursion (λ b. b ≢ 45) (component_text m.upstream))
-  allowed_hyphen =
-      elim (revision_cases m) [
-        | inl out ↦ subst (λ o. IfNone o (AllByRecursion (λ b. b ≢ 45) (component_text m.upstream))) (sym out.2) (none_equal-fact 45 (component_text m.upstream) out.1)
-        | inr written ↦ subst (λ o. IfNone o (AllByRecursion (λ b. b ≢ 45) (component_text m.upstream))) (sym written) tt
-      ]
-
-  revision_is_spelt : (spelt : List ℕ) × HasParts spelt m.revision × AllByRecursion (λ b. IsTrue (is_revision_byte b)) spelt
-  revision_is_spelt = revision_spelt spells.components.revision m.revision (are text m spells).revision (revision_means text m spells spells.components.revision refl)
-
-  allowed_revision : IfSome (canonical_revision m) IsRevision
-  allowed_revision =
-      elim (revision_cases m) [
-        | inl out ↦ subst (λ o. IfSome o IsRevision) (sym out.2) tt
-        | inr written ↦ subst (λ o. IfSome o IsRevision) (sym written) (
-          component_text-some revision_is_spelt.0 m.revision revision_is_spelt.1,
-          All-component_text (λ b. IsTrue (is_revision_byte b)) revision_digit revision_is_spelt.0 m.revision revision_is_spelt.1 revision_is_spelt.2,
-        )
-      ]
-
-  epoch_stays : m.epoch ≡ epoch_value (canonical_epoch m)
+  epoch_stays : EpochStays m (canonical_epoch m)
   epoch_stays =
       elim (epoch_cases m) [
-        | inl out ↦ out.0 ∙ sym (ap epoch_value out.2)
-        | inr written ↦ sym (value_of-digits_of m.epoch) ∙ sym (ap epoch_value written)
+        | inl out ↦ subst (EpochStays m) (sym out.2) (
+          tt,
+          All-weaker (λ b. IsTrue (is_upstream_byte true b) × (b ≢ 58)) (λ b. IsTrue (is_upstream_byte false b)) upstream_without_epoch (component_text m.upstream)
+              (both (λ b. IsTrue (is_upstream_byte true b)) (λ b. b ≢ 58) (component_text m.upstream) upstream_bytes_with_epoch (none_equal-fact 58 (component_text m.upstream) (not-true _ out.1))),
+          eqb-true m.epoch 0 out.0,
+        )
+        | inr written ↦ subst (EpochStays m) (sym written) ((digits_of-some m.epoch, IsDigits-digits_of m.epoch), upstream_bytes_with_epoch, sym (value_of-digits_of m.epoch))
       ]
 
-  revision_stays : m.revision ≡ revision_parts (canonical_revision m)
+  revision_stays : RevisionStays m (canonical_revision m)
   revision_stays =
+      let spelt = revision_spelt spells.components.revision m.revision (are text m spells).revision (revision_means text m spells spells.components.revision refl) in
       elim (revision_cases m) [
-        | inl out ↦ out.0 ∙ sym (ap revision_parts out.2)
-        | inr written ↦ one_parts (component_text m.revision) m.revision (HasParts-component_text revision_is_spelt.0 m.revision revision_is_spelt.1) ∙ sym (ap revision_parts written)
+        | inl out ↦ subst (RevisionStays m) (sym out.2) (tt, none_equal-fact 45 (component_text m.upstream) (not-true _ out.1), no_revision_of_test m.revision out.0)
+        | inr written ↦ subst (RevisionStays m) (sym written) (
+          (component_text-some spelt.0 m.revision spelt.1, All-component_text (λ b. IsTrue (is_revision_byte b)) revision_digit spelt.0 m.revision spelt.1 spelt.2),
+          tt,
+          one_parts (component_text m.revision) m.revision (HasParts-component_text spelt.0 m.revision spelt.1),
+        )
       ]
 
   meaning_stays : m ≡ meaning_of_components (canonical_components m)
   meaning_stays =
       let upstream = one_parts (component_text m.upstream) m.upstream (HasParts-component_text spells.components.upstream m.upstream (upstream_means text m spells)) in
-      λ i. record { epoch = epoch_stays i; upstream = upstream i; revision = revision_stays i }
+      λ i. record { epoch = epoch_stays.2 i; upstream = upstream i; revision = revision_stays.2 i }
 
 -- Canonical text is accepted, with the same meaning.
 pub canonical_text_spells : CanonicalTextSpells
@@ -168,11 +129,11 @@ canonical_text_spells text m spells = record {
   components = canonical_components m;
   spelt = refl;
   allowed = are_components-test (canonical_components m) (record {
-    epoch = allowed_epoch text m spells;
+    epoch = (epoch_stays text m spells).0;
     upstream_some = component_text-some spells.components.upstream m.upstream (upstream_means text m spells);
-    upstream_bytes = allowed_upstream text m spells;
-    upstream_hyphen = allowed_hyphen text m spells;
-    revision = allowed_revision text m spells;
+    upstream_bytes = (epoch_stays text m spells).1;
+    upstream_hyphen = (revision_stays text m spells).1;
+    revision = (revision_stays text m spells).0;
   });
   means = meaning_stays text m spells;
 }

@@ -1,11 +1,12 @@
 -- The components of a text: every text is spelled by them, and allowed components are those of their spelling.
-use Rattle.std.proofs.Common.{◌≡◌, ◌≢◌, ℕ, ◌+◌, ◌<◌, ◌≤◌, arith, All, length, get_or, take, drop, Bool, true, false, not, cond, ◌==◌, ◌||◌, List, [], ◌∷◌, ◌++◌, Option, Some, None, is_some, IfSome, IfNone, refl, sym, ap, ◌∙◌, subst, IsTrue, append_assoc, append-nil}
-use Rattle.std.specs.List.{AllByRecursion, list_any, before_first, after_first, before_last, after_last}
+use Rattle.std.proofs.Common.{◌≡◌, ◌≢◌, ℕ, ◌+◌, ◌-◌, ◌<◌, ◌≤◌, arith, All, length, get_or, take, drop, Bool, true, false, not, cond, ◌==◌, ◌||◌, List, [], ◌∷◌, ◌++◌, Option, Some, None, is_some, IfSome, IfNone, refl, sym, ap, ◌∙◌, subst, IsTrue, append_assoc, append-nil}
+use Rattle.std.specs.List.{AllByRecursion, list_any, before_first, after_first, before_last, after_last, suffix_len}
 use Rattle.std.specs.Char.{is_ascii_digit}
 use Rattle.std.proofs.lemmas.Bool.{eqb-true, ne_eqb}
-use Rattle.std.proofs.lemmas.List.{take-append-drop, drop_more, length-take-le, length-drop, get_or-take, get_or-drop}
-use Rattle.std.proofs.lemmas.List.Elements.{All-from_get_or, All-weaker}
-use Rattle.std.proofs.lemmas.List.Folds.{list_any-append, list_any_none}
+use Rattle.std.proofs.lemmas.Bool.Decides.{Decides-eqb}
+use Rattle.std.proofs.lemmas.List.Elements.{All-weaker}
+use Rattle.std.proofs.lemmas.List.Folds.{list_any-append, list_any_none, list_any_at}
+use Rattle.std.proofs.lemmas.List.Sums.{position_or_len_is, suffix_len_is}
 use Rattle.deb_version.specs.Grammar.{Components, are_components, epoch_text, revision_text, spelling, is_upstream_byte, is_revision_byte}
 use Rattle.deb_version.specs.Places.{is_colon, is_hyphen, epoch_in, rest_in, revision_in, upstream_in, components_in}
 use Rattle.deb_version.proofs.AllowedLemmas.{IsEpoch, IsRevision, are_components-fact}
@@ -109,20 +110,6 @@ cut_at_hyphen rest = by_cases (list_any is_hyphen rest) refl
     by_cases true e = refl
     by_cases false e = ap not e
 
--- a text is its front, the byte at i and the rest
-split_around : (text : List ℕ) (i n : ℕ) → i < length text → get_or text i 0 ≡ n → text ≡ take i text ++ n ∷ drop (i + 1) text
-split_around text i n inside here = sym (take-append-drop i text) ∙ ap (λ l. take i text ++ l) (drop_more text i 0 inside ∙ ap (λ b. b ∷ drop (i + 1) text) here)
-
-none_before : (n : ℕ) (text : List ℕ) (i : ℕ) → i < length text → ((k : ℕ) → k < i → get_or text k 0 ≢ n) → list_any (λ b. b == n) (take i text) ≡ false
-none_before n text i inside before =
-    list_any_none (λ b. b == n) (take i text) (All-from_get_or (λ b. (b == n) ≡ false) (take i text) 0 (λ k short.
-    let below : k < i = omega (arith, length-take-le i text (omega arith)) in ne_eqb _ n (λ e. before k below (sym (get_or-take i text k 0 below) ∙ e))))
-
-none_after : (n : ℕ) (text : List ℕ) (i : ℕ) → ((k : ℕ) → i ≤ k → k < length text → get_or text k 0 ≢ n) → list_any (λ b. b == n) (drop i text) ≡ false
-none_after n text i after =
-    list_any_none (λ b. b == n) (drop i text) (All-from_get_or (λ b. (b == n) ≡ false) (drop i text) 0 (λ k short.
-    let inside : i + k < length text = omega (arith, length-drop i text) in ne_eqb _ n (λ e. after (i + k) (omega arith) inside (sym (get_or-drop i text k 0) ∙ e))))
-
 none_at_all : (n : ℕ) (text : List ℕ) → All (λ b. b ≢ n) text → list_any (λ b. b == n) text ≡ false
 none_at_all n text none = list_any_none (λ b. b == n) text (All-weaker (λ b. b ≢ n) (λ b. (b == n) ≡ false) (λ b h. ne_eqb b n h) text none)
 
@@ -130,9 +117,10 @@ none_at_all n text none = list_any_none (λ b. b == n) text (All-weaker (λ b. b
 pub epoch_at_colon : (text : List ℕ) (i : ℕ) → i < length text → get_or text i 0 ≡ 58 → ((k : ℕ) → k < i → get_or text k 0 ≢ 58)
     → (epoch_in text ≡ Some (take i text)) × (rest_in text ≡ drop (i + 1) text)
 epoch_at_colon text i inside here before =
-    let whole = split_around text i 58 inside here in
-    let w = with_colon (take i text) (drop (i + 1) text) (none_before 58 text i inside before) in
-    (ap epoch_in whole ∙ w.0, ap rest_in whole ∙ w.1)
+    let colon = (Decides-eqb (get_or text i 0) 58).1 here in
+    let some = list_any_at is_colon text i 0 inside colon in
+    let at = position_or_len_is is_colon text i 0 (omega arith) (λ k less. ne_eqb _ 58 (before k less)) (λ _. colon) in
+    rw (some, at) (refl, refl)
 
 pub epoch_at_none : (text : List ℕ) → All (λ b. b ≢ 58) text → (epoch_in text ≡ None) × (rest_in text ≡ text)
 epoch_at_none text none = no_colon text (none_at_all 58 text none)
@@ -141,9 +129,12 @@ epoch_at_none text none = no_colon text (none_at_all 58 text none)
 pub revision_at_hyphen : (rest : List ℕ) (i : ℕ) → i < length rest → get_or rest i 0 ≡ 45 → ((k : ℕ) → i + 1 ≤ k → k < length rest → get_or rest k 0 ≢ 45)
     → (upstream_in rest ≡ take i rest) × (revision_in rest ≡ Some (drop (i + 1) rest))
 revision_at_hyphen rest i inside here after =
-    let whole = split_around rest i 45 inside here in
-    let w = with_hyphen (take i rest) (drop (i + 1) rest) (none_after 45 rest (i + 1) after) in
-    (ap upstream_in whole ∙ w.0, ap revision_in whole ∙ w.1)
+    let hyphen = (Decides-eqb (get_or rest i 0) 45).1 here in
+    let some = list_any_at is_hyphen rest i 0 inside hyphen in
+    let same : i + 1 - 1 ≡ i = omega arith in
+    let len = suffix_len_is (λ b. not (is_hyphen b)) rest (i + 1) 0 (omega arith) (λ k from within. ap not (ne_eqb _ 45 (after k from within))) (λ _. ap (λ k. not (is_hyphen (get_or rest k 0))) same ∙ ap not hyphen) in
+    let behind : length rest - suffix_len (λ b. not (is_hyphen b)) rest ≡ i + 1 = omega (arith, len) in
+    rw (some, behind, same) (refl, refl)
 
 pub revision_at_none : (rest : List ℕ) → All (λ b. b ≢ 45) rest → (upstream_in rest ≡ rest) × (revision_in rest ≡ None)
 revision_at_none rest none = no_hyphen rest (none_at_all 45 rest none)

@@ -1,5 +1,5 @@
 -- The cuts of a component, from the left: a text without digits, a run of digits, and the cuts of what follows.
-use Rattle.std.proofs.Common.{◌≡◌, ◌≢◌, ℕ, ◌-◌, ◌≤◌, Bool, true, false, cond, not, List, [], ◌∷◌, ◌++◌, length, take, drop, position, unwrap_or, refl, sym, ap, ◌∙◌, subst, inl, inr, IsTrue, IsFalse, arith}
+use Rattle.std.proofs.Common.{◌≡◌, ◌≢◌, ℕ, ◌-◌, ◌≤◌, Bool, true, false, cond, not, List, [], ◌∷◌, ◌++◌, length, take, drop, position, unwrap_or, refl, sym, ap, ◌∙◌, inl, inr, IsTrue, IsFalse, arith}
 use Rattle.std.specs.Char.{is_ascii_digit}
 use Rattle.std.specs.List.{list_all, position_or_len}
 use Rattle.std.proofs.lemmas.Bool.{cases_Bool, true≢false}
@@ -123,6 +123,4 @@ first_cut bytes text digits run after n m n-is text-is digits-is m-is run-is aft
     let text-at : text ≡ text_of bytes = text-is ∙ ap (λ k. take k bytes) in_text in
     let run-at : run ≡ run_of (after_text bytes) = run-is ∙ ap (λ k. take k digits) in_run ∙ ap run_of digits-at in
     let after-at : after ≡ after_run (after_text bytes) = after-is ∙ ap (λ k. drop k digits) in_run ∙ ap after_run digits-at in
-    subst (λ t. IsFirstCut bytes t run after) (sym text-at)
-    (subst (λ r. IsFirstCut bytes (text_of bytes) r after) (sym run-at)
-    (subst (λ l. IsFirstCut bytes (text_of bytes) (run_of (after_text bytes)) l) (sym after-at) (first_of bytes)))
+    rw (text-at, run-at, after-at) (first_of bytes)

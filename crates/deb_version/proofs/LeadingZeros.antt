@@ -1,7 +1,7 @@
 -- A run of digits without its leading zeros.
-use Rattle.std.proofs.Common.{◌≡◌, ◌≢◌, ℕ, ◌+◌, ◌-◌, ◌*◌, ◌==◌, Bool, false, cond, not, List, [], ◌∷◌, drop, refl, sym, ap, ◌∙◌, subst, inl, inr, one-add}
+use Rattle.std.proofs.Common.{◌≡◌, ◌≢◌, ℕ, ◌+◌, ◌-◌, ◌*◌, ◌==◌, Bool, true, false, cond, not, List, [], ◌∷◌, drop, refl, sym, ap, ◌∙◌, one-add}
 use Rattle.std.specs.List.{prefix_len}
-use Rattle.std.proofs.lemmas.Bool.{cases_Bool, eqb-true, ne_eqb, true≢false}
+use Rattle.std.proofs.lemmas.Bool.{eqb-true, eqb-false, ne_eqb}
 use Rattle.std.proofs.lemmas.Bool.Decides.{Decides-eqb}
 use Rattle.deb_version.specs.Parts.{value_after, value_of}
 use Rattle.deb_version.proofs.FirstPlace.{StartsWith}
@@ -22,26 +22,20 @@ without_zeros-other b run e = ap (λ v. drop (cond v (1 + prefix_len (λ c. c ==
 pub value_of-zero : (b : ℕ) (run : List ℕ) → b ≡ 48 → value_of (b ∷ run) ≡ value_of run
 value_of-zero b run e = ap (λ c. value_after (10 * 0 + (c - 48)) run) e
 
--- a digit is a zero, or it isn't
-not_zero : (b : ℕ) → (b == 48) ≡ false → b ≢ 48
-not_zero b e is = true≢false (sym ((Decides-eqb b 48).1 is) ∙ e)
+-- a byte is a zero, or it isn't
+pub by_zero : (P : Bool → Type 0) (b : ℕ) → (b ≡ 48 → P true) → (b ≢ 48 → P false) → P (b == 48)
+by_zero P b is other = elim (b == 48) as (λ v. (b == 48) ≡ v → P v) [ true ↦ λ e. is (eqb-true b 48 e) | false ↦ λ e. other (eqb-false b 48 e) ] refl
 
 -- The value stays.
 pub value_of-without_zeros : (run : List ℕ) → value_of (without_zeros run) ≡ value_of run
 value_of-without_zeros [] = refl
 value_of-without_zeros (b ∷ run) =
-    elim (cases_Bool (b == 48)) [
-      | inl zero_digit ↦
-          let is = eqb-true b 48 zero_digit in
-          ap value_of (without_zeros-zero b run is) ∙ value_of-without_zeros run ∙ sym (value_of-zero b run is)
-      | inr other ↦ ap value_of (without_zeros-other b run (not_zero b other))
-    ]
+    by_zero (λ _. value_of (without_zeros (b ∷ run)) ≡ value_of (b ∷ run)) b
+    (λ is. ap value_of (without_zeros-zero b run is) ∙ value_of-without_zeros run ∙ sym (value_of-zero b run is)) (λ other. ap value_of (without_zeros-other b run other))
 
 -- What is left, if anything, begins with no zero.
 pub without_zeros-starts : (run : List ℕ) → StartsWith is_nonzero (without_zeros run)
 without_zeros-starts [] = tt
 without_zeros-starts (b ∷ run) =
-    elim (cases_Bool (b == 48)) [
-      | inl zero_digit ↦ subst (λ l. StartsWith is_nonzero l) (sym (without_zeros-zero b run (eqb-true b 48 zero_digit))) (without_zeros-starts run)
-      | inr other ↦ subst (λ l. StartsWith is_nonzero l) (sym (without_zeros-other b run (not_zero b other))) (ap not other)
-    ]
+    by_zero (λ _. StartsWith is_nonzero (without_zeros (b ∷ run))) b
+    (λ is. rw (without_zeros-zero b run is) (without_zeros-starts run)) (λ other. rw (without_zeros-other b run other) (ap not (ne_eqb b 48 other)))

@@ -11,6 +11,7 @@ pub mod FirstPlace
 pub mod FirstCut
 pub mod NumberOrder
 pub mod Emptiness
+pub mod Choices
 pub mod LeadingZeros
 pub mod CanonicalDigits
 pub mod CanonicalComponent

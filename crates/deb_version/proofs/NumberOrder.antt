@@ -89,7 +89,7 @@ value_of_longer r b s p q nonzero short =
     ∙ value_of_cmp (48 ∷ (replicate k 48 ++ r)) (b ∷ s) (IsDigits-zeros (suc k) r p) q (simp (length-append, length-replicate) (omega arith))
     ∙ ap (λ v. ordering_then v (slice_cmp nat_cmp (replicate k 48 ++ r) s)) (sym (nat_cmp_is 48 b Less (omega arith)))
 
-IsDigits-drop : (n : ℕ) (run : List ℕ) → IsDigits run → IsDigits (drop n run)
+pub IsDigits-drop : (n : ℕ) (run : List ℕ) → IsDigits run → IsDigits (drop n run)
 IsDigits-drop zero run d = d
 IsDigits-drop (suc n) [] d = tt
 IsDigits-drop (suc n) (b ∷ run) d = IsDigits-drop n run d.1

@@ -2,7 +2,7 @@
 -- order of the values is.
 use Rattle.std.proofs.Common.{◌≡◌, List, [], ◌∷◌, refl, sym, ap, ◌∙◌}
 use Rattle.std.specs.Ordering.{ordering_then, ordering_reverse}
-use Rattle.std.specs.Cmp.{IsTotalOrder, alike_right, tied_itself}
+use Rattle.std.specs.Cmp.{IsTotalOrder, alike_right, then_flip, tied_itself}
 use Rattle.std.specs.declared.cmp.Ordering.{Ordering}
 use Rattle.std.specs.declared.cmp.Ordering.TheVariants.{Less, Equal, Greater}
 use Rattle.deb_version.specs.Order.{continued_cmp}
@@ -12,12 +12,6 @@ pub then-Equal : (r s : Ordering) → ordering_then r s ≡ Equal → (r ≡ Equ
 then-Equal Less s e = cc e
 then-Equal Equal s e = (refl, e)
 then-Equal Greater s e = cc e
-
-then-reverse : (r s : Ordering)
-    → ordering_then (ordering_reverse r) (ordering_reverse s) ≡ ordering_reverse (ordering_then r s)
-then-reverse Less s = refl
-then-reverse Equal s = refl
-then-reverse Greater s = refl
 
 -- a first comparison before Less: it is Less, or Equal and the second is Less
 then-Less : {P : Type 0} → (r s : Ordering) → ordering_then r s ≡ Less → (r ≡ Less → P)
@@ -50,7 +44,7 @@ module _ {K : Type 0} {R : K → K → Ordering} (o : IsTotalOrder R) where
       → ordering_then (R a b) p ≡ ordering_reverse (ordering_then (R b a) q)
   step-reverse a b p q e =
       ap (λ v. ordering_then v p) (o.antisymm a b) ∙ ap (ordering_then (ordering_reverse (R b a))) e
-      ∙ then-reverse (R b a) q
+      ∙ then_flip (R b a) q
 
   module _ (z : K) where
     reverses : (xs ys : List K)

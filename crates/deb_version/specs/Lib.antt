@@ -6,6 +6,7 @@ pub mod Faults
 pub mod GrammarLaws
 pub mod OrderLaws
 pub mod Version
+pub mod Pieces
 pub mod Kept
 pub mod Cuts
 pub mod Canonical

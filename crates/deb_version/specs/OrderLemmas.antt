@@ -1,5 +1,5 @@
 -- Debian's order of versions is total, and equal only of equal meanings.
-use Rattle.std.proofs.Common.{◌≡◌, ◌≢◌, ℕ, ◌+◌, ◌<◌, ◌||◌, ◌↔◌, false, Option, Some, None, List, [], ◌∷◌, ◌++◌, map, refl, sym, ap, ◌∙◌, subst, IsTrue, IsFalse, arith}
+use Rattle.std.proofs.Common.{◌≡◌, ◌≢◌, ℕ, ◌+◌, ◌<◌, ◌||◌, ◌↔◌, not, Option, Some, None, List, [], ◌∷◌, ◌++◌, map, refl, sym, ap, ◌∙◌, subst, IsTrue, IsFalse, arith}
 use Rattle.std.specs.Char.{is_ascii_alphabetic}
 use Rattle.std.specs.Cmp.{IsTotalOrder, nat_cmp_is, nat_cmp_total, on_total, then_total, tied_itself, upto}
 use Rattle.std.specs.FinMap.{nat_cmp-IsAntisymmetric}
@@ -7,7 +7,7 @@ use Rattle.std.specs.List.{AllByRecursion}
 use Rattle.std.specs.Ordering.{is_ge, is_gt, is_le, nat_cmp, ordering_reverse, ordering_then}
 use Rattle.std.specs.declared.cmp.Ordering.{Ordering}
 use Rattle.std.specs.declared.cmp.Ordering.TheVariants.{Less, Equal, Greater}
-use Rattle.std.proofs.lemmas.Bool.{false≢true, true≢false}
+use Rattle.std.proofs.lemmas.Bool.{not-true}
 use Rattle.std.proofs.lemmas.List.{append-nil}
 use Rattle.std.proofs.lemmas.Bool.Decides.{nat_tests}
 use Rattle.deb_version.specs.ContinuedOrder.{continued_total, then-Equal}
@@ -35,15 +35,10 @@ version_total =
 
 -- ---- what a total order gives
 
-le-not_gt : (r : Ordering) → IsTrue (is_le r) → is_gt r ≡ false
-le-not_gt Less h = refl
-le-not_gt Equal h = refl
-le-not_gt Greater h = absurd (false≢true h)
-
-not_gt-le : (r : Ordering) → is_gt r ≡ false → IsTrue (is_le r)
-not_gt-le Less h = refl
-not_gt-le Equal h = refl
-not_gt-le Greater h = absurd (true≢false h)
+le-not_gt : (r : Ordering) → is_le r ≡ not (is_gt r)
+le-not_gt Less = refl
+le-not_gt Equal = refl
+le-not_gt Greater = refl
 
 le-reverse : (r : Ordering) → is_le (ordering_reverse r) ≡ is_ge r
 le-reverse Less = refl
@@ -62,7 +57,9 @@ module _ {K : Type 0} {R : K → K → Ordering} (o : IsTotalOrder R) where
 
   pub le_trans : (a b c : K) → IsTrue (is_le (R a b)) → IsTrue (is_le (R b c))
       → IsTrue (is_le (R a c))
-  le_trans a b c p q = not_gt-le (R a c) (upto o a b c (le-not_gt (R a b) p) (le-not_gt (R b c) q))
+  le_trans a b c p q = le-not_gt (R a c) ∙ ap not (upto o a b c
+      (not-true (is_gt (R a b)) (sym (le-not_gt (R a b)) ∙ p))
+      (not-true (is_gt (R b c)) (sym (le-not_gt (R b c)) ∙ q)))
 
   ge_turned : (a b : K) → is_le (R b a) ≡ is_ge (R a b)
   ge_turned a b = ap is_le (o.antisymm b a) ∙ le-reverse (R a b)

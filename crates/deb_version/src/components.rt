@@ -8,8 +8,8 @@ ghost use Rattle.deb_version.specs.Places.{epoch_in, rest_in, upstream_in, revis
 
 use crate::fault::BadVersion;
 
-/// The epoch, which ends at the first colon, if there is a colon; and what follows it.
-pub(crate) fn cut_epoch(text: &[u8]) -> (Option<&[u8]>, &[u8])
+// The epoch, which ends at the first colon, if there is a colon; and what follows it.
+fn cut_epoch(text: &[u8]) -> (Option<&[u8]>, &[u8])
     ensures epoch { option_copied result.0 ≡ epoch_in text.now }
     ensures rest { result.1.now ≡ rest_in text.now }
 {
@@ -19,8 +19,8 @@ pub(crate) fn cut_epoch(text: &[u8]) -> (Option<&[u8]>, &[u8])
     }
 }
 
-/// The upstream version; and the revision, which follows the last hyphen, if there is a hyphen.
-pub(crate) fn cut_revision(rest: &[u8]) -> (&[u8], Option<&[u8]>)
+// The upstream version; and the revision, which follows the last hyphen, if there is a hyphen.
+fn cut_revision(rest: &[u8]) -> (&[u8], Option<&[u8]>)
     ensures upstream { result.0.now ≡ upstream_in rest.now }
     ensures revision { option_copied result.1 ≡ revision_in rest.now }
 {
@@ -42,20 +42,20 @@ fn is_allowed_in_upstream(has_epoch: bool, b: u8) -> bool
     is_allowed_in_revision(b) || b == b'-' || (has_epoch && b == b':')
 }
 
-/// Refuses an epoch that isn't allowed.
-pub(crate) fn judge_epoch(epoch: Option<&[u8]>) -> Result<(), BadVersion>
-    ensures { result_err result ≡ first_of (epoch_faults (option_copied epoch.entry)) }
+// The first fault of an epoch.
+fn epoch_fault(epoch: Option<&[u8]>) -> Option<BadVersion>
+    ensures { result ≡ first_of (epoch_faults (option_copied epoch.entry)) }
 {
     let Some(digits) = epoch else {
-        return Ok(());
+        return None;
     };
     if digits.is_empty() {
-        return Err(BadVersion::EpochEmpty);
+        return Some(BadVersion::EpochEmpty);
     }
     if digits.iter().any(|b| !b.is_ascii_digit()) {
-        return Err(BadVersion::EpochNotNumber);
+        return Some(BadVersion::EpochNotNumber);
     }
-    Ok(())
+    None
 }
 
 // Where the upstream version begins: behind the epoch and its colon.
@@ -94,34 +94,68 @@ fn bad_in_revision(revision: &[u8]) -> Option<usize>
     revision.iter().position(|&b| !is_allowed_in_revision(b))
 }
 
-/// Refuses an upstream version or a revision that isn't allowed, where the whole text fits.
-pub(crate) fn judge_rest(
-    epoch: Option<&[u8]>,
-    upstream: &[u8],
-    revision: Option<&[u8]>,
-) -> Result<(), BadVersion>
-    requires { length (spelling
-        (components_with (option_copied epoch) upstream.now (option_copied revision))) < 2 ^ 64 }
-    ensures { result_err result
-        ≡ first_of (rest_faults
-        (components_with (option_copied epoch.entry) upstream.now (option_copied revision.entry))) }
-{
-    if is_empty_revision(revision) {
-        return Err(BadVersion::RevisionEmpty);
+/// The texts of the components that stand in a text, allowed or not.
+#[derive(Clone, Copy)]
+pub(crate) struct Pieces<'a> {
+    pub(crate) epoch: Option<&'a [u8]>,
+    pub(crate) upstream: &'a [u8],
+    pub(crate) revision: Option<&'a [u8]>,
+}
+
+impl<'a> Pieces<'a> {
+    ghost use Rattle.deb_version.specs.Grammar.{fault_of};
+    ghost use Rattle.deb_version.specs.Places.{components_in};
+    ghost use Rattle.deb_version.specs.Pieces.{pieces_of};
+
+    /// The components that stand in a text.
+    pub(crate) fn of(text: &'a [u8]) -> Self
+        ensures { pieces_of result ≡ components_in text.now }
+    {
+        let (epoch, rest) = cut_epoch(text);
+        let (upstream, revision) = cut_revision(rest);
+        Pieces {
+            epoch,
+            upstream,
+            revision,
+        }
     }
-    if upstream.is_empty() {
-        return Err(BadVersion::UpstreamEmpty);
+
+    /// The first fault of the components that stand in a text.
+    pub(crate) fn first_fault(self, text: &[u8]) -> Option<BadVersion>
+        requires { pieces_of self ≡ components_in text.now }
+        ensures { result ≡ fault_of (pieces_of self.entry) }
+    {
+        if text.is_empty() {
+            return Some(BadVersion::Empty);
+        }
+        if let Some(fault) = epoch_fault(self.epoch) {
+            return Some(fault);
+        }
+        self.rest_fault()
     }
-    let upstream_at = upstream_at(epoch);
-    if let Some(at) = bad_in_upstream(epoch.is_some(), upstream) {
-        return Err(BadVersion::UpstreamByte {
-            at: upstream_at + at,
-        });
+
+    // The first fault of an upstream version or a revision, where the whole text fits.
+    fn rest_fault(self) -> Option<BadVersion>
+        requires { length (spelling (pieces_of self)) < 2 ^ 64 }
+        ensures { result ≡ first_of (rest_faults (pieces_of self.entry)) }
+    {
+        if is_empty_revision(self.revision) {
+            return Some(BadVersion::RevisionEmpty);
+        }
+        if self.upstream.is_empty() {
+            return Some(BadVersion::UpstreamEmpty);
+        }
+        let upstream_at = upstream_at(self.epoch);
+        if let Some(at) = bad_in_upstream(self.epoch.is_some(), self.upstream) {
+            return Some(BadVersion::UpstreamByte {
+                at: upstream_at + at,
+            });
+        }
+        if let Some(at) = self.revision.and_then(bad_in_revision) {
+            return Some(BadVersion::RevisionByte {
+                at: upstream_at + self.upstream.len() + 1 + at,
+            });
+        }
+        None
     }
-    if let Some(at) = revision.and_then(bad_in_revision) {
-        return Err(BadVersion::RevisionByte {
-            at: upstream_at + upstream.len() + 1 + at,
-        });
-    }
-    Ok(())
 }

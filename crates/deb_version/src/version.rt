@@ -3,7 +3,7 @@
 ghost use Rattle.std.specs.Prelude.{◌^◌, ◌<◌, length, IsTrue, option_copied};
 ghost use Rattle.deb_version.specs.Grammar.{components_with, are_components, spelling};
 
-use crate::components::{cut_epoch, cut_revision, judge_epoch, judge_rest};
+use crate::components::Pieces;
 use crate::fault::BadVersion;
 
 /// A Debian version number, which borrows its text (Debian Policy 5.6.12).
@@ -44,18 +44,15 @@ impl<'a> Version<'a> {
         ensures refused { IfErr result (λ e. first_fault text.now ≡ Some e) }
         ensures faultless { IsOk result ↔ (first_fault text.now ≡ None) }
     {
-        if text.is_empty() {
-            return Err(BadVersion::Empty);
+        let pieces = Pieces::of(text);
+        match pieces.first_fault(text) {
+            Some(fault) => Err(fault),
+            None => Ok(Version {
+                epoch: pieces.epoch,
+                upstream: pieces.upstream,
+                revision: pieces.revision,
+            }),
         }
-        let (epoch, rest) = cut_epoch(text);
-        let (upstream, revision) = cut_revision(rest);
-        judge_epoch(epoch)?;
-        judge_rest(epoch, upstream, revision)?;
-        Ok(Version {
-            epoch,
-            upstream,
-            revision,
-        })
     }
 
     // The version that a text without fault spells, which is cut, and not judged again.
@@ -63,8 +60,11 @@ impl<'a> Version<'a> {
         requires { first_fault text.now ≡ None }
         ensures { meaning_of result ≡ version_in text.now }
     {
-        let (epoch, rest) = cut_epoch(text);
-        let (upstream, revision) = cut_revision(rest);
+        let Pieces {
+            epoch,
+            upstream,
+            revision,
+        } = Pieces::of(text);
         Version {
             epoch,
             upstream,
