@@ -1,8 +1,7 @@
 -- What a file that was read beyond the limit says of the whole file.
-use Rattle.std.proofs.Common.{◌≡◌, ◌<◌, ℕ, List, [], length, Option, Some, None, inl, inr, sym, ap, ◌∙◌, subst, unwrap_or}
-use Rattle.std.specs.Io.KnownBytes.{Consumes, IsAtEnd}
-use Rattle.std.proofs.KnownBytes.{Consumes-trans}
-use Rattle.deb_sort.specs.Reading.{ReadsEnough, TakesPiece}
+use Rattle.std.proofs.Common.{◌≡◌, ◌<◌, ℕ, List, [], length, Option, Some, None, inr, sym, ap, ◌∙◌, unwrap_or}
+use Rattle.std.specs.Io.KnownBytes.{Consumes}
+use Rattle.deb_sort.specs.Reading.{ReadsEnough}
 use Rattle.deb_syntax.specs.Lines.{file_limit}
 
 -- more was read than a file may have
