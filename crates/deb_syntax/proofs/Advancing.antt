@@ -1,6 +1,6 @@
 -- What the calls of a reader of paragraphs say of a text that fits, from what its walk finds ahead.
 use Rattle.std.proofs.Common.{◌≡◌, ◌≢◌, ℕ, ◌+◌, ◌-◌, ◌<◌, ◌≤◌, ◌==◌, ◌&&◌, ◌⊎◌, inl, inr, Bool, true, false, List, [], ◌∷◌, ◌++◌, Option, Some, None, Result, Ok, Err, length, take, leb, refl, sym, ap, ◌∙◌, subst, append_assoc, arith, IsTrue, length-append}
-use Rattle.std.specs.Prelude.{◌||◌, IfNone, IfSome}
+use Rattle.std.specs.Prelude.{◌||◌, IfNone, IfSome, IsSome}
 use Rattle.deb_base.specs.Devices.{Shown}
 use Rattle.std.proofs.lemmas.Bool.{lt-leb, le-leb, leb-true, and_parts, and_from, eqb-true}
 use Rattle.std.proofs.lemmas.Bool.Decides.{nat_tests}
@@ -12,6 +12,8 @@ use Rattle.deb_base.specs.declared.fault.Fault.{Fault}
 use Rattle.deb_base.specs.declared.fault.Fault.TheVariants.{Refused, Memory, Read, Write}
 use Rattle.deb_base.specs.declared.refusal.Refusal.{Refusal}
 use Rattle.deb_syntax.specs.declared.begun.Begun.{Begun}
+use Rattle.deb_syntax.specs.declared.first.First.{First}
+use Rattle.deb_syntax.specs.declared.first.First.TheVariants.{End, Kept, Dropped}
 use Rattle.deb_syntax.specs.declared.ending.Extent.{Extent}
 use Rattle.deb_syntax.specs.Ahead.{left_answer, left_begin, room_ahead, IsAhead, IsFirst, IsNear, PassesBlanks, EndsInSight, KeepsLine, HidesLine, TakesNoMore, PassesAll, IsExtentOf, PassesParagraph, IsNextRun, SameCounts}
 use Rattle.deb_syntax.specs.Answers.{Seen, part_within, paragraphs_within, next_answer, next_begin, seen_from}
@@ -27,7 +29,7 @@ use Rattle.deb_syntax.proofs.FieldTests.{are_fields-judged, are_numbered-judged}
 use Rattle.deb_syntax.proofs.PlacesWithin.{within_test}
 use Rattle.deb_syntax.specs.Judging.{judged}
 use Rattle.deb_syntax.specs.Lines.{lines_of, with_newlines, Paragraph, paragraphs_from, paragraphs_of, total_length, file_limit}
-use Rattle.deb_syntax.specs.Reading.{State, state_from, Fits, passed_count, GivesNext, GivesNone, GivesLine, BeginsHere, FindsFirst, Answers, AnswersBegin, IsRefusalOfText, Moment, Advances, Begins, Passes}
+use Rattle.deb_syntax.specs.Reading.{State, state_from, Fits, passed_count, GivesNext, GivesNone, GivesLine, BeginsHere, FindsFirst, Answers, AnswersBegin, IsRefusalOfText, Moment, Advances, Begins, Passes, tells_end}
 use Rattle.deb_base.specs.Faults.{IsReadersFault}
 use Rattle.deb_syntax.specs.Places.{IsFaultOf, fields_at, lies_within}
 use Rattle.deb_syntax.specs.Standing.{PassesNext, IsPassed, standing_of, stands_within, hides_line, begins_with_newline, is_nothing}
@@ -523,17 +525,36 @@ if_some : (o : Option Fault) (P : Fault → Type 0) → ((f : Fault) → o ≡ S
 if_some None P none = tt
 if_some (Some f) P none = absurd (none f refl)
 
+-- an end that is answered was not that of a first line or of an error
+pub kept_no_end : (begun : Begun) → ◌≡◌ {A = Result First Fault} (Ok (Kept begun)) (Ok End) → ⊥
+kept_no_end begun e = absurd cc
+
+pub dropped_no_end : (begun : Begun) → ◌≡◌ {A = Result First Fault} (Ok (Dropped begun)) (Ok End) → ⊥
+dropped_no_end begun e = absurd cc
+
+pub err_no_end : (fault : Fault) → ◌≡◌ {A = Result First Fault} (Err fault) (Ok End) → ⊥
+err_no_end fault e = absurd cc
+
+-- where there is a paragraph, the answer is no end
+pub some_no_end : (seen : Option Seen) → IsSome seen → tells_end {A = Seen} (Ok seen) ≡ false
+some_no_end None some = absurd cc
+some_no_end (Some s) some = refl
+
+pub if_seen : (seen : Option Seen) (P : Type 0) → P → IfSome seen (λ _. P)
+if_seen None P p = tt
+if_seen (Some s) P p = p
+
 -- a call that fails keeps its error
-pub advance_err : (before : Moment) (after other : State) (source : Shown) (e : Fault) → ((f : Fault) → before.state.fault ≡ Some f → ⊥) → Advances before (Err e) (record { state = after; source = source }) → other.fault ≡ Some e → Passes Advances before (Err e) (record { state = other; source = source })
-advance_err before after other source e none a kept = record {
-  goes = if_none before.state.fault _ (record { answers = λ text passed fits. answers_err text passed e after other source.bytes (a.answers text passed fits); taken = a.taken; counted = a.counted; fault = a.fault; current = tt });
+pub advance_err : (before : Moment) (after other : State) (source : Shown) (e : Fault) → ((f : Fault) → before.state.fault ≡ Some f → ⊥) → Advances before (Err e) (record { state = after; source = source }) → other.fault ≡ Some e → other.current ≡ after.current → other.finished ≡ after.finished → Passes Advances before (Err e) (record { state = other; source = source })
+advance_err before after other source e none a kept current finished = record {
+  goes = if_none before.state.fault _ (record { answers = λ text passed fits. answers_err text passed e after other source.bytes (a.answers text passed fits); taken = a.taken; counted = a.counted; fault = a.fault; current = current ∙ a.current; finished = finished ∙ a.finished; ended = a.ended; unhidden = tt });
   keeps = if_none before.state.fault _ kept;
   repeats = if_some before.state.fault _ none;
 }
 
-pub begins_err : (before : Moment) (after other : State) (source : Shown) (e : Fault) → ((f : Fault) → before.state.fault ≡ Some f → ⊥) → Begins before (Err e) (record { state = after; source = source }) → other.fault ≡ Some e → other.current ≡ after.current → Passes Begins before (Err e) (record { state = other; source = source })
-begins_err before after other source e none a kept same = record {
-  goes = if_none before.state.fault _ (record { answers = λ text passed fits. begin_err text passed e after other source.bytes (a.answers text passed fits); taken = a.taken; counted = a.counted; fault = a.fault; current = same ∙ a.current; line = tt });
+pub begins_err : (before : Moment) (after other : State) (source : Shown) (e : Fault) → ((f : Fault) → before.state.fault ≡ Some f → ⊥) → Begins before (Err e) (record { state = after; source = source }) → other.fault ≡ Some e → other.current ≡ after.current → other.finished ≡ after.finished → Passes Begins before (Err e) (record { state = other; source = source })
+begins_err before after other source e none a kept current finished = record {
+  goes = if_none before.state.fault _ (record { answers = λ text passed fits. begin_err text passed e after other source.bytes (a.answers text passed fits); taken = a.taken; counted = a.counted; fault = a.fault; current = current ∙ a.current; finished = finished ∙ a.finished; ended = a.ended; line = tt });
   keeps = if_none before.state.fault _ kept;
   repeats = if_some before.state.fault _ none;
 }

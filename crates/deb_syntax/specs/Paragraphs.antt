@@ -43,7 +43,7 @@ ShowsFirst (Ok End) hidden finished feed = finished ≡ true
 ShowsFirst (Ok (Kept begun)) hidden finished feed =
     (hidden ≡ 0) × (finished ≡ false) × KeepsLine begun feed
 ShowsFirst (Ok (Dropped begun)) hidden finished feed = (0 < hidden) × (finished ≡ false)
-ShowsFirst (Err fault) hidden finished feed = Unit {0}
+ShowsFirst (Err fault) hidden finished feed = finished ≡ false
 
 -- a read has told the file's end, or it was answered that no paragraph follows, or there is an
 -- error: nothing is read

@@ -1,6 +1,6 @@
 -- What a reader of paragraphs is to its callers, which texts fit it, and what its calls say of
 -- them. Debian Policy 5.1; what is kept and how far is read is this project's own.
-use Rattle.std.specs.Prelude.{◌≡◌, ℕ, ◌+◌, ◌≤◌, ◌⊎◌, Bool, List, [], ◌∷◌, ◌++◌, length, Option, Some, None, IfSome, IfNone, Result, Ok, Err, IfOk, IfErr, MatchResult, IsTrue}
+use Rattle.std.specs.Prelude.{◌≡◌, ℕ, ◌+◌, ◌≤◌, ◌⊎◌, Bool, true, false, List, [], ◌∷◌, ◌++◌, length, Option, Some, None, IfSome, IfNone, Result, Ok, Err, IfOk, IfErr, MatchResult, IsTrue}
 use Rattle.deb_base.specs.Bodies.{HasNoNewline}
 use Rattle.deb_base.specs.Codes.{number_of}
 use Rattle.deb_base.specs.Devices.{Shown, read_failures_after}
@@ -162,8 +162,16 @@ abbrev pub moment_of : State → Option (List ℕ) → ℕ → Moment
 moment_of state left failures =
     record { state = state; source = record { bytes = left; failures = failures } }
 
+-- whether the answer is that nothing follows
+abbrev pub tells_end : {A : Type 0} → Result (Option A) Fault → Bool
+tells_end (Ok None) = true
+tells_end (Ok (Some answer)) = false
+tells_end (Err fault) = false
+
 -- A call of a reader without error: what it answers of each text that fits, and how much of it was
--- taken by then, how often its source failed, and which errors there are.
+-- taken by then, how often its source failed, and which errors there are. Only the answer that
+-- nothing follows ends it, and is then given again and again. Where it gives a paragraph nothing
+-- that it has read is left out.
 pub record Advances (before : Moment) (answer : Result (Option Seen) Fault)
     (after : Moment) : Type 0 where
   pub answers : (text passed : List ℕ) → Fits text passed before.state before.source.bytes
@@ -172,7 +180,11 @@ pub record Advances (before : Moment) (answer : Result (Option Seen) Fault)
       → TakesNoMore text file_limit after.source.bytes
   pub counted : after.source.failures ≡ read_failures_after before.source.failures answer
   pub fault : IfErr answer (λ fault. IsReadersFault fault IsRefusalOfText)
-  pub current : MatchResult answer (λ seen. after.state.current ≡ seen) (λ fault. Unit {0})
+  pub current : MatchResult answer (λ seen. after.state.current ≡ seen)
+      (λ fault. after.state.current ≡ None)
+  pub finished : after.state.finished ≡ tells_end answer
+  pub ended : IsTrue before.state.finished → answer ≡ Ok None
+  pub unhidden : IfOk answer (λ seen. IfSome seen (λ _. after.state.hidden ≡ 0))
 
 pub record Begins (before : Moment) (answer : Result (Option ℕ) Fault)
     (after : Moment) : Type 0 where
@@ -183,6 +195,8 @@ pub record Begins (before : Moment) (answer : Result (Option ℕ) Fault)
   pub counted : after.source.failures ≡ read_failures_after before.source.failures answer
   pub fault : IfErr answer (λ fault. IsReadersFault fault IsRefusalOfText)
   pub current : after.state.current ≡ None
+  pub finished : after.state.finished ≡ tells_end answer
+  pub ended : IsTrue before.state.finished → answer ≡ Ok None
   pub line : IfOk answer (λ line. IfSome line (λ n. 1 ≤ n))
 
 -- A call of a reader: without an error it goes on, and keeps the error that it then answers; with

@@ -294,6 +294,9 @@ impl Paragraphs {
             → Answers text passed (end_answer (state_of self.new) result) (state_of self.new)
             (R.left reader.new) }
         ensures found { OnOk result (IsSome (state_of self.new).current) }
+        ensures unfinished { self.new.finished ≡ false }
+        ensures unhidden { self.new.hidden ≡ 0 }
+        ensures none { IfErr result (λ _. (state_of self.new).current ≡ None) }
         ensures taken { (text passed : List ℕ)
             → Fits text passed (state_of self.old) (R.left reader.old)
             → TakesNoMore text file_limit (R.left reader.new) }

@@ -1,8 +1,8 @@
-use Rattle.std.proofs.Common.{◌+◌, Ok, Err, refl, ap, ◌∙◌}
+use Rattle.std.proofs.Common.{◌+◌, Ok, Err, refl, sym, ap, ◌∙◌}
 use Rattle.deb_base.specs.Devices.{read_failures_after}
 use Rattle.deb_syntax.specs.Feeding.{feed_state}
 use Rattle.deb_syntax.specs.Paragraphs.{state_of}
-use Rattle.deb_syntax.proofs.Advancing.{answers_behind, first_err, dropped_answer, is_line_refusal}
+use Rattle.deb_syntax.proofs.Advancing.{answers_behind, first_err, dropped_answer, is_line_refusal, kept_no_end, dropped_no_end, err_no_end, some_no_end, if_seen}
 use Rattle.deb_syntax.proofs.Feeds.{feed_small}
 use Rattle.deb_syntax.proofs.paragraphs.Paragraphs.find.Goals as goal
 
@@ -13,6 +13,9 @@ returns-in-Ok-End-clause-advances g c = record {
   counted = c.in-Ok-End.ensures.counted;
   fault = tt;
   current = c.in-Ok-End.ensures.none;
+  finished = rw c.in-Ok-End.field-0-is at c.in-Ok-End.ensures.shows;
+  ended = λ _. refl;
+  unhidden = tt;
 }
 
 pub returns-in-Ok-Dropped-clause-advances : goal.returns-in-Ok-Dropped-clause-advances
@@ -24,7 +27,10 @@ returns-in-Ok-Dropped-clause-advances g c =
       taken = c.in-Ok-Dropped.ensures.taken;
       counted = c.in-Ok-Dropped.ensures.counted;
       fault = is_line_refusal c.lines.result;
-      current = tt;
+      current = c.in-Ok-Dropped.ensures.none;
+      finished = shows.1;
+      ended = λ finished. absurd (dropped_no_end _ (rw c.in-Ok-Dropped.field-0-is at (c.in-Ok-Dropped.ensures.ended finished)));
+      unhidden = tt;
     }
 
 pub returns-in-Ok-clause-advances : goal.returns-in-Ok-clause-advances
@@ -36,6 +42,9 @@ returns-in-Ok-clause-advances g c = record {
   counted = c.in-Ok.ensures.counted ∙ c.in-Ok-Kept.ensures.counted;
   fault = tt;
   current = refl;
+  finished = c.in-Ok.ensures.unfinished ∙ sym (some_no_end (state_of c.find_end.new.self).current c.in-Ok.ensures.found);
+  ended = λ finished. absurd (kept_no_end _ (rw c.in-Ok-Kept.field-0-is at (c.in-Ok-Kept.ensures.ended finished)));
+  unhidden = if_seen (state_of c.find_end.new.self).current _ c.in-Ok.ensures.unhidden;
 }
 
 pub returns-in-Err-find_end-clause-advances : goal.returns-in-Err-find_end-clause-advances
@@ -46,7 +55,10 @@ returns-in-Err-find_end-clause-advances g c = record {
   taken = λ text passed fits. let b = rw c.in-Ok-Kept.field-0-is at (c.in-Ok-Kept.ensures.first text passed fits) in c.in-Err-find_end.ensures.taken text b.passed_now b.again;
   counted = c.in-Err-find_end.ensures.counted ∙ ap (λ n. read_failures_after {T = Unit {0}} n (Err c.in-Err-find_end.fault)) c.in-Ok-Kept.ensures.counted;
   fault = c.in-Err-find_end.ensures.fault;
-  current = tt;
+  current = c.in-Err-find_end.ensures.none;
+  finished = c.in-Err-find_end.ensures.unfinished;
+  ended = λ finished. absurd (kept_no_end _ (rw c.in-Ok-Kept.field-0-is at (c.in-Ok-Kept.ensures.ended finished)));
+  unhidden = tt;
 }
 
 pub returns-in-Err-clause-advances : goal.returns-in-Err-clause-advances
@@ -55,5 +67,8 @@ returns-in-Err-clause-advances g c = record {
   taken = c.in-Err.ensures.taken;
   counted = c.in-Err.ensures.counted;
   fault = c.in-Err.ensures.fault;
-  current = tt;
+  current = c.in-Err.ensures.none;
+  finished = c.in-Err.ensures.shows;
+  ended = λ finished. absurd (err_no_end c.in-Err.fault (c.in-Err.ensures.ended finished));
+  unhidden = tt;
 }

@@ -1,5 +1,5 @@
-use Rattle.std.proofs.Common.{◌+◌, ap, arith}
-use Rattle.deb_syntax.proofs.Advancing.{begins_line, first_begin_err}
+use Rattle.std.proofs.Common.{◌+◌, ap, refl, arith}
+use Rattle.deb_syntax.proofs.Advancing.{begins_line, first_begin_err, kept_no_end, dropped_no_end, err_no_end}
 use Rattle.deb_syntax.proofs.paragraphs.Paragraphs.find_line.Goals as goal
 
 pub returns-in-Ok-End-clause-begins : goal.returns-in-Ok-End-clause-begins
@@ -9,6 +9,8 @@ returns-in-Ok-End-clause-begins g c = record {
   counted = c.in-Ok-End.ensures.counted;
   fault = tt;
   current = c.in-Ok-End.ensures.none;
+  finished = rw c.in-Ok-End.field-0-is at c.in-Ok-End.ensures.shows;
+  ended = λ _. refl;
   line = tt;
 }
 
@@ -19,6 +21,8 @@ returns-in-Ok-Kept-clause-begins g c = record {
   counted = c.in-Ok-Kept.ensures.counted;
   fault = tt;
   current = c.in-Ok-Kept.ensures.none;
+  finished = (rw c.in-Ok-Kept.field-0-is at c.in-Ok-Kept.ensures.shows).1;
+  ended = λ finished. absurd (kept_no_end _ (rw c.in-Ok-Kept.field-0-is at (c.in-Ok-Kept.ensures.ended finished)));
   line = omega arith;
 }
 
@@ -29,6 +33,8 @@ returns-in-Ok-Dropped-clause-begins g c = record {
   counted = c.in-Ok-Dropped.ensures.counted;
   fault = tt;
   current = c.in-Ok-Dropped.ensures.none;
+  finished = (rw c.in-Ok-Dropped.field-0-is at c.in-Ok-Dropped.ensures.shows).1;
+  ended = λ finished. absurd (dropped_no_end _ (rw c.in-Ok-Dropped.field-0-is at (c.in-Ok-Dropped.ensures.ended finished)));
   line = omega arith;
 }
 
@@ -39,5 +45,7 @@ returns-in-Err-clause-begins g c = record {
   counted = c.in-Err.ensures.counted;
   fault = c.in-Err.ensures.fault;
   current = c.in-Err.ensures.none;
+  finished = c.in-Err.ensures.shows;
+  ended = λ finished. absurd (err_no_end c.in-Err.fault (c.in-Err.ensures.ended finished));
   line = tt;
 }
