@@ -3,6 +3,8 @@
 ghost use Rattle.std.specs.Prelude.{◌≡◌, ◌+◌, ℕ, List, None, Some, IfOk, IfErr, length};
 ghost use Rattle.deb_base.specs.Devices.{read_failures_after, TellsReads};
 ghost use Rattle.deb_base.specs.Faults.{IsReadersFault};
+ghost use Rattle.deb_syntax.specs.Ahead.{TakesNoMore};
+ghost use Rattle.deb_syntax.specs.Lines.{file_limit};
 ghost use Rattle.deb_syntax.specs.Meaning.{Entries};
 ghost use Rattle.deb_control.specs.Calls.{IfRefused, HasParagraphs};
 ghost use Rattle.deb_control.specs.Checking.{FitsChecked, IsRefusalOfDocument};
@@ -17,6 +19,7 @@ use std::alloc::Global;
 /// Reads a file as a document of a kind, and answers the number of its paragraphs (Debian Policy
 /// 5.1 and 5.3 to 5.6).
 ///
+/// At most 4,295,032,831 bytes are taken from the reader: those that a file may have, and one piece.
 /// What is said of the file's text holds for a reader that tells its bytes.
 ///
 /// # Errors
@@ -30,6 +33,8 @@ pub fn check<R: Source>(alloc: Global, doc: Doc, reader: &mut R) -> Result<u64, 
         → IfOk result (HasParagraphs doc text) }
     ensures refused { (text : List ℕ) → R.left reader.old ≡ Some text
         → IfRefused result (λ refusal. refusal_of doc text ≡ Some refusal) }
+    ensures taken { (text : List ℕ) → R.left reader.old ≡ Some text
+        → TakesNoMore text file_limit (R.left reader.new) }
 
     // Whether or not the reader tells its bytes.
     ensures fault { IfErr result (λ fault. IsReadersFault fault IsRefusalOfDocument) }
@@ -49,6 +54,9 @@ pub(crate) fn count_rest<R: Source>(checked: &mut Checked, reader: &mut R) -> Re
     ensures refused { (text : List ℕ) (before : List Entries)
         → FitsChecked checked.old.doc text before (checked_state checked.old) (R.left reader.old)
         → IfRefused result (λ refusal. refusal_of checked.old.doc text ≡ Some refusal) }
+    ensures taken { (text : List ℕ) (before : List Entries)
+        → FitsChecked checked.old.doc text before (checked_state checked.old) (R.left reader.old)
+        → TakesNoMore text file_limit (R.left reader.new) }
     ensures fault { IfErr result (λ fault. IsReadersFault fault IsRefusalOfDocument) }
     ensures reads { R.failures reader.new ≡ read_failures_after (R.failures reader.old) result }
 {

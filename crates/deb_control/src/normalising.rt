@@ -2,6 +2,8 @@
 
 ghost use Rattle.std.specs.Prelude.{◌≡◌, ℕ, List, Some, IfOk};
 ghost use Rattle.deb_base.specs.Devices.{read_failures_after, write_failures_after, AppendsFront, TellsReads, TellsWrites};
+ghost use Rattle.deb_syntax.specs.Ahead.{TakesNoMore};
+ghost use Rattle.deb_syntax.specs.Lines.{file_limit};
 ghost use Rattle.deb_control.specs.Calls.{IfRefused, IfCutOff, IfWriteFailed, WritesCanonical, WritesRefused, WritesRead};
 ghost use Rattle.deb_control.specs.Checking.{IsRefusalOfDocument};
 ghost use Rattle.deb_control.specs.Documents.{out_of};
@@ -17,6 +19,7 @@ use std::alloc::Global;
 /// A paragraph is written when it has passed every rule of the kind, with the empty line that
 /// stands between it and the one before, and not sooner.
 ///
+/// At most 4,295,032,831 bytes are taken from the reader: those that a file may have, and one piece.
 /// What is said of the file's text holds for a reader that tells its bytes.
 ///
 /// # Errors
@@ -45,6 +48,8 @@ pub fn normalise<R: Source, W: Sink>(
     ensures write { (text : List ℕ) → R.left reader.old ≡ Some text
         → IfWriteFailed result
         (AppendsFront (W.held writer.old) (W.held writer.new) (out_of doc text)) }
+    ensures taken { (text : List ℕ) → R.left reader.old ≡ Some text
+        → TakesNoMore text file_limit (R.left reader.new) }
 
     // Whether or not the reader tells its bytes.
     ensures refusal { IfRefused result IsRefusalOfDocument }

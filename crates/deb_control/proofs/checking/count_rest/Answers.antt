@@ -46,6 +46,18 @@ returns-in_default-clause-reads g c =
     let passes = rw (c.in_ok-next.was, c.in_default.is, c.loop-count.invariant.doc) at c.next.follows.holds-at-none in
     (goes_on _ _ _ _ c.loop-count.invariant.fault passes.0).counted ∙ c.loop-count.invariant.reads
 
+pub returns-in_err-next-clause-taken : goal.returns-in_err-next-clause-taken
+returns-in_err-next-clause-taken g c = λ text before fits.
+    let passes = rw (c.in_err-next.was, c.loop-count.invariant.doc) at c.next.follows.holds-at-none in
+    let so_far = (c.loop-count.invariant.text text before fits).checked in
+    (goes_on _ _ _ _ c.loop-count.invariant.fault passes.0).taken text so_far.before so_far.fits
+
+pub returns-in_default-clause-taken : goal.returns-in_default-clause-taken
+returns-in_default-clause-taken g c = λ text before fits.
+    let passes = rw (c.in_ok-next.was, c.in_default.is, c.loop-count.invariant.doc) at c.next.follows.holds-at-none in
+    let so_far = (c.loop-count.invariant.text text before fits).checked in
+    (goes_on _ _ _ _ c.loop-count.invariant.fault passes.0).taken text so_far.before so_far.fits
+
 pub loop-count-preserved : goal.loop-count-preserved
 loop-count-preserved g c =
     let passes = rw (c.in_ok-next.was, c.in-Some.is, c.loop-count.invariant.doc) at c.next.follows.holds-at-none in

@@ -65,6 +65,30 @@ returns-in_err-put_all-2-clause-write g c = λ text told.
     let front = rw c.canonical_text.ensures at c.in_err-put_all-2.ensures.written in
     rw (p.1, p.2, c.in_err-put_all-2.ensures.fault) (paragraph_failed _ text so_far.checked.before _ _ _ _ _ _ separated next front)
 
+pub returns-in_err-paragraph-clause-taken : goal.returns-in_err-paragraph-clause-taken
+returns-in_err-paragraph-clause-taken g c = λ text told.
+    let passes = rw (c.in_err-paragraph.was, c.loop-count.invariant.doc) at c.next.follows.holds-at-none in
+    let so_far = (c.loop-count.invariant.text text told).checked in
+    (goes_on _ _ _ _ c.loop-count.invariant.fault passes.0).taken text so_far.before so_far.fits
+
+pub returns-in_default-clause-taken : goal.returns-in_default-clause-taken
+returns-in_default-clause-taken g c = λ text told.
+    let passes = rw (c.in_ok-paragraph.was, c.in_default.is, c.loop-count.invariant.doc) at c.next.follows.holds-at-none in
+    let so_far = (c.loop-count.invariant.text text told).checked in
+    (goes_on _ _ _ _ c.loop-count.invariant.fault passes.0).taken text so_far.before so_far.fits
+
+pub returns-in_err-put_all-clause-taken : goal.returns-in_err-put_all-clause-taken
+returns-in_err-put_all-clause-taken g c = λ text told.
+    let passes = rw (c.in_ok-paragraph.was, c.in-Some.is, c.loop-count.invariant.doc) at c.next.follows.holds-at-none in
+    let so_far = (c.loop-count.invariant.text text told).checked in
+    (goes_on _ _ _ _ c.loop-count.invariant.fault passes.0).taken text so_far.before so_far.fits
+
+pub returns-in_err-put_all-2-clause-taken : goal.returns-in_err-put_all-2-clause-taken
+returns-in_err-put_all-2-clause-taken g c = λ text told.
+    let passes = rw (c.in_ok-paragraph.was, c.in-Some.is, c.loop-count.invariant.doc) at c.next.follows.holds-at-none in
+    let so_far = (c.loop-count.invariant.text text told).checked in
+    (goes_on _ _ _ _ c.loop-count.invariant.fault passes.0).taken text so_far.before so_far.fits
+
 pub loop-count-preserved : goal.loop-count-preserved
 loop-count-preserved g c =
     let passes = rw (c.in_ok-paragraph.was, c.in-Some.is, c.loop-count.invariant.doc) at c.next.follows.holds-at-none in
