@@ -60,6 +60,13 @@ operators : (told Depends (codes "vv (>= 1)") ≡ None)
 unfolding told
 operators = (refl, refl, refl, refl, refl)
 
+-- the former operators are others than `=`
+former_operators : (told Conflicts (codes "vv (< 1)") ≡ None)
+    × (told Provides (codes "vv (< 1)") ≡ Some ProvidesBound)
+    × (told Provides (codes "vv (= 1), ww (> 1)") ≡ Some ProvidesBound)
+unfolding told
+former_operators = (refl, refl, refl)
+
 -- of two faults in one body the first code is told, wherever they stand
 two_faults : (told Conflicts (codes "bb | cc, a") ≡ Some BadRelation)
     × (told Provides (codes "vv (>= 1), a") ≡ Some BadRelation)

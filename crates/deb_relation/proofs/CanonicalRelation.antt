@@ -1,5 +1,5 @@
 -- The canonical text of what is regular spells it.
-use Rattle.std.proofs.Common.{◌≡◌, ◌≢◌, ℕ, Bool, List, [], ◌∷◌, ◌++◌, map, IsTrue, Option, Some, None, IfSome, refl, sym, ap, ◌∙◌, subst, append_assoc, append-nil, codes, ◌↔◌}
+use Rattle.std.proofs.Common.{◌≡◌, ◌⊎◌, inl, inr, ◌≢◌, ℕ, Bool, List, [], ◌∷◌, ◌++◌, map, IsTrue, Option, Some, None, IfSome, refl, sym, ap, ◌∙◌, subst, append_assoc, append-nil, codes, ◌↔◌}
 use Rattle.std.specs.List.{AllByRecursion}
 use Rattle.deb_base.specs.PackageNames.{is_arch_name}
 use Rattle.deb_version.specs.Parts.{Meaning as Version}
@@ -7,10 +7,11 @@ use Rattle.deb_version.specs.Grammar.{SpellsVersion}
 use Rattle.deb_version.specs.Canonical.{version_text}
 use Rattle.deb_version.specs.PartsLemmas.{cons_not_nil}
 use Rattle.deb_relation.specs.declared.operator.Op.{Op}
-use Rattle.deb_relation.specs.Grammar.{IsWhite, IsApart, SpellItems, SpellBetween, SpellInTurn, SpellsQualifier, SpellsBound, SpellsArchitectures, SpellsRestrictions, SpellsAlternative, SpellsGroup, SpellsPiece, groups_of, SpellsRelation, set_of}
+use Rattle.deb_relation.specs.declared.operator.Op.TheVariants.{Earlier, EarlierEqual, Equal, LaterEqual, Later}
+use Rattle.deb_relation.specs.Grammar.{IsWhite, IsApart, SpellItems, SpellBetween, SpellInTurn, SpellsQualifier, SpellsOperator, SpellsBound, SpellsArchitectures, SpellsRestrictions, SpellsAlternative, SpellsGroup, SpellsPiece, groups_of, SpellsRelation, set_of}
 use Rattle.deb_relation.specs.Meaning.{Restrictions, Alternative, Group, Relation}
 use Rattle.deb_relation.specs.Sets.{itself}
-use Rattle.deb_relation.specs.Texts.{joined, separated, signed_text, item_text, restrictions_text, qualifier_text, bound_text, architectures_text, formula_text, alternative_text, group_text, relation_text}
+use Rattle.deb_relation.specs.Texts.{operator_text, joined, separated, signed_text, item_text, restrictions_text, qualifier_text, bound_text, architectures_text, formula_text, alternative_text, group_text, relation_text}
 use Rattle.deb_relation.proofs.SetLemmas.{set_of-ascends}
 use Rattle.deb_relation.proofs.SpelledGroups.{one_relation}
 use Rattle.deb_relation.proofs.Regular.{IsNames, IsItems, IsRegular, IsRegularGroup, IsRegularRelation, relation_regular}
@@ -35,11 +36,19 @@ qualifier_spelled : (q : Option (List ℕ)) → IfSome q (λ q. IsTrue (is_arch_
 qualifier_spelled None is = refl
 qualifier_spelled (Some q) is = (refl, is)
 
+operator_spelled : (operator : Op) → SpellsOperator (operator_text operator) operator
+operator_spelled Earlier = refl
+operator_spelled EarlierEqual = inl refl
+operator_spelled Equal = refl
+operator_spelled LaterEqual = inl refl
+operator_spelled Later = refl
+
 bound_spelled : (bound : Option (Op × Version)) → IfSome bound (λ b. SpellsVersion (version_text b.1) b.1) → SpellsBound (bound_text bound) bound
 bound_spelled None is = refl
 bound_spelled (Some bound) is = record {
   before = space;
   within = [];
+  operator = operator_text bound.0;
   between = space;
   version = version_text bound.1;
   behind = [];
@@ -48,6 +57,7 @@ bound_spelled (Some bound) is = record {
   within_white = tt;
   between_white = (refl, tt);
   behind_white = tt;
+  spells_operator = operator_spelled bound.0;
   spells = is;
 }
 

@@ -1,5 +1,5 @@
 -- Canonical text is at most twice as long as each spelling.
-use Rattle.std.proofs.Common.{◌≡◌, ◌≢◌, ℕ, ◌+◌, ◌*◌, ◌≤◌, Bool, true, List, [], ◌∷◌, ◌++◌, length, map, IsTrue, Option, Some, None, refl, ap, codes, arith, nat_le, ◌&&◌}
+use Rattle.std.proofs.Common.{◌≡◌, ◌⊎◌, inl, inr, ◌≢◌, ℕ, ◌+◌, ◌*◌, ◌≤◌, Bool, true, List, [], ◌∷◌, ◌++◌, length, map, IsTrue, Option, Some, None, refl, ap, codes, arith, nat_le, ◌&&◌}
 use Rattle.std.specs.List.{AllByRecursion, list_all}
 use Rattle.std.proofs.lemmas.Bool.{and_parts}
 use Rattle.std.proofs.lemmas.Bool.Decides.{nat_tests}
@@ -11,7 +11,8 @@ use Rattle.deb_version.specs.Parts.{Meaning as Version}
 use Rattle.deb_version.specs.Canonical.{version_text}
 use Rattle.deb_version.proofs.CanonicalTexts.{canonical_text_is_short as version_is_short}
 use Rattle.deb_relation.specs.declared.operator.Op.{Op}
-use Rattle.deb_relation.specs.Grammar.{SpellItems, SpellBetween, SpellInTurn, SpellsQualifier, SpellsBound, SpellsArchitectures, SpellsRestrictions, SpellsAlternative, SpellsGroup, SpellsPiece, groups_of, SpellsRelation, set_with, set_of}
+use Rattle.deb_relation.specs.declared.operator.Op.TheVariants.{Earlier, EarlierEqual, Equal, LaterEqual, Later}
+use Rattle.deb_relation.specs.Grammar.{SpellItems, SpellBetween, SpellInTurn, SpellsQualifier, SpellsOperator, SpellsBound, SpellsArchitectures, SpellsRestrictions, SpellsAlternative, SpellsGroup, SpellsPiece, groups_of, SpellsRelation, set_with, set_of}
 use Rattle.deb_relation.specs.Meaning.{Restrictions, Alternative, Group, Relation}
 use Rattle.deb_relation.specs.Sets.{byte_cmp, by_order, insert_by, itself}
 use Rattle.deb_relation.specs.Texts.{joined, separated, operator_text, signed_text, item_text, restrictions_text, qualifier_text, bound_text, architectures_text, formula_text, alternative_text, group_text, relation_text}
@@ -90,16 +91,26 @@ qualifier_short : (text : List ℕ) (q : Option (List ℕ)) → SpellsQualifier 
 qualifier_short text None is = omega arith
 qualifier_short text (Some q) is = let e : length text ≡ length (58 ∷ q) = ap length is.0 in omega (arith, e)
 
+-- the canonical operator has at most a byte more
+operator_short : (text : List ℕ) (operator : Op) → SpellsOperator text operator → length (operator_text operator) ≤ 2 * length text
+operator_short text Earlier is = rw is (omega arith)
+operator_short text EarlierEqual (inl is) = rw is (omega arith)
+operator_short text EarlierEqual (inr is) = rw is (omega arith)
+operator_short text Equal is = rw is (omega arith)
+operator_short text LaterEqual (inl is) = rw is (omega arith)
+operator_short text LaterEqual (inr is) = rw is (omega arith)
+operator_short text Later is = rw is (omega arith)
+
 bound_short : (text : List ℕ) (bound : Option (Op × Version)) → SpellsBound text bound → length (bound_text bound) ≤ 2 * length text
 bound_short text None is = omega arith
 bound_short text (Some bound) is =
-    let operator = operator_text bound.0 in
+    let operator = operator_short is.operator bound.0 is.spells_operator in
     let version = version_text bound.1 in
     let short = version_is_short is.version bound.1 is.spells in
-    let e : length text ≡ length (is.before ++ (40 ∷ (is.within ++ (operator ++ (is.between ++ (is.version ++ (is.behind ++ codes ")"))))))) = ap length is.spelt in
-    let long = spelled_length is.before is.within operator is.between is.version is.behind in
-    let written = written_length operator version in
-    omega (arith, short, e, long, written)
+    let e : length text ≡ length (is.before ++ (40 ∷ (is.within ++ (is.operator ++ (is.between ++ (is.version ++ (is.behind ++ codes ")"))))))) = ap length is.spelt in
+    let long = spelled_length is.before is.within is.operator is.between is.version is.behind in
+    let written = written_length (operator_text bound.0) version in
+    omega (arith, operator, short, e, long, written)
   where
     spelled_length : (before within operator between version behind : List ℕ) → 2 + (length operator + length version) ≤ length (before ++ (40 ∷ (within ++ (operator ++ (between ++ (version ++ (behind ++ 41 ∷ [])))))))
     spelled_length before within operator between version behind =

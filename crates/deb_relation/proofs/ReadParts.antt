@@ -1,5 +1,5 @@
 -- What is read of a name, a qualifier and a bound is spelled there.
-use Rattle.std.proofs.Common.{◌≡◌, ℕ, Bool, true, false, not, List, [], ◌∷◌, ◌++◌, length, drop, IsTrue, Option, Some, None, Ok, Err, Result, refl, ap, ◌∙◌, subst, append_assoc, codes, cond}
+use Rattle.std.proofs.Common.{◌≡◌, ◌⊎◌, inl, inr, ℕ, Bool, true, false, not, List, [], ◌∷◌, ◌++◌, length, drop, IsTrue, Option, Some, None, Ok, Err, Result, refl, sym, ap, ◌∙◌, subst, append_assoc, codes, cond}
 use Rattle.std.specs.Str.{bytes_eq}
 use Rattle.std.proofs.lemmas.Bool.Decides.{Decides-eqb}
 use Rattle.std.proofs.lemmas.Slice.Eq.{bytes_eq-Decides}
@@ -13,9 +13,8 @@ use Rattle.deb_version.proofs.FaultLemmas.{spells-from_no_fault}
 use Rattle.deb_relation.specs.declared.operator.Op.{Op}
 use Rattle.deb_relation.specs.declared.operator.Op.TheVariants.{Earlier, EarlierEqual, Equal, LaterEqual, Later}
 use Rattle.deb_relation.specs.declared.fault.Reason.TheVariants.{OperatorBad}
-use Rattle.deb_relation.specs.Grammar.{IsWhite, SpellsQualifier, SpellsBound}
+use Rattle.deb_relation.specs.Grammar.{IsWhite, SpellsQualifier, SpellsOperator, SpellsBound}
 use Rattle.deb_relation.specs.Reading.{Stopped, Reading, and_then, begins, behind_run, behind_white, is_at_end, is_before, is_in_name, is_in_operator, is_white, run_of, operator_of, or_stop, or_fault, read_name, read_qualifier, read_operator, read_version, read_close, read_bound_behind, read_bound, some_read}
-use Rattle.deb_relation.specs.Texts.{operator_text}
 use Rattle.deb_relation.proofs.Runs.{run_of-split, run_of-passes}
 
 -- of two answers, the one by the test
@@ -82,29 +81,34 @@ pub record TookWhite {A : Type 0} (spells : List ℕ → A → Type 0) (text : L
   pub behind : q.1 ≡ behind_white more
   pub spelled : spells piece q.0
 
-is_text : (run : List ℕ) (text : List ℕ) (o : Op) (rest : Option Op) (op : Op) → text ≡ operator_text o → cond (bytes_eq run text) (Some o) rest ≡ Some op → (rest ≡ Some op → run ≡ operator_text op) → run ≡ operator_text op
-is_text run text o rest op spelt e others =
+-- a run that is told by its text
+is_text : (run : List ℕ) (text : List ℕ) (o : Op) (rest : Option Op) (op : Op) → SpellsOperator text o → cond (bytes_eq run text) (Some o) rest ≡ Some op → (rest ≡ Some op → SpellsOperator run op) → SpellsOperator run op
+is_text run text o rest op spells e others =
     either (bytes_eq run text) (Some o) rest (Some op) e
-    (λ same x. (bytes_eq-Decides run text).0 same ∙ spelt ∙ ap operator_text (some_same o op x))
+    (λ same x. subst (λ t. SpellsOperator t op) (sym ((bytes_eq-Decides run text).0 same)) (subst (SpellsOperator text) (some_same o op x) spells))
     (λ _ x. others x)
   where
     some_same : (a b : Op) → Some a ≡ Some b → a ≡ b
     some_same a b e = cc
 
-operator_known : (run : List ℕ) (op : Op) → operator_of run ≡ Some op → run ≡ operator_text op
+operator_known : (run : List ℕ) (op : Op) → operator_of run ≡ Some op → SpellsOperator run op
 operator_known run op e =
     is_text run (codes "<<") Earlier _ op refl e (λ e1.
-    is_text run (codes "<=") EarlierEqual _ op refl e1 (λ e2.
-    is_text run (codes "=") Equal _ op refl e2 (λ e3.
-    is_text run (codes ">=") LaterEqual _ op refl e3 (λ e4.
-    is_text run (codes ">>") Later None op refl e4 (λ x. absurd (none_some op x))))))
+    is_text run (codes "<=") EarlierEqual _ op (inl refl) e1 (λ e2.
+    is_text run (codes "<") EarlierEqual _ op (inr refl) e2 (λ e3.
+    is_text run (codes "=") Equal _ op refl e3 (λ e4.
+    is_text run (codes ">=") LaterEqual _ op (inl refl) e4 (λ e5.
+    is_text run (codes ">") LaterEqual _ op (inr refl) e5 (λ e6.
+    is_text run (codes ">>") Later None op refl e6 (λ x. absurd (none_some op x))))))))
   where
     none_some : (op : Op) → None ≡ Some op → ⊥
     none_some op e = cc
 
 record TookOperator (text : List ℕ) (q : Op × List ℕ) : Type 0 where
+  operator : List ℕ
   between : List ℕ
-  split : text ≡ operator_text q.0 ++ (between ++ q.1)
+  split : text ≡ operator ++ (between ++ q.1)
+  spells : SpellsOperator operator q.0
   white : IsWhite between
 
 operator_took : (text : List ℕ) (q : Op × List ℕ) → read_operator text ≡ Ok q → TookOperator text q
@@ -114,8 +118,10 @@ operator_took text q e = from (operator_of (run_of is_in_operator text)) refl e
     from : (o : Option Op) → operator_of (run_of is_in_operator text) ≡ o → or_stop o (behind_white (behind_run is_in_operator text)) (OperatorBad, length text) ≡ Ok q → TookOperator text q
     from None is x = absurd (stopped-no _ _ x)
     from (Some op) is x = subst (TookOperator text) (ok-same _ _ x) (record {
+      operator = run_of is_in_operator text;
       between = run_of is_white (behind_run is_in_operator text);
-      split = run_of-split is_in_operator text ∙ ap (λ r. r ++ behind_run is_in_operator text) (operator_known (run_of is_in_operator text) op is) ∙ ap (λ t. operator_text op ++ t) (run_of-split is_white (behind_run is_in_operator text));
+      split = run_of-split is_in_operator text ∙ ap (λ t. run_of is_in_operator text ++ t) (run_of-split is_white (behind_run is_in_operator text));
+      spells = operator_known (run_of is_in_operator text) op is;
       white = run_of-passes is_white (behind_run is_in_operator text);
     })
 
@@ -142,14 +148,16 @@ version_took text q e = from (first_fault (run_of (is_before 41) text)) refl e
 
 -- what stands behind `(` and white space
 record TookBehind (text : List ℕ) (q : (Op × Version) × List ℕ) : Type 0 where
+  operator : List ℕ
   between : List ℕ
   version : List ℕ
   behind : List ℕ
   more : List ℕ
-  split : text ≡ operator_text q.0.0 ++ (between ++ (version ++ (behind ++ 41 ∷ more)))
+  split : text ≡ operator ++ (between ++ (version ++ (behind ++ 41 ∷ more)))
   after : q.1 ≡ behind_white more
   between_white : IsWhite between
   behind_white : IsWhite behind
+  spells_operator : SpellsOperator operator q.0.0
   spells : SpellsVersion version q.0.1
 
 close_took : (bound : Op × Version) (text : List ℕ) (q : (Op × Version) × List ℕ) → read_close bound text ≡ Ok q → (bound ≡ q.0) × (text ≡ 41 ∷ drop 1 text) × (q.1 ≡ behind_white (drop 1 text))
@@ -167,14 +175,16 @@ bound_behind_took text q e =
     let v = version_took s1.first.1 s2.first s2.was in
     let c = close_took (s1.first.0, s2.first.0) s2.first.1 q s2.then in
     record {
+      operator = o.operator;
       between = o.between;
       version = v.version;
       behind = v.behind;
       more = drop 1 s2.first.1;
-      split = o.split ∙ ap (λ t. operator_text s1.first.0 ++ (o.between ++ t)) (v.split ∙ ap (λ t. v.version ++ (v.behind ++ t)) c.1) ∙ ap (λ b. operator_text b.0 ++ (o.between ++ (v.version ++ (v.behind ++ 41 ∷ drop 1 s2.first.1)))) c.0;
+      split = o.split ∙ ap (λ t. o.operator ++ (o.between ++ t)) (v.split ∙ ap (λ t. v.version ++ (v.behind ++ t)) c.1);
       after = c.2;
       between_white = o.white;
       behind_white = v.white;
+      spells_operator = subst (λ b. SpellsOperator o.operator b.0) c.0 o.spells;
       spells = subst (λ b. SpellsVersion v.version b.1) c.0 v.spells;
     }
 
@@ -189,16 +199,16 @@ bound_took text q e =
     some begin s =
         let inner = drop 1 (behind_white text) in
         let b = bound_behind_took (behind_white inner) s.first s.was in
-        let bound = s.first.0 in
-        let pieces = run_of is_white inner ++ (operator_text bound.0 ++ (b.between ++ (b.version ++ (b.behind ++ codes ")")))) in
+        let pieces = run_of is_white inner ++ (b.operator ++ (b.between ++ (b.version ++ (b.behind ++ codes ")")))) in
         subst (TookWhite SpellsBound text) (ok-same _ _ s.then) (record {
           piece = run_of is_white text ++ (40 ∷ pieces);
           more = b.more;
-          split = run_of-split is_white text ∙ ap (λ t. run_of is_white text ++ t) (begin ∙ ap (λ t. 40 ∷ t) (run_of-split is_white inner ∙ ap (λ t. run_of is_white inner ++ t) b.split)) ∙ reordered (run_of is_white text) (run_of is_white inner) (operator_text bound.0) b.between b.version b.behind b.more;
+          split = run_of-split is_white text ∙ ap (λ t. run_of is_white text ++ t) (begin ∙ ap (λ t. 40 ∷ t) (run_of-split is_white inner ∙ ap (λ t. run_of is_white inner ++ t) b.split)) ∙ reordered (run_of is_white text) (run_of is_white inner) b.operator b.between b.version b.behind b.more;
           behind = b.after;
           spelled = record {
             before = run_of is_white text;
             within = run_of is_white inner;
+            operator = b.operator;
             between = b.between;
             version = b.version;
             behind = b.behind;
@@ -207,6 +217,7 @@ bound_took text q e =
             within_white = run_of-passes is_white inner;
             between_white = b.between_white;
             behind_white = b.behind_white;
+            spells_operator = b.spells_operator;
             spells = b.spells;
           };
         })

@@ -5,7 +5,6 @@ use Rattle.deb_relation.specs.Meaning.{Restrictions, Alternative}
 use Rattle.deb_relation.specs.declared.operator.Op.{Op}
 use Rattle.deb_version.specs.Parts.{Meaning as Version}
 use Rattle.deb_relation.specs.Reading.{begins, behind_white, is_in_name, is_white, read_alternative, alternative_with}
-use Rattle.deb_relation.specs.Texts.{operator_text}
 use Rattle.deb_relation.proofs.Bytes.{other, package_bytes, package_some, signed_stops}
 use Rattle.deb_relation.proofs.Runs.{Stops, white-past}
 use Rattle.deb_relation.proofs.SpelledLists.{architectures_read, formula_read}
@@ -133,7 +132,7 @@ module _ (behind rest : List ℕ) (w : IsWhite behind) (end : Starts is_end rest
             by_bound : (bound : Option (Op × Version)) → SpellsBound text bound → Starts is_after (text ++ (architectures ++ (formula ++ (behind ++ rest))))
             by_bound None is = subst (λ t. Starts is_after (t ++ (architectures ++ (formula ++ (behind ++ rest))))) (sym is) list_stands_after
             by_bound (Some bound) is =
-                let more = (is.within ++ (operator_text bound.0 ++ (is.between ++ (is.version ++ (is.behind ++ codes ")"))))) ++ (architectures ++ (formula ++ (behind ++ rest))) in
+                let more = (is.within ++ (is.operator ++ (is.between ++ (is.version ++ (is.behind ++ codes ")"))))) ++ (architectures ++ (formula ++ (behind ++ rest))) in
                 let spelt : text ++ (architectures ++ (formula ++ (behind ++ rest))) ≡ is.before ++ 40 ∷ more = ap (λ t. t ++ (architectures ++ (formula ++ (behind ++ rest)))) is.spelt ∙ simp append_assoc refl in
                 subst (Starts is_after) (sym spelt) (white_after is.before (40 ∷ more) is.before_white refl)
 

@@ -2,15 +2,17 @@
 -- any reading of them. Debian Policy 7.1; restriction formulas are this project's own, after dpkg's
 -- build profiles.
 use Rattle.std.specs.Prelude.{◌≡◌, ◌≢◌, ℕ, ◌==◌, ◌||◌, Bool, List, [], ◌∷◌, ◌++◌, map, Option, Some}
-use Rattle.std.specs.Prelude.{None, IsTrue, codes}
+use Rattle.std.specs.Prelude.{None, IsTrue, codes, ◌⊎◌}
 use Rattle.std.specs.List.{AllByRecursion}
 use Rattle.deb_base.specs.PackageNames.{is_package_name, is_arch_name, is_profile_name}
 use Rattle.deb_version.specs.Parts.{Meaning as Version}
 use Rattle.deb_version.specs.Grammar.{SpellsVersion}
 use Rattle.deb_relation.specs.declared.operator.Op.{Op}
+use Rattle.deb_relation.specs.declared.operator.Op.TheVariants.{Earlier, EarlierEqual, Equal}
+use Rattle.deb_relation.specs.declared.operator.Op.TheVariants.{LaterEqual, Later}
 use Rattle.deb_relation.specs.Meaning.{Item, Restrictions, Alternative, Group, Relation}
 use Rattle.deb_relation.specs.Sets.{insert_by, itself}
-use Rattle.deb_relation.specs.Texts.{operator_text, signed_text, item_text, restrictions_text}
+use Rattle.deb_relation.specs.Texts.{signed_text, item_text, restrictions_text}
 use Rattle.deb_relation.specs.Texts.{group_text}
 
 -- space, tab and newline
@@ -51,11 +53,21 @@ SpellsQualifier text None = text ≡ []
 SpellsQualifier text (Some qualifier) =
     (text ≡ codes ":" ++ qualifier) × IsTrue (is_arch_name qualifier)
 
+-- An operator. The former `<` and `>` meant `<=` and `>=`, and are read so; Policy no longer allows
+-- them.
+abbrev pub SpellsOperator : List ℕ → Op → Type 0
+SpellsOperator text Earlier = text ≡ codes "<<"
+SpellsOperator text EarlierEqual = (text ≡ codes "<=") ⊎ (text ≡ codes "<")
+SpellsOperator text Equal = text ≡ codes "="
+SpellsOperator text LaterEqual = (text ≡ codes ">=") ⊎ (text ≡ codes ">")
+SpellsOperator text Later = text ≡ codes ">>"
+
 -- A bound: white space, `(`, an operator, a version, `)`. White space may stand on both sides of
 -- the operator and of the version.
 pub record IsBound (text : List ℕ) (bound : Op × Version) : Type 0 where
   pub before : List ℕ
   pub within : List ℕ
+  pub operator : List ℕ
   pub between : List ℕ
   pub version : List ℕ
   pub behind : List ℕ
@@ -63,11 +75,12 @@ pub record IsBound (text : List ℕ) (bound : Op × Version) : Type 0 where
       text
       ≡ before
       ++ (codes "(" ++ (within ++
-      (operator_text bound.0 ++ (between ++ (version ++ (behind ++ codes ")"))))))
+      (operator ++ (between ++ (version ++ (behind ++ codes ")"))))))
   pub before_white : IsWhite before
   pub within_white : IsWhite within
   pub between_white : IsWhite between
   pub behind_white : IsWhite behind
+  pub spells_operator : SpellsOperator operator bound.0
   pub spells : SpellsVersion version bound.1
 
 abbrev pub SpellsBound : List ℕ → Option (Op × Version) → Type 0

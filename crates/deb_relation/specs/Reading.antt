@@ -108,13 +108,15 @@ read_qualifier text =
     (Some (run_of is_in_name (drop 1 text)), behind_run is_in_name (drop 1 text))
     else Err (QualifierBad, length (drop 1 text))
 
--- the operator that a run is
+-- the operator that a run is; the former `<` and `>` are `<=` and `>=`
 abbrev pub operator_of : List ℕ → Option Op
 operator_of run =
     if bytes_eq run (codes "<<") then Some Earlier
     else if bytes_eq run (codes "<=") then Some EarlierEqual
+    else if bytes_eq run (codes "<") then Some EarlierEqual
     else if bytes_eq run (codes "=") then Some Equal
     else if bytes_eq run (codes ">=") then Some LaterEqual
+    else if bytes_eq run (codes ">") then Some LaterEqual
     else if bytes_eq run (codes ">>") then Some Later
     else None
 

@@ -92,11 +92,11 @@ refused-11 : first_fault (codes "aa (== 1)") ≡ Some (OperatorBad, 4)
 unfolding steps relation_in group_text
 refused-11 = refl
 
-refused-12 : first_fault (codes "aa (< 1)") ≡ Some (OperatorBad, 4)
+refused-12 : first_fault (codes "aa (=< 1)") ≡ Some (OperatorBad, 4)
 unfolding steps relation_in group_text
 refused-12 = refl
 
-refused-13 : first_fault (codes "aa (> 1)") ≡ Some (OperatorBad, 4)
+refused-13 : first_fault (codes "aa (<> 1)") ≡ Some (OperatorBad, 4)
 unfolding steps relation_in group_text
 refused-13 = refl
 
@@ -160,6 +160,14 @@ refused-28 : first_fault (codes "aa [I386 !i386") ≡ Some (ItemBad, 4)
 unfolding steps relation_in group_text
 refused-28 = refl
 
+refused-29 : first_fault (codes "aa (<") ≡ Some (VersionBad Empty, 5)
+unfolding steps relation_in group_text
+refused-29 = refl
+
+refused-30 : first_fault (codes "aa (=> 1)") ≡ Some (OperatorBad, 4)
+unfolding steps relation_in group_text
+refused-30 = refl
+
 -- The canonical text of what a text means.
 accepted-1 : text_of (relation_in (codes "")) ≡ Ok (codes "")
 unfolding steps relation_in group_text
@@ -214,3 +222,12 @@ accepted-13 : text_of (relation_in (codes "aa(<<1),aa(<=1),aa(=1),aa(>=1),aa(>>1
     ≡ Ok (codes "aa (<< 1), aa (<= 1), aa (= 1), aa (>= 1), aa (>> 1)")
 unfolding steps relation_in group_text
 accepted-13 = refl
+
+-- The former `<` and `>` are `<=` and `>=`.
+former-1 : text_of (relation_in (codes "aa (< 1), aa (<= 01)")) ≡ Ok (codes "aa (<= 1)")
+unfolding steps relation_in group_text
+former-1 = refl
+
+former-2 : text_of (relation_in (codes "aa(>1.)")) ≡ Ok (codes "aa (>= 1.0)")
+unfolding steps relation_in group_text
+former-2 = refl

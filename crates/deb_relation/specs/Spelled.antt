@@ -1,12 +1,13 @@
 -- Worked cases of the grammar: texts and what they spell. Debian Policy 7.1.
 use Rattle.std.specs.Prelude.{List, [], ◌∷◌, ◌++◌, ℕ, true, false, Some, None, IsTrue}
-use Rattle.std.specs.Prelude.{codes, refl}
+use Rattle.std.specs.Prelude.{codes, refl, ◌⊎◌}
+use Rattle.std.proofs.Common.{inl, inr}
 use Rattle.deb_base.specs.PackageNames.{is_package_name}
 use Rattle.deb_version.specs.Faults.{first_fault}
 use Rattle.deb_version.specs.Grammar.{components_with, meaning_of_components}
 use Rattle.deb_version.proofs.FaultLemmas.{spells-from_no_fault}
-use Rattle.deb_relation.specs.declared.operator.Op.TheVariants.{LaterEqual}
-use Rattle.deb_relation.specs.Grammar.{IsWhite, SpellsAlternative, SpellsRelation}
+use Rattle.deb_relation.specs.declared.operator.Op.TheVariants.{EarlierEqual, LaterEqual}
+use Rattle.deb_relation.specs.Grammar.{IsWhite, SpellsOperator, SpellsAlternative, SpellsRelation}
 use Rattle.deb_relation.specs.Meaning.{Alternative}
 use Rattle.deb_relation.specs.Reading.{alternative_with}
 use Rattle.deb_relation.specs.Texts.{group_text}
@@ -97,6 +98,12 @@ worked-alternatives = record {
   set = refl;
 }
 
+-- the former operators spell what `<=` and `>=` spell
+worked-operators :
+    SpellsOperator (codes "<") EarlierEqual × SpellsOperator (codes "<=") EarlierEqual
+    × SpellsOperator (codes ">") LaterEqual × SpellsOperator (codes ">=") LaterEqual
+worked-operators = (inr refl, inl refl, inr refl, inl refl)
+
 -- a qualifier, a bound, an architecture list and two restriction lists; the sets ascend
 worked-alternative :
     SpellsAlternative (codes " aa:any(>= 1. ) [!x !b]<b><!a b>")
@@ -120,6 +127,7 @@ worked-alternative = record {
   spells_bound = record {
     before = [];
     within = [];
+    operator = codes ">=";
     between = codes " ";
     version = codes "1.";
     behind = codes " ";
@@ -128,6 +136,7 @@ worked-alternative = record {
     within_white = tt;
     between_white = (refl, tt);
     behind_white = (refl, tt);
+    spells_operator = inl refl;
     spells = spells-from_no_fault (codes "1.") refl;
   };
   spells_architectures = record {

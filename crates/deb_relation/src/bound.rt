@@ -14,17 +14,17 @@ use crate::operator::Op;
 use deb_version::Version;
 use std::alloc::AllocError;
 
-/// The operator that a run is.
+/// The operator that a run is; the former `<` and `>` are `<=` and `>=`.
 fn operator_of(run: &[u8]) -> Option<Op>
     ensures { result ≡ operator_of run.now }
 {
     if run == b"<<".as_slice() {
         Some(Op::Earlier)
-    } else if run == b"<=".as_slice() {
+    } else if run == b"<=".as_slice() || run == b"<".as_slice() {
         Some(Op::EarlierEqual)
     } else if run == b"=".as_slice() {
         Some(Op::Equal)
-    } else if run == b">=".as_slice() {
+    } else if run == b">=".as_slice() || run == b">".as_slice() {
         Some(Op::LaterEqual)
     } else if run == b">>".as_slice() {
         Some(Op::Later)

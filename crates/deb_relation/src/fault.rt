@@ -12,8 +12,8 @@ pub enum Reason {
     NameBad,
     /// What stands behind a colon is no name of an architecture.
     QualifierBad,
-    /// What stands behind an opening parenthesis is none of `<<`, `<=`, `=`, `>=` and `>>` (Debian
-    /// Policy 7.1).
+    /// What stands behind an opening parenthesis is none of `<<`, `<=`, `=`, `>=` and `>>`, nor of
+    /// the former `<` and `>` (Debian Policy 7.1).
     OperatorBad,
     /// What stands behind an operator is no version, by this fault, whose own place counts from the
     /// version's start.

@@ -10,7 +10,7 @@ use std::test::Fail;
 /// A text, and the reason and the place of the step that fails.
 struct Refused(&'static str, Reason, usize);
 
-const REFUSED: [Refused; 52] = [
+const REFUSED: [Refused; 53] = [
     // names
     Refused("a", Reason::NameBad, 0),
     Refused("${misc:Depends}", Reason::NameBad, 0),
@@ -37,8 +37,9 @@ const REFUSED: [Refused; 52] = [
     // bounds
     Refused("aa (1.0)", Reason::OperatorBad, 4),
     Refused("aa (== 1)", Reason::OperatorBad, 4),
-    Refused("aa (< 1)", Reason::OperatorBad, 4),
-    Refused("aa (> 1)", Reason::OperatorBad, 4),
+    Refused("aa (=< 1)", Reason::OperatorBad, 4),
+    Refused("aa (<> 1)", Reason::OperatorBad, 4),
+    Refused("aa (<", Reason::Version(BadVersion::Empty), 5),
     Refused("aa (=> 1)", Reason::OperatorBad, 4),
     Refused("aa (<>= 1)", Reason::OperatorBad, 4),
     Refused("aa (", Reason::OperatorBad, 4),
@@ -102,8 +103,8 @@ const LONGEST: &[u8] =
 fn prefix_fault(len: usize) -> Option<(Reason, usize)> {
     match len {
         1 => Some((Reason::NameBad, 0)),
-        4 | 5 => Some((Reason::OperatorBad, 4)),
-        6 => Some((Reason::Version(BadVersion::Empty), 6)),
+        4 => Some((Reason::OperatorBad, 4)),
+        5 | 6 => Some((Reason::Version(BadVersion::Empty), len)),
         11 => Some((Reason::NameExpected, 11)),
         12 => Some((Reason::NameBad, 11)),
         17 => Some((Reason::NameBad, 16)),

@@ -134,6 +134,7 @@ one line is printed:
   ignored GROUP  nothing of it applies to the architecture and the profiles
 Below a line `met GROUP`, each package that meets it has a line
 ` NUMBER PACKAGE VERSION ARCHITECTURE`, with its place in the index, from 1.
+The former operators `<` and `>` of a bound mean `<=` and `>=`.
 
 Statuses:
   0  no group is unmet
