@@ -1,10 +1,9 @@
 -- Members that are put into a set keep it ascending, each once.
-use Rattle.std.proofs.Common.{◌≡◌, ℕ, zero, suc, ◌-◌, ◌≤◌, List, [], ◌∷◌, length, Option, Some, None, Result, Ok, Err, ap, ◌∙◌, subst, refl, arith}
+use Rattle.std.proofs.Common.{◌≡◌, ℕ, zero, suc, List, [], ◌∷◌, length, Option, Some, None, Ok, Err, ap, ◌∙◌, subst, refl}
 use Rattle.std.specs.Ordering.{ordering_reverse}
 use Rattle.std.proofs.lemmas.Cmp.{nat_list_cmp_total}
 use Rattle.std.specs.declared.cmp.Ordering.{Ordering}
 use Rattle.std.specs.declared.cmp.Ordering.TheVariants.{Less, Equal, Greater}
-use Rattle.deb_relation.specs.declared.fault.Reason.{Reason}
 use Rattle.deb_relation.specs.Laws.{Ascends}
 use Rattle.deb_relation.specs.Meaning.{Group, Relation}
 use Rattle.deb_relation.specs.Reading.{Reading, Next, and_next, gathered, gather, next_piece, put_piece, placed, read_relation, relation_in}
@@ -64,14 +63,3 @@ groups_ascend text m is = from (gather next_piece put_piece [] text) (holds-gath
     from : (r : Reading Relation) → Holds (Ascends group_text) r → placed (length text) r ≡ Ok m → Ascends group_text m
     from (Ok p) h e = let same : p.0 ≡ m = cc in subst (Ascends group_text) same h
     from (Err stopped) h e = absurd cc
-
-second : (p q : Reason × ℕ) (r s : Result Relation (Reason × ℕ)) → r ≡ Err p → s ≡ Err q → r ≡ s → p.1 ≡ q.1
-second p q r s is_p is_q same = let e : p ≡ q = cc in ap (λ x. x.1) e
-
-pub faults_stand : (text : List ℕ) (reason : Reason) (at : ℕ) → relation_in text ≡ Err (reason, at) → at ≤ length text
-unfolding relation_in
-faults_stand text reason at is = from (read_relation text) is
-  where
-    from : (r : Reading Relation) → placed (length text) r ≡ Err (reason, at) → at ≤ length text
-    from (Ok p) e = absurd cc
-    from (Err stopped) e = let same : length text - stopped.1 ≡ at = second (stopped.0, length text - stopped.1) (reason, at) (placed (length text) (Err stopped)) (Err (reason, at)) refl refl e in omega arith

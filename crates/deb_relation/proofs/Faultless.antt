@@ -1,15 +1,16 @@
 -- A text spells a relation exactly where no step of its reading fails; and what the reading says of sets and places.
-use Rattle.std.proofs.Common.{◌≡◌, ◌≤◌, ◌↔◌, ℕ, List, length, Some, None, Result, Ok, Err, refl, ap}
+use Rattle.std.proofs.Common.{◌≡◌, ◌↔◌, ℕ, List, Some, None, Result, Ok, Err, refl, ap}
 use Rattle.std.specs.List.{AllByRecursion}
 use Rattle.deb_relation.specs.declared.fault.Reason.{Reason}
 use Rattle.deb_relation.specs.Faults.{fault_of, first_fault}
 use Rattle.deb_relation.specs.Grammar.{SpellsRelation}
-use Rattle.deb_relation.specs.Laws.{Ascends, HasAscendingSets}
+use Rattle.deb_relation.specs.Laws.{Ascends, FaultsStandInTheirText, HasAscendingSets}
 use Rattle.deb_relation.specs.Meaning.{Relation}
 use Rattle.deb_relation.specs.Reading.{relation_in}
 use Rattle.deb_relation.specs.Texts.{group_text}
 use Rattle.deb_relation.proofs.Ascending
 use Rattle.deb_relation.proofs.AscendingSets
+use Rattle.deb_relation.proofs.FaultPlaces
 use Rattle.deb_relation.proofs.ReadRelation.{relation_took}
 use Rattle.deb_relation.proofs.SpelledGroups.{relation_read}
 
@@ -34,5 +35,5 @@ failed : (r : Answer) (fault : Reason × ℕ) → fault_of r ≡ Some fault → 
 failed (Ok m) fault e = cc
 failed (Err other) fault e = cc
 
-pub faults_stand : (text : List ℕ) (reason : Reason) (at : ℕ) → first_fault text ≡ Some (reason, at) → at ≤ length text
-faults_stand text reason at e = Ascending.faults_stand text reason at (failed (relation_in text) (reason, at) e)
+pub faults_stand : FaultsStandInTheirText
+faults_stand text reason at e = FaultPlaces.faults_stand text reason at (failed (relation_in text) (reason, at) e)

@@ -4,6 +4,8 @@ use Rattle.deb_relation.specs.declared.fault.Reason.{Reason}
 use Rattle.deb_relation.specs.Grammar.{SpellsRelation}
 use Rattle.deb_relation.specs.Meaning.{Relation}
 use Rattle.deb_relation.specs.Reading.{gather, next_piece, put_piece, placed, read_relation, relation_in}
+use Rattle.deb_relation.specs.Texts.{relation_text}
+use Rattle.deb_relation.proofs.CanonicalRelation.{canonical_text_spells}
 use Rattle.deb_relation.proofs.ReadRelation.{relation_took}
 use Rattle.deb_relation.proofs.SpelledGroups.{relation_read}
 
@@ -27,3 +29,7 @@ module _ (text : List ℕ) where
     where
       differ : (r : Result Relation (Reason × ℕ)) (fault : Reason × ℕ) → r ≡ Err fault → r ≡ Ok n → ⊥
       differ r fault p q = cc
+
+-- the canonical text of what was read is read back
+pub read_back : (text : List ℕ) (m : Relation) (rest : List ℕ) → gather next_piece put_piece [] text ≡ Ok (m, rest) → relation_in (relation_text m) ≡ Ok m
+read_back text m rest e = relation_read (relation_text m) m (canonical_text_spells text m (parsed text m rest e))

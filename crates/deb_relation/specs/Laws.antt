@@ -1,6 +1,6 @@
 -- The laws of relations: what the definitions of `Grammar`, `Faults` and `Texts` amount to. Debian
 -- Policy 7.1.
-use Rattle.std.specs.Prelude.{◌≡◌, ℕ, ◌*◌, ◌≤◌, ◌↔◌, List, [], ◌∷◌, length, Some, None, IfSome}
+use Rattle.std.specs.Prelude.{◌≡◌, ℕ, ◌+◌, ◌*◌, ◌≤◌, ◌↔◌, List, [], ◌∷◌, length, Some, None, Err, IfSome}
 use Rattle.std.specs.List.{AllByRecursion}
 use Rattle.std.specs.declared.cmp.Ordering.TheVariants.{Less}
 use Rattle.deb_base.specs.Bodies.{IsBody}
@@ -8,6 +8,7 @@ use Rattle.deb_relation.specs.declared.fault.Reason.{Reason}
 use Rattle.deb_relation.specs.Faults.{first_fault}
 use Rattle.deb_relation.specs.Grammar.{SpellsRelation}
 use Rattle.deb_relation.specs.Meaning.{Alternative, Relation}
+use Rattle.deb_relation.specs.Reading.{read_relation}
 use Rattle.deb_relation.specs.Sets.{byte_cmp, itself}
 use Rattle.deb_relation.specs.Texts.{group_text, item_text, relation_text, restrictions_text}
 
@@ -59,11 +60,13 @@ Ascends text (x ∷ y ∷ ys) = (byte_cmp (text x) (text y) ≡ Less) × Ascends
 abbrev pub GroupsAscend : Type 0
 GroupsAscend = (text : List ℕ) (m : Relation) → SpellsRelation text m → Ascends group_text m
 
--- The place of a fault is within the text, or at its end.
+-- The place of a fault is within the text, or at its end: the step that fails there is the one that
+-- the reading stops at, and what is left of the text from there on makes up the text with what
+-- stands before.
 abbrev pub FaultsStandInTheirText : Type 0
 FaultsStandInTheirText =
     (text : List ℕ) (reason : Reason) (at : ℕ) → first_fault text ≡ Some (reason, at)
-    → at ≤ length text
+    → (left : ℕ) × (read_relation text ≡ Err (reason, left)) × (at + left ≡ length text)
 
 -- The sets of an alternative ascend by their texts, each member once: the names of its architecture
 -- list, the lists of its formula, and the items of each.

@@ -168,6 +168,71 @@ refused-30 : first_fault (codes "aa (=> 1)") ≡ Some (OperatorBad, 4)
 unfolding steps relation_in group_text
 refused-30 = refl
 
+-- Of two steps that can fail at one place the earlier one is told.
+earlier-1 : first_fault (codes ":any") ≡ Some (NameExpected, 0)
+unfolding steps relation_in group_text
+earlier-1 = refl
+
+earlier-2 : first_fault (codes "aa :any") ≡ Some (Trailing, 3)
+unfolding steps relation_in group_text
+earlier-2 = refl
+
+earlier-3 : first_fault (codes "aa: any") ≡ Some (QualifierBad, 3)
+unfolding steps relation_in group_text
+earlier-3 = refl
+
+earlier-4 : first_fault (codes "aa:any:any") ≡ Some (Trailing, 6)
+unfolding steps relation_in group_text
+earlier-4 = refl
+
+earlier-5 : first_fault (codes "aa ()") ≡ Some (OperatorBad, 4)
+unfolding steps relation_in group_text
+earlier-5 = refl
+
+earlier-6 : first_fault (codes "aa (>=") ≡ Some (VersionBad Empty, 6)
+unfolding steps relation_in group_text
+earlier-6 = refl
+
+earlier-7 : first_fault (codes "aa (>= 1,2)") ≡ Some (VersionBad (UpstreamByte 1), 7)
+unfolding steps relation_in group_text
+earlier-7 = refl
+
+earlier-8 : first_fault (codes "aa (>= 1 2)") ≡ Some (Unclosed, 9)
+unfolding steps relation_in group_text
+earlier-8 = refl
+
+earlier-9 : first_fault (codes "aa [amd64 !I386]") ≡ Some (ItemBad, 10)
+unfolding steps relation_in group_text
+earlier-9 = refl
+
+earlier-10 : first_fault (codes "aa [!]") ≡ Some (ItemBad, 4)
+unfolding steps relation_in group_text
+earlier-10 = refl
+
+earlier-11 : first_fault (codes "aa [x !y") ≡ Some (MixedSigns, 6)
+unfolding steps relation_in group_text
+earlier-11 = refl
+
+earlier-12 : first_fault (codes "aa [ ") ≡ Some (Unclosed, 5)
+unfolding steps relation_in group_text
+earlier-12 = refl
+
+earlier-13 : first_fault (codes "aa)") ≡ Some (Trailing, 2)
+unfolding steps relation_in group_text
+earlier-13 = refl
+
+earlier-14 : first_fault (codes "aa]") ≡ Some (Trailing, 2)
+unfolding steps relation_in group_text
+earlier-14 = refl
+
+earlier-15 : first_fault (codes "aa>") ≡ Some (Trailing, 2)
+unfolding steps relation_in group_text
+earlier-15 = refl
+
+earlier-16 : first_fault (codes "aa |, bb") ≡ Some (NameExpected, 4)
+unfolding steps relation_in group_text
+earlier-16 = refl
+
 -- The canonical text of what a text means.
 accepted-1 : text_of (relation_in (codes "")) ≡ Ok (codes "")
 unfolding steps relation_in group_text

@@ -1,6 +1,6 @@
 -- Worked cases of the grammar: texts and what they spell. Debian Policy 7.1.
 use Rattle.std.specs.Prelude.{List, [], ◌∷◌, ◌++◌, ℕ, true, false, Some, None, IsTrue}
-use Rattle.std.specs.Prelude.{codes, refl, ◌⊎◌}
+use Rattle.std.specs.Prelude.{codes, refl}
 use Rattle.std.proofs.Common.{inl, inr}
 use Rattle.deb_base.specs.PackageNames.{is_package_name}
 use Rattle.deb_version.specs.Faults.{first_fault}

@@ -1,11 +1,13 @@
 -- What is asked of a relation: alternatives, wildcards, operators. Debian Policy 7.1 and 11.1.
-use Rattle.std.specs.Prelude.{ℕ, Bool, true, false, nat_le, List, length, Option, Some, None}
+use Rattle.std.specs.Prelude.{◌≡◌, ℕ, Bool, true, false, nat_le, List, [], ◌∷◌, length, map, Option, Some, None, codes, refl}
 use Rattle.std.specs.List.{list_all, list_any}
 use Rattle.deb_base.specs.PackageNames.{is_wildcard}
 use Rattle.deb_relation.specs.declared.operator.Op.{Op}
 use Rattle.deb_relation.specs.declared.operator.Op.TheVariants.{Earlier, EarlierEqual, Equal, LaterEqual, Later}
+use Rattle.deb_version.specs.Grammar.{components_with, meaning_of_components}
 use Rattle.deb_version.specs.Parts.{Meaning as Version}
 use Rattle.deb_relation.specs.Meaning.{Alternative, Group, Relation}
+use Rattle.deb_relation.specs.Reading.{alternative_with}
 
 -- some group has two or more alternatives
 abbrev pub has_two : Group → Bool
@@ -42,3 +44,42 @@ has_equal_bound a = bound_is_equal a.bound
 
 abbrev pub only_equals : Relation → Bool
 only_equals groups = list_all (λ group. list_all has_equal_bound group) groups
+
+-- a name alone, with a qualifier, with an architecture list, with a bound
+abbrev bare : Alternative
+bare = alternative_with (codes "aa") None None None []
+
+abbrev qualified : List ℕ → Alternative
+qualified qualifier = alternative_with (codes "aa") (Some qualifier) None None []
+
+abbrev listed : List (List ℕ) → Alternative
+listed names = alternative_with (codes "aa") None None (Some (false, names)) []
+
+abbrev bounded : Op → Alternative
+bounded operator =
+    alternative_with (codes "aa") None
+    (Some (operator, meaning_of_components (components_with None (codes "1") None))) None []
+
+-- two alternatives in one group, not two groups
+worked-alternatives : map has_alternatives
+    ([] ∷ ((bare ∷ []) ∷ (bare ∷ []) ∷ []) ∷ ((bare ∷ []) ∷ (bare ∷ bare ∷ []) ∷ []) ∷ [])
+    ≡ false ∷ false ∷ true ∷ []
+worked-alternatives = refl
+
+-- `linux-any` and `any` in a list, also as a list's last name and in the last alternative
+worked-wildcard : map (λ a. some_wildcard ((bare ∷ a ∷ []) ∷ []))
+    (listed (codes "linux-any" ∷ []) ∷ listed (codes "any" ∷ [])
+    ∷ listed (codes "amd64" ∷ codes "linux-any" ∷ []) ∷ []) ≡ true ∷ true ∷ true ∷ []
+worked-wildcard = refl
+
+-- `any` as a qualifier, `all` and a name that only begins with `any` are none
+worked-no_wildcard : map (λ a. some_wildcard ((a ∷ []) ∷ []))
+    (qualified (codes "any") ∷ listed (codes "all" ∷ []) ∷ listed (codes "anything" ∷ []) ∷ bare
+    ∷ []) ≡ false ∷ false ∷ false ∷ false ∷ []
+worked-no_wildcard = refl
+
+-- one operator after the other; what has no bound has no other operator
+worked-equals : map (λ a. only_equals ((bare ∷ []) ∷ (bare ∷ a ∷ []) ∷ []))
+    (bounded Equal ∷ bare ∷ bounded Earlier ∷ bounded EarlierEqual ∷ bounded LaterEqual
+    ∷ bounded Later ∷ []) ≡ true ∷ true ∷ false ∷ false ∷ false ∷ false ∷ []
+worked-equals = refl

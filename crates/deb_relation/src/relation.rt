@@ -5,7 +5,7 @@ ghost use Rattle.std.specs.List.{list_all, list_any};
 ghost use Rattle.std.specs.Option.{option_map};
 ghost use Rattle.deb_relation.specs.Grammar.{set_of};
 ghost use Rattle.deb_relation.specs.Groups.{append_piece, group_key, group_of, piece_behind};
-ghost use Rattle.deb_relation.specs.Reading.{gather, next_piece, put_piece};
+ghost use Rattle.deb_relation.specs.Reading.{gather, next_piece, put_piece, relation_in};
 ghost use Rattle.deb_relation.specs.Sets.{byte_cmp};
 ghost use Rattle.deb_relation.specs.Stops.{Gives, next_of};
 ghost use Rattle.deb_relation.specs.Tests.{has_equal_bound, has_two, has_wildcard};
@@ -23,6 +23,8 @@ pub struct Relation<'a> {
     pub(crate) groups: Vec<Group<'a>>,
     text: Vec<u8>,
     ghost written: { text.items ≡ relation_text (map group_of groups.items) },
+    ghost spelled: { relation_in (relation_text (map group_of groups.items))
+        ≡ Ok (map group_of groups.items) },
 }
 
 /// The next piece between commas, a group or white space alone, and what is left behind it and its
@@ -148,7 +150,9 @@ fn each_has_only_equals(groups: &[Group<'_>]) -> bool
 
 impl<'a> Relation<'a> {
     ghost use Rattle.deb_relation.specs.Faults.{first_fault};
+    ghost use Rattle.std.specs.List.{AllByRecursion};
     ghost use Rattle.deb_relation.specs.Grammar.{SpellsRelation};
+    ghost use Rattle.deb_relation.specs.Laws.{Ascends, HasAscendingSets};
     ghost use Rattle.deb_relation.specs.Meaning.{Relation as Meaning};
     ghost use Rattle.deb_relation.specs.Relations.{IsRead, Tells, relation_of};
     ghost use Rattle.deb_relation.specs.Tests.{has_alternatives, only_equals, some_wildcard};
@@ -181,9 +185,12 @@ impl<'a> Relation<'a> {
         }
     }
 
-    /// The groups, ascending by their canonical texts, each once.
+    /// The groups, ascending by their canonical texts, each once; and so do the names of each
+    /// architecture list, the lists of each formula and the items of each list.
     pub fn groups(&self) -> &[Group<'a>]
-        ensures { map group_of result.now ≡ relation_of self.now }
+        ensures value { map group_of result.now ≡ relation_of self.now }
+        ensures ascend { Ascends group_text (relation_of self.now) }
+        ensures sets { AllByRecursion (AllByRecursion HasAscendingSets) (relation_of self.now) }
     {
         &self.groups
     }

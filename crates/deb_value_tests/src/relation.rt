@@ -10,7 +10,7 @@ use std::test::Fail;
 /// A text, and the reason and the place of the step that fails.
 struct Refused(&'static str, Reason, usize);
 
-const REFUSED: [Refused; 53] = [
+const REFUSED: [Refused; 63] = [
     // names
     Refused("a", Reason::NameBad, 0),
     Refused("${misc:Depends}", Reason::NameBad, 0),
@@ -27,12 +27,15 @@ const REFUSED: [Refused; 53] = [
     Refused("aa | ", Reason::NameExpected, 5),
     Refused("(= 1)", Reason::NameExpected, 0),
     Refused(",:any", Reason::NameExpected, 1),
+    Refused("aa |, bb", Reason::NameExpected, 4),
+    Refused(":any", Reason::NameExpected, 0),
     // qualifiers
     Refused("aa:", Reason::QualifierBad, 3),
     Refused("aa: any", Reason::QualifierBad, 3),
     Refused("aa:Any", Reason::QualifierBad, 3),
     Refused("aa:a.b", Reason::QualifierBad, 3),
     Refused("aa:any:any", Reason::Trailing, 6),
+    Refused("aa :any", Reason::Trailing, 3),
     Refused("\taa\n:any", Reason::Trailing, 4),
     // bounds
     Refused("aa (1.0)", Reason::OperatorBad, 4),
@@ -43,6 +46,7 @@ const REFUSED: [Refused; 53] = [
     Refused("aa (=> 1)", Reason::OperatorBad, 4),
     Refused("aa (<>= 1)", Reason::OperatorBad, 4),
     Refused("aa (", Reason::OperatorBad, 4),
+    Refused("aa ()", Reason::OperatorBad, 4),
     Refused(
         "aa (>= 1_0)",
         Reason::Version(BadVersion::UpstreamByte { at: 1 }),
@@ -67,6 +71,9 @@ const REFUSED: [Refused; 53] = [
     Refused("aa [amd64 !i386]", Reason::MixedSigns, 10),
     Refused("aa [!amd64 i386]", Reason::MixedSigns, 11),
     Refused("aa [amd64 I386]", Reason::ItemBad, 10),
+    Refused("aa [amd64 !I386]", Reason::ItemBad, 10),
+    Refused("aa [!]", Reason::ItemBad, 4),
+    Refused("aa [x !y", Reason::MixedSigns, 6),
     Refused("aa [amd64,i386]", Reason::ItemBad, 4),
     Refused("aa [! amd64]", Reason::ItemBad, 4),
     Refused("aa []", Reason::ListEmpty, 4),
@@ -79,6 +86,9 @@ const REFUSED: [Refused; 53] = [
     Refused("aa < >", Reason::ListEmpty, 5),
     // behind an alternative
     Refused("aa bb", Reason::Trailing, 3),
+    Refused("aa)", Reason::Trailing, 2),
+    Refused("aa]", Reason::Trailing, 2),
+    Refused("aa>", Reason::Trailing, 2),
     Refused("aa [x] (= 1)", Reason::Trailing, 7),
     Refused("aa <x> [y]", Reason::Trailing, 7),
 ];
