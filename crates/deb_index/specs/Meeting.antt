@@ -192,3 +192,33 @@ worked-wildcards : (qualified (codes "linux-any") None
     × (qualified (codes "any") None
     ≡ false ∷ false ∷ false ∷ false ∷ false ∷ false ∷ false ∷ [])
 worked-wildcards = (refl, refl)
+
+-- Qualifiers of vv, as above, where aa provides it without a version.
+abbrev qualified_name : List ℕ → Option MultiArch → List Bool
+qualified_name architecture multi_arch =
+    let provider : Listed =
+    listed (codes "aa") architecture multi_arch (provision (codes "vv") None ∷ []) in
+    meets target (alone (codes "vv")) provider
+    ∷ map (λ qualifier. meets target (with_qualifier (codes "vv") qualifier) provider)
+    (codes "any" ∷ codes "native" ∷ codes "amd64" ∷ codes "i386" ∷ codes "all"
+    ∷ codes "linux-any" ∷ [])
+
+-- The qualifier asks the providing package: a name that is provided is met as its own name is, also
+-- that of a `foreign` package of another architecture.
+worked-provided_target : map (qualified_name (codes "amd64")) words
+    ≡ (true ∷ false ∷ true ∷ true ∷ false ∷ false ∷ false ∷ [])
+    ∷ (true ∷ false ∷ true ∷ true ∷ false ∷ false ∷ false ∷ [])
+    ∷ (true ∷ false ∷ true ∷ true ∷ false ∷ false ∷ false ∷ [])
+    ∷ (true ∷ false ∷ true ∷ true ∷ false ∷ false ∷ false ∷ [])
+    ∷ (true ∷ true ∷ true ∷ true ∷ false ∷ false ∷ false ∷ [])
+    ∷ []
+worked-provided_target = refl
+
+worked-provided_other : map (qualified_name (codes "i386")) words
+    ≡ (false ∷ false ∷ false ∷ false ∷ true ∷ false ∷ false ∷ [])
+    ∷ (false ∷ false ∷ false ∷ false ∷ true ∷ false ∷ false ∷ [])
+    ∷ (false ∷ false ∷ false ∷ false ∷ true ∷ false ∷ false ∷ [])
+    ∷ (true ∷ false ∷ false ∷ false ∷ true ∷ false ∷ false ∷ [])
+    ∷ (false ∷ true ∷ false ∷ false ∷ true ∷ false ∷ false ∷ [])
+    ∷ []
+worked-provided_other = refl
