@@ -9,6 +9,12 @@ use Rattle.deb_base.specs.declared.fault.Fault.{Fault}
 use Rattle.deb_base.specs.declared.fault.Fault.TheVariants.{Refused, Memory, Read, Write}
 use Rattle.deb_base.specs.declared.refusal.Refusal.{Refusal}
 use Rattle.deb_base.proofs.Writes.{AppendsFront-then, AppendsFront-more}
+use Rattle.deb_syntax.specs.Ahead.{TakesNoMore}
+use Rattle.deb_syntax.specs.Feeding.{feed_state}
+use Rattle.deb_syntax.specs.Lines.{file_limit}
+use Rattle.deb_syntax.proofs.Advancing.{taken_none, reach_limit}
+use Rattle.deb_control.specs.CheckedStates.{checked_state}
+use Rattle.deb_control.specs.declared.checked.Checked.{Checked}
 use Rattle.deb_syntax.specs.Meaning.{Entries}
 use Rattle.deb_field.specs.declared.kind.Doc.{Doc}
 use Rattle.deb_field.specs.Values.{value_text, ValueMeaning, SpellsValue}
@@ -83,6 +89,12 @@ counted_all doc text (Err fault) has = tt
 -- nothing, at the start
 pub start_checked : (doc : Doc) (text : List ℕ) (state : CheckedState) → FitsChecked doc text [] state (Some text) → HasChecked doc text state (Some text)
 start_checked doc text state fits = record { before = []; fits = fits }
+
+-- of a file that fits no more was taken than its limit and one piece
+pub has_taken : (checked : Checked) (doc : Doc) (text : List ℕ) (left : Option (List ℕ)) → HasChecked doc text (checked_state checked) left → TakesNoMore text file_limit left
+has_taken checked doc text left has =
+    let p = checked.paragraphs in
+    taken_none text has.fits.passed (feed_state p.feed) p.hidden p.finished _ p.fault left has.fits.fits (reach_limit _ p.reach)
 
 -- a refusal behind them is the file's, and they are all that passes
 pub refused_behind : (T : Type 0) (doc : Doc) (text : List ℕ) (state new : CheckedState) (left left_after : Option (List ℕ)) (fault : Fault) (checked : HasChecked doc text state left) → AnswersChecked doc text checked.before (Err fault) new left_after → IfRefused {T = T} (Err fault) (λ refusal. outcome (rules_of doc) text ≡ record { passed = checked.before; refusal = Some refusal })

@@ -3,6 +3,8 @@
 ghost use Rattle.std.specs.Prelude.{◌≡◌, ℕ, List, [], None, Some, IfOk, IfErr};
 ghost use Rattle.deb_base.specs.Devices.{read_failures_after, TellsReads};
 ghost use Rattle.deb_base.specs.Faults.{IsReadersFault};
+ghost use Rattle.deb_syntax.specs.Ahead.{TakesNoMore};
+ghost use Rattle.deb_syntax.specs.Lines.{file_limit};
 ghost use Rattle.deb_control.specs.Calls.{IfRefused};
 ghost use Rattle.deb_control.specs.Checking.{FitsChecked, HasChecked, IsRefusalOfDocument};
 ghost use Rattle.deb_control.specs.CheckedStates.{checked_state};
@@ -26,7 +28,8 @@ use std::alloc::Global;
 /// difference it reads both files to their ends before it answers, and where the second one is
 /// refused the first one.
 ///
-/// What is said of a file's text holds for a reader that tells its bytes.
+/// At most 4,295,032,831 bytes are taken from each reader: those that a file may have, and one
+/// piece. What is said of a file's text holds for a reader that tells its bytes.
 ///
 /// # Errors
 ///
@@ -47,6 +50,10 @@ pub fn same<R: Source, S: Source>(
     ensures second { (text other : List ℕ) → R.left first.old ≡ Some text
         → S.left second.old ≡ Some other
         → IfRefused (of_second result) (RefusesSecond doc text other) }
+    ensures taken_first { (text : List ℕ) → R.left first.old ≡ Some text
+        → TakesNoMore text file_limit (R.left first.new) }
+    ensures taken_second { (text : List ℕ) → S.left second.old ≡ Some text
+        → TakesNoMore text file_limit (S.left second.new) }
 
     // Whether or not the readers tell their bytes.
     ensures fault { IfErr result (λ told. IsReadersFault told.fault IsRefusalOfDocument) }
@@ -119,6 +126,14 @@ fn agree<R: Source, S: Source>(
         (λ _. HasChecked one.old.doc text (checked_state other.new) (S.left second.new)) }
     ensures second_sound { IfOk result (λ _. (checked_state other.new).fault ≡ None) }
     ensures second_doc { IfOk result (λ _. other.new.doc ≡ one.old.doc) }
+
+    // How much was taken of each.
+    ensures taken_first { (text : List ℕ)
+        → FitsChecked one.old.doc text [] (checked_state one.old) (R.left first.old)
+        → TakesNoMore text file_limit (R.left first.new) }
+    ensures taken_second { (text : List ℕ)
+        → FitsChecked one.old.doc text [] (checked_state other.old) (S.left second.old)
+        → TakesNoMore text file_limit (S.left second.new) }
 
     // The faults.
     ensures first_refused { (text : List ℕ)

@@ -8,7 +8,7 @@ use Rattle.deb_syntax.specs.Lines.{file_limit}
 use Rattle.deb_control.specs.CheckedStates.{passing_of}
 use Rattle.deb_control.specs.Comparing.{Agrees}
 use Rattle.deb_control.specs.declared.accepted.Accepted.{Accepted}
-use Rattle.deb_control.proofs.CheckedSoFar.{goes_on, sound_on, checked_on, refusal_behind}
+use Rattle.deb_control.proofs.CheckedSoFar.{has_taken, goes_on, sound_on, checked_on, refusal_behind}
 use Rattle.deb_control.proofs.Checks.{few-given}
 use Rattle.deb_control.proofs.ComparedSoFar.{start_agreed, agreed_on, agrees_at_end, second_ends, next_differ}
 use Rattle.deb_control.proofs.comparing.agree.Goals as goal
@@ -117,6 +117,63 @@ returns-then-ne-clause-second g c = λ text fits.
     let passes = rw (c.in-Ok-next.is, c.in-Some-right.is, c.loop.invariant.doc_too) at c.next-in-loop.follows.holds-at-none in
     let so_far = c.loop.invariant.text_too text fits in
     checked_on _ text so_far.before (Some (passing_of c.in-Some-right.right)) _ _ ((goes_on _ _ _ _ c.loop.invariant.fault_too passes.0).answers text so_far.before so_far.fits)
+
+pub returns-in-Err-clause-taken_first : goal.returns-in-Err-clause-taken_first
+returns-in-Err-clause-taken_first g c = λ text fits.
+    let passes = rw (c.in-Err.is, c.loop.invariant.doc) at c.next.follows.holds-at-none in
+    let so_far = c.loop.invariant.text text fits in
+    (goes_on _ _ _ _ c.loop.invariant.fault passes.0).taken text so_far.before so_far.fits
+
+pub returns-in-Err-clause-taken_second : goal.returns-in-Err-clause-taken_second
+returns-in-Err-clause-taken_second g c = λ text fits. has_taken c.loop.other _ text _ (c.loop.invariant.text_too text fits)
+
+pub returns-in-Err-next-clause-taken_first : goal.returns-in-Err-next-clause-taken_first
+returns-in-Err-next-clause-taken_first g c = λ text fits.
+    let passes = rw (c.in-Ok.is, c.loop.invariant.doc) at c.next.follows.holds-at-none in
+    let so_far = c.loop.invariant.text text fits in
+    (goes_on _ _ _ _ c.loop.invariant.fault passes.0).taken text so_far.before so_far.fits
+
+pub returns-in-Err-next-clause-taken_second : goal.returns-in-Err-next-clause-taken_second
+returns-in-Err-next-clause-taken_second g c = λ text fits.
+    let passes = rw (c.in-Err-next.is, c.loop.invariant.doc_too) at c.next-in-loop.follows.holds-at-none in
+    let so_far = c.loop.invariant.text_too text fits in
+    (goes_on _ _ _ _ c.loop.invariant.fault_too passes.0).taken text so_far.before so_far.fits
+
+pub returns-in_default-clause-taken_first : goal.returns-in_default-clause-taken_first
+returns-in_default-clause-taken_first g c = λ text fits.
+    let passes = rw (c.in-Ok.is, c.in_default.is, c.loop.invariant.doc) at c.next.follows.holds-at-none in
+    let so_far = c.loop.invariant.text text fits in
+    (goes_on _ _ _ _ c.loop.invariant.fault passes.0).taken text so_far.before so_far.fits
+
+pub returns-in_default-clause-taken_second : goal.returns-in_default-clause-taken_second
+returns-in_default-clause-taken_second g c = λ text fits.
+    let passes = rw (c.in-Ok-next.is, c.loop.invariant.doc_too) at c.next-in-loop.follows.holds-at-none in
+    let so_far = c.loop.invariant.text_too text fits in
+    (goes_on _ _ _ _ c.loop.invariant.fault_too passes.0).taken text so_far.before so_far.fits
+
+pub returns-in_default-right-clause-taken_first : goal.returns-in_default-right-clause-taken_first
+returns-in_default-right-clause-taken_first g c = λ text fits.
+    let passes = rw (c.in-Ok.is, c.in-Some.is, c.loop.invariant.doc) at c.next.follows.holds-at-none in
+    let so_far = c.loop.invariant.text text fits in
+    (goes_on _ _ _ _ c.loop.invariant.fault passes.0).taken text so_far.before so_far.fits
+
+pub returns-in_default-right-clause-taken_second : goal.returns-in_default-right-clause-taken_second
+returns-in_default-right-clause-taken_second g c = λ text fits.
+    let passes = rw (c.in-Ok-next.is, c.in_default-right.is, c.loop.invariant.doc_too) at c.next-in-loop.follows.holds-at-none in
+    let so_far = c.loop.invariant.text_too text fits in
+    (goes_on _ _ _ _ c.loop.invariant.fault_too passes.0).taken text so_far.before so_far.fits
+
+pub returns-then-ne-clause-taken_first : goal.returns-then-ne-clause-taken_first
+returns-then-ne-clause-taken_first g c = λ text fits.
+    let passes = rw (c.in-Ok.is, c.in-Some.is, c.loop.invariant.doc) at c.next.follows.holds-at-none in
+    let so_far = c.loop.invariant.text text fits in
+    (goes_on _ _ _ _ c.loop.invariant.fault passes.0).taken text so_far.before so_far.fits
+
+pub returns-then-ne-clause-taken_second : goal.returns-then-ne-clause-taken_second
+returns-then-ne-clause-taken_second g c = λ text fits.
+    let passes = rw (c.in-Ok-next.is, c.in-Some-right.is, c.loop.invariant.doc_too) at c.next-in-loop.follows.holds-at-none in
+    let so_far = c.loop.invariant.text_too text fits in
+    (goes_on _ _ _ _ c.loop.invariant.fault_too passes.0).taken text so_far.before so_far.fits
 
 pub loop-preserved : goal.loop-preserved
 loop-preserved g c =

@@ -52,3 +52,67 @@ returns-in-Refused-clause-second g c = λ text other told told_too.
     let accepted = rw (doc, c.new-one.ensures.doc) at c.in_default-count_rest-2.ensures.ok text has.before has.fits in
     let refused = rw (c.in-Second.is, c.in-Refused.is, c.new-one.ensures.doc) at c.in-Err.ensures.second_refused other (rw told_too (c.new-other.ensures.fits other)) in
     rw c.at_second-in-Refused.ensures (record { meaning = accepted.meaning; accepted = accepted.accepted; refused = refused })
+
+pub returns-in-Ok-true-clause-taken_first : goal.returns-in-Ok-true-clause-taken_first
+returns-in-Ok-true-clause-taken_first g c = λ text told. rw c.new-one.ensures.doc at c.in-Ok-true.ensures.taken_first text (rw told (c.new-one.ensures.fits text))
+
+pub returns-in-Ok-true-clause-taken_second : goal.returns-in-Ok-true-clause-taken_second
+returns-in-Ok-true-clause-taken_second g c = λ text told. rw c.new-one.ensures.doc at c.in-Ok-true.ensures.taken_second text (rw told (c.new-other.ensures.fits text))
+
+pub returns-in-Err-count_rest-clause-taken_first : goal.returns-in-Err-count_rest-clause-taken_first
+returns-in-Err-count_rest-clause-taken_first g c = λ text told.
+    let has = rw c.new-one.ensures.doc at c.in-Ok-false.ensures.first text (rw told (c.new-one.ensures.fits text)) in
+    rw (c.in-Ok-false.ensures.first_doc, c.new-one.ensures.doc) at c.in-Err-count_rest.ensures.taken text has.before has.fits
+
+pub returns-in-Err-count_rest-clause-taken_second : goal.returns-in-Err-count_rest-clause-taken_second
+returns-in-Err-count_rest-clause-taken_second g c = λ text told. rw c.new-one.ensures.doc at c.in-Ok-false.ensures.taken_second text (rw told (c.new-other.ensures.fits text))
+
+pub returns-in-Err-count_rest-2-clause-taken_first : goal.returns-in-Err-count_rest-2-clause-taken_first
+returns-in-Err-count_rest-2-clause-taken_first g c = λ text told.
+    let has = rw c.new-one.ensures.doc at c.in-Ok-false.ensures.first text (rw told (c.new-one.ensures.fits text)) in
+    rw (c.in-Ok-false.ensures.first_doc, c.new-one.ensures.doc) at c.in_default.ensures.taken text has.before has.fits
+
+pub returns-in-Err-count_rest-2-clause-taken_second : goal.returns-in-Err-count_rest-2-clause-taken_second
+returns-in-Err-count_rest-2-clause-taken_second g c = λ text told.
+    let has = rw c.new-one.ensures.doc at c.in-Ok-false.ensures.second text (rw told (c.new-other.ensures.fits text)) in
+    rw (c.in-Ok-false.ensures.second_doc, c.new-one.ensures.doc) at c.in-Err-count_rest-2.ensures.taken text has.before has.fits
+
+pub returns-in-Ok-false-clause-taken_first : goal.returns-in-Ok-false-clause-taken_first
+returns-in-Ok-false-clause-taken_first g c = λ text told.
+    let has = rw c.new-one.ensures.doc at c.in-Ok-false.ensures.first text (rw told (c.new-one.ensures.fits text)) in
+    rw (c.in-Ok-false.ensures.first_doc, c.new-one.ensures.doc) at c.in_default.ensures.taken text has.before has.fits
+
+pub returns-in-Ok-false-clause-taken_second : goal.returns-in-Ok-false-clause-taken_second
+returns-in-Ok-false-clause-taken_second g c = λ text told.
+    let has = rw c.new-one.ensures.doc at c.in-Ok-false.ensures.second text (rw told (c.new-other.ensures.fits text)) in
+    rw (c.in-Ok-false.ensures.second_doc, c.new-one.ensures.doc) at c.in_default-count_rest.ensures.taken text has.before has.fits
+
+pub returns-in-First-clause-taken_first : goal.returns-in-First-clause-taken_first
+returns-in-First-clause-taken_first g c = λ text told. rw c.new-one.ensures.doc at c.in-Err.ensures.taken_first text (rw told (c.new-one.ensures.fits text))
+
+pub returns-in-First-clause-taken_second : goal.returns-in-First-clause-taken_second
+returns-in-First-clause-taken_second g c = λ text told. rw c.new-one.ensures.doc at c.in-Err.ensures.taken_second text (rw told (c.new-other.ensures.fits text))
+
+pub returns-in-Err-count_rest-3-clause-taken_first : goal.returns-in-Err-count_rest-3-clause-taken_first
+returns-in-Err-count_rest-3-clause-taken_first g c = λ text told.
+    let has = rw (c.in-Second.is, c.new-one.ensures.doc) at c.in-Err.ensures.first text (rw told (c.new-one.ensures.fits text)) in
+    let doc = rw c.in-Second.is at c.in-Err.ensures.first_doc in
+    rw (doc, c.new-one.ensures.doc) at c.in-Err-count_rest-3.ensures.taken text has.before has.fits
+
+pub returns-in-Err-count_rest-3-clause-taken_second : goal.returns-in-Err-count_rest-3-clause-taken_second
+returns-in-Err-count_rest-3-clause-taken_second g c = λ text told. rw c.new-one.ensures.doc at c.in-Err.ensures.taken_second text (rw told (c.new-other.ensures.fits text))
+
+pub returns-in-Refused-clause-taken_first : goal.returns-in-Refused-clause-taken_first
+returns-in-Refused-clause-taken_first g c = λ text told.
+    let has = rw (c.in-Second.is, c.new-one.ensures.doc) at c.in-Err.ensures.first text (rw told (c.new-one.ensures.fits text)) in
+    let doc = rw c.in-Second.is at c.in-Err.ensures.first_doc in
+    rw (doc, c.new-one.ensures.doc) at c.in_default-count_rest-2.ensures.taken text has.before has.fits
+
+pub returns-in-Refused-clause-taken_second : goal.returns-in-Refused-clause-taken_second
+returns-in-Refused-clause-taken_second g c = λ text told. rw c.new-one.ensures.doc at c.in-Err.ensures.taken_second text (rw told (c.new-other.ensures.fits text))
+
+pub returns-clause-taken_first : goal.returns-clause-taken_first
+returns-clause-taken_first g c = λ text told. rw c.new-one.ensures.doc at c.in-Err.ensures.taken_first text (rw told (c.new-one.ensures.fits text))
+
+pub returns-clause-taken_second : goal.returns-clause-taken_second
+returns-clause-taken_second g c = λ text told. rw c.new-one.ensures.doc at c.in-Err.ensures.taken_second text (rw told (c.new-other.ensures.fits text))
