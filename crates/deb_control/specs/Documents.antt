@@ -11,7 +11,7 @@ use Rattle.deb_field.specs.declared.kind.Doc.TheVariants.{Binary, Packages, Sour
 use Rattle.deb_base.specs.declared.code.Code.{Code}
 use Rattle.deb_base.specs.declared.refusal.Refusal.{Refusal}
 use Rattle.deb_field.specs.declared.kind.Doc.{Doc}
-use Rattle.deb_field.specs.Kinds.{is_single, required, is_one_of}
+use Rattle.deb_field.specs.Kinds.{is_single, kind_of, required}
 use Rattle.deb_field.specs.Values.{ValueMeaning, value_text, SpellsValue, value_refusal}
 use Rattle.deb_field.specs.ValueLaws.{value_refusals}
 use Rattle.deb_control.specs.Rules.{Rules}
@@ -79,7 +79,7 @@ first_paragraphs : (refusal_of Packages (codes "Package: aa\npackage: bb")
     ≡ Some (record { code = BadNumber; line = 2 }))
     × (refusal_of Packages (codes "\nPackage: aa\nHomepage: x\n y\nSize: 1k")
     ≡ Some (record { code = NotOneLine; line = 3 }))
-unfolding file_limit paragraph_limit is_utf8 chars encode is_one_of first_fault
+unfolding file_limit paragraph_limit is_utf8 chars encode kind_of first_fault
 first_paragraphs = (refl, refl, refl, refl, refl)
 
 -- refusals of versions, sources, architectures and words
@@ -93,5 +93,5 @@ values : (refusal_of Packages (codes "Package: aa\nVersion: 1-\nArchitecture: al
     ≡ Some (record { code = BadVersion; line = 4 }))
     × (refusal_of Packages (codes "Package: aa\nVersion: 1\nArchitecture: all\nEssential: maybe")
     ≡ Some (record { code = BadWord; line = 4 }))
-unfolding file_limit paragraph_limit is_utf8 chars encode is_one_of first_fault
+unfolding file_limit paragraph_limit is_utf8 chars encode kind_of first_fault
 values = (refl, refl, refl, refl, refl)

@@ -1,5 +1,5 @@
 pub mod NumberLemmas
 pub mod SourceLemmas
-pub mod KindLemmas
+mod TableLookups
 pub mod RelationLemmas
 pub mod ValueLemmas

@@ -1,58 +1,18 @@
--- The kinds of documents, and which field has which kind of value. Debian Policy 5.1 (names are
--- found without case), 5.3 (binary packages), 5.4 (source packages), 5.6 (the fields), 7.1 to 7.8
--- (relationship fields); that unknown fields are text is this project's own.
-use Rattle.std.specs.Prelude.{◌≡◌, ℕ, Bool, true, false, cond, List, [], ◌∷◌, map, codes, refl}
-use Rattle.std.specs.List.{list_any}
+-- The kinds of documents, and which field has which kind of value, each as a table. Debian Policy
+-- 5.1 (names are found without case), 5.3 (binary packages), 5.4 (source packages), 5.6 (the
+-- fields), 7.1 to 7.8 (relationship fields); the words, and that unknown fields are text, are this
+-- project's own.
+use Rattle.std.specs.Prelude.{◌≡◌, ℕ, Bool, true, false, cond, List, [], ◌∷◌, map, Option, None, Some, codes, refl}
 use Rattle.std.specs.Str.{bytes_eq}
+use Rattle.deb_base.specs.Codes.{number_of, name_of}
 use Rattle.deb_base.specs.Names.{folded, canonical_name}
+use Rattle.deb_base.specs.declared.code.Code.TheVariants as code
 use Rattle.deb_field.specs.declared.kind.Doc.{Doc}
 use Rattle.deb_field.specs.declared.kind.Doc.TheVariants as docs
 use Rattle.deb_field.specs.declared.kind.Kind.{Kind}
 use Rattle.deb_field.specs.declared.kind.Kind.TheVariants.{Name, Source, Version, Architecture, ArchitectureWords, Flag, MultiArch, Number, Line, Folded, Relation, Text}
 use Rattle.deb_field.specs.declared.kind.Relationship.{Relationship}
 use Rattle.deb_field.specs.declared.kind.Relationship.TheVariants.{Depends, Conflicts, Provides}
-
--- whether a document of the kind has exactly one paragraph
-abbrev pub is_single : Doc → Bool
-is_single docs.Binary = true
-is_single docs.Packages = false
-is_single docs.Source = true
-
--- the fields that each paragraph has to have
-abbrev pub required : Doc → List (List ℕ)
-required docs.Binary = codes "Package" ∷ codes "Version" ∷ codes "Architecture" ∷ []
-required docs.Packages = codes "Package" ∷ codes "Version" ∷ codes "Architecture" ∷ []
-required docs.Source = codes "Format" ∷ codes "Source" ∷ codes "Version" ∷ []
-
--- a folded name is one of these, without case
-unfoldable pub is_one_of : List ℕ → List (List ℕ) → Bool
-is_one_of name names = list_any (λ other. bytes_eq (folded other) name) names
-
--- what Architecture holds: one name, and in the description of a source package any number of them
-abbrev pub architecture_kind : Doc → Kind
-architecture_kind docs.Binary = Architecture
-architecture_kind docs.Packages = Architecture
-architecture_kind docs.Source = ArchitectureWords
-
--- the fields of one line
-abbrev pub line_names : List (List ℕ)
-line_names =
-    codes "Maintainer" ∷ codes "Homepage" ∷ codes "Section" ∷ codes "Priority" ∷ codes "Filename"
-    ∷ codes "Format"
-    ∷ codes "Standards-Version" ∷ []
-
--- the fields that declare dependencies (7.2, 7.7)
-abbrev pub dependency_names : List (List ℕ)
-dependency_names =
-    codes "Depends" ∷ codes "Pre-Depends" ∷ codes "Recommends" ∷ codes "Suggests"
-    ∷ codes "Enhances" ∷ codes "Build-Depends" ∷ codes "Build-Depends-Indep"
-    ∷ codes "Build-Depends-Arch" ∷ []
-
--- the other relationship fields, but for Provides (7.3, 7.4, 7.6 to 7.8)
-abbrev pub conflict_names : List (List ℕ)
-conflict_names =
-    codes "Breaks" ∷ codes "Conflicts" ∷ codes "Replaces" ∷ codes "Built-Using"
-    ∷ codes "Build-Conflicts" ∷ codes "Build-Conflicts-Indep" ∷ codes "Build-Conflicts-Arch" ∷ []
 
 -- where a group may have two or more alternatives (7.1; that other fields take none is this
 -- project's own)
@@ -67,39 +27,116 @@ takes_all_operators Depends = true
 takes_all_operators Conflicts = true
 takes_all_operators Provides = false
 
--- a row of the table: a kind, and the names of its fields
-abbrev pub Row : Type 0
-Row = Kind × List (List ℕ)
+-- a row of the table of fields: a name, and the kind of its values
+abbrev pub FieldRow : Type 0
+FieldRow = List ℕ × Kind
 
--- the rows of relationship fields
-abbrev pub relation_rows : List Row
-relation_rows =
-    (Relation Depends, dependency_names)
-    ∷ (Relation Conflicts, conflict_names)
-    ∷ (Relation Provides, codes "Provides" ∷ [])
+-- the fields that aren't texts, but for Architecture: those of 5.6, those that declare dependencies
+-- (7.2, 7.7), the other relationship fields (7.3, 7.4, 7.6 to 7.8), and Provides (7.5)
+abbrev pub field_kinds : List FieldRow
+field_kinds =
+    (codes "Package", Name)
+    ∷ (codes "Source", Source)
+    ∷ (codes "Version", Version)
+    ∷ (codes "Essential", Flag)
+    ∷ (codes "Multi-Arch", MultiArch)
+    ∷ (codes "Installed-Size", Number)
+    ∷ (codes "Size", Number)
+    ∷ (codes "Maintainer", Line)
+    ∷ (codes "Homepage", Line)
+    ∷ (codes "Section", Line)
+    ∷ (codes "Priority", Line)
+    ∷ (codes "Filename", Line)
+    ∷ (codes "Format", Line)
+    ∷ (codes "Standards-Version", Line)
+    ∷ (codes "Binary", Folded)
+    ∷ (codes "Uploaders", Folded)
+    ∷ (codes "Depends", Relation Depends)
+    ∷ (codes "Pre-Depends", Relation Depends)
+    ∷ (codes "Recommends", Relation Depends)
+    ∷ (codes "Suggests", Relation Depends)
+    ∷ (codes "Enhances", Relation Depends)
+    ∷ (codes "Build-Depends", Relation Depends)
+    ∷ (codes "Build-Depends-Indep", Relation Depends)
+    ∷ (codes "Build-Depends-Arch", Relation Depends)
+    ∷ (codes "Breaks", Relation Conflicts)
+    ∷ (codes "Conflicts", Relation Conflicts)
+    ∷ (codes "Replaces", Relation Conflicts)
+    ∷ (codes "Built-Using", Relation Conflicts)
+    ∷ (codes "Build-Conflicts", Relation Conflicts)
+    ∷ (codes "Build-Conflicts-Indep", Relation Conflicts)
+    ∷ (codes "Build-Conflicts-Arch", Relation Conflicts)
+    ∷ (codes "Provides", Relation Provides)
     ∷ []
 
-abbrev pub table : Doc → List Row
-table doc =
-    (Name, codes "Package" ∷ [])
-    ∷ (Source, codes "Source" ∷ [])
-    ∷ (Version, codes "Version" ∷ [])
-    ∷ (architecture_kind doc, codes "Architecture" ∷ [])
-    ∷ (Flag, codes "Essential" ∷ [])
-    ∷ (MultiArch, codes "Multi-Arch" ∷ [])
-    ∷ (Number, codes "Installed-Size" ∷ codes "Size" ∷ [])
-    ∷ (Line, line_names)
-    ∷ (Folded, codes "Binary" ∷ codes "Uploaders" ∷ [])
-    ∷ relation_rows
+-- a row of the table of documents
+pub record DocumentKind : Type 0 where
+  -- the word for the kind
+  pub word : List ℕ
+  -- whether such a document has exactly one paragraph
+  pub single : Bool
+  -- the fields that each paragraph has to have
+  pub required : List (List ℕ)
+  -- what Architecture holds
+  pub architecture : Kind
+  -- what the other fields hold; those without a row are texts
+  pub fields : List FieldRow
 
--- the kind of the first row that has the name; of no row: text
-abbrev pub kind_among : List Row → List ℕ → Kind
+abbrev pub document : Doc → DocumentKind
+document docs.Binary = record {
+  word = codes "binary";
+  single = true;
+  required = codes "Package" ∷ codes "Version" ∷ codes "Architecture" ∷ [];
+  architecture = Architecture;
+  fields = field_kinds;
+}
+document docs.Packages = record {
+  word = codes "packages";
+  single = false;
+  required = codes "Package" ∷ codes "Version" ∷ codes "Architecture" ∷ [];
+  architecture = Architecture;
+  fields = field_kinds;
+}
+document docs.Source = record {
+  word = codes "source";
+  single = true;
+  required = codes "Format" ∷ codes "Source" ∷ codes "Version" ∷ [];
+  architecture = ArchitectureWords;
+  fields = field_kinds;
+}
+
+-- all kinds of documents
+abbrev pub documents : List Doc
+documents = docs.Binary ∷ docs.Packages ∷ docs.Source ∷ []
+
+-- whether a document of the kind has exactly one paragraph
+abbrev pub is_single : Doc → Bool
+is_single doc = (document doc).single
+
+-- the fields that each paragraph has to have
+abbrev pub required : Doc → List (List ℕ)
+required doc = (document doc).required
+
+-- the kind of the first row that has the name, which is folded; of no row: text
+abbrev pub kind_among : List FieldRow → List ℕ → Kind
 kind_among [] name = Text
-kind_among (row ∷ rows) name = cond (is_one_of name row.1) row.0 (kind_among rows name)
+kind_among (row ∷ rows) name = cond (bytes_eq (folded row.0) name) row.1 (kind_among rows name)
 
 -- the kind of a field, by its name without case
-abbrev pub kind_of : Doc → List ℕ → Kind
-kind_of doc name = kind_among (table doc) (folded name)
+unfoldable pub kind_of : Doc → List ℕ → Kind
+kind_of doc name =
+    kind_among ((codes "Architecture", (document doc).architecture) ∷ (document doc).fields)
+    (folded name)
+
+-- the first of these kinds of documents that has the word
+abbrev pub named_among : List Doc → List ℕ → Option Doc
+named_among [] word = None
+named_among (doc ∷ docs) word =
+    cond (bytes_eq (document doc).word word) (Some doc) (named_among docs word)
+
+-- the kind of document that a word names
+abbrev pub doc_named : List ℕ → Option Doc
+doc_named = named_among documents
 
 -- The kind of a field goes by its name without case alone.
 abbrev pub KindGoesByName : Type 0
@@ -110,58 +147,138 @@ abbrev pub KindOfCanonicalName : Type 0
 KindOfCanonicalName =
     (doc : Doc) (name : List ℕ) → kind_of doc (canonical_name name) ≡ kind_of doc name
 
-names_without_case : (kind_of docs.Packages (codes "pAcKAGE") ≡ Name)
-    × (kind_of docs.Packages (codes "MULTI-ARCH") ≡ MultiArch)
-    × (kind_of docs.Binary (codes "standards-version") ≡ Line)
-unfolding is_one_of
-names_without_case = (refl, refl, refl)
+-- Worked cases. Each name is written out here, and not taken from the table.
 
-architectures : (kind_of docs.Binary (codes "Architecture") ≡ Architecture)
-    × (kind_of docs.Packages (codes "Architecture") ≡ Architecture)
-    × (kind_of docs.Source (codes "architecture") ≡ ArchitectureWords)
-unfolding is_one_of
+-- under a kind of document these fields have the kind
+abbrev HasKind : Doc → Kind → List (List ℕ) → Type 0
+HasKind doc kind names = map (kind_of doc) names ≡ map (λ name. kind) names
+
+-- and under each kind of document
+abbrev HasKindInEach : Kind → List (List ℕ) → Type 0
+HasKindInEach kind names =
+    HasKind docs.Binary kind names
+    × HasKind docs.Packages kind names
+    × HasKind docs.Source kind names
+
+names : HasKindInEach Name (codes "Package" ∷ codes "pACKAGE" ∷ [])
+unfolding kind_of
+names = (refl, refl, refl)
+
+sources : HasKindInEach Source (codes "Source" ∷ codes "SOURCE" ∷ [])
+unfolding kind_of
+sources = (refl, refl, refl)
+
+versions : HasKindInEach Version (codes "Version" ∷ codes "version" ∷ [])
+unfolding kind_of
+versions = (refl, refl, refl)
+
+architectures : HasKind docs.Binary Architecture (codes "Architecture" ∷ codes "architecturE" ∷ [])
+    × HasKind docs.Packages Architecture (codes "Architecture" ∷ codes "ARCHITECTURE" ∷ [])
+    × HasKind docs.Source ArchitectureWords (codes "Architecture" ∷ codes "architecture" ∷ [])
+unfolding kind_of
 architectures = (refl, refl, refl)
 
-other_kinds : (kind_of docs.Source (codes "Source") ≡ Source)
-    × (kind_of docs.Source (codes "Version") ≡ Version)
-    × (kind_of docs.Binary (codes "Essential") ≡ Flag)
-    × (kind_of docs.Binary (codes "Installed-Size") ≡ Number)
-    × (kind_of docs.Packages (codes "Size") ≡ Number)
-    × (kind_of docs.Source (codes "Uploaders") ≡ Folded)
-    × (kind_of docs.Source (codes "Binary") ≡ Folded)
-unfolding is_one_of
-other_kinds = (refl, refl, refl, refl, refl, refl, refl)
+flags : HasKindInEach Flag (codes "Essential" ∷ codes "eSSENTIAL" ∷ [])
+unfolding kind_of
+flags = (refl, refl, refl)
 
--- under each kind of document, the fields that declare dependencies and the other ones
-dependencies : (map (kind_of docs.Binary) dependency_names
-    ≡ map (λ name. Relation Depends) dependency_names)
-    × (map (kind_of docs.Packages) dependency_names
-    ≡ map (λ name. Relation Depends) dependency_names)
-    × (map (kind_of docs.Source) dependency_names
-    ≡ map (λ name. Relation Depends) dependency_names)
-unfolding is_one_of
+multi_archs : HasKindInEach MultiArch (codes "Multi-Arch" ∷ codes "MULTI-arch" ∷ [])
+unfolding kind_of
+multi_archs = (refl, refl, refl)
+
+numbers : HasKindInEach Number
+    (codes "Installed-Size" ∷ codes "Size" ∷ codes "INSTALLED-SIZE" ∷ codes "sIZE" ∷ [])
+unfolding kind_of
+numbers = (refl, refl, refl)
+
+lines : HasKindInEach Line
+    (codes "Maintainer" ∷ codes "Homepage" ∷ codes "Section" ∷ codes "Priority"
+    ∷ codes "Filename" ∷ codes "Format" ∷ codes "Standards-Version"
+    ∷ codes "maintainer" ∷ codes "HOMEPAGE" ∷ codes "SECTION" ∷ codes "priority"
+    ∷ codes "fileName" ∷ codes "fORMAT" ∷ codes "standards-version" ∷ [])
+unfolding kind_of
+lines = (refl, refl, refl)
+
+lists : HasKindInEach Folded
+    (codes "Binary" ∷ codes "Uploaders" ∷ codes "BINARY" ∷ codes "uploaders" ∷ [])
+unfolding kind_of
+lists = (refl, refl, refl)
+
+dependencies : HasKindInEach (Relation Depends)
+    (codes "Depends" ∷ codes "Pre-Depends" ∷ codes "Recommends" ∷ codes "Suggests"
+    ∷ codes "Enhances" ∷ codes "Build-Depends" ∷ codes "Build-Depends-Indep"
+    ∷ codes "Build-Depends-Arch"
+    ∷ codes "DEPENDS" ∷ codes "pre-dEPENDS" ∷ codes "recommends" ∷ codes "SUGGESTS"
+    ∷ codes "enhances" ∷ codes "build-depends" ∷ codes "BUILD-DEPENDS-INDEP"
+    ∷ codes "build-Depends-arch" ∷ [])
+unfolding kind_of
 dependencies = (refl, refl, refl)
 
-conflicts : (map (kind_of docs.Binary) conflict_names
-    ≡ map (λ name. Relation Conflicts) conflict_names)
-    × (map (kind_of docs.Packages) conflict_names
-    ≡ map (λ name. Relation Conflicts) conflict_names)
-    × (map (kind_of docs.Source) conflict_names
-    ≡ map (λ name. Relation Conflicts) conflict_names)
-unfolding is_one_of
+conflicts : HasKindInEach (Relation Conflicts)
+    (codes "Breaks" ∷ codes "Conflicts" ∷ codes "Replaces" ∷ codes "Built-Using"
+    ∷ codes "Build-Conflicts" ∷ codes "Build-Conflicts-Indep" ∷ codes "Build-Conflicts-Arch"
+    ∷ codes "BREAKS" ∷ codes "conflicts" ∷ codes "REPLACES" ∷ codes "built-using"
+    ∷ codes "build-conflicts" ∷ codes "build-conflicts-indep" ∷ codes "BUILD-CONFLICTS-ARCH" ∷ [])
+unfolding kind_of
 conflicts = (refl, refl, refl)
 
-relations_without_case : (kind_of docs.Packages (codes "PROVIDES") ≡ Relation Provides)
-    × (kind_of docs.Packages (codes "pre-dEPENDS") ≡ Relation Depends)
-    × (kind_of docs.Source (codes "BUILD-CONFLICTS-ARCH") ≡ Relation Conflicts)
-unfolding is_one_of
-relations_without_case = (refl, refl, refl)
+provides : HasKindInEach (Relation Provides) (codes "Provides" ∷ codes "PROVIDES" ∷ [])
+unfolding kind_of
+provides = (refl, refl, refl)
 
-texts : (kind_of docs.Packages (codes "MD5sum") ≡ Text)
-    × (kind_of docs.Packages (codes "Description") ≡ Text)
-    × (kind_of docs.Source (codes "Files") ≡ Text)
-    × (kind_of docs.Packages (codes "Build-Provides") ≡ Text)
-    × (kind_of docs.Packages (codes "Depend") ≡ Text)
-    × (kind_of docs.Packages (codes "Packages") ≡ Text) × (kind_of docs.Packages [] ≡ Text)
-unfolding is_one_of
-texts = (refl, refl, refl, refl, refl, refl, refl)
+-- fields of Debian's files that are in no table, names that are nearly in one, and no name
+texts : HasKindInEach Text
+    (codes "Description" ∷ codes "Files" ∷ codes "Checksums-Sha1" ∷ codes "Checksums-Sha256"
+    ∷ codes "Package-List" ∷ codes "MD5sum" ∷ codes "SHA256" ∷ codes "Directory" ∷ codes "Tag"
+    ∷ codes "Conffiles" ∷ codes "Changes" ∷ codes "Date" ∷ codes "Vcs-Git" ∷ codes "Testsuite"
+    ∷ codes "Static-Built-Using" ∷ codes "Build-Provides" ∷ codes "Build-Depends-Any"
+    ∷ codes "Depend" ∷ codes "Packages" ∷ codes "Multi_Arch" ∷ codes "Version-" ∷ [] ∷ [])
+unfolding kind_of
+texts = (refl, refl, refl)
+
+required_fields : (required docs.Binary
+    ≡ codes "Package" ∷ codes "Version" ∷ codes "Architecture" ∷ [])
+    × (required docs.Packages ≡ codes "Package" ∷ codes "Version" ∷ codes "Architecture" ∷ [])
+    × (required docs.Source ≡ codes "Format" ∷ codes "Source" ∷ codes "Version" ∷ [])
+required_fields = (refl, refl, refl)
+
+single_paragraphs : (is_single docs.Binary ≡ true) × (is_single docs.Packages ≡ false)
+    × (is_single docs.Source ≡ true)
+single_paragraphs = (refl, refl, refl)
+
+-- words have one case
+words : (doc_named (codes "binary") ≡ Some docs.Binary)
+    × (doc_named (codes "packages") ≡ Some docs.Packages)
+    × (doc_named (codes "source") ≡ Some docs.Source)
+    × (doc_named (codes "Source") ≡ None)
+    × (doc_named (codes "sourc") ≡ None)
+    × (doc_named [] ≡ None)
+words = (refl, refl, refl, refl, refl, refl)
+
+-- the codes of refusals, which go from the text of a file over its paragraphs and values to words
+numbers_of_codes : map number_of
+    (code.NotUtf8 ∷ code.Armour ∷ code.Comment ∷ code.StrayContinuation ∷ code.BadFieldName
+    ∷ code.NoColon ∷ code.DuplicateField ∷ code.ParagraphTooLong ∷ code.FileTooLong
+    ∷ code.NoParagraph ∷ code.TooManyParagraphs ∷ code.MissingField ∷ code.NotOneLine
+    ∷ code.BadName ∷ code.BadNumber ∷ code.BadWord ∷ code.BadArchitecture ∷ code.BadVersion
+    ∷ code.BadRelation ∷ code.AlternativesNotAllowed ∷ code.ProvidesBound ∷ code.Wildcard
+    ∷ code.BadEnvironment ∷ [])
+    ≡ 1 ∷ 2 ∷ 3 ∷ 4 ∷ 5 ∷ 6 ∷ 7 ∷ 8 ∷ 9 ∷ 10 ∷ 11 ∷ 12 ∷ 13 ∷ 14 ∷ 15 ∷ 16 ∷ 17 ∷ 18 ∷ 19 ∷ 20
+    ∷ 21 ∷ 22 ∷ 23 ∷ []
+numbers_of_codes = refl
+
+names_of_codes : map name_of
+    (code.NotUtf8 ∷ code.Armour ∷ code.Comment ∷ code.StrayContinuation ∷ code.BadFieldName
+    ∷ code.NoColon ∷ code.DuplicateField ∷ code.ParagraphTooLong ∷ code.FileTooLong
+    ∷ code.NoParagraph ∷ code.TooManyParagraphs ∷ code.MissingField ∷ code.NotOneLine
+    ∷ code.BadName ∷ code.BadNumber ∷ code.BadWord ∷ code.BadArchitecture ∷ code.BadVersion
+    ∷ code.BadRelation ∷ code.AlternativesNotAllowed ∷ code.ProvidesBound ∷ code.Wildcard
+    ∷ code.BadEnvironment ∷ [])
+    ≡ codes "NotUtf8" ∷ codes "Armour" ∷ codes "Comment" ∷ codes "StrayContinuation"
+    ∷ codes "BadFieldName" ∷ codes "NoColon" ∷ codes "DuplicateField" ∷ codes "ParagraphTooLong"
+    ∷ codes "FileTooLong" ∷ codes "NoParagraph" ∷ codes "TooManyParagraphs" ∷ codes "MissingField"
+    ∷ codes "NotOneLine" ∷ codes "BadName" ∷ codes "BadNumber" ∷ codes "BadWord"
+    ∷ codes "BadArchitecture" ∷ codes "BadVersion" ∷ codes "BadRelation"
+    ∷ codes "AlternativesNotAllowed" ∷ codes "ProvidesBound" ∷ codes "Wildcard"
+    ∷ codes "BadEnvironment" ∷ []
+names_of_codes = refl

@@ -1,5 +1,5 @@
 -- The laws for values of all kinds.
-use Rattle.std.proofs.Common.{◌≡◌, ℕ, List, refl, ap}
+use Rattle.std.proofs.Common.{◌≡◌, ℕ, List, ◌∷◌, codes, refl, ap}
 use Rattle.deb_base.specs.Names.{canonical_name}
 use Rattle.deb_base.proofs.CanonicalNames.{folded-canonical_name}
 use Rattle.deb_version.specs.Parts.{Meaning as VersionMeaning}
@@ -11,7 +11,7 @@ use Rattle.deb_field.specs.CanonLaw.{CanonLaw, RefusalLaw}
 use Rattle.deb_field.specs.CanonLaws.{law-through, refusals-through}
 use Rattle.deb_field.specs.FlagLaws.{flag_law, flag_refusals, multi_arch_law, multi_arch_refusals}
 use Rattle.deb_field.specs.Flags.{flag_text, SpellsFlag, flag_refusal, multi_arch_text, SpellsMultiArch, multi_arch_refusal}
-use Rattle.deb_field.specs.Kinds.{table, kind_among, kind_of, KindGoesByName, KindOfCanonicalName}
+use Rattle.deb_field.specs.Kinds.{document, kind_among, kind_of, KindGoesByName, KindOfCanonicalName}
 use Rattle.deb_field.specs.NumberLaw.{number_law, number_refusals}
 use Rattle.deb_field.specs.Numbers.{SpellsNumber, number_refusal}
 use Rattle.deb_field.specs.RelationFields.{SpellsRelationship, relationship_refusal}
@@ -113,7 +113,10 @@ value_refusals doc name = kind_refusals (kind_of doc name)
 
 -- the kind goes by the name without case, and so do what spells a value and what is refused
 pub kind_goes_by_name : KindGoesByName
-kind_goes_by_name doc a b same = ap (kind_among (table doc)) same
+unfolding kind_of
+kind_goes_by_name doc a b same =
+    ap (kind_among ((codes "Architecture", (document doc).architecture) ∷ (document doc).fields))
+    same
 
 pub kind_of_canonical_name : KindOfCanonicalName
 kind_of_canonical_name doc name =

@@ -2,11 +2,12 @@
 
 use crate::flag::{Flag, MultiArch};
 use crate::folded::{ArchitectureWords, Folded};
-use crate::kind::{Doc, Kind, kind_of};
+use crate::kind::{Doc, Kind};
 use crate::names::{ArchitectureName, PackageName};
 use crate::number::Number;
 use crate::relation::RelationField;
 use crate::source::SourceName;
+use crate::tables::kind_of;
 use crate::text::{Line, Text};
 use crate::version::parse_version;
 use deb_base::Code;

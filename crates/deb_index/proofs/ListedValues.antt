@@ -14,7 +14,7 @@ use Rattle.deb_syntax.specs.Meaning.{byte_order, entries_of}
 use Rattle.deb_syntax.specs.Raw.{field_named}
 use Rattle.deb_syntax.proofs.JudgingLawsMeaning.{body_at-entries_of}
 use Rattle.deb_field.specs.Flags.{SpellsMultiArch}
-use Rattle.deb_field.specs.Kinds.{is_one_of, required}
+use Rattle.deb_field.specs.Kinds.{kind_of, required}
 use Rattle.deb_field.specs.ValueLaws.{value_law}
 use Rattle.deb_field.specs.Values.{ValueMeaning, NameMeans, VersionMeans, ArchitectureMeans, MultiArchMeans, RelationMeans, value_text, SpellsValue}
 use Rattle.deb_field.specs.declared.flag.MultiArch.{MultiArch}
@@ -88,31 +88,31 @@ module _ (doc : Doc) (seen : Seen) (text : List ℕ) (kind : doc ≡ Packages) (
   has-same name v w same has = record { values = has.values; are = has.are; found = ap Some (sym same) ∙ has.found }
 
   pub name-read : (field : Field) → field_named (codes "Package") seen.fields ≡ Some field → HasValue Packages seen (codes "Package") (Some (NameMeans field.body))
-  unfolding is_one_of
+  unfolding kind_of
   name-read field is =
       let s = spelled-under (codes "Package") field is in
       has-same (codes "Package") s.0 (NameMeans field.body) (s.1.1 ∙ ap NameMeans (sym s.1.2.0)) s.2
 
   pub architecture-read : (field : Field) → field_named (codes "Architecture") seen.fields ≡ Some field → HasValue Packages seen (codes "Architecture") (Some (ArchitectureMeans field.body))
-  unfolding is_one_of
+  unfolding kind_of
   architecture-read field is =
       let s = spelled-under (codes "Architecture") field is in
       has-same (codes "Architecture") s.0 (ArchitectureMeans field.body) (s.1.1 ∙ ap ArchitectureMeans (sym s.1.2.0)) s.2
 
   pub version-read : (field : Field) → field_named (codes "Version") seen.fields ≡ Some field → (version : Version) × SpellsVersion field.body version × HasValue Packages seen (codes "Version") (Some (VersionMeans version))
-  unfolding is_one_of
+  unfolding kind_of
   version-read field is =
       let s = spelled-under (codes "Version") field is in
       (s.1.0, s.1.2, has-same (codes "Version") s.0 (VersionMeans s.1.0) s.1.1 s.2)
 
   pub multi_arch-read : (field : Field) → field_named (codes "Multi-Arch") seen.fields ≡ Some field → (word : MultiArch) × SpellsMultiArch field.body word × HasValue Packages seen (codes "Multi-Arch") (Some (MultiArchMeans word))
-  unfolding is_one_of
+  unfolding kind_of
   multi_arch-read field is =
       let s = spelled-under (codes "Multi-Arch") field is in
       (s.1.0, s.1.2, has-same (codes "Multi-Arch") s.0 (MultiArchMeans s.1.0) s.1.1 s.2)
 
   pub provides-read : (field : Field) → field_named (codes "Provides") seen.fields ≡ Some field → (relation : Relation) × SpellsRelation field.body relation × HasValue Packages seen (codes "Provides") (Some (RelationMeans relation))
-  unfolding is_one_of
+  unfolding kind_of
   provides-read field is =
       let s = spelled-under (codes "Provides") field is in
       (s.1.0, s.1.2.spells, has-same (codes "Provides") s.0 (RelationMeans s.1.0) s.1.1 s.2)

@@ -10,7 +10,8 @@ use Rattle.clap.specs.declared.error.kind.ErrorKind.{ErrorKind}
 use Rattle.clap.specs.declared.error.kind.ErrorKind.TheVariants.{DisplayHelp, DisplayVersion, OutOfMemory}
 use Rattle.debctl_words.specs.Commands.{debctl_app, check_word, normalise_word, same_word, compare_word, canon_version_word, sort_word, query_word, help_word}
 use Rattle.deb_field.specs.declared.kind.Doc.{Doc}
-use Rattle.deb_field.specs.declared.kind.Doc.TheVariants.{Binary, Packages, Source}
+use Rattle.deb_field.specs.declared.kind.Doc.TheVariants.{Packages}
+use Rattle.deb_field.specs.Kinds.{doc_named}
 use Rattle.debctl_words.specs.declared.jobs.Call.{Call}
 use Rattle.debctl_words.specs.declared.jobs.Cmp.{Cmp}
 use Rattle.debctl_words.specs.declared.jobs.Cmp.TheVariants as cmp
@@ -21,18 +22,10 @@ use Rattle.debctl_words.specs.declared.words.UsageFault.TheVariants.{Usage, Help
 
 -- ---- words
 
--- the kind of document that a word names
-abbrev pub kind_named : Text → Option Doc
-kind_named word =
-    if bytes_eq word (codes "binary") then Some Binary
-    else if bytes_eq word (codes "packages") then Some Packages
-    else if bytes_eq word (codes "source") then Some Source
-    else None
-
 -- the kind that is asked for: a list of packages where no word names one
 abbrev pub kind_asked : Option Text → Option Doc
 kind_asked None = Some Packages
-kind_asked (Some word) = kind_named word
+kind_asked (Some word) = doc_named word
 
 -- the operator that a word names
 abbrev pub operator_named : Text → Option Cmp

@@ -5,6 +5,7 @@ ghost use Rattle.clap.specs.Words.{rule_of};
 ghost use Rattle.debctl_words.specs.Commands.{arch_rule, bare_app, canon_version_app, check_word, normalise_word, compare_app, debctl_app, document_app, help_app, kind_rule, optional_rule, profiles_rule, query_app, required_rule, reverse_rule, same_app, sort_app, IsShaped};
 
 use clap::{Arg, ArgAction, Command};
+use deb_field::{Doc, is_single};
 use std::alloc::{AllocError, Global};
 
 const DEBCTL_HELP: &str = "\
@@ -23,9 +24,6 @@ A version or a path that begins with a hyphen comes after `--`:
 `debctl help COMMAND` has more on a command, with an example.";
 
 const CHECK_HELP: &str = "\
-A control file of a binary package and a source description have one paragraph,
-a list of packages any number.
-
 Statuses:
   0  accepted: `ok N` is printed, for a file of N paragraphs
   2  refused: standard error has `line N: CODE NAME`, for the first fault
@@ -68,9 +66,6 @@ Example:
   $ debctl same one other; echo $?
   same
   0";
-
-const KIND_HELP: &str =
-    "The kind of file: packages (a list of packages; the default), binary or source";
 
 const COMPARE_HELP: &str = "\
 Nothing is printed: the status is the answer.
@@ -165,14 +160,29 @@ const ARCH_HELP: &str = "The architecture that packages are asked for, such as a
 const PROFILES_HELP: &str =
     "The build profiles that are active, with commas between them; none without it";
 
-/// The program: `debctl`, with a command for each job, and `help`.
-pub(crate) fn debctl_command<'a>(alloc: Global) -> Result<Command<'a>, AllocError>
+/// The help of `--kind`: a line for each kind of document.
+pub(crate) fn kinds_help(alloc: Global) -> Result<String, AllocError> {
+    let mut help = String::from_str(alloc, "The kind of file; packages without it")?;
+    for doc in Doc::ALL {
+        let paragraphs = if is_single(*doc) {
+            "one paragraph"
+        } else {
+            "any number of paragraphs"
+        };
+        let (word, about) = (doc.word(), doc.about());
+        help.push_str(&format!(in alloc; "\n  {word}: {about}; {paragraphs}")?)?;
+    }
+    Ok(help)
+}
+
+/// The program: `debctl`, with a command for each job, and `help`. `kinds` is the help of `--kind`.
+pub(crate) fn debctl_command<'a>(alloc: Global, kinds: &'a str) -> Result<Command<'a>, AllocError>
     ensures { IfOk result (IsShaped debctl_app) }
 {
     bare_command(alloc)
-        .subcommand(check_command(alloc)?)?
-        .subcommand(normalise_command(alloc)?)?
-        .subcommand(same_command(alloc)?)?
+        .subcommand(check_command(alloc, kinds)?)?
+        .subcommand(normalise_command(alloc, kinds)?)?
+        .subcommand(same_command(alloc, kinds)?)?
         .subcommand(compare_command(alloc)?)?
         .subcommand(canon_version_command(alloc)?)?
         .subcommand(sort_command(alloc)?)?
@@ -193,7 +203,7 @@ fn bare_command<'a>(alloc: Global) -> Command<'a>
 }
 
 /// `check [--kind K] [PATH]`
-pub(crate) fn check_command<'a>(alloc: Global) -> Result<Command<'a>, AllocError>
+pub(crate) fn check_command<'a>(alloc: Global, kinds: &'a str) -> Result<Command<'a>, AllocError>
     ensures { IfOk result (IsShaped (document_app check_word)) }
 {
     document_command(
@@ -201,11 +211,15 @@ pub(crate) fn check_command<'a>(alloc: Global) -> Result<Command<'a>, AllocError
         "check",
         "Says whether a file is accepted",
         CHECK_HELP,
+        kinds,
     )
 }
 
 /// `normalise [--kind K] [PATH]`
-pub(crate) fn normalise_command<'a>(alloc: Global) -> Result<Command<'a>, AllocError>
+pub(crate) fn normalise_command<'a>(
+    alloc: Global,
+    kinds: &'a str,
+) -> Result<Command<'a>, AllocError>
     ensures { IfOk result (IsShaped (document_app normalise_word)) }
 {
     document_command(
@@ -213,6 +227,7 @@ pub(crate) fn normalise_command<'a>(alloc: Global) -> Result<Command<'a>, AllocE
         "normalise",
         "Writes the canonical text of a file",
         NORMALISE_HELP,
+        kinds,
     )
 }
 
@@ -222,13 +237,14 @@ fn document_command<'a>(
     name: &'a str,
     about: &'a str,
     more: &'a str,
+    kinds: &'a str,
 ) -> Result<Command<'a>, AllocError>
     ensures { IfOk result (IsShaped (document_app name.entry.now)) }
 {
     Command::new(alloc, name)
         .about(about)
         .after_help(more)
-        .arg(kind_option(alloc))?
+        .arg(kind_option(alloc, kinds))?
         .arg(optional_word(
             alloc,
             "path",
@@ -238,13 +254,13 @@ fn document_command<'a>(
 }
 
 /// `same [--kind K] PATH PATH`
-pub(crate) fn same_command<'a>(alloc: Global) -> Result<Command<'a>, AllocError>
+pub(crate) fn same_command<'a>(alloc: Global, kinds: &'a str) -> Result<Command<'a>, AllocError>
     ensures { IfOk result (IsShaped same_app) }
 {
     Command::new(alloc, "same")
         .about("Says whether two files mean the same")
         .after_help(SAME_HELP)
-        .arg(kind_option(alloc))?
+        .arg(kind_option(alloc, kinds))?
         .arg(required_word(alloc, "first", "PATH", "The first file"))?
         .arg(required_word(alloc, "second", "PATH", "The second file"))
 }
@@ -325,14 +341,14 @@ pub(crate) fn help_command<'a>(alloc: Global) -> Result<Command<'a>, AllocError>
 }
 
 /// `--kind K`
-fn kind_option<'a>(alloc: Global) -> Arg<'a>
+fn kind_option<'a>(alloc: Global, help: &'a str) -> Arg<'a>
     ensures rule { rule_of result ≡ kind_rule }
     ensures local { result.global ≡ false }
 {
     Arg::new(alloc, "kind")
         .long("kind")
         .value_name("K")
-        .help(KIND_HELP)
+        .help(help)
 }
 
 /// `--reverse`

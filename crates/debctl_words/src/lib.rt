@@ -15,7 +15,7 @@
 
 mod commands;
 mod jobs;
-mod kind_word;
+mod operator_word;
 mod words;
 
 pub use jobs::{Call, Cmp, Job};

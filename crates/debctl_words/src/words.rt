@@ -7,10 +7,10 @@ ghost use Rattle.debctl_words.specs.Commands.{debctl_app};
 
 use crate::commands::{
     canon_version_command, check_command, compare_command, debctl_command, help_command,
-    normalise_command, query_command, same_command, sort_command,
+    kinds_help, normalise_command, query_command, same_command, sort_command,
 };
 use crate::jobs::{Call, Job};
-use crate::kind_word::{kind_named, operator_named};
+use crate::operator_word::operator_named;
 use clap::error::{Error, ErrorKind};
 use clap::{ArgMatches, Command};
 use deb_field::Doc;
@@ -73,7 +73,8 @@ pub fn job_of(alloc: Global, words: &[String]) -> Result<Call, UsageFault>
         → asked_of (map string_bytes words.now) ≡ Some (asks request)
         → IfErr result (λ error. error ≡ UsageFault.Memory) }
 {
-    let command = debctl_command(alloc)?;
+    let kinds = kinds_help(alloc)?;
+    let command = debctl_command(alloc, &kinds)?;
     match command.try_get_matches_from(words) {
         Ok(matches) => call_of(alloc, &matches),
         Err(error) => Err(refusal_of(alloc, &error)),
@@ -227,7 +228,7 @@ fn kind_in(alloc: Global, found: &ArgMatches<'_>) -> Result<Doc, UsageFault>
     let Some(word) = given(found, "kind") else {
         return Ok(Doc::Packages);
     };
-    match kind_named(word) {
+    match Doc::named(word) {
         Some(kind) => Ok(kind),
         None => Err(usage(alloc, "usage: unknown kind")),
     }
@@ -299,11 +300,21 @@ fn word_in<'a>(found: &ArgMatches<'a>, id: &str) -> &'a str
 fn help_on(alloc: Global, word: Option<&str>) -> UsageFault
     ensures { AnswersError (help_asked (option_copied word.entry)) result }
 {
+    match kinds_help(alloc) {
+        Ok(kinds) => help_with(alloc, word, &kinds),
+        Err(_) => UsageFault::Memory,
+    }
+}
+
+/// The same, with the help of `--kind`.
+fn help_with(alloc: Global, word: Option<&str>, kinds: &str) -> UsageFault
+    ensures { AnswersError (help_asked (option_copied word.entry)) result }
+{
     match word {
-        None => help_of(alloc, debctl_command(alloc), "debctl"),
-        Some("check") => help_of(alloc, check_command(alloc), "debctl check"),
-        Some("normalise") => help_of(alloc, normalise_command(alloc), "debctl normalise"),
-        Some("same") => help_of(alloc, same_command(alloc), "debctl same"),
+        None => help_of(alloc, debctl_command(alloc, kinds), "debctl"),
+        Some("check") => help_of(alloc, check_command(alloc, kinds), "debctl check"),
+        Some("normalise") => help_of(alloc, normalise_command(alloc, kinds), "debctl normalise"),
+        Some("same") => help_of(alloc, same_command(alloc, kinds), "debctl same"),
         Some("compare") => help_of(alloc, compare_command(alloc), "debctl compare"),
         Some("canon-version") => help_of(
             alloc,

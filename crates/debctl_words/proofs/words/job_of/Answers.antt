@@ -35,13 +35,13 @@ returns-in-Ok-clause-accepted c taken request asked =
     let is : app_of c.in_ok-command.command ≡ debctl_app = c.in_ok-command.ensures.is in
     asked_is_met (asked_of (map string_bytes c.args.words.now)) request c.call_of.result (words_are_answered (app_of c.in_ok-command.command) (map string_bytes c.args.words.now) (subcommand_rows_of c.in-Ok.matches) c.call_of.result is (c.in-Ok.ensures.matches (ap is_simple is ∙ is_simple_app)).1 c.call_of.ensures) asked
 
-pub returns-in-Err-clause-refused : goal.returns-in-Err-clause-refused
-returns-in-Err-clause-refused c =
+pub returns-clause-refused : goal.returns-clause-refused
+returns-clause-refused c =
     let is : app_of c.in_ok-command.command ≡ debctl_app = c.in_ok-command.ensures.is in
     let has : HasKind (fault_of debctl_app (map string_bytes c.args.words.now)) c.in-Err.error = subst (λ a. HasKind (fault_of a (map string_bytes c.args.words.now)) c.in-Err.error) is (c.in-Err.ensures.kinds (ap is_simple_and_free is ∙ is_free_app)) in
     kind_means _ _ c.in-Err.error c.refusal_of.result (app_unmixed (map string_bytes c.args.words.now)) has c.refusal_of.ensures
 
-pub returns-in-Err-clause-accepted : goal.returns-in-Err-clause-accepted
-returns-in-Err-clause-accepted c taken request asked =
+pub returns-clause-accepted : goal.returns-clause-accepted
+returns-clause-accepted c taken request asked =
     let is : app_of c.in_ok-command.command ≡ debctl_app = c.in_ok-command.ensures.is in
     memory_is_told (kind_of c.in-Err.error) c.refusal_of.result c.refusal_of.ensures (c.in-Err.ensures.passes (ap (λ a. takes a (map string_bytes c.args.words.now)) is ∙ taken))

@@ -1,0 +1,39 @@
+-- Look-ups in the two tables, one row after another.
+use Rattle.std.proofs.Common.{◌≡◌, ℕ, Bor, codes, ◌+◌, ◌<◌, Bool, true, false, cond, List, length, map, drop, get_or, Some, ap, sym, ◌∙◌}
+use Rattle.std.proofs.lemmas.Bool.Decides.{same_from_decides}
+use Rattle.std.proofs.lemmas.List.{drop_more}
+use Rattle.std.proofs.lemmas.Slice.Eq.{bytes_eq-Decides}
+use Rattle.std.specs.Bool.{Decides}
+use Rattle.std.specs.Str.{bytes_eq}
+use Rattle.deb_base.specs.Names.{folded}
+use Rattle.deb_field.specs.Kinds.{document, kind_among, kind_of, named_among}
+use Rattle.deb_field.specs.Tables.{row_in}
+use Rattle.deb_field.specs.declared.kind.Doc.{Doc}
+use Rattle.deb_field.specs.declared.kind.Kind.{Kind}
+
+-- the test of a name, as the code has it
+same_test : (a b : List ℕ) (t : Bool) → Decides t (folded a ≡ folded b) → bytes_eq (folded a) (folded b) ≡ t
+same_test a b t decides = sym (same_from_decides _ _ decides (bytes_eq-Decides (folded a) (folded b)))
+
+module _ (rows : List (Bor (List ℕ) × Kind)) (name : List ℕ) (i : ℕ) (d : Bor (List ℕ) × Kind) (within : i < length rows) (t : Bool) (decides : Decides t (folded (get_or rows i d).0.now ≡ folded name)) where
+  step : kind_among (map row_in (drop i rows)) (folded name) ≡ cond t (get_or rows i d).1 (kind_among (map row_in (drop (i + 1) rows)) (folded name))
+  step =
+      ap (λ rest. kind_among (map row_in rest) (folded name)) (drop_more rows i d within)
+      ∙ ap (λ u. cond u (get_or rows i d).1 (kind_among (map row_in (drop (i + 1) rows)) (folded name))) (same_test (get_or rows i d).0.now name t decides)
+
+  pub row-found : t ≡ true → kind_among (map row_in (drop i rows)) (folded name) ≡ (get_or rows i d).1
+  row-found is = step ∙ ap (λ u. cond u (get_or rows i d).1 (kind_among (map row_in (drop (i + 1) rows)) (folded name))) is
+
+  pub row-passed : t ≡ false → kind_among (map row_in (drop i rows)) (folded name) ≡ kind_among (map row_in (drop (i + 1) rows)) (folded name)
+  row-passed is = step ∙ ap (λ u. cond u (get_or rows i d).1 (kind_among (map row_in (drop (i + 1) rows)) (folded name))) is
+
+-- the kind of Architecture, and that of a name among the other fields
+pub kind_of-row : (doc : Doc) (name : List ℕ) (t : Bool) → Decides t (folded (codes "Architecture") ≡ folded name) → kind_of doc name ≡ cond t (document doc).architecture (kind_among (document doc).fields (folded name))
+unfolding kind_of
+kind_of-row doc name t decides = ap (λ u. cond u (document doc).architecture (kind_among (document doc).fields (folded name))) (same_test (codes "Architecture") name t decides)
+
+-- a kind of document that has another word is passed
+pub word-passed : (docs : List Doc) (word : List ℕ) (i : ℕ) (d : Doc) → i < length docs → bytes_eq (document (get_or docs i d)).word word ≡ false → named_among (drop i docs) word ≡ named_among (drop (i + 1) docs) word
+word-passed docs word i d within is =
+    ap (λ rest. named_among rest word) (drop_more docs i d within)
+    ∙ ap (λ u. cond u (Some (get_or docs i d)) (named_among (drop (i + 1) docs) word)) is

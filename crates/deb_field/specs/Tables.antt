@@ -1,0 +1,18 @@
+-- What the rows of the code's tables stand for.
+use Rattle.std.specs.Prelude.{ℕ, List, map}
+use Rattle.std.specs.Borrow.{Bor}
+use Rattle.deb_field.specs.Kinds.{DocumentKind, FieldRow}
+use Rattle.deb_field.specs.declared.tables.Document.{Document}
+use Rattle.deb_field.specs.declared.kind.Kind.{Kind}
+
+abbrev pub row_in : Bor (List ℕ) × Kind → FieldRow
+row_in row = (row.0.now, row.1)
+
+abbrev pub document_in : Document → DocumentKind
+document_in row = record {
+  word = row.word.now;
+  single = row.single;
+  required = map (λ name. name.now) row.required.now;
+  architecture = row.architecture;
+  fields = map row_in row.fields.now;
+}
