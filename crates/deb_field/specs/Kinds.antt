@@ -104,10 +104,17 @@ document docs.Source = record {
   architecture = ArchitectureWords;
   fields = field_kinds;
 }
+document docs.Sources = record {
+  word = codes "sources";
+  single = false;
+  required = codes "Package" ∷ codes "Version" ∷ [];
+  architecture = ArchitectureWords;
+  fields = field_kinds;
+}
 
 -- all kinds of documents
 abbrev pub documents : List Doc
-documents = docs.Binary ∷ docs.Packages ∷ docs.Source ∷ []
+documents = docs.Binary ∷ docs.Packages ∷ docs.Source ∷ docs.Sources ∷ []
 
 -- whether a document of the kind has exactly one paragraph
 abbrev pub is_single : Doc → Bool
@@ -159,37 +166,39 @@ HasKindInEach kind names =
     HasKind docs.Binary kind names
     × HasKind docs.Packages kind names
     × HasKind docs.Source kind names
+    × HasKind docs.Sources kind names
 
 names : HasKindInEach Name (codes "Package" ∷ codes "pACKAGE" ∷ [])
 unfolding kind_of
-names = (refl, refl, refl)
+names = (refl, refl, refl, refl)
 
 sources : HasKindInEach Source (codes "Source" ∷ codes "SOURCE" ∷ [])
 unfolding kind_of
-sources = (refl, refl, refl)
+sources = (refl, refl, refl, refl)
 
 versions : HasKindInEach Version (codes "Version" ∷ codes "version" ∷ [])
 unfolding kind_of
-versions = (refl, refl, refl)
+versions = (refl, refl, refl, refl)
 
 architectures : HasKind docs.Binary Architecture (codes "Architecture" ∷ codes "architecturE" ∷ [])
     × HasKind docs.Packages Architecture (codes "Architecture" ∷ codes "ARCHITECTURE" ∷ [])
     × HasKind docs.Source ArchitectureWords (codes "Architecture" ∷ codes "architecture" ∷ [])
+    × HasKind docs.Sources ArchitectureWords (codes "Architecture" ∷ codes "ARCHITecture" ∷ [])
 unfolding kind_of
-architectures = (refl, refl, refl)
+architectures = (refl, refl, refl, refl)
 
 flags : HasKindInEach Flag (codes "Essential" ∷ codes "eSSENTIAL" ∷ [])
 unfolding kind_of
-flags = (refl, refl, refl)
+flags = (refl, refl, refl, refl)
 
 multi_archs : HasKindInEach MultiArch (codes "Multi-Arch" ∷ codes "MULTI-arch" ∷ [])
 unfolding kind_of
-multi_archs = (refl, refl, refl)
+multi_archs = (refl, refl, refl, refl)
 
 numbers : HasKindInEach Number
     (codes "Installed-Size" ∷ codes "Size" ∷ codes "INSTALLED-SIZE" ∷ codes "sIZE" ∷ [])
 unfolding kind_of
-numbers = (refl, refl, refl)
+numbers = (refl, refl, refl, refl)
 
 lines : HasKindInEach Line
     (codes "Maintainer" ∷ codes "Homepage" ∷ codes "Section" ∷ codes "Priority"
@@ -197,12 +206,12 @@ lines : HasKindInEach Line
     ∷ codes "maintainer" ∷ codes "HOMEPAGE" ∷ codes "SECTION" ∷ codes "priority"
     ∷ codes "fileName" ∷ codes "fORMAT" ∷ codes "standards-version" ∷ [])
 unfolding kind_of
-lines = (refl, refl, refl)
+lines = (refl, refl, refl, refl)
 
 lists : HasKindInEach Folded
     (codes "Binary" ∷ codes "Uploaders" ∷ codes "BINARY" ∷ codes "uploaders" ∷ [])
 unfolding kind_of
-lists = (refl, refl, refl)
+lists = (refl, refl, refl, refl)
 
 dependencies : HasKindInEach (Relation Depends)
     (codes "Depends" ∷ codes "Pre-Depends" ∷ codes "Recommends" ∷ codes "Suggests"
@@ -212,7 +221,7 @@ dependencies : HasKindInEach (Relation Depends)
     ∷ codes "enhances" ∷ codes "build-depends" ∷ codes "BUILD-DEPENDS-INDEP"
     ∷ codes "build-Depends-arch" ∷ [])
 unfolding kind_of
-dependencies = (refl, refl, refl)
+dependencies = (refl, refl, refl, refl)
 
 conflicts : HasKindInEach (Relation Conflicts)
     (codes "Breaks" ∷ codes "Conflicts" ∷ codes "Replaces" ∷ codes "Built-Using"
@@ -220,11 +229,11 @@ conflicts : HasKindInEach (Relation Conflicts)
     ∷ codes "BREAKS" ∷ codes "conflicts" ∷ codes "REPLACES" ∷ codes "built-using"
     ∷ codes "build-conflicts" ∷ codes "build-conflicts-indep" ∷ codes "BUILD-CONFLICTS-ARCH" ∷ [])
 unfolding kind_of
-conflicts = (refl, refl, refl)
+conflicts = (refl, refl, refl, refl)
 
 provides : HasKindInEach (Relation Provides) (codes "Provides" ∷ codes "PROVIDES" ∷ [])
 unfolding kind_of
-provides = (refl, refl, refl)
+provides = (refl, refl, refl, refl)
 
 -- fields of Debian's files that are in no table, names that are nearly in one, and no name
 texts : HasKindInEach Text
@@ -234,26 +243,28 @@ texts : HasKindInEach Text
     ∷ codes "Static-Built-Using" ∷ codes "Build-Provides" ∷ codes "Build-Depends-Any"
     ∷ codes "Depend" ∷ codes "Packages" ∷ codes "Multi_Arch" ∷ codes "Version-" ∷ [] ∷ [])
 unfolding kind_of
-texts = (refl, refl, refl)
+texts = (refl, refl, refl, refl)
 
 required_fields : (required docs.Binary
     ≡ codes "Package" ∷ codes "Version" ∷ codes "Architecture" ∷ [])
     × (required docs.Packages ≡ codes "Package" ∷ codes "Version" ∷ codes "Architecture" ∷ [])
     × (required docs.Source ≡ codes "Format" ∷ codes "Source" ∷ codes "Version" ∷ [])
-required_fields = (refl, refl, refl)
+    × (required docs.Sources ≡ codes "Package" ∷ codes "Version" ∷ [])
+required_fields = (refl, refl, refl, refl)
 
 single_paragraphs : (is_single docs.Binary ≡ true) × (is_single docs.Packages ≡ false)
-    × (is_single docs.Source ≡ true)
-single_paragraphs = (refl, refl, refl)
+    × (is_single docs.Source ≡ true) × (is_single docs.Sources ≡ false)
+single_paragraphs = (refl, refl, refl, refl)
 
 -- words have one case
 words : (doc_named (codes "binary") ≡ Some docs.Binary)
     × (doc_named (codes "packages") ≡ Some docs.Packages)
     × (doc_named (codes "source") ≡ Some docs.Source)
+    × (doc_named (codes "sources") ≡ Some docs.Sources)
     × (doc_named (codes "Source") ≡ None)
     × (doc_named (codes "sourc") ≡ None)
     × (doc_named [] ≡ None)
-words = (refl, refl, refl, refl, refl, refl)
+words = (refl, refl, refl, refl, refl, refl, refl)
 
 -- the codes of refusals, which go from the text of a file over its paragraphs and values to words
 numbers_of_codes : map number_of

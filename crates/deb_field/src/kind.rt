@@ -11,6 +11,8 @@ pub enum Doc {
     Packages,
     /// The description of a source package, without signature: one paragraph (Debian Policy 5.4).
     Source,
+    /// An index of source packages: any number of paragraphs, none included.
+    Sources,
 }
 
 /// A kind of value: what a field's body may be, and what it means.

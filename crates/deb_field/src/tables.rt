@@ -94,6 +94,14 @@ fn row_of(doc: Doc) -> Document
             architecture: Kind::ArchitectureWords,
             fields: FIELDS,
         },
+        Doc::Sources => Document {
+            word: "sources",
+            about: "an index of source packages",
+            single: false,
+            required: &[b"Package", b"Version"],
+            architecture: Kind::ArchitectureWords,
+            fields: FIELDS,
+        },
     }
 }
 
@@ -137,7 +145,7 @@ fn kind_among(rows: &[(&[u8], Kind)], name: &[u8]) -> Kind
 
 impl Doc {
     /// All kinds of documents.
-    pub const ALL: &'static [Doc] = &[Doc::Binary, Doc::Packages, Doc::Source];
+    pub const ALL: &'static [Doc] = &[Doc::Binary, Doc::Packages, Doc::Source, Doc::Sources];
 
     /// The word for the kind.
     pub fn word(self) -> &'static str

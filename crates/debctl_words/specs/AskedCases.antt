@@ -7,7 +7,7 @@ use Rattle.clap.specs.Walk.{Text}
 use Rattle.clap.specs.declared.error.kind.ErrorKind.TheVariants as kind
 use Rattle.debctl_words.specs.Asked.{asked_of, asks, asks_help, canonicalises, checks, comma_pieces, compares, normalises, profiles_asked, queries, sorts, tells_same, unknown_command, unknown_kind, unknown_operator, Asked}
 use Rattle.debctl_words.specs.Commands.{debctl_app}
-use Rattle.deb_field.specs.declared.kind.Doc.TheVariants.{Binary, Packages, Source}
+use Rattle.deb_field.specs.declared.kind.Doc.TheVariants.{Binary, Packages, Source, Sources}
 use Rattle.debctl_words.specs.declared.jobs.Cmp.TheVariants as cmp
 
 -- words behind the program's name
@@ -23,6 +23,11 @@ kind_and_path : asked_of (line (codes "normalise" ∷ codes "--kind=source" ∷ 
     ≡ Some (asks (record { wanted = normalises Source; first = Some (codes "x"); second = None }))
 unfolding clap_on_literals
 kind_and_path = refl
+
+index_of_sources : asked_of (line (codes "check" ∷ codes "--kind" ∷ codes "sources" ∷ []))
+    ≡ Some (asks (record { wanted = checks Sources; first = None; second = None }))
+unfolding clap_on_literals
+index_of_sources = refl
 
 unknown_kind_word : asked_of (line (codes "check" ∷ codes "--kind" ∷ codes "foo" ∷ []))
     ≡ Some unknown_kind

@@ -24,6 +24,9 @@ A version or a path that begins with a hyphen comes after `--`:
 `debctl help COMMAND` has more on a command, with an example.";
 
 const CHECK_HELP: &str = "\
+A file is of one kind. An index of source packages wants `--kind sources`: under
+another kind it is refused for its Architecture or for a missing field.
+
 Statuses:
   0  accepted: `ok N` is printed, for a file of N paragraphs
   2  refused: standard error has `line N: CODE NAME`, for the first fault
