@@ -24,3 +24,4 @@ pub mod ComparedSoFar
 pub mod PartsWithin
 pub mod ReadAlone
 pub mod RefusalLines
+pub mod RefusalsOfAny

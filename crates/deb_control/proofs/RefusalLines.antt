@@ -29,14 +29,14 @@ use Rattle.deb_control.proofs.PartsWithin.{part-front}
 use Rattle.deb_control.proofs.Passing.{IsSeen, seen-parts, answer_of_first-cons}
 use Rattle.deb_control.proofs.RefusalCodes.{built-code}
 
-same_refusal : {A : Type 0} (r : Result A Refusal) (a b : Refusal) → r ≡ Err a → r ≡ Err b → a ≡ b
+pub same_refusal : {A : Type 0} (r : Result A Refusal) (a b : Refusal) → r ≡ Err a → r ≡ Err b → a ≡ b
 same_refusal r a b e f = cc
 
 same_some : {A : Type 0} (o : Option A) (a b : A) → o ≡ Some a → o ≡ Some b → a ≡ b
 same_some o a b e f = cc
 
 -- a file that is refused is so behind some of its paragraphs
-refused_behind : (rules : Rules) (text : List ℕ) (before : List Entries) (left : List Paragraph) (refusal : Refusal) → left ≡ drop (length before) (paragraphs_within text) → (outcome_behind rules (line_beyond 1 file_limit text) (line_behind text) before left).refusal ≡ Some refusal → (front : List Entries) × (next_checked rules text front ≡ Err refusal)
+pub refused_behind : (rules : Rules) (text : List ℕ) (before : List Entries) (left : List Paragraph) (refusal : Refusal) → left ≡ drop (length before) (paragraphs_within text) → (outcome_behind rules (line_beyond 1 file_limit text) (line_behind text) before left).refusal ≡ Some refusal → (front : List Entries) × (next_checked rules text front ≡ Err refusal)
 refused_behind rules text before [] refusal is h = go (answer_behind rules (line_beyond 1 file_limit text) (line_behind text) before []) refl h
   where
     go : (a : Result (Option Entries) Refusal) → answer_behind rules (line_beyond 1 file_limit text) (line_behind text) before [] ≡ a → (stopped before a).refusal ≡ Some refusal → (front : List Entries) × (next_checked rules text front ≡ Err refusal)

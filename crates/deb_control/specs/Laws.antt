@@ -5,6 +5,7 @@ use Rattle.deb_base.specs.declared.code.Code.TheVariants.{NoParagraph}
 use Rattle.deb_base.specs.declared.refusal.Refusal.{Refusal}
 use Rattle.deb_syntax.specs.Lines.{lines_of}
 use Rattle.deb_field.specs.declared.kind.Doc.{Doc}
+use Rattle.deb_field.specs.declared.kind.Doc.TheVariants.{Any}
 use Rattle.deb_control.specs.Calls.{WritesCanonical}
 use Rattle.deb_control.specs.Documents.{Meaning, canonical_text, Accepted, refusal_of, out_of}
 use Rattle.deb_control.specs.Refusals.{line_behind}
@@ -77,3 +78,10 @@ abbrev pub RefusalsAreOfTheFile : Type 0
 RefusalsAreOfTheFile =
     (doc : Doc) (text : List ℕ) (refusal : Refusal) → refusal_of doc text ≡ Some refusal
     → IsRefusalOfFile text refusal
+
+-- Under Any no value is judged and no field is required, so a refusal is one of a text: its code is
+-- from 1 to 9.
+abbrev pub RefusalsOfAnyAreOfText : Type 0
+RefusalsOfAnyAreOfText =
+    (text : List ℕ) (refusal : Refusal) → refusal_of Any text ≡ Some refusal
+    → number_of refusal.code ≤ 9

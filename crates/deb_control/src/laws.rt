@@ -1,6 +1,6 @@
 //! Laws of documents. Each function does nothing, and its contract is the law.
 
-ghost use Rattle.deb_control.specs.Laws.{RefusedOrAccepted, AcceptedMeansOneThing, AcceptedIsWritten, CanonicalTextIsAccepted, CanonicalTextTellsMeanings, CanonicalTextIsItsOwn, WhatIsWrittenIsNormal, RefusalsAreOfTheFile};
+ghost use Rattle.deb_control.specs.Laws.{RefusedOrAccepted, AcceptedMeansOneThing, AcceptedIsWritten, CanonicalTextIsAccepted, CanonicalTextTellsMeanings, CanonicalTextIsItsOwn, WhatIsWrittenIsNormal, RefusalsAreOfTheFile, RefusalsOfAnyAreOfText};
 
 /// A file has no refusal exactly where it is accepted with some meaning.
 pub fn a_file_is_refused_or_accepted()
@@ -44,4 +44,10 @@ pub fn normalised_text_is_normal()
 /// counted from 1; or a paragraph is missing at the line behind the last one.
 pub fn a_refusal_is_of_the_file()
     ensures { RefusalsAreOfTheFile }
+{}
+
+/// The refusal of control data of which no value is judged has a code from 1 to 9: it is refused
+/// for its text alone.
+pub fn a_refusal_of_any_is_of_the_text()
+    ensures { RefusalsOfAnyAreOfText }
 {}

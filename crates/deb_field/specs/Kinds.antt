@@ -111,10 +111,17 @@ document docs.Sources = record {
   architecture = ArchitectureWords;
   fields = field_kinds;
 }
+document docs.Any = record {
+  word = codes "any";
+  single = false;
+  required = [];
+  architecture = Text;
+  fields = [];
+}
 
 -- all kinds of documents
 abbrev pub documents : List Doc
-documents = docs.Binary ∷ docs.Packages ∷ docs.Source ∷ docs.Sources ∷ []
+documents = docs.Binary ∷ docs.Packages ∷ docs.Source ∷ docs.Sources ∷ docs.Any ∷ []
 
 -- whether a document of the kind has exactly one paragraph
 abbrev pub is_single : Doc → Bool
@@ -154,13 +161,17 @@ abbrev pub KindOfCanonicalName : Type 0
 KindOfCanonicalName =
     (doc : Doc) (name : List ℕ) → kind_of doc (canonical_name name) ≡ kind_of doc name
 
+-- Under Any each field is a text.
+abbrev pub FieldsOfAnyAreTexts : Type 0
+FieldsOfAnyAreTexts = (name : List ℕ) → kind_of docs.Any name ≡ Text
+
 -- Worked cases. Each name is written out here, and not taken from the table.
 
 -- under a kind of document these fields have the kind
 abbrev HasKind : Doc → Kind → List (List ℕ) → Type 0
 HasKind doc kind names = map (kind_of doc) names ≡ map (λ name. kind) names
 
--- and under each kind of document
+-- and under each kind of document that judges values
 abbrev HasKindInEach : Kind → List (List ℕ) → Type 0
 HasKindInEach kind names =
     HasKind docs.Binary kind names
@@ -245,26 +256,43 @@ texts : HasKindInEach Text
 unfolding kind_of
 texts = (refl, refl, refl, refl)
 
+-- under Any the same fields are texts too
+texts_of_any : HasKind docs.Any Text
+    (codes "Package" ∷ codes "Source" ∷ codes "Version" ∷ codes "Architecture"
+    ∷ codes "Essential" ∷ codes "Multi-Arch" ∷ codes "Installed-Size" ∷ codes "Size"
+    ∷ codes "Maintainer" ∷ codes "Homepage" ∷ codes "Section" ∷ codes "Priority"
+    ∷ codes "Filename" ∷ codes "Format" ∷ codes "Standards-Version" ∷ codes "Binary"
+    ∷ codes "Uploaders" ∷ codes "Depends" ∷ codes "Pre-Depends" ∷ codes "Recommends"
+    ∷ codes "Suggests" ∷ codes "Enhances" ∷ codes "Build-Depends" ∷ codes "Build-Depends-Indep"
+    ∷ codes "Build-Depends-Arch" ∷ codes "Breaks" ∷ codes "Conflicts" ∷ codes "Replaces"
+    ∷ codes "Built-Using" ∷ codes "Build-Conflicts" ∷ codes "Build-Conflicts-Indep"
+    ∷ codes "Build-Conflicts-Arch" ∷ codes "Provides" ∷ codes "Files" ∷ codes "vERSION" ∷ [] ∷ [])
+unfolding kind_of
+texts_of_any = refl
+
 required_fields : (required docs.Binary
     ≡ codes "Package" ∷ codes "Version" ∷ codes "Architecture" ∷ [])
     × (required docs.Packages ≡ codes "Package" ∷ codes "Version" ∷ codes "Architecture" ∷ [])
     × (required docs.Source ≡ codes "Format" ∷ codes "Source" ∷ codes "Version" ∷ [])
     × (required docs.Sources ≡ codes "Package" ∷ codes "Version" ∷ [])
-required_fields = (refl, refl, refl, refl)
+    × (required docs.Any ≡ [])
+required_fields = (refl, refl, refl, refl, refl)
 
 single_paragraphs : (is_single docs.Binary ≡ true) × (is_single docs.Packages ≡ false)
     × (is_single docs.Source ≡ true) × (is_single docs.Sources ≡ false)
-single_paragraphs = (refl, refl, refl, refl)
+    × (is_single docs.Any ≡ false)
+single_paragraphs = (refl, refl, refl, refl, refl)
 
 -- words have one case
 words : (doc_named (codes "binary") ≡ Some docs.Binary)
     × (doc_named (codes "packages") ≡ Some docs.Packages)
     × (doc_named (codes "source") ≡ Some docs.Source)
     × (doc_named (codes "sources") ≡ Some docs.Sources)
+    × (doc_named (codes "any") ≡ Some docs.Any)
     × (doc_named (codes "Source") ≡ None)
     × (doc_named (codes "sourc") ≡ None)
     × (doc_named [] ≡ None)
-words = (refl, refl, refl, refl, refl, refl, refl)
+words = (refl, refl, refl, refl, refl, refl, refl, refl)
 
 -- the codes of refusals, which go from the text of a file over its paragraphs and values to words
 numbers_of_codes : map number_of

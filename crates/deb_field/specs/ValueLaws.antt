@@ -1,6 +1,7 @@
 -- The laws for values of all kinds.
-use Rattle.std.proofs.Common.{◌≡◌, ℕ, List, ◌∷◌, codes, refl, ap}
-use Rattle.deb_base.specs.Names.{canonical_name}
+use Rattle.std.proofs.Common.{◌≡◌, ℕ, Bool, true, false, cond, List, ◌∷◌, codes, refl, ap}
+use Rattle.std.specs.Str.{bytes_eq}
+use Rattle.deb_base.specs.Names.{folded, canonical_name}
 use Rattle.deb_base.proofs.CanonicalNames.{folded-canonical_name}
 use Rattle.deb_version.specs.Parts.{Meaning as VersionMeaning}
 use Rattle.deb_version.specs.Grammar.{SpellsVersion}
@@ -11,7 +12,7 @@ use Rattle.deb_field.specs.CanonLaw.{CanonLaw, RefusalLaw}
 use Rattle.deb_field.specs.CanonLaws.{law-through, refusals-through}
 use Rattle.deb_field.specs.FlagLaws.{flag_law, flag_refusals, multi_arch_law, multi_arch_refusals}
 use Rattle.deb_field.specs.Flags.{flag_text, SpellsFlag, flag_refusal, multi_arch_text, SpellsMultiArch, multi_arch_refusal}
-use Rattle.deb_field.specs.Kinds.{document, kind_among, kind_of, KindGoesByName, KindOfCanonicalName}
+use Rattle.deb_field.specs.Kinds.{document, kind_among, kind_of, FieldsOfAnyAreTexts, KindGoesByName, KindOfCanonicalName}
 use Rattle.deb_field.specs.NumberLaw.{number_law, number_refusals}
 use Rattle.deb_field.specs.Numbers.{SpellsNumber, number_refusal}
 use Rattle.deb_field.specs.RelationFields.{SpellsRelationship, relationship_refusal}
@@ -117,6 +118,14 @@ unfolding kind_of
 kind_goes_by_name doc a b same =
     ap (kind_among ((codes "Architecture", (document doc).architecture) ∷ (document doc).fields))
     same
+
+same_kind : (t : Bool) → cond t Text Text ≡ Text
+same_kind true = refl
+same_kind false = refl
+
+pub fields_of_any_are_texts : FieldsOfAnyAreTexts
+unfolding kind_of
+fields_of_any_are_texts name = same_kind (bytes_eq (folded (codes "Architecture")) (folded name))
 
 pub kind_of_canonical_name : KindOfCanonicalName
 kind_of_canonical_name doc name =

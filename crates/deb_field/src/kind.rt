@@ -13,6 +13,9 @@ pub enum Doc {
     Source,
     /// An index of source packages: any number of paragraphs, none included.
     Sources,
+    /// Any control data: any number of paragraphs, none included, of which no field is required and
+    /// no value is judged, as each is a text.
+    Any,
 }
 
 /// A kind of value: what a field's body may be, and what it means.

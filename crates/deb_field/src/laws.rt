@@ -8,7 +8,7 @@ ghost use Rattle.deb_relation.specs.Meaning.{Relation as RelationMeaning};
 ghost use Rattle.deb_relation.specs.Texts.{relation_text};
 ghost use Rattle.deb_field.specs.CanonLaw.{CanonLaw, OneText, RefusalLaw};
 ghost use Rattle.deb_field.specs.Flags.{flag_text, SpellsFlag, multi_arch_text, SpellsMultiArch};
-ghost use Rattle.deb_field.specs.Kinds.{KindGoesByName, KindOfCanonicalName};
+ghost use Rattle.deb_field.specs.Kinds.{FieldsOfAnyAreTexts, KindGoesByName, KindOfCanonicalName};
 ghost use Rattle.deb_field.specs.Numbers.{SpellsNumber};
 ghost use Rattle.deb_field.specs.RelationFields.{SpellsRelationship};
 ghost use Rattle.deb_field.specs.Sources.{SourceMeaning, SpellsSource, source_text};
@@ -72,4 +72,9 @@ pub fn refusals_are_of_values()
 pub fn kinds_go_by_names()
     ensures same { KindGoesByName }
     ensures canonical { KindOfCanonicalName }
+{}
+
+/// In control data of which no value is judged each field is a text.
+pub fn fields_of_any_are_texts()
+    ensures { FieldsOfAnyAreTexts }
 {}

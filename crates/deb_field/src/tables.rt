@@ -102,6 +102,14 @@ fn row_of(doc: Doc) -> Document
             architecture: Kind::ArchitectureWords,
             fields: FIELDS,
         },
+        Doc::Any => Document {
+            word: "any",
+            about: "any control data, of which no value is judged",
+            single: false,
+            required: &[],
+            architecture: Kind::Text,
+            fields: &[],
+        },
     }
 }
 
@@ -145,7 +153,13 @@ fn kind_among(rows: &[(&[u8], Kind)], name: &[u8]) -> Kind
 
 impl Doc {
     /// All kinds of documents.
-    pub const ALL: &'static [Doc] = &[Doc::Binary, Doc::Packages, Doc::Source, Doc::Sources];
+    pub const ALL: &'static [Doc] = &[
+        Doc::Binary,
+        Doc::Packages,
+        Doc::Source,
+        Doc::Sources,
+        Doc::Any,
+    ];
 
     /// The word for the kind.
     pub fn word(self) -> &'static str

@@ -23,7 +23,7 @@ use Rattle.debctl_words.specs.declared.words.UsageFault.TheVariants.{Usage, Help
 -- ---- words
 
 -- the kind that is asked for: a list of packages where no word names one
-abbrev pub kind_asked : Option Text → Option Doc
+unfoldable pub kind_asked : Option Text → Option Doc
 kind_asked None = Some Packages
 kind_asked (Some word) = doc_named word
 

@@ -5,9 +5,9 @@ use Rattle.clap.specs.Faults.{fault_of}
 use Rattle.clap.specs.Takes.{takes}
 use Rattle.clap.specs.Walk.{Text}
 use Rattle.clap.specs.declared.error.kind.ErrorKind.TheVariants as kind
-use Rattle.debctl_words.specs.Asked.{asked_of, asks, asks_help, canonicalises, checks, comma_pieces, compares, normalises, profiles_asked, queries, sorts, tells_same, unknown_command, unknown_kind, unknown_operator, Asked}
+use Rattle.debctl_words.specs.Asked.{asked_of, asks, asks_help, canonicalises, checks, comma_pieces, compares, kind_asked, normalises, profiles_asked, queries, sorts, tells_same, unknown_command, unknown_kind, unknown_operator, Asked}
 use Rattle.debctl_words.specs.Commands.{debctl_app}
-use Rattle.deb_field.specs.declared.kind.Doc.TheVariants.{Binary, Packages, Source, Sources}
+use Rattle.deb_field.specs.declared.kind.Doc.TheVariants.{Any, Binary, Packages, Source, Sources}
 use Rattle.debctl_words.specs.declared.jobs.Cmp.TheVariants as cmp
 
 -- words behind the program's name
@@ -16,22 +16,32 @@ line words = codes "debctl" ∷ words
 
 check_alone : asked_of (line (codes "check" ∷ []))
     ≡ Some (asks (record { wanted = checks Packages; first = None; second = None }))
-unfolding clap_on_literals
+unfolding clap_on_literals kind_asked
 check_alone = refl
 
 kind_and_path : asked_of (line (codes "normalise" ∷ codes "--kind=source" ∷ codes "x" ∷ []))
     ≡ Some (asks (record { wanted = normalises Source; first = Some (codes "x"); second = None }))
-unfolding clap_on_literals
+unfolding clap_on_literals kind_asked
 kind_and_path = refl
 
 index_of_sources : asked_of (line (codes "check" ∷ codes "--kind" ∷ codes "sources" ∷ []))
     ≡ Some (asks (record { wanted = checks Sources; first = None; second = None }))
-unfolding clap_on_literals
+unfolding clap_on_literals kind_asked
 index_of_sources = refl
+
+any_control_data : asked_of
+    (line (codes "same" ∷ codes "x" ∷ codes "y" ∷ codes "--kind=any" ∷ []))
+    ≡ Some (asks (record {
+      wanted = tells_same Any;
+      first = Some (codes "x");
+      second = Some (codes "y");
+    }))
+unfolding clap_on_literals kind_asked
+any_control_data = refl
 
 unknown_kind_word : asked_of (line (codes "check" ∷ codes "--kind" ∷ codes "foo" ∷ []))
     ≡ Some unknown_kind
-unfolding clap_on_literals
+unfolding clap_on_literals kind_asked
 unknown_kind_word = refl
 
 two_paths : asked_of
@@ -41,7 +51,7 @@ two_paths : asked_of
       first = Some (codes "x");
       second = Some (codes "y");
     }))
-unfolding clap_on_literals
+unfolding clap_on_literals kind_asked
 two_paths = refl
 
 comparison : asked_of (line (codes "compare" ∷ codes "1" ∷ codes "lt" ∷ codes "2" ∷ []))

@@ -24,8 +24,10 @@ A version or a path that begins with a hyphen comes after `--`:
 `debctl help COMMAND` has more on a command, with an example.";
 
 const CHECK_HELP: &str = "\
-A file is of one kind. An index of source packages wants `--kind sources`: under
-another kind it is refused for its Architecture or for a missing field.
+An index of source packages wants `--kind sources`: read as packages, binary or
+source it is mostly refused, for an Architecture or a missing field. Control data
+without a kind of its own, such as a `.changes`, `Release`, status or copyright
+file, wants `--kind any`, under which no value is judged.
 
 Statuses:
   0  accepted: `ok N` is printed, for a file of N paragraphs

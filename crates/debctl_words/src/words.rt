@@ -221,6 +221,7 @@ fn query_call(alloc: Global, found: &ArgMatches<'_>) -> Result<Call, UsageFault>
 }
 
 /// The kind of document that `--kind` names, or a list of packages without it.
+#[tactic(auto, unfolding(crate::specs::Asked::kind_asked))]
 fn kind_in(alloc: Global, found: &ArgMatches<'_>) -> Result<Doc, UsageFault>
     ensures { MeansKind (kind_asked (first_of (codes "kind") (rows_of (found_of found.now))))
         result }
