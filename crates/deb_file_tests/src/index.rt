@@ -67,6 +67,74 @@ fn is_told(report: &Report<'_>) -> Option<bool> {
     )
 }
 
+/// A package that provides its own name in two versions, and vv.
+const ITSELF: &[u8] =
+    b"Package: aa\nVersion: 2\nArchitecture: amd64\nProvides: aa (= 3), aa (= 4), vv\n";
+
+#[test]
+fn looked_up(rt: HostRuntime) -> Result<(), Fail> {
+    let one = [1].as_slice();
+    let index = Index::read(rt.alloc(), &mut Input::new(ITSELF))?;
+    assert!(rt; index.packages(b"aa") == one && index.packages(b"vv").is_empty());
+    assert!(rt; index.providers(b"aa") == one && index.providers(b"vv") == one);
+    let index = Index::read(rt.alloc(), &mut Input::new(HELLO))?;
+    assert!(rt; index.packages(b"hello") == one && index.packages(b"world") == [2].as_slice());
+    assert!(rt; index.providers(b"vv") == [1, 2].as_slice());
+    assert!(rt; index.providers(b"hello").is_empty());
+    for name in [b"hell".as_slice(), b"helloo", b"v", b"vvv", b"VV", b""] {
+        assert!(rt; index.packages(name).is_empty() && index.providers(name).is_empty());
+    }
+    let index = Index::read(rt.alloc(), &mut Input::new(b"".as_slice()))?;
+    assert!(rt; index.packages(b"aa").is_empty() && index.providers(b"aa").is_empty());
+    Ok(())
+}
+
+/// Only an entry of Provides that is a name alone, or with a version, tells a provider.
+#[test]
+fn entries_that_provide_nothing(rt: HostRuntime) -> Result<(), Fail> {
+    let file = b"Package: aa\nVersion: 1\nArchitecture: all\n\
+        Provides: qualified:any, listed [amd64], formula <!nocheck>, plain, plain (= 2)\n";
+    let index = Index::read(rt.alloc(), &mut Input::new(file.as_slice()))?;
+    assert!(rt; index.providers(b"plain") == [1].as_slice());
+    for name in [
+        b"qualified".as_slice(),
+        b"listed",
+        b"formula",
+        b"qualified:any",
+        b"aa",
+    ] {
+        assert!(rt; index.providers(name).is_empty());
+    }
+    Ok(())
+}
+
+/// Two thousand packages of one name, which all provide another one and their own.
+#[test]
+fn many_of_one_name(rt: HostRuntime) -> Result<(), Fail> {
+    let mut file = Vec::new(rt.alloc());
+    for number in 0..2_000u32 {
+        write!(
+            file,
+            "Package: aa\nVersion: {number}\nArchitecture: all\nProvides: vv, aa, aa (= 1), vv\n\n"
+        )?;
+    }
+    let index = Index::read(rt.alloc(), &mut Input::new(file.as_slice()))?;
+    for numbers in [
+        index.packages(b"aa"),
+        index.providers(b"aa"),
+        index.providers(b"vv"),
+    ] {
+        assert!(rt; counts_to(numbers, 2_000));
+    }
+    assert!(rt; index.packages(b"vv").is_empty());
+    Ok(())
+}
+
+/// Whether these are the numbers from 1 to the last one.
+fn counts_to(numbers: &[u64], last: u64) -> bool {
+    numbers.len() as u64 == last && (1..).zip(numbers).all(|(wanted, number)| *number == wanted)
+}
+
 /// The text of a report on what a reader gives.
 fn written(alloc: Global, file: &[u8], relation: &[u8]) -> Result<Vec<u8>, Fail> {
     let index = Index::read(alloc, &mut Input::new(file))?;

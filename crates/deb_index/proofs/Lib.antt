@@ -4,3 +4,5 @@ pub mod Indexed
 pub mod Numbers
 pub mod ListedOnce
 pub mod WrittenParts
+pub mod Lookups
+pub mod Counted

@@ -4,6 +4,8 @@ pub mod Meeting
 pub mod Reports
 pub mod ReportText
 pub mod Kept
+pub mod Named
+pub mod Maps
 pub mod Listing
 pub mod Indexes
 pub mod Told

@@ -1,6 +1,6 @@
 //! Indexes of packages.
 
-ghost use Rattle.std.specs.Prelude.{◌≡◌, ℕ, List, Some, Err, IfOk, IfErr, IsTrue, length};
+ghost use Rattle.std.specs.Prelude.{◌≡◌, ℕ, List, map, Some, Err, IfOk, IfErr, IsTrue, length};
 ghost use Rattle.deb_base.specs.Devices.{read_failures_after, TellsReads};
 ghost use Rattle.deb_base.specs.Faults.{IsReadersFault};
 ghost use Rattle.deb_control.specs.Calls.{IfRefused};
@@ -9,11 +9,15 @@ ghost use Rattle.deb_control.specs.Documents.{refusal_of};
 ghost use Rattle.deb_relation.specs.Environments.{environment_of};
 ghost use Rattle.deb_relation.specs.Relations.{relation_of};
 ghost use Rattle.deb_relation.specs.Tests.{some_wildcard};
+ghost use Rattle.deb_index.specs.Kept.{listed_of};
 ghost use Rattle.deb_index.specs.Listing.{ListsAll};
+ghost use Rattle.deb_index.specs.Maps.{numbers_under};
+ghost use Rattle.deb_index.specs.Named.{has_name, numbers_of, provides};
 ghost use Rattle.deb_index.specs.Reports.{report};
 ghost use Rattle.deb_index.specs.Told.{report_of};
 
 use crate::fault::QueryFault;
+use crate::names::Names;
 use crate::package::Package;
 use crate::paragraph::package_of;
 use crate::report::Report;
@@ -21,15 +25,22 @@ use deb_base::{Fault, Source};
 use deb_control::Checked;
 use deb_field::Doc;
 use deb_relation::{Env, Relation};
-use std::alloc::Global;
+use std::alloc::{AllocError, Global};
 
 /// The packages that a file lists, in its order.
 ///
 /// It owns what it keeps of each: the name, the version, the architecture, Multi-Arch and what is
-/// provided.
+/// provided. Beside the list it keeps which packages have a name and which provide it, so that they
+/// are looked up.
 #[derive(Debug, Drop)]
 pub struct Index {
     packages: Vec<Package>,
+    named: Names,
+    provided: Names,
+    ghost named_are: { (name : List ℕ) → numbers_under named name
+        ≡ numbers_of (has_name name) (map listed_of packages.items) },
+    ghost provided_are: { (name : List ℕ) → numbers_under provided name
+        ≡ numbers_of (provides name) (map listed_of packages.items) },
 }
 
 impl Index {
@@ -61,12 +72,46 @@ impl Index {
         let mut packages = Vec::new(alloc);
         for count in 0..u64::MAX {
             let Some(paragraph) = checked.next(reader)? else {
-                return Ok(Index { packages });
+                return Ok(Index::of(alloc, packages)?);
             };
             packages.push(package_of(alloc, &paragraph)?)?;
         }
         // No file has so many paragraphs.
         unreachable!()
+    }
+
+    /// The index of packages.
+    fn of(alloc: Global, packages: Vec<Package>) -> Result<Index, AllocError>
+        ensures { IfOk result (λ index. packages_of index ≡ map listed_of packages.items) }
+    {
+        let named = Names::own(alloc, &packages)?;
+        let provided = Names::provided(alloc, &packages)?;
+        Ok(Index {
+            packages,
+            named,
+            provided,
+        })
+    }
+
+    /// The numbers of the packages that have a name, as their Package (Debian Policy 5.6.7): they
+    /// ascend, each stands once, and the first package of the index has the number 1. Without such
+    /// a package there is none. No memory is taken.
+    pub fn packages(&self, name: &[u8]) -> &[u64]
+        ensures { result.now ≡ numbers_of (has_name name.now) (packages_of self.now) }
+    {
+        self.named.of(name)
+    }
+
+    /// The numbers of the packages that provide a name, in some version or without one (Debian
+    /// Policy 7.5): those with an entry of this name in Provides that has neither a qualifier nor
+    /// an architecture list nor a formula. They ascend, each stands once, and the first package of
+    /// the index has the number 1. Without such a package there is none. No memory is taken.
+    ///
+    /// A package isn't told here for its own name, unless it provides that too.
+    pub fn providers(&self, name: &[u8]) -> &[u64]
+        ensures { result.now ≡ numbers_of (provides name.now) (packages_of self.now) }
+    {
+        self.provided.of(name)
     }
 
     /// What is told of a relation in an environment: of each group, in the order of the groups'

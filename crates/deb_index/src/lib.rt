@@ -17,6 +17,7 @@
 mod fault;
 mod index;
 pub mod laws;
+mod names;
 mod package;
 mod paragraph;
 mod provision;

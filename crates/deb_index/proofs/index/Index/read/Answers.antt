@@ -30,7 +30,7 @@ returns-in_default-clause-ok g c = λ text left.
     let passes = rw (c.in_ok-paragraph.was, c.in_default.is, c.loop-count.invariant.doc) at c.next.follows.holds-at-none in
     let so_far = c.loop-count.invariant.text text left in
     let checks = goes_on _ _ _ _ c.loop-count.invariant.fault passes.0 in
-    lists_all text _ _ _ _ _ so_far (checks.answers text so_far.checked.before so_far.checked.fits)
+    rw c.in_ok-of.ensures (lists_all text _ _ _ _ (map listed_of c.loop-count.packages.items) so_far (checks.answers text so_far.checked.before so_far.checked.fits))
 
 pub loop-count-preserved : goal.loop-count-preserved
 loop-count-preserved g c =

@@ -1,0 +1,91 @@
+-- The numbers of the packages that pass a test, as they are counted one after another.
+use Rattle.std.proofs.Common.{◌≡◌, ℕ, suc, ◌+◌, ◌-◌, ◌<◌, ◌≤◌, Bool, true, false, cond, ◌||◌, List, [], ◌∷◌, ◌++◌, length, map, take, get_or, refl, sym, ap, ◌∙◌, inl, inr, arith, rules, tests}
+use Rattle.std.specs.List.{All, AllByRecursion}
+use Rattle.std.proofs.lemmas.Bool.{cases_Bool}
+use Rattle.std.proofs.lemmas.Grind.{common_steps}
+use Rattle.std.proofs.lemmas.List.{length_push, get_or_push, map-append, take_more}
+use Rattle.std.proofs.lemmas.List.Elements.{All-from_recursion, All-weaker}
+use Rattle.deb_index.specs.Listed.{Listed}
+use Rattle.deb_index.specs.Named.{numbers_from, numbers_of}
+use Rattle.deb_index.specs.Maps.{is_last, put_last}
+
+-- numbers count up from the first
+within-one : (low m n : ℕ) (v : Bool) (rest : List ℕ) → low ≤ n → n < m → AllByRecursion (λ k. (low ≤ k) × (k < m)) rest → AllByRecursion (λ k. (low ≤ k) × (k < m)) (cond v (n ∷ rest) rest)
+within-one low m n true rest above below all = ((above, below), all)
+within-one low m n false rest above below all = all
+
+pub numbers-within : (low n m : ℕ) (test : Listed → Bool) (packages : List Listed) → low ≤ n → n + length packages ≤ m → AllByRecursion (λ k. (low ≤ k) × (k < m)) (numbers_from n test packages)
+numbers-within low n m test [] above below = tt
+numbers-within low n m test (p ∷ packages) above below =
+    within-one low m n (test p) (numbers_from (n + 1) test packages) above (omega (arith, below)) (numbers-within low (n + 1) m test packages (omega (arith, above)) (omega (arith, below)))
+
+-- a number above all others isn't their last
+not_last : (n : ℕ) (xs : List ℕ) → All (λ k. k < n) xs → is_last n xs ≡ false
+not_last n [] below = refl
+not_last n (x ∷ xs) below =
+    let last : get_or (x ∷ xs) (length (x ∷ xs) - 1) 0 < n = below (length (x ∷ xs) - 1) 0 (omega arith) in
+    search (rules, tests, last)
+
+pub put_above : (n : ℕ) (xs : List ℕ) → All (λ k. k < n) xs → put_last n xs ≡ xs ++ n ∷ []
+put_above n xs below = ap (λ v. cond v xs (xs ++ n ∷ [])) (not_last n xs below)
+
+-- what was put is the last
+last-put : (n : ℕ) (xs : List ℕ) → is_last n (xs ++ n ∷ []) ≡ true
+last-put n xs =
+    let long = length_push xs n in
+    let last : get_or (xs ++ n ∷ []) (length (xs ++ n ∷ []) - 1) 0 ≡ n = get_or_push xs n 0 (length (xs ++ n ∷ []) - 1) (omega (arith, long)) in
+    search (rules, tests, long, last)
+
+-- so putting it again changes nothing
+pub put_again : (n : ℕ) (xs : List ℕ) → put_last n (put_last n xs) ≡ put_last n xs
+put_again n xs =
+    elim (cases_Bool (is_last n xs)) [
+      | inl last ↦ rw (last, last) refl
+      | inr other ↦ rw (other, last-put n xs) refl
+    ]
+
+-- the numbers of a list with one more package
+numbers_push : (n : ℕ) (test : Listed → Bool) (packages : List Listed) (p : Listed)
+    → numbers_from n test (packages ++ p ∷ []) ≡ cond (test p) (numbers_from n test packages ++ (n + length packages) ∷ []) (numbers_from n test packages)
+numbers_push n test [] p = elim (test p) as (λ v. cond v (n ∷ []) [] ≡ cond v ((n + 0) ∷ []) []) [
+  | true ↦ ap (λ k. k ∷ []) (omega arith)
+  | false ↦ refl
+]
+numbers_push n test (q ∷ packages) p =
+    ap (λ l. cond (test q) (n ∷ l) l) (numbers_push (n + 1) test packages p)
+    ∙ moved (test q) (test p) (numbers_from (n + 1) test packages) (n + 1 + length packages) (n + suc (length packages)) (omega arith)
+  where
+    moved : (v u : Bool) (l : List ℕ) (j k : ℕ) → j ≡ k
+        → cond v (n ∷ cond u (l ++ j ∷ []) l) (cond u (l ++ j ∷ []) l) ≡ cond u (cond v (n ∷ l) l ++ k ∷ []) (cond v (n ∷ l) l)
+    moved true true l j k e = ap (λ i. n ∷ (l ++ i ∷ [])) e
+    moved true false l j k e = refl
+    moved false true l j k e = ap (λ i. l ++ i ∷ []) e
+    moved false false l j k e = refl
+
+-- a package's number is put behind those of the packages before it
+pub numbers_put : (k : ℕ) (test : Listed → Bool) (packages : List Listed) (p : Listed) → k ≡ length packages
+    → numbers_of test (packages ++ p ∷ []) ≡ cond (test p) (put_last (k + 1) (numbers_of test packages)) (numbers_of test packages)
+numbers_put k test packages p is =
+    let own : 1 + length packages ≡ k + 1 = omega (arith, is) in
+    let numbers = numbers_of test packages in
+    let within = All-from_recursion (λ j. (1 ≤ j) × (j < k + 1)) numbers (numbers-within 1 1 (k + 1) test packages (omega arith) (omega (arith, is))) in
+    let below = All-weaker (λ j. (1 ≤ j) × (j < k + 1)) (λ j. j < k + 1) (λ j h. h.1) numbers within in
+    numbers_push 1 test packages p
+    ∙ ap (λ j. cond (test p) (numbers_of test packages ++ j ∷ []) (numbers_of test packages)) own
+    ∙ ap (λ l. cond (test p) l (numbers_of test packages)) (sym (put_above (k + 1) (numbers_of test packages) below))
+
+-- where some name is put and then one more
+pub put_more : (n : ℕ) (some one : Bool) (xs : List ℕ) → cond one (put_last n (cond some (put_last n xs) xs)) (cond some (put_last n xs) xs) ≡ cond (some || one) (put_last n xs) xs
+put_more n true true xs = put_again n xs
+put_more n true false xs = refl
+put_more n false true xs = refl
+put_more n false false xs = refl
+
+-- the numbers of a front of a list with one more element
+pub numbers_next : {X : Type 0} (view : X → Listed) (test : Listed → Bool) (xs : List X) (i : ℕ) (x : X) → i < length xs → x ≡ get_or xs i x
+    → numbers_of test (map view (take (i + 1) xs)) ≡ cond (test (view x)) (put_last (i + 1) (numbers_of test (map view (take i xs)))) (numbers_of test (map view (take i xs)))
+numbers_next view test xs i x within is =
+    let long : i ≡ length (map view (take i xs)) = grind (arith, common_steps) in
+    ap (λ l. numbers_of test (map view l)) (take_more xs i x within ∙ ap (λ y. take i xs ++ y ∷ []) (sym is))
+    ∙ ap (numbers_of test) (map-append view (take i xs) (x ∷ []))
+    ∙ numbers_put i test (map view (take i xs)) (view x) long

@@ -1,0 +1,57 @@
+-- Which packages of a list have a name and which provide it, by their numbers in the list. Debian
+-- Policy 5.6.7 and 7.5.
+use Rattle.std.specs.Prelude.{◌≡◌, ℕ, ◌+◌, Bool, cond, List, [], ◌∷◌, map, None, codes, refl}
+use Rattle.std.specs.List.{list_any}
+use Rattle.std.specs.Str.{bytes_eq}
+use Rattle.deb_version.specs.Places.{version_in}
+use Rattle.deb_index.specs.Listed.{Listed}
+
+-- a package has the name
+abbrev pub has_name : List ℕ → Listed → Bool
+has_name name p = bytes_eq p.name name
+
+-- a package provides the name, in some version or without one
+abbrev pub provides : List ℕ → Listed → Bool
+provides name p = list_any (λ q. bytes_eq q.name name) p.provisions
+
+-- the numbers of the packages that pass a test, where the first package has this number
+abbrev pub numbers_from : ℕ → (Listed → Bool) → List Listed → List ℕ
+numbers_from n test [] = []
+numbers_from n test (p ∷ packages) =
+    cond (test p) (n ∷ numbers_from (n + 1) test packages) (numbers_from (n + 1) test packages)
+
+-- The numbers of the packages of a list that pass a test: they are counted from 1, ascend, and each
+-- stands once.
+abbrev pub numbers_of : (Listed → Bool) → List Listed → List ℕ
+numbers_of test packages = numbers_from 1 test packages
+
+-- Below, aa provides its own name twice and vv, aab provides vv and vv again, and a second aa
+-- provides nothing.
+abbrev listed : List ℕ → List (List ℕ) → Listed
+listed name provided =
+    record {
+      name = name;
+      version = version_in (codes "1");
+      architecture = codes "all";
+      multi_arch = None;
+      provisions = map (λ n. record { name = n; version = None }) provided;
+    }
+
+abbrev packages : List Listed
+packages =
+    listed (codes "aa") (codes "aa" ∷ codes "aa" ∷ codes "vv" ∷ [])
+    ∷ listed (codes "aab") (codes "vv" ∷ codes "vv" ∷ [])
+    ∷ listed (codes "aa") []
+    ∷ []
+
+-- aa, aab, a, which begins both, and vv, which no package has
+worked-names : map (λ name. numbers_of (has_name name) packages)
+    (codes "aa" ∷ codes "aab" ∷ codes "a" ∷ codes "vv" ∷ [])
+    ≡ (1 ∷ 3 ∷ []) ∷ (2 ∷ []) ∷ [] ∷ [] ∷ []
+worked-names = refl
+
+-- vv, aa, v, which begins vv, and aab, which no package provides
+worked-provided : map (λ name. numbers_of (provides name) packages)
+    (codes "vv" ∷ codes "aa" ∷ codes "v" ∷ codes "aab" ∷ [])
+    ≡ (1 ∷ 2 ∷ []) ∷ (1 ∷ []) ∷ [] ∷ [] ∷ []
+worked-provided = refl
