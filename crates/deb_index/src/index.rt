@@ -3,6 +3,8 @@
 ghost use Rattle.std.specs.Prelude.{◌≡◌, ℕ, List, map, Some, Err, IfOk, IfErr, IsTrue, length};
 ghost use Rattle.deb_base.specs.Devices.{read_failures_after, TellsReads};
 ghost use Rattle.deb_base.specs.Faults.{IsReadersFault};
+ghost use Rattle.deb_syntax.specs.Ahead.{TakesNoMore};
+ghost use Rattle.deb_syntax.specs.Lines.{file_limit};
 ghost use Rattle.deb_control.specs.Calls.{IfRefused};
 ghost use Rattle.deb_control.specs.Checking.{IsRefusalOfDocument};
 ghost use Rattle.deb_control.specs.Documents.{refusal_of};
@@ -48,8 +50,9 @@ impl Index {
 
     /// Reads a file as an index of packages (Debian Policy 5.1, 5.3 and 5.6).
     ///
-    /// It takes one paragraph at a time. What is said of the file's text holds for a reader that
-    /// tells its bytes.
+    /// It takes one paragraph at a time, and at most 4,295,032,831 bytes from the reader: those that
+    /// a file may have, and one piece. What is said of the file's text holds for a reader that tells
+    /// its bytes.
     ///
     /// # Errors
     ///
@@ -62,6 +65,8 @@ impl Index {
             → IfOk result (λ index. ListsAll text (packages_of index)) }
         ensures refused { (text : List ℕ) → R.left reader.old ≡ Some text
             → IfRefused result (λ refusal. refusal_of Doc.Packages text ≡ Some refusal) }
+        ensures taken { (text : List ℕ) → R.left reader.old ≡ Some text
+            → TakesNoMore text file_limit (R.left reader.new) }
 
         // Whether or not the reader tells its bytes.
         ensures fault { IfErr result (λ fault. IsReadersFault fault IsRefusalOfDocument) }

@@ -32,6 +32,36 @@ returns-in_default-clause-ok g c = λ text left.
     let checks = goes_on _ _ _ _ c.loop-count.invariant.fault passes.0 in
     rw c.in_ok-of.ensures (lists_all text _ _ _ _ (map listed_of c.loop-count.packages.items) so_far (checks.answers text so_far.checked.before so_far.checked.fits))
 
+pub returns-in_err-paragraph-clause-taken : goal.returns-in_err-paragraph-clause-taken
+returns-in_err-paragraph-clause-taken g c = λ text left.
+    let passes = rw (c.in_err-paragraph.was, c.loop-count.invariant.doc) at c.next.follows.holds-at-none in
+    let so_far = (c.loop-count.invariant.text text left).checked in
+    (goes_on _ _ _ _ c.loop-count.invariant.fault passes.0).taken text so_far.before so_far.fits
+
+pub returns-in_default-clause-taken : goal.returns-in_default-clause-taken
+returns-in_default-clause-taken g c = λ text left.
+    let passes = rw (c.in_ok-paragraph.was, c.in_default.is, c.loop-count.invariant.doc) at c.next.follows.holds-at-none in
+    let so_far = (c.loop-count.invariant.text text left).checked in
+    (goes_on _ _ _ _ c.loop-count.invariant.fault passes.0).taken text so_far.before so_far.fits
+
+pub returns-in_err-of-clause-taken : goal.returns-in_err-of-clause-taken
+returns-in_err-of-clause-taken g c = λ text left.
+    let passes = rw (c.in_ok-paragraph.was, c.in_default.is, c.loop-count.invariant.doc) at c.next.follows.holds-at-none in
+    let so_far = (c.loop-count.invariant.text text left).checked in
+    (goes_on _ _ _ _ c.loop-count.invariant.fault passes.0).taken text so_far.before so_far.fits
+
+pub returns-in_err-package_of-clause-taken : goal.returns-in_err-package_of-clause-taken
+returns-in_err-package_of-clause-taken g c = λ text left.
+    let passes = rw (c.in_ok-paragraph.was, c.in-Some.is, c.loop-count.invariant.doc) at c.next.follows.holds-at-none in
+    let so_far = (c.loop-count.invariant.text text left).checked in
+    (goes_on _ _ _ _ c.loop-count.invariant.fault passes.0).taken text so_far.before so_far.fits
+
+pub returns-in_err-push-clause-taken : goal.returns-in_err-push-clause-taken
+returns-in_err-push-clause-taken g c = λ text left.
+    let passes = rw (c.in_ok-paragraph.was, c.in-Some.is, c.loop-count.invariant.doc) at c.next.follows.holds-at-none in
+    let so_far = (c.loop-count.invariant.text text left).checked in
+    (goes_on _ _ _ _ c.loop-count.invariant.fault passes.0).taken text so_far.before so_far.fits
+
 pub loop-count-preserved : goal.loop-count-preserved
 loop-count-preserved g c =
     let passes = rw (c.in_ok-paragraph.was, c.in-Some.is, c.loop-count.invariant.doc) at c.next.follows.holds-at-none in
