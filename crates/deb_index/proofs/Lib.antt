@@ -6,3 +6,7 @@ pub mod ListedOnce
 pub mod WrittenParts
 pub mod Lookups
 pub mod Counted
+pub mod Merged
+pub mod Picked
+pub mod Joined
+pub mod Meetings

@@ -1,7 +1,8 @@
 -- Which packages of a list have a name and which provide it, by their numbers in the list. Debian
 -- Policy 5.6.7 and 7.5.
-use Rattle.std.specs.Prelude.{◌≡◌, ℕ, ◌+◌, Bool, cond, List, [], ◌∷◌, map, None, codes, refl}
-use Rattle.std.specs.List.{list_any}
+use Rattle.std.specs.Prelude.{◌≡◌, ℕ, ◌+◌, ◌-◌, Bool, true, false, cond, List, [], ◌∷◌, map, None, codes, refl}
+use Rattle.std.specs.List.{list_any, slice_get}
+use Rattle.std.specs.Option.{option_map_or}
 use Rattle.std.specs.Str.{bytes_eq}
 use Rattle.deb_version.specs.Places.{version_in}
 use Rattle.deb_index.specs.Listed.{Listed}
@@ -24,6 +25,10 @@ numbers_from n test (p ∷ packages) =
 -- stands once.
 abbrev pub numbers_of : (Listed → Bool) → List Listed → List ℕ
 numbers_of test packages = numbers_from 1 test packages
+
+-- the package of a number passes a test
+abbrev pub passes_at : (Listed → Bool) → List Listed → ℕ → Bool
+passes_at test packages k = option_map_or test (slice_get packages (k - 1)) false
 
 -- Below, aa provides its own name twice and vv, aab provides vv and vv again, and a second aa
 -- provides nothing.
@@ -55,3 +60,8 @@ worked-provided : map (λ name. numbers_of (provides name) packages)
     (codes "vv" ∷ codes "aa" ∷ codes "v" ∷ codes "aab" ∷ [])
     ≡ (1 ∷ 2 ∷ []) ∷ (1 ∷ []) ∷ [] ∷ [] ∷ []
 worked-provided = refl
+
+-- numbers of packages that provide vv: not the third, nor one beyond the list
+worked-at : map (passes_at (provides (codes "vv")) packages) (1 ∷ 2 ∷ 3 ∷ 4 ∷ [])
+    ≡ true ∷ true ∷ false ∷ false ∷ []
+worked-at = refl

@@ -1,6 +1,7 @@
 //! Indexes of packages.
 
-ghost use Rattle.std.specs.Prelude.{◌≡◌, ℕ, List, map, Some, Err, IfOk, IfErr, IsTrue, length};
+ghost use Rattle.std.specs.Prelude.{◌≡◌, ◌-◌, ◌≤◌, ℕ, List, map, Some, Err, IfOk, IfErr, IsTrue, length};
+ghost use Rattle.std.specs.List.{slice_get};
 ghost use Rattle.deb_base.specs.Devices.{read_failures_after, TellsReads};
 ghost use Rattle.deb_base.specs.Faults.{IsReadersFault};
 ghost use Rattle.deb_syntax.specs.Ahead.{TakesNoMore};
@@ -119,6 +120,15 @@ impl Index {
         self.provided.of(name)
     }
 
+    /// The package of a number, which is counted from 1.
+    pub(crate) fn numbered(&self, number: u64) -> &Package
+        requires from_one { 1 ≤ number }
+        requires within { number ≤ length (packages_of self.now) }
+        ensures { slice_get (packages_of self.now) (number - 1) ≡ Some (listed_of result.now) }
+    {
+        &self.packages[number as usize - 1]
+    }
+
     /// What is told of a relation in an environment: of each group, in the order of the groups'
     /// canonical texts, whether it is ignored, since none of its alternatives applies; met, since a
     /// package meets one that applies, and by which packages; or unmet (Debian Policy 7.1).
@@ -145,7 +155,7 @@ impl Index {
         if relation.has_wildcard() {
             return Err(QueryFault::Wildcard);
         }
-        let report = Report::of(alloc, &self.packages, relation.groups(), environment)?;
+        let report = Report::of(alloc, self, relation.groups(), environment)?;
         Ok(report)
     }
 

@@ -14,6 +14,7 @@
 //! packages meet it. `laws` says that canonical text changes nothing of that.
 #![tactic(auto)]
 
+mod candidates;
 mod fault;
 mod index;
 pub mod laws;

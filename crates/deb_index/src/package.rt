@@ -1,15 +1,12 @@
 //! Listed packages.
 
-ghost use Rattle.std.specs.Prelude.{◌≡◌, ◌&&◌, map};
-ghost use Rattle.std.specs.List.{list_any};
+ghost use Rattle.std.specs.Prelude.{◌≡◌};
 ghost use Rattle.std.specs.Option.{option_copied};
 ghost use Rattle.std.specs.Str.{bytes_eq};
-ghost use Rattle.deb_relation.specs.Applying.{applies};
 ghost use Rattle.deb_relation.specs.Environments.{environment_of};
 ghost use Rattle.deb_relation.specs.Views.{alternative_of};
 ghost use Rattle.deb_version.specs.Canonical.{version_text};
 ghost use Rattle.deb_index.specs.Meeting.{effective, is_allowed, is_foreign, meets, meets_by_name, meets_qualifier, multi_arch_or_no};
-ghost use Rattle.deb_index.specs.Reports.{meets_group};
 
 use crate::provision::{Provision, meets_bound, some_provision_meets};
 use deb_field::MultiArch;
@@ -50,35 +47,8 @@ impl Package {
         &self.architecture
     }
 
-    /// Whether this meets a group by an alternative that applies.
-    pub(crate) fn meets_group(&self, group: &[Alternative<'_>], environment: &Env) -> bool
-        ensures { result ≡ meets_group (environment_of environment.now)
-            (map alternative_of group.now) (listed_of self.now) }
-    {
-        self.meets_some(group, environment)
-    }
-
-    fn meets_some(&self, group: &[Alternative<'_>], environment: &Env) -> bool
-        ensures { result ≡ list_any
-            (λ a. applies (alternative_of a) (environment_of environment.now)
-            && meets (environment_of environment.now) (alternative_of a) (listed_of self.now))
-            group.now }
-    {
-        group.iter().any(|alternative| self.meets_applying(alternative, environment))
-    }
-
-    /// Whether an alternative applies and this meets it.
-    fn meets_applying(&self, alternative: &Alternative<'_>, environment: &Env) -> bool
-        ensures { result
-            ≡ (applies (alternative_of alternative.now) (environment_of environment.now)
-            && meets (environment_of environment.now) (alternative_of alternative.now)
-            (listed_of self.now)) }
-    {
-        alternative.applies(environment) && self.meets(alternative, environment)
-    }
-
     /// Whether this meets an alternative, by name and by qualifier (Debian Policy 7.1).
-    fn meets(&self, alternative: &Alternative<'_>, environment: &Env) -> bool
+    pub(crate) fn meets(&self, alternative: &Alternative<'_>, environment: &Env) -> bool
         ensures { result ≡ meets (environment_of environment.now)
             (alternative_of alternative.now) (listed_of self.now) }
     {

@@ -1,15 +1,18 @@
 //! What an index tells of a relation.
 
-ghost use Rattle.std.specs.Prelude.{◌≡◌, ◌+◌, IfOk, map, not};
+ghost use Rattle.std.specs.Prelude.{◌≡◌, IfOk, map, not};
 ghost use Rattle.std.specs.List.{list_all, list_any};
 ghost use Rattle.deb_relation.specs.Applying.{applies};
 ghost use Rattle.deb_relation.specs.Environments.{environment_of};
 ghost use Rattle.deb_relation.specs.Groups.{group_of};
 ghost use Rattle.deb_relation.specs.Views.{alternative_of};
+ghost use Rattle.deb_index.specs.Indexes.{packages_of};
 ghost use Rattle.deb_index.specs.Kept.{listed_of};
-ghost use Rattle.deb_index.specs.Reports.{all_met, answer, is_unmet, meets_group, passing_from, some_applies, verdict_of};
+ghost use Rattle.deb_index.specs.Reports.{all_met, answer, is_unmet, some_applies, verdict_of};
 ghost use Rattle.deb_index.specs.Told.{answer_of, found_of, report_of};
 
+use crate::candidates::packages_meeting;
+use crate::index::Index;
 use crate::package::Package;
 use crate::verdict::Verdict;
 use deb_relation::{Alternative, Env, Group};
@@ -69,22 +72,22 @@ impl<'a> Answer<'a> {
         &self.packages
     }
 
-    /// What is told of a group over packages.
+    /// What is told of a group over the packages of an index.
     fn of(
         alloc: Global,
-        packages: &'a [Package],
+        index: &'a Index,
         group: &Group<'_>,
         environment: &Env,
     ) -> Result<Answer<'a>, AllocError>
         ensures { IfOk result
             (λ told. answer_of told ≡ answer (environment_of environment.now)
-            (map listed_of packages.now) (group_of group.now)) }
+            (packages_of index.now) (group_of group.now)) }
     {
         let mut text = Vec::with_capacity(alloc, group.canon_len() as usize)?;
         group.canon_into(&mut text)?;
         let applies = some_applies(group.alternatives(), environment);
         let packages = if applies {
-            packages_meeting(alloc, packages, group.alternatives(), environment)?
+            packages_meeting(alloc, index, group.alternatives(), environment)?
         } else {
             Vec::new(alloc)
         };
@@ -119,46 +122,23 @@ impl<'a> Report<'a> {
         none_unmet(&self.answers)
     }
 
-    /// What is told of groups over packages.
+    /// What is told of groups over the packages of an index.
     pub(crate) fn of(
         alloc: Global,
-        packages: &'a [Package],
+        index: &'a Index,
         groups: &[Group<'_>],
         environment: &Env,
     ) -> Result<Report<'a>, AllocError>
         ensures { IfOk result
             (λ told. report_of told ≡ map (answer (environment_of environment.now)
-            (map listed_of packages.now)) (map group_of groups.now)) }
+            (packages_of index.now)) (map group_of groups.now)) }
     {
         let mut answers = Vec::new(alloc);
         for group in groups {
-            answers.push(Answer::of(alloc, packages, group, environment)?)?;
+            answers.push(Answer::of(alloc, index, group, environment)?)?;
         }
         Ok(Report { answers })
     }
-}
-
-/// The packages that meet an alternative that applies, with their numbers.
-fn packages_meeting<'a>(
-    alloc: Global,
-    packages: &'a [Package],
-    group: &[Alternative<'_>],
-    environment: &Env,
-) -> Result<Vec<Found<'a>>, AllocError>
-    ensures { IfOk result
-        (λ found. map found_of found.items
-        ≡ passing_from 1
-        (meets_group (environment_of environment.now) (map alternative_of group.now))
-        (map listed_of packages.now)) }
-{
-    let mut found = Vec::new(alloc);
-    for (index, package) in packages.iter().enumerate() {
-        if package.meets_group(group, environment) {
-            let number = index as u64 + 1;
-            found.push(Found { number, package })?;
-        }
-    }
-    Ok(found)
 }
 
 /// The verdict on a group of which some alternative applies, or none, and these packages meet it.

@@ -1,10 +1,10 @@
 use Rattle.std.proofs.Common.{◌≡◌, map, take}
 use Rattle.deb_relation.specs.Environments.{environment_of}
 use Rattle.deb_relation.specs.Groups.{group_of}
-use Rattle.deb_index.specs.Kept.{listed_of}
+use Rattle.deb_index.specs.Indexes.{packages_of}
 use Rattle.deb_index.specs.Reports.{answer}
 use Rattle.deb_index.specs.Told.{answer_of}
 use Rattle.deb_index.proofs.report.Report.of.Given as goal
 
 abbrev pub invariant-loop-group : goal.invariant-loop-group
-invariant-loop-group l = map answer_of l.answers.items ≡ map (answer (environment_of l.environment) (map listed_of l.packages)) (map group_of (take l.group-index l.groups))
+invariant-loop-group l = map answer_of l.answers.items ≡ map (answer (environment_of l.environment) (packages_of l.index)) (map group_of (take l.group-index l.groups))

@@ -1,0 +1,12 @@
+-- The numbers that were found for the alternatives so far.
+use Rattle.std.proofs.Common.{◌≡◌, map, take}
+use Rattle.std.specs.List.{flat_map}
+use Rattle.deb_relation.specs.Environments.{environment_of}
+use Rattle.deb_relation.specs.Views.{alternative_of}
+use Rattle.deb_index.specs.Indexes.{packages_of}
+use Rattle.deb_index.proofs.Meetings.{found_for}
+use Rattle.deb_index.proofs.candidates.numbers_meeting.Given as goal
+
+abbrev pub invariant-loop-alternative : goal.invariant-loop-alternative
+invariant-loop-alternative l =
+    l.numbers.items ≡ flat_map (found_for (environment_of l.environment) (packages_of l.index)) (map alternative_of (take l.alternative-index l.group))
