@@ -1,19 +1,12 @@
 -- The packages that pass a test, with their numbers.
-use Rattle.std.proofs.Common.{◌≡◌, ℕ, ◌+◌, Bool, false, List, [], ◌∷◌, ◌++◌, map, drop, refl}
+use Rattle.std.proofs.Common.{◌≡◌, ℕ, ◌+◌, Bool, false, List, [], ◌∷◌, refl}
 use Rattle.std.proofs.lemmas.Bool.{or_parts}
 use Rattle.deb_relation.specs.Applying.{Environment, applies}
 use Rattle.deb_relation.specs.Meaning.{Group}
 use Rattle.deb_relation.specs.Texts.{group_text}
-use Rattle.deb_index.specs.Kept.{listed_of}
 use Rattle.deb_index.specs.Listed.{Listed}
 use Rattle.deb_index.specs.Reports.{Numbered, answer_with, passing_from, meets_group, some_applies, verdict_of}
 use Rattle.deb_index.specs.declared.verdict.Verdict.{Verdict}
-use Rattle.deb_index.specs.declared.package.Package.{Package}
-
--- what was found up to an index, and what is found from there on, is all
-abbrev pub HasFound : (Listed → Bool) → List Package → ℕ → List Numbered → Type 0
-HasFound test packages i found =
-    found ++ passing_from (i + 1) test (map listed_of (drop i packages)) ≡ passing_from 1 test (map listed_of packages)
 
 -- where nothing applies, no package meets
 none-meets : (environment : Environment) (group : Group) (p : Listed) → some_applies environment group ≡ false → meets_group environment group p ≡ false
