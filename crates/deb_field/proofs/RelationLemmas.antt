@@ -3,14 +3,9 @@ use Rattle.std.proofs.Common.{◌≡◌, ℕ, List, Ok, ap}
 use Rattle.deb_relation.specs.Grammar.{SpellsRelation}
 use Rattle.deb_relation.specs.Meaning.{Relation}
 use Rattle.deb_relation.specs.Reading.{relation_in}
-use Rattle.deb_relation.specs.Texts.{relation_text}
-use Rattle.deb_relation.proofs.CanonicalRelation.{canonical_text_spells}
 use Rattle.deb_relation.proofs.SpelledGroups.{relation_read}
 use Rattle.deb_field.specs.RelationFields.{relation_refusal, reading_refusal, relationship_refusal}
 use Rattle.deb_field.specs.declared.kind.Relationship.{Relationship}
-
-pub read-back : (body : List ℕ) (m : Relation) → SpellsRelation body m → relation_in (relation_text m) ≡ Ok m
-read-back body m s = relation_read (relation_text m) m (canonical_text_spells body m s)
 
 pub refused-in : (sort : Relationship) (body : List ℕ) (m : Relation) → SpellsRelation body m → relationship_refusal sort body ≡ relation_refusal sort m
 refused-in sort body m s = ap (reading_refusal sort) (relation_read body m s)

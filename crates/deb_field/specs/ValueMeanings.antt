@@ -5,7 +5,7 @@ use Rattle.deb_version.specs.Version.{meaning_of, components_of}
 use Rattle.deb_version.specs.Grammar.{spelling}
 use Rattle.deb_field.specs.Flags.{flag_text, multi_arch_text}
 use Rattle.deb_field.specs.NumberLaw.{number_spelled}
-use Rattle.deb_relation.specs.Texts.{relation_text}
+use Rattle.deb_relation.specs.RelationTexts.{body_of}
 use Rattle.deb_field.specs.RelationSpelled.{relation_meaning, relation_spelled}
 use Rattle.deb_field.specs.SourceNames.{source_meaning}
 use Rattle.deb_field.specs.SourceSpelled.{source_spelled}
@@ -72,7 +72,7 @@ value_spelled (Number number) = (
 value_spelled (Line line) = (line.bytes.now, (line.bytes.now, refl, (refl, line.one_line)))
 value_spelled (Folded folded) = (folded.body.now, (words_of folded.body.now, refl, refl))
 value_spelled (Relation field) = (
-  relation_text (relation_meaning field),
+  body_of field.relation,
   (
     relation_meaning field,
     refl,

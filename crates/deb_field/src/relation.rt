@@ -1,9 +1,9 @@
 //! Relationship fields.
 
-ghost use Rattle.std.specs.Prelude.{◌≡◌, None, Ok, IfOk, IfErr};
+ghost use Rattle.std.specs.Prelude.{◌≡◌, None, IfOk, IfErr};
 ghost use Rattle.deb_relation.specs.Meaning.{Relation as RelationMeaning};
-ghost use Rattle.deb_relation.specs.Reading.{relation_in};
-ghost use Rattle.deb_relation.specs.Relations.{relation_of};
+ghost use Rattle.deb_relation.specs.RelationTexts.{body_of, text_meaning};
+ghost use Rattle.deb_relation.specs.Relations.{IsRead};
 ghost use Rattle.deb_relation.specs.Texts.{relation_text};
 ghost use Rattle.deb_field.specs.RelationFields.{SpellsRelationship, relation_refusal, relationship_refusal};
 
@@ -11,17 +11,15 @@ use crate::canon::Canon;
 use crate::kind::Relationship;
 use crate::value::ValueFault;
 use deb_base::Code;
-use deb_relation::{Relation, RelationFault};
+use deb_relation::{Relation, RelationFault, RelationText};
 use std::alloc::{AllocError, Global};
 
 /// What a relationship field holds: a set of groups of alternatives (Debian Policy 7.1).
 #[derive(Debug, Drop)]
 pub struct RelationField<'a> {
     relationship: Relationship,
-    relation: Relation<'a>,
-    ghost read_back: { relation_in (relation_text (relation_of relation))
-        ≡ Ok (relation_of relation) },
-    ghost allowed: { relation_refusal relationship (relation_of relation) ≡ None },
+    relation: RelationText<'a>,
+    ghost allowed: { relation_refusal relationship (text_meaning relation) ≡ None },
 }
 
 impl<'a> RelationField<'a> {
@@ -46,7 +44,7 @@ impl<'a> RelationField<'a> {
         ensures refused { IfErr result
             (IsFaultOrMemory (relationship_refusal relationship body.now)) }
     {
-        match Relation::parse(alloc, body) {
+        match RelationText::parse(alloc, body) {
             Ok(relation) => match refusal_in(relationship, &relation) {
                 None => Ok(RelationField {
                     relationship,
@@ -66,11 +64,15 @@ impl<'a> RelationField<'a> {
         self.relationship
     }
 
-    /// The relation.
-    pub fn relation(&self) -> &Relation<'a>
-        ensures { relation_of result.now ≡ relation_meaning self.now }
+    /// The relation with its parts, which are read from the body at each call.
+    ///
+    /// # Errors
+    ///
+    /// Want of memory alone.
+    pub fn relation(&self, alloc: Global) -> Result<Relation<'a>, RelationFault>
+        ensures { IsRead result (relation_meaning self.now) }
     {
-        &self.relation
+        self.relation.relation(alloc)
     }
 }
 
@@ -93,7 +95,7 @@ impl Canon for RelationField<'_> {
 
     ghost law = { relation_law };
 
-    ghost spelled = { λ field. (relation_text (relation_meaning field), relation_spelled field) };
+    ghost spelled = { λ field. (body_of field.relation, relation_spelled field) };
 
     fn canon_len(&self) -> u64 {
         self.relation.canon_len()
@@ -105,8 +107,8 @@ impl Canon for RelationField<'_> {
 }
 
 /// Why a relation can't stand in a field of this sort, or None: alternatives come before operators.
-fn refusal_in(relationship: Relationship, relation: &Relation<'_>) -> Option<Code>
-    ensures { result ≡ relation_refusal relationship (relation_of relation.now) }
+fn refusal_in(relationship: Relationship, relation: &RelationText<'_>) -> Option<Code>
+    ensures { result ≡ relation_refusal relationship (text_meaning relation.now) }
 {
     if relation.has_alternatives() && !relationship.takes_alternatives() {
         Some(Code::AlternativesNotAllowed)

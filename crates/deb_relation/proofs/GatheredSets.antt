@@ -12,7 +12,7 @@ use Rattle.deb_relation.specs.declared.fault.Stop.TheVariants.{Bad, Memory}
 use Rattle.deb_relation.proofs.Gathering.{gives-err}
 use Rattle.deb_relation.proofs.Inserting.{set_with-append}
 
-abbrev mapped : {S T : Type 0} → (S → T) → Reading S → Reading T
+abbrev pub mapped : {S T : Type 0} → (S → T) → Reading S → Reading T
 mapped f (Ok p) = Ok (f p.0, p.1)
 mapped f (Err stopped) = Err stopped
 
@@ -27,7 +27,7 @@ module _ {A S T : Type 0} (step : List ℕ → Next A) (put : A → S → S) (pu
       more so (Ok None) = refl
       more so (Ok (Some q)) = ap (λ t. gathered step put' n t q.1) (sym (same q.0 all)) ∙ so (put q.0 all) q.1
 
-  gather-mapped : (all : S) (rest : List ℕ) → gather step put' (f all) rest ≡ mapped f (gather step put all rest)
+  pub gather-mapped : (all : S) (rest : List ℕ) → gather step put' (f all) rest ≡ mapped f (gather step put all rest)
   unfolding gather
   gather-mapped all rest = gathered-mapped (length rest) all rest
 

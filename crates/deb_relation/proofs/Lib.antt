@@ -23,4 +23,5 @@ pub mod SpelledGroups
 pub mod SpelledLists
 pub mod SpelledParts
 pub mod SpelledRelation
+pub mod Summed
 pub mod Versions
