@@ -1,7 +1,7 @@
 //! What a paragraph that is given shows: its fields as they stand in the file, and their values.
 
 use super::*;
-use deb_control::Accepted;
+use deb_control::{Accepted, Paragraph};
 use deb_field::{Canon, Value};
 
 /// A field as it stands in the file: its name, its line and its body.
@@ -110,12 +110,18 @@ fn is_typed(alloc: Global, paragraph: &Accepted<'_>, shown: &Shown) -> Result<bo
     let mut text = Vec::new(alloc);
     text.push(b'=')?;
     typed.canon_into(&mut text)?;
-    Ok(
-        text.first() == Some(&b'=')
-            && text.get(1..) == Some(shown.3)
-            && typed.canon_len() == shown.3.len() as u64
-            && typed.fields().len() == 4
-            && matches!(typed.get(b"pACKAGE"), Some(Value::Name(_)))
-            && typed.get(b"Absent").is_none(),
-    )
+    Ok(stands_behind_sign(text.as_slice(), shown.3) && has_fields(&typed, shown.3.len()))
+}
+
+/// Whether a text stands behind an equals sign.
+fn stands_behind_sign(text: &[u8], wanted: &[u8]) -> bool {
+    text.first() == Some(&b'=') && text.get(1..) == Some(wanted)
+}
+
+/// Whether a typed paragraph has four fields, a canonical text of this length, and a name.
+fn has_fields(typed: &Paragraph<'_>, len: usize) -> bool {
+    typed.canon_len() == len as u64
+        && typed.fields().len() == 4
+        && matches!(typed.get(b"pACKAGE"), Some(Value::Name(_)))
+        && typed.get(b"Absent").is_none()
 }
