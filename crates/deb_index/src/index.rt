@@ -51,9 +51,9 @@ impl Index {
 
     /// Reads a file as an index of packages (Debian Policy 5.1, 5.3 and 5.6).
     ///
-    /// It takes one paragraph at a time, and at most 4,295,032,831 bytes from the reader: those that
-    /// a file may have, and one piece. What is said of the file's text holds for a reader that tells
-    /// its bytes.
+    /// It takes one paragraph at a time, and at most 4,295,032,831 bytes from the reader: those
+    /// that a file may have, and one piece. What is said of the file's text holds for a reader that
+    /// tells its bytes.
     ///
     /// # Errors
     ///

@@ -32,6 +32,10 @@ worked-wildcard = refl
 worked-all : is_environment (codes "all") [] ≡ false
 worked-all = refl
 
+-- `native` is a qualifier in relations; as a target it is a name of an architecture like others
+worked-native : is_environment (codes "native") [] ≡ true
+worked-native = refl
+
 worked-no_name : is_environment (codes "AMD64") [] ≡ false
 worked-no_name = refl
 
