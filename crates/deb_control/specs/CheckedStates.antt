@@ -3,6 +3,7 @@ use Rattle.std.specs.Prelude.{ℕ, List, Option, Result, Ok, Err}
 use Rattle.std.specs.Option.{option_map}
 use Rattle.deb_base.specs.declared.fault.Fault.{Fault}
 use Rattle.deb_syntax.specs.Paragraphs.{state_of, seen_of}
+use Rattle.deb_field.specs.declared.kind.Doc.{Doc}
 use Rattle.deb_control.specs.Checking.{CheckedMoment, CheckedState, Passing, passing_found}
 use Rattle.deb_control.specs.declared.accepted.Accepted.{Accepted}
 use Rattle.deb_control.specs.declared.checked.Checked.{Checked}
@@ -16,6 +17,10 @@ checked_state c = record {
   fault = c.fault;
 }
 
+-- the kind of document that it reads
+abbrev pub doc_read : Checked → Doc
+doc_read c = c.doc
+
 abbrev pub checked_moment : Checked → Option (List ℕ) → ℕ → CheckedMoment
 checked_moment c left failures = record {
   state = checked_state c;
@@ -25,6 +30,10 @@ checked_moment c left failures = record {
 -- what a view of a paragraph that passes shows
 abbrev pub passing_of : Accepted → Passing
 passing_of accepted = record { seen = seen_of accepted.raw; text = accepted.canonical.now }
+
+-- and the kind of its document
+abbrev pub doc_of : Accepted → Doc
+doc_of accepted = accepted.doc
 
 abbrev pub checked_answer : Result (Option Accepted) Fault → Result (Option Passing) Fault
 checked_answer (Ok accepted) = Ok (option_map passing_of accepted)

@@ -28,7 +28,7 @@ impl<'a> Accepted<'a> {
     ghost use Rattle.deb_syntax.specs.Meaning.{byte_order};
     ghost use Rattle.deb_syntax.specs.Raw.{field_of, field_named, fields_left};
     ghost use Rattle.deb_field.specs.ValueMeanings.{value_meaning};
-    ghost use Rattle.deb_control.specs.CheckedStates.{passing_of};
+    ghost use Rattle.deb_control.specs.CheckedStates.{doc_of, passing_of};
     ghost use Rattle.deb_control.specs.Paragraphs.{AreValuesOf};
     ghost use Rattle.deb_control.specs.ParagraphValues.{values_of};
     ghost use Rattle.deb_control.specs.PassingValues.{HasValue};
@@ -85,7 +85,7 @@ impl<'a> Accepted<'a> {
     /// Want of memory alone.
     pub fn value(&self, alloc: Global, name: &[u8]) -> Result<Option<Value<'a>>, AllocError>
         ensures { IfOk result
-            (λ value. HasValue self.now.doc (passing_of self.now).seen name.now
+            (λ value. HasValue (doc_of self.now) (passing_of self.now).seen name.now
             (option_map value_meaning value)) }
     {
         let Some(field) = self.raw.get(name) else {
@@ -104,7 +104,7 @@ impl<'a> Accepted<'a> {
     /// Want of memory alone.
     pub fn paragraph(&self, alloc: Global) -> Result<Paragraph<'a>, AllocError>
         ensures { IfOk result
-            (λ typed. AreValuesOf self.now.doc (passing_of self.now).seen (values_of typed)) }
+            (λ typed. AreValuesOf (doc_of self.now) (passing_of self.now).seen (values_of typed)) }
     {
         match Paragraph::build(alloc, self.doc, &self.raw) {
             Ok(paragraph) => Ok(paragraph),

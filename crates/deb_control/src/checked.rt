@@ -40,12 +40,12 @@ impl Checked {
     ghost use Rattle.deb_control.specs.contracts.checked.Checked.{the_row};
     ghost use Rattle.deb_control.specs.Checking.{FitsChecked, ChecksOn};
     ghost use Rattle.deb_control.specs.CheckedStates.{checked_state, checked_moment};
-    ghost use Rattle.deb_control.specs.CheckedStates.{checked_answer, passing_of};
+    ghost use Rattle.deb_control.specs.CheckedStates.{checked_answer, doc_of, doc_read, passing_of};
 
     /// A reader of checked paragraphs that has read nothing: whatever its source has left is the
     /// file. Takes no memory.
     pub fn new(alloc: Global, doc: Doc) -> Checked
-        ensures doc { result.doc ≡ doc }
+        ensures doc { doc_read result ≡ doc }
         ensures sound { (checked_state result).fault ≡ None }
         ensures none { (checked_state result).count ≡ 0 }
         ensures fits { (text : List ℕ)
@@ -79,13 +79,13 @@ impl Checked {
     /// - `Fault::Read`: a read of `reader` failed in this call.
     pub fn next<'a, R: Source>(&'a mut self, reader: &mut R) -> Result<Option<Accepted<'a>>, Fault>
         ensures doc { IfOk result
-            (λ given. IfSome given (λ accepted. accepted.doc ≡ self.old.doc)) }
+            (λ given. IfSome given (λ accepted. doc_of accepted ≡ doc_read self.old)) }
         ensures* after { sem 𝓛
             (Rests the_row self.entry
-            (λ new. ChecksOn self.old.doc
+            (λ new. ChecksOn (doc_read self.old)
             (checked_moment self.old (R.left reader.old) (R.failures reader.old))
             (checked_answer result) (checked_moment new (R.left reader.new) (R.failures reader.new))
-            × (new.doc ≡ self.old.doc))) }
+            × (doc_read new ≡ doc_read self.old))) }
     {
         if self.step(reader)? {
             Ok(self.current())

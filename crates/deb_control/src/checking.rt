@@ -19,8 +19,8 @@ use std::alloc::Global;
 /// Reads a file as a document of a kind, and answers the number of its paragraphs (Debian Policy
 /// 5.1 and 5.3 to 5.6).
 ///
-/// At most 4,295,032,831 bytes are taken from the reader: those that a file may have, and one piece.
-/// What is said of the file's text holds for a reader that tells its bytes.
+/// At most 4,295,032,831 bytes are taken from the reader: those that a file may have, and one
+/// piece. What is said of the file's text holds for a reader that tells its bytes.
 ///
 /// # Errors
 ///

@@ -19,8 +19,8 @@ use std::alloc::Global;
 /// A paragraph is written when it has passed every rule of the kind, with the empty line that
 /// stands between it and the one before, and not sooner.
 ///
-/// At most 4,295,032,831 bytes are taken from the reader: those that a file may have, and one piece.
-/// What is said of the file's text holds for a reader that tells its bytes.
+/// At most 4,295,032,831 bytes are taken from the reader: those that a file may have, and one
+/// piece. What is said of the file's text holds for a reader that tells its bytes.
 ///
 /// # Errors
 ///

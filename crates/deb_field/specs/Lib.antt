@@ -26,6 +26,7 @@ pub mod RelationLaw
 pub mod RelationSpelled
 pub mod Values
 pub mod ValueLaws
+pub mod Shown
 pub mod ValueMeanings
 pub mod Faults
 pub mod ValueCodes

@@ -17,22 +17,25 @@ pub struct Folded<'a> {
 }
 
 impl<'a> Folded<'a> {
+    ghost use Rattle.deb_field.specs.Shown.{folded_words, words_left};
+
     /// The words of a body: every body is folded.
     pub fn new(body: &'a [u8]) -> Folded<'a>
-        ensures { SpellsFolded body.now (words_of result.body.now) }
+        ensures { SpellsFolded body.now (folded_words result) }
     {
         Folded { body }
     }
 
     /// The words, in order.
     pub fn words(&self) -> Words<'a>
-        ensures { words_of result.rest.now ≡ words_of self.now.body.now }
+        ensures { words_left result ≡ folded_words self.now }
     {
         Words::of(self.body)
     }
 }
 
 impl Canon for Folded<'_> {
+    ghost use Rattle.deb_field.specs.Shown.{folded_words};
     ghost use Rattle.deb_field.specs.WordLaws.{folded_law};
 
     ghost Kinds = { Unit {0} };
@@ -41,7 +44,7 @@ impl Canon for Folded<'_> {
 
     ghost kind = { λ _. tt };
 
-    ghost meaning = { λ folded. words_of folded.body.now };
+    ghost meaning = { folded_words };
 
     ghost Spells = { λ _. SpellsFolded };
 
@@ -68,13 +71,15 @@ pub struct ArchitectureWords<'a> {
 }
 
 impl<'a> ArchitectureWords<'a> {
+    ghost use Rattle.deb_field.specs.Shown.{architectures_named, words_left};
+
     /// The names of architectures in a body, with white space between them.
     ///
     /// # Errors
     ///
     /// `BadArchitecture` where a word of the body is no name of an architecture.
     pub fn parse(body: &'a [u8]) -> Result<ArchitectureWords<'a>, Code>
-        ensures ok { IfOk result (λ names. SpellsArchitectures body.now (words_of names.body.now)) }
+        ensures ok { IfOk result (λ names. SpellsArchitectures body.now (architectures_named names)) }
         ensures refused { IfErr result (λ code. architectures_refusal body.now ≡ Some code) }
     {
         if !are_arch_names(body) {
@@ -85,13 +90,14 @@ impl<'a> ArchitectureWords<'a> {
 
     /// The names, in order.
     pub fn names(&self) -> Words<'a>
-        ensures { words_of result.rest.now ≡ words_of self.now.body.now }
+        ensures { words_left result ≡ architectures_named self.now }
     {
         Words::of(self.body)
     }
 }
 
 impl Canon for ArchitectureWords<'_> {
+    ghost use Rattle.deb_field.specs.Shown.{architectures_named};
     ghost use Rattle.deb_field.specs.WordLaws.{architectures_law};
 
     ghost Kinds = { Unit {0} };
@@ -100,7 +106,7 @@ impl Canon for ArchitectureWords<'_> {
 
     ghost kind = { λ _. tt };
 
-    ghost meaning = { λ names. words_of names.body.now };
+    ghost meaning = { architectures_named };
 
     ghost Spells = { λ _. SpellsArchitectures };
 

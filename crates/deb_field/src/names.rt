@@ -17,6 +17,8 @@ pub struct PackageName<'a> {
 }
 
 impl<'a> PackageName<'a> {
+    ghost use Rattle.deb_field.specs.Shown.{package_name};
+
     /// The name of a package that a body spells.
     ///
     /// # Errors
@@ -24,7 +26,7 @@ impl<'a> PackageName<'a> {
     /// `NotOneLine` for a body of more than one line, else `BadName` for one that is no name of a
     /// package.
     pub fn parse(body: &'a [u8]) -> Result<PackageName<'a>, Code>
-        ensures ok { IfOk result (λ name. SpellsName body.now name.bytes.now) }
+        ensures ok { IfOk result (λ name. SpellsName body.now (package_name name)) }
         ensures refused { IfErr result (λ code. name_refusal body.now ≡ Some code) }
     {
         if holds_newline(body) {
@@ -38,13 +40,14 @@ impl<'a> PackageName<'a> {
 
     /// The bytes of the name.
     pub fn bytes(&self) -> &'a [u8]
-        ensures { result.now ≡ self.now.bytes.now }
+        ensures { result.now ≡ package_name self.now }
     {
         self.bytes
     }
 }
 
 impl Canon for PackageName<'_> {
+    ghost use Rattle.deb_field.specs.Shown.{package_name};
     ghost use Rattle.deb_field.specs.TextLaws.{itself_law};
 
     ghost Kinds = { Unit {0} };
@@ -53,7 +56,7 @@ impl Canon for PackageName<'_> {
 
     ghost kind = { λ _. tt };
 
-    ghost meaning = { λ name. name.bytes.now };
+    ghost meaning = { package_name };
 
     ghost Spells = { λ _. SpellsName };
 
@@ -61,7 +64,7 @@ impl Canon for PackageName<'_> {
 
     ghost law = { λ _. itself_law is_package_name };
 
-    ghost spelled = { λ name. (name.bytes.now, (refl, name.well_formed)) };
+    ghost spelled = { λ name. (package_name name, (refl, name.well_formed)) };
 
     fn canon_len(&self) -> u64 {
         self.bytes.len() as u64
@@ -80,6 +83,8 @@ pub struct ArchitectureName<'a> {
 }
 
 impl<'a> ArchitectureName<'a> {
+    ghost use Rattle.deb_field.specs.Shown.{architecture_name};
+
     /// The name of an architecture that a body spells.
     ///
     /// # Errors
@@ -87,7 +92,7 @@ impl<'a> ArchitectureName<'a> {
     /// `NotOneLine` for a body of more than one line, else `BadArchitecture` for one that is no
     /// name of an architecture.
     pub fn parse(body: &'a [u8]) -> Result<ArchitectureName<'a>, Code>
-        ensures ok { IfOk result (λ name. SpellsArchitecture body.now name.bytes.now) }
+        ensures ok { IfOk result (λ name. SpellsArchitecture body.now (architecture_name name)) }
         ensures refused { IfErr result (λ code. architecture_refusal body.now ≡ Some code) }
     {
         if holds_newline(body) {
@@ -101,13 +106,14 @@ impl<'a> ArchitectureName<'a> {
 
     /// The bytes of the name.
     pub fn bytes(&self) -> &'a [u8]
-        ensures { result.now ≡ self.now.bytes.now }
+        ensures { result.now ≡ architecture_name self.now }
     {
         self.bytes
     }
 }
 
 impl Canon for ArchitectureName<'_> {
+    ghost use Rattle.deb_field.specs.Shown.{architecture_name};
     ghost use Rattle.deb_field.specs.TextLaws.{itself_law};
 
     ghost Kinds = { Unit {0} };
@@ -116,7 +122,7 @@ impl Canon for ArchitectureName<'_> {
 
     ghost kind = { λ _. tt };
 
-    ghost meaning = { λ name. name.bytes.now };
+    ghost meaning = { architecture_name };
 
     ghost Spells = { λ _. SpellsArchitecture };
 
@@ -124,7 +130,7 @@ impl Canon for ArchitectureName<'_> {
 
     ghost law = { λ _. itself_law is_arch_name };
 
-    ghost spelled = { λ name. (name.bytes.now, (refl, name.well_formed)) };
+    ghost spelled = { λ name. (architecture_name name, (refl, name.well_formed)) };
 
     fn canon_len(&self) -> u64 {
         self.bytes.len() as u64

@@ -21,6 +21,8 @@ pub struct Number<'a> {
 }
 
 impl<'a> Number<'a> {
+    ghost use Rattle.deb_field.specs.Shown.{number_value};
+
     /// The number that a body spells: one or more decimal digits, with leading zeros or without.
     ///
     /// # Errors
@@ -28,7 +30,7 @@ impl<'a> Number<'a> {
     /// `NotOneLine` for a body of more than one line, else `BadNumber` for one that isn't one or
     /// more digits.
     pub fn parse(body: &'a [u8]) -> Result<Number<'a>, Code>
-        ensures ok { IfOk result (λ number. SpellsNumber body.now (value_of number.digits.now)) }
+        ensures ok { IfOk result (λ number. SpellsNumber body.now (number_value number)) }
         ensures refused { IfErr result (λ code. number_refusal body.now ≡ Some code) }
     {
         if holds_newline(body) {
@@ -44,7 +46,7 @@ impl<'a> Number<'a> {
 
     /// The digits of the number, without leading zeros; of zero it is one `0`.
     pub fn digits(&self) -> &'a [u8]
-        ensures { result.now ≡ digits_of (value_of self.now.digits.now) }
+        ensures { result.now ≡ digits_of (number_value self.now) }
     {
         self.digits
     }
@@ -53,6 +55,7 @@ impl<'a> Number<'a> {
 impl Canon for Number<'_> {
     ghost use Rattle.std.specs.Prelude.{ℕ};
     ghost use Rattle.deb_field.specs.NumberLaw.{number_law, number_spelled};
+    ghost use Rattle.deb_field.specs.Shown.{number_value};
 
     ghost Kinds = { Unit {0} };
 
@@ -60,7 +63,7 @@ impl Canon for Number<'_> {
 
     ghost kind = { λ _. tt };
 
-    ghost meaning = { λ number. value_of number.digits.now };
+    ghost meaning = { number_value };
 
     ghost Spells = { λ _. SpellsNumber };
 

@@ -25,6 +25,7 @@ pub struct RelationField<'a> {
 impl<'a> RelationField<'a> {
     ghost use Rattle.deb_field.specs.Faults.{IsFaultOrMemory};
     ghost use Rattle.deb_field.specs.RelationSpelled.{relation_meaning};
+    ghost use Rattle.deb_field.specs.Shown.{sort_of};
 
     /// The relation that a body spells in a field of this sort.
     ///
@@ -40,7 +41,7 @@ impl<'a> RelationField<'a> {
     ) -> Result<RelationField<'a>, ValueFault>
         ensures ok { IfOk result
             (λ field. SpellsRelationship relationship body.now (relation_meaning field)) }
-        ensures sort { IfOk result (λ field. field.relationship ≡ relationship) }
+        ensures sort { IfOk result (λ field. sort_of field ≡ relationship) }
         ensures refused { IfErr result
             (IsFaultOrMemory (relationship_refusal relationship body.now)) }
     {
@@ -59,7 +60,7 @@ impl<'a> RelationField<'a> {
 
     /// The sort of the field.
     pub fn relationship(&self) -> Relationship
-        ensures { result ≡ self.now.relationship }
+        ensures { result ≡ sort_of self.now }
     {
         self.relationship
     }
@@ -80,12 +81,13 @@ impl Canon for RelationField<'_> {
     ghost use Rattle.deb_field.specs.declared.kind.Relationship.{Relationship as Sort};
     ghost use Rattle.deb_field.specs.RelationLaw.{relation_law};
     ghost use Rattle.deb_field.specs.RelationSpelled.{relation_meaning, relation_spelled};
+    ghost use Rattle.deb_field.specs.Shown.{sort_of};
 
     ghost Kinds = { Sort };
 
     ghost Meaning = { RelationMeaning };
 
-    ghost kind = { λ field. field.relationship };
+    ghost kind = { sort_of };
 
     ghost meaning = { relation_meaning };
 

@@ -15,22 +15,25 @@ pub struct Text<'a> {
 }
 
 impl<'a> Text<'a> {
+    ghost use Rattle.deb_field.specs.Shown.{text_bytes};
+
     /// The text of a body: every body is one.
     pub fn new(body: &'a [u8]) -> Text<'a>
-        ensures { SpellsText body.now result.bytes.now }
+        ensures { SpellsText body.now (text_bytes result) }
     {
         Text { bytes: body }
     }
 
     /// The bytes of the text.
     pub fn bytes(&self) -> &'a [u8]
-        ensures { result.now ≡ self.now.bytes.now }
+        ensures { result.now ≡ text_bytes self.now }
     {
         self.bytes
     }
 }
 
 impl Canon for Text<'_> {
+    ghost use Rattle.deb_field.specs.Shown.{text_bytes};
     ghost use Rattle.deb_field.specs.TextLaws.{itself_law};
     ghost use Rattle.deb_field.specs.Texts.{is_any_text};
 
@@ -40,7 +43,7 @@ impl Canon for Text<'_> {
 
     ghost kind = { λ _. tt };
 
-    ghost meaning = { λ text. text.bytes.now };
+    ghost meaning = { text_bytes };
 
     ghost Spells = { λ _. SpellsText };
 
@@ -48,7 +51,7 @@ impl Canon for Text<'_> {
 
     ghost law = { λ _. itself_law is_any_text };
 
-    ghost spelled = { λ text. (text.bytes.now, (refl, refl)) };
+    ghost spelled = { λ text. (text_bytes text, (refl, refl)) };
 
     fn canon_len(&self) -> u64 {
         self.bytes.len() as u64
@@ -67,13 +70,15 @@ pub struct Line<'a> {
 }
 
 impl<'a> Line<'a> {
+    ghost use Rattle.deb_field.specs.Shown.{line_bytes};
+
     /// The line of a body, which may be empty.
     ///
     /// # Errors
     ///
     /// `NotOneLine` for a body of more lines.
     pub fn parse(body: &'a [u8]) -> Result<Line<'a>, Code>
-        ensures ok { IfOk result (λ line. SpellsLine body.now line.bytes.now) }
+        ensures ok { IfOk result (λ line. SpellsLine body.now (line_bytes line)) }
         ensures refused { IfErr result (λ code. one_line_refusal body.now ≡ Some code) }
     {
         if holds_newline(body) {
@@ -84,13 +89,14 @@ impl<'a> Line<'a> {
 
     /// The bytes of the line.
     pub fn bytes(&self) -> &'a [u8]
-        ensures { result.now ≡ self.now.bytes.now }
+        ensures { result.now ≡ line_bytes self.now }
     {
         self.bytes
     }
 }
 
 impl Canon for Line<'_> {
+    ghost use Rattle.deb_field.specs.Shown.{line_bytes};
     ghost use Rattle.deb_field.specs.TextLaws.{itself_law};
 
     ghost Kinds = { Unit {0} };
@@ -99,7 +105,7 @@ impl Canon for Line<'_> {
 
     ghost kind = { λ _. tt };
 
-    ghost meaning = { λ line. line.bytes.now };
+    ghost meaning = { line_bytes };
 
     ghost Spells = { λ _. SpellsLine };
 
@@ -107,7 +113,7 @@ impl Canon for Line<'_> {
 
     ghost law = { λ _. itself_law is_one_line };
 
-    ghost spelled = { λ line. (line.bytes.now, (refl, line.one_line)) };
+    ghost spelled = { λ line. (line_bytes line, (refl, line.one_line)) };
 
     fn canon_len(&self) -> u64 {
         self.bytes.len() as u64

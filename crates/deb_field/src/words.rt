@@ -24,12 +24,13 @@ impl<'a> Words<'a> {
 
 impl<'a> Iterator for Words<'a> {
     ghost use Rattle.std.specs.Iterator.{YieldsFirstRef, item_count};
+    ghost use Rattle.deb_field.specs.Shown.{words_left};
 
     type Item = &'a [u8];
 
-    ghost next_gives = { YieldsFirstRef (λ words. words_of words.rest.now) };
+    ghost next_gives = { YieldsFirstRef words_left };
 
-    ghost remaining = { item_count (λ words. words_of words.rest.now) };
+    ghost remaining = { item_count words_left };
 
     fn next(&mut self) -> Option<&'a [u8]> {
         let (word, rest) = cut_word(self.rest)?;
