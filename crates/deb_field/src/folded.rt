@@ -79,7 +79,8 @@ impl<'a> ArchitectureWords<'a> {
     ///
     /// `BadArchitecture` where a word of the body is no name of an architecture.
     pub fn parse(body: &'a [u8]) -> Result<ArchitectureWords<'a>, Code>
-        ensures ok { IfOk result (λ names. SpellsArchitectures body.now (architectures_named names)) }
+        ensures ok { IfOk result
+            (λ names. SpellsArchitectures body.now (architectures_named names)) }
         ensures refused { IfErr result (λ code. architectures_refusal body.now ≡ Some code) }
     {
         if !are_arch_names(body) {
