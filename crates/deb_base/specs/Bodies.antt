@@ -47,9 +47,13 @@ paragraph_limit = 16777216
 abbrev pub is_all_blank : List ℕ → Bool
 is_all_blank text = list_all is_blank_byte text
 
+-- a line that is blank where a paragraph may have so many bytes
+abbrev pub is_blank_under : ℕ → Line → Bool
+is_blank_under limit line = nat_le (line_length line) limit && is_all_blank line
+
 -- a blank line separates paragraphs; one that is longer than a paragraph may be is none
 abbrev pub is_blank : Line → Bool
-is_blank line = nat_le (line_length line) paragraph_limit && is_all_blank line
+is_blank line = is_blank_under paragraph_limit line
 
 -- a space or a tab comes first
 abbrev pub begins_with_blank : List ℕ → Bool
@@ -103,6 +107,12 @@ blank_lines : (is_blank [] ≡ true) × (is_blank (codes " \t ") ≡ true)
     × (is_blank (codes " .") ≡ false)
 unfolding paragraph_limit
 blank_lines = (refl, refl, refl)
+
+-- with its newline it may be as long as a paragraph, and no longer
+longest_blank_line : (is_blank_under 4 (codes " \t ") ≡ true)
+    × (is_blank_under 3 (codes " \t ") ≡ false) × (is_blank_under 1 [] ≡ true)
+    × (is_blank_under 0 [] ≡ false)
+longest_blank_line = (refl, refl, refl, refl)
 
 continuation_lines : (is_continuation (codes " x") ≡ true) × (is_continuation (codes "\tx") ≡ true)
     × (is_continuation (codes "x") ≡ false) × (is_continuation [] ≡ false)

@@ -13,7 +13,7 @@ use Rattle.deb_base.specs.Bodies.{paragraph_limit}
 use Rattle.deb_syntax.specs.Lines.{Paragraph, lines_of, file_limit}
 use Rattle.deb_syntax.specs.Fields.{Field, has_name}
 use Rattle.deb_syntax.specs.Meaning.{Entries, entries_of}
-use Rattle.deb_syntax.specs.Answers.{Seen, line_beyond, paragraphs_within, answer_of_first}
+use Rattle.deb_syntax.specs.Answers.{Seen, line_beyond, paragraphs_within_under, answer_of_first_under}
 use Rattle.deb_control.specs.Canonical.{paragraph_text, file_text}
 use Rattle.deb_control.specs.Rules.{Rules}
 
@@ -47,34 +47,52 @@ canonical_field rules field =
 abbrev pub canonical_entries : Rules → List Field → Entries
 canonical_entries rules fields = entries_of (map (canonical_field rules) fields)
 
+-- Where a word ends in `_under`, its first arguments are how many bytes a paragraph may have, and a
+-- file, as far as it asks them; the word without `_under` is the same at the limits of this
+-- project.
+
 -- a paragraph of which all values are good: no name is missing, and its canonical text isn't too
 -- long
-abbrev pub named_and_short : Rules → Seen → Result Entries Refusal
-named_and_short rules seen =
+abbrev pub named_and_short_under : ℕ → Rules → Seen → Result Entries Refusal
+named_and_short_under limit rules seen =
     cond (not (have_names seen.fields rules.required))
     (Err (record { code = MissingField; line = seen.first }))
-    (cond (not (nat_le (length (paragraph_text (canonical_entries rules seen.fields)))
-    paragraph_limit))
+    (cond (not (nat_le (length (paragraph_text (canonical_entries rules seen.fields))) limit))
     (Err (record { code = ParagraphTooLong; line = seen.first }))
     (Ok (canonical_entries rules seen.fields)))
 
+abbrev pub named_and_short : Rules → Seen → Result Entries Refusal
+named_and_short rules seen = named_and_short_under paragraph_limit rules seen
+
+abbrev pub refused_or_built_under : ℕ → Rules → Seen → Option Refusal → Result Entries Refusal
+refused_or_built_under limit rules seen (Some refusal) = Err refusal
+refused_or_built_under limit rules seen None = named_and_short_under limit rules seen
+
 abbrev pub refused_or_built : Rules → Seen → Option Refusal → Result Entries Refusal
-refused_or_built rules seen (Some refusal) = Err refusal
-refused_or_built rules seen None = named_and_short rules seen
+refused_or_built rules seen first = refused_or_built_under paragraph_limit rules seen first
 
 -- What is answered of one paragraph by itself, of which the fields were seen: the canonical bodies
 -- of its values, or the first refusal of a body in the order of the file, else that a name is
 -- missing, else that its canonical text is too long.
-abbrev pub built : Rules → Seen → Result Entries Refusal
-built rules seen = refused_or_built rules seen (value_refusal_of rules seen.fields)
+abbrev pub built_under : ℕ → Rules → Seen → Result Entries Refusal
+built_under limit rules seen =
+    refused_or_built_under limit rules seen (value_refusal_of rules seen.fields)
 
--- a paragraph behind others, of which the canonical text of all is not too long
-abbrev pub within_file : List Entries → ℕ → Result Entries Refusal → Result (Option Entries) Refusal
-within_file before line (Err refusal) = Err refusal
-within_file before line (Ok entries) =
-    cond (not (nat_le (length (file_text (before ++ entries ∷ []))) file_limit))
+abbrev pub built : Rules → Seen → Result Entries Refusal
+built rules seen = built_under paragraph_limit rules seen
+
+-- a paragraph behind others, of which the canonical text of all has no more than so many bytes
+abbrev pub within_bytes : ℕ → List Entries → ℕ → Result Entries Refusal
+    → Result (Option Entries) Refusal
+within_bytes most before line (Err refusal) = Err refusal
+within_bytes most before line (Ok entries) =
+    cond (not (nat_le (length (file_text (before ++ entries ∷ []))) most))
     (Err (record { code = FileTooLong; line = line }))
     (Ok (Some entries))
+
+-- the same of as many as a file may have
+abbrev pub within_file : List Entries → ℕ → Result Entries Refusal → Result (Option Entries) Refusal
+within_file before line entries = within_bytes file_limit before line entries
 
 -- there is one
 abbrev pub has_some : List Entries → Bool
@@ -83,23 +101,36 @@ has_some (entries ∷ more) = true
 
 -- What is answered behind paragraphs that have passed, where this was seen of the next one: n is
 -- the number of the line behind the last one.
-abbrev pub answer_of_seen : Rules → ℕ → List Entries → Result (Option Seen) Refusal
+abbrev pub answer_of_seen_under : ℕ → ℕ → Rules → ℕ → List Entries → Result (Option Seen) Refusal
     → Result (Option Entries) Refusal
-answer_of_seen rules n before (Err refusal) = Err refusal
-answer_of_seen rules n before (Ok None) =
+answer_of_seen_under limit most rules n before (Err refusal) = Err refusal
+answer_of_seen_under limit most rules n before (Ok None) =
     cond (rules.single && not (has_some before)) (Err (record { code = NoParagraph; line = n }))
     (Ok None)
-answer_of_seen rules n before (Ok (Some seen)) = within_file before seen.first (built rules seen)
+answer_of_seen_under limit most rules n before (Ok (Some seen)) =
+    within_bytes most before seen.first (built_under limit rules seen)
+
+abbrev pub answer_of_seen : Rules → ℕ → List Entries → Result (Option Seen) Refusal
+    → Result (Option Entries) Refusal
+answer_of_seen rules n before seen =
+    answer_of_seen_under paragraph_limit file_limit rules n before seen
 
 -- What is answered behind paragraphs that have passed, where these are left: a second paragraph is
 -- one too many where one is asked, whatever it holds.
-abbrev pub answer_behind : Rules → Option ℕ → ℕ → List Entries → List Paragraph
+abbrev pub answer_behind_under : ℕ → ℕ → Rules → Option ℕ → ℕ → List Entries → List Paragraph
     → Result (Option Entries) Refusal
-answer_behind rules beyond n before [] = answer_of_seen rules n before (answer_of_first beyond [])
-answer_behind rules beyond n before (p ∷ left) =
+answer_behind_under limit most rules beyond n before [] =
+    answer_of_seen_under limit most rules n before (answer_of_first_under limit beyond [])
+answer_behind_under limit most rules beyond n before (p ∷ left) =
     cond (rules.single && has_some before)
     (Err (record { code = TooManyParagraphs; line = p.first }))
-    (answer_of_seen rules n before (answer_of_first beyond (p ∷ left)))
+    (answer_of_seen_under limit most rules n before
+    (answer_of_first_under limit beyond (p ∷ left)))
+
+abbrev pub answer_behind : Rules → Option ℕ → ℕ → List Entries → List Paragraph
+    → Result (Option Entries) Refusal
+answer_behind rules beyond n before left =
+    answer_behind_under paragraph_limit file_limit rules beyond n before left
 
 -- the number of the line behind a text's last one
 abbrev pub line_behind : List ℕ → ℕ
@@ -108,10 +139,15 @@ line_behind text = length (lines_of text) + 1
 -- What is answered of a file behind its first paragraphs, which have passed and have these
 -- canonical bodies: those of the next one, none where there is no further one, or why the file is
 -- refused.
+abbrev pub next_checked_under : ℕ → ℕ → Rules → List ℕ → List Entries
+    → Result (Option Entries) Refusal
+next_checked_under limit most rules text before =
+    answer_behind_under limit most rules (line_beyond 1 most text) (line_behind text) before
+    (drop (length before) (paragraphs_within_under limit most text))
+
 abbrev pub next_checked : Rules → List ℕ → List Entries → Result (Option Entries) Refusal
 next_checked rules text before =
-    answer_behind rules (line_beyond 1 file_limit text) (line_behind text) before
-    (drop (length before) (paragraphs_within text))
+    next_checked_under paragraph_limit file_limit rules text before
 
 -- What comes of a file: the canonical bodies of the paragraphs before the first that fails, and why
 -- it is refused.
@@ -130,24 +166,39 @@ followed before (Err refusal) behind = record { passed = before; refusal = Some 
 followed before (Ok None) behind = record { passed = before; refusal = None }
 followed before (Ok (Some entries)) behind = behind entries
 
+abbrev pub outcome_behind_under : ℕ → ℕ → Rules → Option ℕ → ℕ → List Entries → List Paragraph
+    → Outcome
+outcome_behind_under limit most rules beyond n before [] =
+    stopped before (answer_behind_under limit most rules beyond n before [])
+outcome_behind_under limit most rules beyond n before (p ∷ left) =
+    followed before (answer_behind_under limit most rules beyond n before (p ∷ left))
+    (λ entries. outcome_behind_under limit most rules beyond n (before ++ entries ∷ []) left)
+
 abbrev pub outcome_behind : Rules → Option ℕ → ℕ → List Entries → List Paragraph → Outcome
-outcome_behind rules beyond n before [] = stopped before (answer_behind rules beyond n before [])
-outcome_behind rules beyond n before (p ∷ left) =
-    followed before (answer_behind rules beyond n before (p ∷ left))
-    (λ entries. outcome_behind rules beyond n (before ++ entries ∷ []) left)
+outcome_behind rules beyond n before left =
+    outcome_behind_under paragraph_limit file_limit rules beyond n before left
+
+abbrev pub outcome_under : ℕ → ℕ → Rules → List ℕ → Outcome
+outcome_under limit most rules text =
+    outcome_behind_under limit most rules (line_beyond 1 most text) (line_behind text) []
+    (paragraphs_within_under limit most text)
 
 abbrev pub outcome : Rules → List ℕ → Outcome
-outcome rules text =
-    outcome_behind rules (line_beyond 1 file_limit text) (line_behind text) []
-    (paragraphs_within text)
+outcome rules text = outcome_under paragraph_limit file_limit rules text
 
 -- The refusal of a file, if it has one.
+abbrev pub refusal_under : ℕ → ℕ → Rules → List ℕ → Option Refusal
+refusal_under limit most rules text = (outcome_under limit most rules text).refusal
+
 abbrev pub refusal_by : Rules → List ℕ → Option Refusal
-refusal_by rules text = (outcome rules text).refusal
+refusal_by rules text = refusal_under paragraph_limit file_limit rules text
 
 -- The canonical text of the paragraphs before the first that fails, or of all.
+abbrev pub text_under : ℕ → ℕ → Rules → List ℕ → List ℕ
+text_under limit most rules text = file_text (outcome_under limit most rules text).passed
+
 abbrev pub text_by : Rules → List ℕ → List ℕ
-text_by rules text = file_text (outcome rules text).passed
+text_by rules text = text_under paragraph_limit file_limit rules text
 
 -- for the worked cases: numbers of one digit under Size, all other bodies as they stand, and
 -- Package is asked
@@ -193,3 +244,58 @@ one_asked : (refusal_by (sample true) (codes "Package: aa\n\n x")
     × (refusal_by (sample true) (codes "Package: aa") ≡ None)
 unfolding file_limit paragraph_limit is_utf8 chars encode
 one_asked = (refl, refl, refl, refl, refl)
+
+-- canonical text that is too long, where the file is not: `package:a` has ten bytes with its
+-- newline, and its canonical text eleven
+long_canonical : (refusal_under 11 11 (sample false) (codes "package:a") ≡ None)
+    × (refusal_under 10 99 (sample false) (codes "package:a")
+    ≡ Some (record { code = ParagraphTooLong; line = 1 }))
+    × (refusal_under 99 10 (sample false) (codes "package:a")
+    ≡ Some (record { code = FileTooLong; line = 1 }))
+    × (refusal_under 10 10 (sample false) (codes "package:a")
+    ≡ Some (record { code = ParagraphTooLong; line = 1 }))
+    × (refusal_under 10 10 (sample false) (codes "package:") ≡ None)
+unfolding is_utf8 chars encode
+long_canonical = (refl, refl, refl, refl, refl)
+
+-- of a paragraph by itself, of a file all that is written so far, with the newline between two
+-- paragraphs; it is told at the paragraph's first line, and those before it are written
+long_second : (refusal_under 11 23 (sample false) (codes "package:a\n\n\npackage:b") ≡ None)
+    × (refusal_under 11 22 (sample false) (codes "package:a\n\npackage:b")
+    ≡ Some (record { code = FileTooLong; line = 3 }))
+    × (text_under 11 22 (sample false) (codes "package:a\n\npackage:b") ≡ codes "Package: a\n")
+    × (refusal_under 18 99 (sample false) (codes "package:a\n\nx:1\npackage:b\ny:1")
+    ≡ Some (record { code = ParagraphTooLong; line = 3 }))
+    × (text_under 18 99 (sample false) (codes "package:a\n\nx:1\npackage:b\ny:1")
+    ≡ codes "Package: a\n")
+unfolding is_utf8 chars encode
+long_second = (refl, refl, refl, refl, refl)
+
+-- a paragraph's lines that are too long go before its values, and so does a file; a value and a
+-- missing name go before canonical text that is too long
+limits_among_steps : (refusal_under 8 99 (sample false) (codes "Size: 12")
+    ≡ Some (record { code = ParagraphTooLong; line = 1 }))
+    × (refusal_under 99 7 (sample false) (codes "Size: 12")
+    ≡ Some (record { code = FileTooLong; line = 1 }))
+    × (refusal_under 8 8 (sample false) (codes "Size:12")
+    ≡ Some (record { code = BadNumber; line = 1 }))
+    × (refusal_under 7 7 (sample false) (codes "\nSize:1")
+    ≡ Some (record { code = MissingField; line = 2 }))
+unfolding is_utf8 chars encode
+limits_among_steps = (refl, refl, refl, refl)
+
+-- where one paragraph is asked a second one is one too many however long it is, and a file that is
+-- too long lacks none
+one_asked_within : (refusal_under 11 99 (sample true) (codes "Package:a\n\nPackage: bbb\n")
+    ≡ Some (record { code = TooManyParagraphs; line = 3 }))
+    × (refusal_under 11 10 (sample true) (codes "Package:a\n\n")
+    ≡ Some (record { code = FileTooLong; line = 2 }))
+    × (refusal_under 11 11 (sample true) (codes "Package:a\n\n\n")
+    ≡ Some (record { code = FileTooLong; line = 3 }))
+    × (text_under 11 11 (sample true) (codes "Package:a\n\n\n") ≡ codes "Package: a\n")
+    × (refusal_under 9 2 (sample true) (codes "\n\n\n")
+    ≡ Some (record { code = FileTooLong; line = 3 }))
+    × (refusal_under 9 3 (sample true) (codes "\n\n\n")
+    ≡ Some (record { code = NoParagraph; line = 4 }))
+unfolding is_utf8 chars encode
+one_asked_within = (refl, refl, refl, refl, refl, refl)

@@ -1,12 +1,12 @@
 -- Fields that pass the test of a paragraph's fields: those that lines spell.
-use Rattle.std.proofs.Common.{◌&&◌, ◌≡◌, ℕ, zero, suc, ◌+◌, ◌<◌, ◌≤◌, true, not, List, [], ◌∷◌, ◌++◌, length, leb, get_or, subst, refl, ap, arith, Ok, IsUtf8}
+use Rattle.std.proofs.Common.{◌≡◌, ℕ, zero, suc, ◌+◌, ◌<◌, ◌≤◌, true, not, List, [], ◌∷◌, ◌++◌, length, leb, get_or, subst, refl, ap, arith, Ok, IsUtf8}
 use Rattle.std.specs.List.{AllByRecursion, list_all}
 use Rattle.std.proofs.lemmas.Bool.{and_parts, and_from, le-leb}
 use Rattle.deb_base.specs.Bodies.{Line, IsBody, is_body, paragraph_limit, pieces_of}
 use Rattle.deb_base.specs.FieldNames.{is_name}
 use Rattle.deb_base.proofs.BodyLemmas.{IsBody-from_test, is_body-from_IsBody}
 use Rattle.deb_syntax.specs.Lines.{Paragraph, total_length}
-use Rattle.deb_syntax.specs.Fields.{Field, SpellsField, SpellsFields, SpellsParagraph, AreDistinct, has_name, is_field, are_fields, are_numbered}
+use Rattle.deb_syntax.specs.Fields.{Field, SpellsField, SpellsFields, SpellsParagraph, AreDistinct, is_field, are_fields, are_numbered}
 use Rattle.deb_syntax.specs.Judging.{judged}
 use Rattle.deb_syntax.specs.Extents.{AreNotBlank}
 use Rattle.deb_syntax.specs.Places.{field_at, fields_at}

@@ -2,10 +2,12 @@
 -- deb822(5). The limits, the order of the refusals and the lines at which they are told are this
 -- project's own.
 use Rattle.std.specs.Prelude.{◌≡◌, ℕ, ◌+◌, ◌-◌, ◌==◌, Bool, false, cond, List, [], ◌∷◌, length, take, drop, nat_le, Option, Some, None, Result, Ok, Err, codes, refl}
-use Rattle.deb_base.specs.declared.code.Code.TheVariants.{ParagraphTooLong, FileTooLong}
+use Rattle.std.specs.Str.{is_utf8, chars}
+use lib.Utf8.{encode}
+use Rattle.deb_base.specs.declared.code.Code.TheVariants.{ParagraphTooLong, FileTooLong, NoColon}
 use Rattle.deb_base.specs.declared.refusal.Refusal.{Refusal}
 use Rattle.deb_base.specs.Bodies.{Line, newline, line_length, paragraph_limit}
-use Rattle.deb_syntax.specs.Lines.{Paragraph, lines_of, paragraphs_of, file_limit}
+use Rattle.deb_syntax.specs.Lines.{Paragraph, lines_of, paragraphs_under, file_limit}
 use Rattle.deb_syntax.specs.Fields.{Field}
 use Rattle.deb_syntax.specs.Judging.{judged}
 
@@ -68,25 +70,40 @@ abbrev pub paragraph_answer : Option ℕ → Option ℕ → Paragraph → Result
 paragraph_answer (Some line) beyond p = Err (record { code = ParagraphTooLong; line = line })
 paragraph_answer None beyond p = short_answer beyond p
 
+-- Where a word ends in `_under`, how many bytes a paragraph may have is its first argument, and how
+-- many a file may have its second where it asks that; the word without `_under` is the same at the
+-- limits of this project.
+
 -- What is answered of the first of the paragraphs that are left, where the file is too long from a
 -- line on or isn't.
+abbrev pub answer_of_first_under : ℕ → Option ℕ → List Paragraph → Result (Option Seen) Refusal
+answer_of_first_under limit None [] = Ok None
+answer_of_first_under limit (Some line) [] = Err (record { code = FileTooLong; line = line })
+answer_of_first_under limit beyond (p ∷ more) =
+    paragraph_answer (line_too_long p.first limit p.lines) beyond p
+
 abbrev pub answer_of_first : Option ℕ → List Paragraph → Result (Option Seen) Refusal
-answer_of_first None [] = Ok None
-answer_of_first (Some line) [] = Err (record { code = FileTooLong; line = line })
-answer_of_first beyond (p ∷ more) =
-    paragraph_answer (line_too_long p.first paragraph_limit p.lines) beyond p
+answer_of_first beyond left = answer_of_first_under paragraph_limit beyond left
 
 -- The paragraphs of a file that are looked at.
+abbrev pub paragraphs_within_under : ℕ → ℕ → List ℕ → List Paragraph
+paragraphs_within_under limit most text =
+    paragraphs_under limit 1 (lines_of (part_within most text))
+
 abbrev pub paragraphs_within : List ℕ → List Paragraph
-paragraphs_within text = paragraphs_of (part_within file_limit text)
+paragraphs_within text = paragraphs_within_under paragraph_limit file_limit text
 
 -- The answer of a reader of paragraphs behind the first `count` paragraphs of a file: the next one,
 -- none, or why the file is refused there. The first that holds decides, of the paragraph's lines
 -- being too long, the file being too long with no blank line behind the paragraph in sight, and a
 -- line being refused; behind the last one, the file being too long.
+abbrev pub next_answer_under : ℕ → ℕ → List ℕ → ℕ → Result (Option Seen) Refusal
+next_answer_under limit most text count =
+    answer_of_first_under limit (line_beyond 1 most text)
+    (drop count (paragraphs_within_under limit most text))
+
 abbrev pub next_answer : List ℕ → ℕ → Result (Option Seen) Refusal
-next_answer text count =
-    answer_of_first (line_beyond 1 file_limit text) (drop count (paragraphs_within text))
+next_answer text count = next_answer_under paragraph_limit file_limit text count
 
 -- the line at which the first of the paragraphs that are left begins, where the file is too long
 -- from a line on or isn't
@@ -97,9 +114,13 @@ begin_of_first beyond (p ∷ more) = Ok (Some p.first)
 
 -- The line at which the next paragraph begins behind the first `count` ones: none, or that the file
 -- is too long.
+abbrev pub next_begin_under : ℕ → ℕ → List ℕ → ℕ → Result (Option ℕ) Refusal
+next_begin_under limit most text count =
+    begin_of_first (line_beyond 1 most text)
+    (drop count (paragraphs_within_under limit most text))
+
 abbrev pub next_begin : List ℕ → ℕ → Result (Option ℕ) Refusal
-next_begin text count =
-    begin_of_first (line_beyond 1 file_limit text) (drop count (paragraphs_within text))
+next_begin text count = next_begin_under paragraph_limit file_limit text count
 
 whole : whole_lines (codes "a\n\nb") ≡ codes "a\n\n"
 whole = refl
@@ -123,3 +144,95 @@ too_long : (line_too_long 4 4 (codes "a" ∷ codes "b" ∷ []) ≡ None)
     × (line_too_long 4 3 (codes "a" ∷ codes "b" ∷ []) ≡ Some 5)
     × (line_too_long 4 1 (codes "a" ∷ codes "b" ∷ []) ≡ Some 4)
 too_long = (refl, refl, refl)
+
+-- for the worked cases: what is seen of `a:1`, and of `b:2` at another line
+abbrev first_seen : Seen
+first_seen =
+    record { first = 1; fields = record { name = codes "a"; line = 1; body = codes "1" } ∷ [] }
+
+abbrev second_seen : ℕ → Seen
+second_seen n =
+    record { first = n; fields = record { name = codes "b"; line = n; body = codes "2" } ∷ [] }
+
+-- a file within its limits: its paragraphs in turn, and then none
+within_limits : (next_answer_under 4 9 (codes "a:1\n\nb:2\n") 0 ≡ Ok (Some first_seen))
+    × (next_answer_under 4 9 (codes "a:1\n\nb:2\n") 1 ≡ Ok (Some (second_seen 3)))
+    × (next_answer_under 4 9 (codes "a:1\n\nb:2\n") 2 ≡ Ok None)
+    × (next_answer_under 4 0 [] 0 ≡ Ok None)
+unfolding is_utf8 chars encode
+within_limits = (refl, refl, refl, refl)
+
+-- a paragraph is refused at the line with which its lines are too long; a newline counts, also
+-- where it is missing
+long_paragraph : (next_answer_under 7 99 (codes "b:2\n c\n") 0
+    ≡ Ok (Some (record {
+      first = 1;
+      fields = record { name = codes "b"; line = 1; body = codes "2\n c" } ∷ [];
+    })))
+    × (next_answer_under 6 99 (codes "b:2\n c\n") 0
+    ≡ Err (record { code = ParagraphTooLong; line = 2 }))
+    × (next_answer_under 3 99 (codes "b:2\n c\n") 0
+    ≡ Err (record { code = ParagraphTooLong; line = 1 }))
+    × (next_answer_under 4 99 (codes "a:1") 0 ≡ Ok (Some first_seen))
+    × (next_answer_under 3 99 (codes "a:1") 0 ≡ Err (record { code = ParagraphTooLong; line = 1 }))
+unfolding is_utf8 chars encode
+long_paragraph = (refl, refl, refl, refl, refl)
+
+-- each paragraph by itself: those before it and blank lines count nothing
+long_second : (next_answer_under 4 99 (codes "a:1\n\n \nb:22\n") 0 ≡ Ok (Some first_seen))
+    × (next_answer_under 4 99 (codes "a:1\n\n \nb:22\n") 1
+    ≡ Err (record { code = ParagraphTooLong; line = 4 }))
+    × (next_answer_under 4 99 (codes "a:1\n\n \nb:2\n") 1 ≡ Ok (Some (second_seen 4)))
+unfolding is_utf8 chars encode
+long_second = (refl, refl, refl)
+
+-- a blank line that is longer than a paragraph may be belongs to one, which it makes too long
+long_blank_line : (next_answer_under 4 99 (codes "a:1\n   \nb:2\n") 1 ≡ Ok (Some (second_seen 3)))
+    × (next_answer_under 4 99 (codes "a:1\n    \nb:2\n") 0
+    ≡ Err (record { code = ParagraphTooLong; line = 2 }))
+    × (next_answer_under 4 99 (codes "\n    \n") 0
+    ≡ Err (record { code = ParagraphTooLong; line = 2 }))
+    × (next_begin_under 4 99 (codes "\n    \n") 0 ≡ Ok (Some 2))
+    × (next_begin_under 5 99 (codes "\n    \n") 0 ≡ Ok None)
+unfolding is_utf8 chars encode
+long_blank_line = (refl, refl, refl, refl, refl)
+
+-- a file is too long at the line of the first byte too many, which isn't looked at; a blank line
+-- behind a paragraph saves it where its newline is still within
+long_file : (next_answer_under 99 8 (codes "a:1\n c\n# x") 0
+    ≡ Err (record { code = FileTooLong; line = 3 }))
+    × (next_answer_under 99 4 (codes "a:1\n\nb:2\n") 0
+    ≡ Err (record { code = FileTooLong; line = 2 }))
+    × (next_answer_under 99 5 (codes "a:1\n\nb:2\n") 0 ≡ Ok (Some first_seen))
+    × (next_answer_under 99 5 (codes "a:1\n\nb:2\n") 1
+    ≡ Err (record { code = FileTooLong; line = 3 }))
+    × (next_answer_under 99 9 (codes "a:1\n\nb:2\n\n") 1
+    ≡ Err (record { code = FileTooLong; line = 4 }))
+    × (next_answer_under 99 2 (codes "\n \n\n") 0 ≡ Err (record { code = FileTooLong; line = 2 }))
+    × (next_answer_under 99 3 (codes "\n \n") 0 ≡ Ok None)
+unfolding is_utf8 chars encode
+long_file = (refl, refl, refl, refl, refl, refl, refl)
+
+-- a paragraph that is too long goes before a file that is, and this before a line that is refused;
+-- the line that is cut off counts for the file alone
+order_of_limits : (next_answer_under 7 8 (codes "a\nb:222\nc") 0
+    ≡ Err (record { code = ParagraphTooLong; line = 2 }))
+    × (next_answer_under 8 8 (codes "a\nb:222\nc") 0
+    ≡ Err (record { code = FileTooLong; line = 3 }))
+    × (next_answer_under 8 9 (codes "a\nb:222\nc") 0
+    ≡ Err (record { code = ParagraphTooLong; line = 3 }))
+    × (next_answer_under 10 9 (codes "a\nb:222\nc") 0 ≡ Err (record { code = NoColon; line = 1 }))
+    × (next_answer_under 1 7 (codes "a\nb:222\nc") 0
+    ≡ Err (record { code = ParagraphTooLong; line = 1 }))
+    × (next_answer_under 7 7 (codes "a\nb:222\nc") 0
+    ≡ Err (record { code = FileTooLong; line = 2 }))
+unfolding is_utf8 chars encode
+order_of_limits = (refl, refl, refl, refl, refl, refl)
+
+-- where the next paragraph begins: a paragraph is there however long it is and whatever it holds
+begins : (next_begin_under 1 99 (codes "\na\nb\n") 0 ≡ Ok (Some 2))
+    × (next_begin_under 99 4 (codes "\na\nb\n") 0 ≡ Ok (Some 2))
+    × (next_begin_under 99 2 (codes "\na\nb\n") 0 ≡ Err (record { code = FileTooLong; line = 2 }))
+    × (next_begin_under 99 5 (codes "\na\nb\n") 1 ≡ Ok None)
+    × (next_begin_under 99 4 (codes "\na\nb\n") 1 ≡ Err (record { code = FileTooLong; line = 3 }))
+begins = (refl, refl, refl, refl, refl)

@@ -1,7 +1,9 @@
 -- What a reader of paragraphs is to its callers, which texts fit it, and what its calls say of
 -- them. Debian Policy 5.1; what is kept and how far is read is this project's own.
-use Rattle.std.specs.Prelude.{◌≡◌, ℕ, ◌+◌, ◌≤◌, ◌⊎◌, Bool, true, false, List, [], ◌∷◌, ◌++◌, length, Option, Some, None, IfSome, IfNone, Result, Ok, Err, IfOk, IfErr, MatchResult, IsTrue}
-use Rattle.deb_base.specs.Bodies.{HasNoNewline}
+use Rattle.std.specs.Prelude.{◌≡◌, ℕ, ◌+◌, ◌≤◌, ◌⊎◌, Bool, true, false, List, [], ◌∷◌, ◌++◌, length, Option, Some, None, IfSome, IfNone, Result, Ok, Err, IfOk, IfErr, MatchResult, IsTrue, codes, refl}
+use Rattle.std.proofs.Common.{inl, inr}
+use Rattle.std.proofs.lemmas.Bool.{false≢true}
+use Rattle.deb_base.specs.Bodies.{HasNoNewline, paragraph_limit}
 use Rattle.deb_base.specs.Codes.{number_of}
 use Rattle.deb_base.specs.Devices.{Shown, read_failures_after}
 use Rattle.deb_base.specs.Faults.{IsReadersFault}
@@ -207,3 +209,89 @@ pub record Passes {A : Type 0} (Goes : Moment → Result A Fault → Moment → 
   pub keeps : IfNone before.state.fault (MatchResult answer (λ _. after.state.fault ≡ None)
       (λ fault. after.state.fault ≡ Some fault))
   pub repeats : IfSome before.state.fault (λ fault. (answer ≡ Err fault) × (after ≡ before))
+
+-- for the worked cases: a reader without error, by its unread bytes, how many bytes and lines have
+-- passed, and how many bytes are hidden
+abbrev reader_of : List ℕ → ℕ → ℕ → ℕ → State
+reader_of unread bytes lines hidden = record {
+  unread = unread;
+  held = 65536;
+  bytes = bytes;
+  lines = lines;
+  hidden = hidden;
+  ended = false;
+  finished = false;
+  current = None;
+  fault = None;
+}
+
+-- nothing has passed, and the source has the text
+fits_new : Fits (codes "a\n") [] (reader_of [] 0 0 0) (Some (codes "a\n"))
+fits_new =
+    record {
+      hidden = [];
+      rest = codes "a\n";
+      told = refl;
+      whole = refl;
+      bytes = refl;
+      lines = refl;
+      hidden_bytes = refl;
+      hidden_line = tt;
+      closed = inl (refl, refl);
+      ended = λ e. absurd (false≢true e);
+      finished = λ e. absurd (false≢true e);
+    }
+
+-- a paragraph has passed with the blank line behind it, and the last byte is the source's
+fits_behind : Fits (codes "a\n \nb\n") (codes "a\n \n") (reader_of (codes "b") 4 2 0)
+    (Some (codes "\n"))
+unfolding paragraph_limit
+fits_behind =
+    record {
+      hidden = [];
+      rest = codes "\n";
+      told = refl;
+      whole = refl;
+      bytes = refl;
+      lines = refl;
+      hidden_bytes = refl;
+      hidden_line = tt;
+      closed = inl (refl, refl);
+      ended = λ e. absurd (false≢true e);
+      finished = λ e. absurd (false≢true e);
+    }
+
+-- three bytes of a line aren't kept: in their place any others but newlines may stand
+fits_hidden : Fits (codes "\nxyz\n") (codes "\n") (reader_of (codes "\n") 1 1 3) (Some [])
+unfolding paragraph_limit
+fits_hidden =
+    record {
+      hidden = codes "xyz";
+      rest = [];
+      told = refl;
+      whole = refl;
+      bytes = refl;
+      lines = refl;
+      hidden_bytes = refl;
+      hidden_line = (refl, (refl, (refl, tt)));
+      closed = inl (refl, refl);
+      ended = λ e. refl;
+      finished = λ e. absurd (false≢true e);
+    }
+
+-- all has passed, though no blank line ends it
+fits_all : Fits (codes "a") (codes "a") (record (reader_of [] 1 1 0) { finished = true }) (Some [])
+fits_all =
+    record {
+      hidden = [];
+      rest = [];
+      told = refl;
+      whole = refl;
+      bytes = refl;
+      lines = refl;
+      hidden_bytes = refl;
+      hidden_line = tt;
+      closed = inr refl;
+      ended = λ e. refl;
+      finished = λ e. refl;
+    }
