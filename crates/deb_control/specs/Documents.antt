@@ -1,21 +1,23 @@
 -- What a file means as a document of a kind, and which files are accepted as one. Debian Policy 5.1
 -- and 5.3 to 5.6; the limits and the order of refusals are this project's own.
-use Rattle.std.specs.Prelude.{◌≡◌, ℕ, List, [], Option, None, Some, codes, refl}
+use Rattle.std.specs.Prelude.{◌≡◌, ℕ, List, [], ◌∷◌, Option, None, Some, Err, codes, refl}
 use Rattle.std.specs.Str.{is_utf8, chars}
 use lib.Utf8.{encode}
 use Rattle.deb_base.specs.Bodies.{paragraph_limit}
 use Rattle.deb_syntax.specs.Lines.{file_limit}
 use Rattle.deb_version.specs.Faults.{first_fault}
-use Rattle.deb_base.specs.declared.code.Code.TheVariants.{DuplicateField, NoColon, NoParagraph, MissingField, NotOneLine, BadName, BadNumber, BadWord, BadArchitecture, BadVersion}
+use Rattle.deb_version.specs.Parts.{no_revision}
+use Rattle.deb_base.specs.declared.code.Code.TheVariants.{DuplicateField, NoColon, NoParagraph, TooManyParagraphs, MissingField, NotOneLine, BadName, BadNumber, BadWord, BadArchitecture, BadVersion, BadRelation, AlternativesNotAllowed, ProvidesBound}
 use Rattle.deb_field.specs.declared.kind.Doc.TheVariants.{Binary, Packages, Source}
 use Rattle.deb_base.specs.declared.code.Code.{Code}
 use Rattle.deb_base.specs.declared.refusal.Refusal.{Refusal}
 use Rattle.deb_field.specs.declared.kind.Doc.{Doc}
 use Rattle.deb_field.specs.Kinds.{is_single, kind_of, required}
-use Rattle.deb_field.specs.Values.{ValueMeaning, value_text, SpellsValue, value_refusal}
+use Rattle.deb_field.specs.RelationFieldCases.{told}
+use Rattle.deb_field.specs.Values.{ValueMeaning, NameMeans, VersionMeans, ArchitectureMeans, FoldedMeans, value_text, SpellsValue, value_refusal}
 use Rattle.deb_field.specs.ValueLaws.{value_refusals}
 use Rattle.deb_control.specs.Rules.{Rules}
-use Rattle.deb_control.specs.Refusals.{outcome, refusal_by, text_by}
+use Rattle.deb_control.specs.Refusals.{next_checked, outcome, refusal_by, text_by}
 use Rattle.deb_control.specs.ValueFiles.{ValueEntries, MeansValues, values_text}
 use Rattle.deb_control.specs.Acceptance.{IsAccepted}
 
@@ -95,3 +97,40 @@ values : (refusal_of Packages (codes "Package: aa\nVersion: 1-\nArchitecture: al
     ≡ Some (record { code = BadWord; line = 4 }))
 unfolding file_limit paragraph_limit is_utf8 chars encode kind_of first_fault
 values = (refl, refl, refl, refl, refl)
+
+-- behind a first paragraph that has passed: a second one where one is asked, whatever it holds
+second_paragraph : (next_checked (rules_of Binary)
+    (codes "Package: aa\nVersion: 1\nArchitecture: all\n\n# x") ([] ∷ [])
+    ≡ Err (record { code = TooManyParagraphs; line = 5 }))
+    × (next_checked (rules_of Packages)
+    (codes "Package: aa\nVersion: 1\nArchitecture: all\n\nPackage: bb") ([] ∷ [])
+    ≡ Err (record { code = MissingField; line = 5 }))
+unfolding file_limit paragraph_limit is_utf8 chars encode kind_of first_fault
+second_paragraph = (refl, refl)
+
+-- refusals of relations, at the first line of their field
+relations : (refusal_of Packages
+    (codes "Package: aa\nVersion: 1\nArchitecture: all\nDepends: bb\n c")
+    ≡ Some (record { code = BadRelation; line = 4 }))
+    × (refusal_of Packages (codes "Conflicts: bb | cc\nPackage: aa\nVersion: 1\nArchitecture: all")
+    ≡ Some (record { code = AlternativesNotAllowed; line = 1 }))
+    × (refusal_of Packages (codes "Package: aa\nVersion: 1\nArchitecture: all\nProvides: vv (>= 1)")
+    ≡ Some (record { code = ProvidesBound; line = 4 }))
+unfolding file_limit paragraph_limit is_utf8 chars encode kind_of first_fault told
+relations = (refl, refl, refl)
+
+-- the canonical text of values: fields under their names in ascending order, one empty line between
+-- two paragraphs; of versions the text of their meaning
+written : canonical_text (((codes "Architecture", ArchitectureMeans (codes "amd64"))
+    ∷ (codes "Package", NameMeans (codes "hello"))
+    ∷ (
+      codes "Version",
+      VersionMeans (record {
+        epoch = 0;
+        upstream = ([], 1) ∷ (codes ".", 0) ∷ [];
+        revision = no_revision;
+      }),
+    ) ∷ [])
+    ∷ ((codes "Uploaders", FoldedMeans (codes "a" ∷ codes "b" ∷ [])) ∷ []) ∷ [])
+    ≡ codes "Architecture: amd64\nPackage: hello\nVersion: 1.0\n\nUploaders: a b\n"
+written = refl

@@ -34,8 +34,8 @@ steps : List ℕ → Result Relation (Reason × ℕ)
 unfolding formulas read_alternative next_alternative read_group next_piece read_relation
 steps text = relation_in text
 
--- the code of a body alone
-told : Relationship → List ℕ → Option Code
+-- the code of a body alone; whoever unfolds it has the steps of the reading laid open
+unfoldable pub told : Relationship → List ℕ → Option Code
 unfolding steps relation_in group_text
 told sort body = relationship_refusal sort body
 
