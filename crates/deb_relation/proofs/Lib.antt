@@ -24,4 +24,6 @@ pub mod SpelledLists
 pub mod SpelledParts
 pub mod SpelledRelation
 pub mod Summed
+pub mod ToldAlternatives
 pub mod Versions
+pub mod Viewed

@@ -13,7 +13,7 @@ use Rattle.deb_relation.specs.Faults.{fault_of, first_fault}
 use Rattle.deb_relation.specs.Grammar.{set_of}
 use Rattle.deb_relation.specs.Meaning.{Alternative, Group, Relation}
 use Rattle.deb_relation.specs.Reading.{Reading, Next, and_then, and_next, gathered, gather, begins, is_at_end, behind_white, read_alternative, next_alternative, append, read_group, piece_behind, next_piece, put_piece, placed, read_relation, relation_in}
-use Rattle.deb_relation.specs.Summaries.{Summary, summary_with, summary_of, summary_key, first_summary, add_alternative, read_summary, summary_behind, next_summary, append_summary, put_summary}
+use Rattle.deb_relation.specs.Summaries.{Summary, summary_with, summary_of, summary_key, told_alternative, first_summary, add_told, next_told, read_summary, summary_behind, next_summary, append_summary, put_summary}
 use Rattle.deb_relation.specs.SummaryViews.{told_of}
 use Rattle.deb_relation.specs.Tests.{has_equal_bound, has_alternatives, only_equals}
 use Rattle.deb_relation.specs.Texts.{separated, joined, alternative_text, group_text, relation_text}
@@ -21,30 +21,10 @@ use Rattle.deb_relation.proofs.GatheredSets.{mapped, gather-mapped, put_member}
 use Rattle.deb_relation.proofs.Gathering.{IsStep}
 use Rattle.deb_relation.proofs.Inserting.{map-insert_by}
 use Rattle.deb_relation.proofs.Mapped.{any-map, all-map}
-use Rattle.deb_relation.proofs.ReadLists.{none_some, some_same}
 use Rattle.deb_relation.proofs.ReadParts.{ok-same}
 use Rattle.deb_relation.proofs.ReadRelation.{step-next_piece}
-
--- a step of which the other is a view
-abbrev mapped_next : {A B : Type 0} → (A → B) → Next A → Next B
-mapped_next f (Ok None) = Ok None
-mapped_next f (Ok (Some p)) = Ok (Some (f p.0, p.1))
-mapped_next f (Err stopped) = Err stopped
-
-module _ {A B S T : Type 0} (step : List ℕ → Next A) (step' : List ℕ → Next B) (view : A → B) (steps : (rest : List ℕ) → step' rest ≡ mapped_next view (step rest)) (put : A → S → S) (put' : B → T → T) (f : S → T) (same : (a : A) (all : S) → f (put a all) ≡ put' (view a) (f all)) where
-  gathered-viewed : (n : ℕ) (all : S) (rest : List ℕ) → gathered step' put' n (f all) rest ≡ mapped f (gathered step put n all rest)
-  gathered-viewed zero all rest = refl
-  gathered-viewed (suc n) all rest =
-      ap (λ next. and_next next (Ok (f all, rest)) (λ b behind. gathered step' put' n (put' b (f all)) behind)) (steps rest) ∙ more (gathered-viewed n) (step rest)
-    where
-      more : ((all' : S) (rest' : List ℕ) → gathered step' put' n (f all') rest' ≡ mapped f (gathered step put n all' rest')) → (next : Next A) → and_next (mapped_next view next) (Ok (f all, rest)) (λ b behind. gathered step' put' n (put' b (f all)) behind) ≡ mapped f (and_next next (Ok (all, rest)) (λ a behind. gathered step put n (put a all) behind))
-      more so (Err stopped) = refl
-      more so (Ok None) = refl
-      more so (Ok (Some q)) = ap (λ t. gathered step' put' n t q.1) (sym (same q.0 all)) ∙ so (put q.0 all) q.1
-
-  gather-viewed : (all : S) (rest : List ℕ) → gather step' put' (f all) rest ≡ mapped f (gather step put all rest)
-  unfolding gather
-  gather-viewed all rest = gathered-viewed (length rest) all rest
+use Rattle.deb_relation.proofs.ToldAlternatives.{told_read, told_viewed}
+use Rattle.deb_relation.proofs.Viewed.{mapped_next, gather-viewed, step-viewed}
 
 -- one alternative more
 separated-append : (separator : List ℕ) (more : Group) (x : Alternative) → separated separator (map alternative_text (append x more)) ≡ separated separator (map alternative_text more) ++ (separator ++ alternative_text x)
@@ -56,7 +36,7 @@ separated-append separator (y ∷ ys) x =
 pub summary_same : (s t : List ℕ) (a b c d : Bool) → s ≡ t → a ≡ b → c ≡ d → summary_with s a c ≡ summary_with t b d
 summary_same s t a b c d p q r = rw (p, q, r) refl
 
-add_same : (a x : Alternative) (more : Group) → summary_of (a ∷ append x more) ≡ add_alternative x (summary_of (a ∷ more))
+add_same : (a x : Alternative) (more : Group) → summary_of (a ∷ append x more) ≡ add_told (told_alternative x) (summary_of (a ∷ more))
 unfolding group_text
 add_same a x more =
     summary_same _ _ _ _ _ _
@@ -64,23 +44,25 @@ add_same a x more =
     (le-leb 2 (length (a ∷ append x more)) (omega (arith, length-append more (x ∷ []))))
     (list_all-append has_equal_bound (a ∷ more) (x ∷ []) ∙ ap (λ b. list_all has_equal_bound (a ∷ more) && b) (and-true (has_equal_bound x)))
 
-first_same : (a : Alternative) → first_summary a ≡ summary_of (a ∷ [])
+first_same : (a : Alternative) → first_summary (told_alternative a) ≡ summary_of (a ∷ [])
 unfolding group_text
 first_same a = summary_same _ _ _ _ _ _ (sym (append-nil (alternative_text a))) refl (sym (and-true (has_equal_bound a)))
 
 summary_read : (text : List ℕ) → read_summary text ≡ mapped summary_of (read_group text)
 unfolding read_summary read_group
-summary_read text = from (read_alternative text)
+summary_read text =
+    ap (λ r. and_then r (λ a rest. gather next_told add_told (first_summary a) rest)) (told_read text)
+    ∙ from (read_alternative text)
   where
     both : (a : Alternative) (rest : List ℕ) (r : Reading Group) → mapped (λ more. summary_of (a ∷ more)) r ≡ mapped summary_of (mapped (λ more. a ∷ more) r)
     both a rest (Ok p) = refl
     both a rest (Err stopped) = refl
 
-    from : (r : Reading Alternative) → and_then r (λ a rest. gather next_alternative add_alternative (first_summary a) rest) ≡ mapped summary_of (and_then r (λ a rest. gather next_alternative append (a ∷ []) rest))
+    from : (r : Reading Alternative) → and_then (mapped told_alternative r) (λ a rest. gather next_told add_told (first_summary a) rest) ≡ mapped summary_of (and_then r (λ a rest. gather next_alternative append (a ∷ []) rest))
     from (Err stopped) = refl
     from (Ok p) =
-        ap (λ s. gather next_alternative add_alternative s p.1) (first_same p.0)
-        ∙ gather-mapped next_alternative append add_alternative (λ more. summary_of (p.0 ∷ more)) (add_same p.0) [] p.1
+        ap (λ s. gather next_told add_told s p.1) (first_same p.0)
+        ∙ gather-viewed next_alternative next_told told_alternative told_viewed append add_told (λ more. summary_of (p.0 ∷ more)) (add_same p.0) [] p.1
         ∙ both p.0 p.1 (gather next_alternative append [] p.1)
         ∙ ap (mapped summary_of) (sym (gather-mapped next_alternative append append (λ more. p.0 ∷ more) (λ x all. refl) [] p.1))
 
@@ -107,18 +89,7 @@ next_viewed text =
     by_tests false false r = by_group r
 
 pub step-next_summary : IsStep next_summary
-step-next_summary = record {
-  ends = next_viewed [] ∙ ap (mapped_next (option_map summary_of)) step-next_piece.ends;
-  shrinks = λ rest s behind e. from rest s behind (next_piece rest) refl (sym (next_viewed rest) ∙ e);
-}
-  where
-    from : (rest : List ℕ) (s : Option Summary) (behind : List ℕ) (next : Next (Option Group)) → next_piece rest ≡ next → mapped_next (option_map summary_of) next ≡ Ok (Some (s, behind)) → length behind < length rest
-    from rest s behind (Err stopped) is e = absurd cc
-    from rest s behind (Ok None) is e = absurd (none_some (s, behind) e)
-    from rest s behind (Ok (Some p)) is e =
-        let same = ap (λ q. length q.1) (some_same (option_map summary_of p.0, p.1) (s, behind) e) in
-        let less = step-next_piece.shrinks rest p.0 p.1 is in
-        omega (arith, same, less)
+step-next_summary = step-viewed next_piece next_summary (option_map summary_of) next_viewed step-next_piece
 
 pub put_told : (piece : Option Summary) (all : List Summary) → set_of summary_key (append_summary piece all) ≡ put_summary piece (set_of summary_key all)
 put_told None all = refl

@@ -13,7 +13,7 @@ ghost use Rattle.deb_relation.specs.Environments.{environment_of};
 ghost use Rattle.deb_relation.specs.Views.{bound_of, item_of, items_of, list_of, name_key, names_of, restrictions_of};
 
 use crate::architectures::{append_architectures, read_architectures};
-use crate::bound::{append_bound, read_bound};
+use crate::bound::{append_bound, bound_is_equal, read_bound};
 use crate::cursor::skip_white;
 use crate::environment::Env;
 use crate::fault::Stop;
@@ -106,10 +106,7 @@ impl<'a> Alternative<'a> {
     pub(crate) fn has_equal_bound(&self) -> bool
         ensures { result ≡ has_equal_bound (alternative_of self.now) }
     {
-        match &self.bound {
-            Some((operator, _)) => matches!(operator, Op::Equal),
-            None => true,
-        }
+        bound_is_equal(&self.bound)
     }
 
     /// The alternative, and what is left behind it and white space.
@@ -146,7 +143,10 @@ impl<'a> Alternative<'a> {
 }
 
 /// Appends a colon and the qualifier, or nothing.
-fn append_qualifier(out: &mut Vec<u8>, qualifier: Option<&[u8]>) -> Result<(), AllocError>
+pub(crate) fn append_qualifier(
+    out: &mut Vec<u8>,
+    qualifier: Option<&[u8]>,
+) -> Result<(), AllocError>
     ensures { OnOk result
         (out.new.items ≡ out.old.items ++ qualifier_text (option_copied qualifier.entry)) }
 {

@@ -6,6 +6,7 @@ ghost use Rattle.std.specs.Option.{option_map};
 ghost use Rattle.deb_version.specs.Version.{meaning_of};
 ghost use Rattle.deb_relation.specs.Reading.{operator_of, read_bound, read_bound_behind, read_close, read_operator, read_version};
 ghost use Rattle.deb_relation.specs.Stops.{Gives};
+ghost use Rattle.deb_relation.specs.Tests.{bound_is_equal};
 ghost use Rattle.deb_relation.specs.Views.{bound_of};
 
 use crate::cursor::{begins, cut_before, cut_operator, skip_white};
@@ -90,6 +91,16 @@ pub(crate) fn read_bound(text: &[u8]) -> Result<(Option<(Op, Version<'_>)>, &[u8
     }
     let (bound, rest) = read_bound_behind(skip_white(&text[1..]))?;
     Ok((Some(bound), rest))
+}
+
+/// Whether the bound, if there is one, has the operator `=`.
+pub(crate) fn bound_is_equal(bound: &Option<(Op, Version<'_>)>) -> bool
+    ensures { result ≡ bound_is_equal (option_map bound_of bound.now) }
+{
+    match bound {
+        Some((operator, _)) => matches!(operator, Op::Equal),
+        None => true,
+    }
 }
 
 fn operator_text(operator: Op) -> &'static [u8]

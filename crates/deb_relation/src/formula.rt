@@ -43,7 +43,10 @@ fn read_items(alloc: Global, text: &[u8]) -> Result<(Vec<(bool, &[u8])>, &[u8]),
 
 /// The items of a list behind its `<`, and what is left behind it and white space.
 #[tactic(auto, unfolding(crate::specs::Reading::read_restrictions))]
-fn read_restrictions(alloc: Global, text: &[u8]) -> Result<(Vec<(bool, &[u8])>, &[u8]), Stop>
+pub(crate) fn read_restrictions(
+    alloc: Global,
+    text: &[u8],
+) -> Result<(Vec<(bool, &[u8])>, &[u8]), Stop>
     ensures { Gives result (λ p. (items_of p.0.items, p.1.now)) (read_restrictions text.now) }
 {
     let (items, rest) = read_items(alloc, text)?;
@@ -129,7 +132,7 @@ pub(crate) fn append_formula(
 }
 
 /// The text of a restriction list.
-fn text_of(alloc: Global, items: &[(bool, &[u8])]) -> Result<Vec<u8>, AllocError>
+pub(crate) fn text_of(alloc: Global, items: &[(bool, &[u8])]) -> Result<Vec<u8>, AllocError>
     ensures { IfOk result (λ text. text.items ≡ restrictions_text (items_of items.now)) }
 {
     let mut text = Vec::new(alloc);

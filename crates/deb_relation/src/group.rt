@@ -78,7 +78,7 @@ impl<'a> Group<'a> {
         ensures { Gives result (λ p. (group_of p.0, p.1.now)) (read_group text.now) }
     {
         let (first, rest) = Alternative::read(alloc, text)?;
-        let mut alternatives = Vec::new(alloc);
+        let mut alternatives = Vec::with_capacity(alloc, 1)?;
         alternatives.push(first)?;
         let (alternatives, rest) = gather_alternatives(alloc, alternatives, rest)?;
         let text = text_of(alloc, &alternatives)?;
@@ -88,10 +88,7 @@ impl<'a> Group<'a> {
 
 /// The next alternative, and what is left behind it and white space.
 #[tactic(auto, unfolding(crate::specs::Reading::next_alternative))]
-pub(crate) fn next_alternative(
-    alloc: Global,
-    text: &[u8],
-) -> Result<Option<(Alternative<'_>, &[u8])>, Stop>
+fn next_alternative(alloc: Global, text: &[u8]) -> Result<Option<(Alternative<'_>, &[u8])>, Stop>
     ensures value { Gives result (next_of (λ p. (alternative_of p.0, p.1.now)))
         (next_alternative text.now) }
 {

@@ -3,19 +3,15 @@
 ghost use Rattle.std.specs.Prelude.{◌≡◌, ◌++◌, ◌&&◌, [], OnOk, codes, false, map};
 ghost use Rattle.std.specs.Option.{option_map};
 ghost use Rattle.deb_relation.specs.Grammar.{set_of};
-ghost use Rattle.deb_relation.specs.Reading.{gather, next_alternative};
+ghost use Rattle.deb_relation.specs.Reading.{gather};
 ghost use Rattle.deb_relation.specs.Sets.{byte_cmp};
 ghost use Rattle.deb_relation.specs.Stops.{Gives, next_of};
-ghost use Rattle.deb_relation.specs.Summaries.{add_alternative, append_summary, next_summary, put_summary, read_summary, summary_key, summary_with};
-ghost use Rattle.deb_relation.specs.SummaryViews.{told_behind, told_key, told_of};
-ghost use Rattle.deb_relation.specs.Tests.{has_equal_bound};
-ghost use Rattle.deb_relation.specs.Texts.{alternative_text};
-ghost use Rattle.deb_relation.specs.Views.{alternative_of};
+ghost use Rattle.deb_relation.specs.Summaries.{add_told, append_summary, next_summary, next_told, put_summary, read_summary, summary_key, summary_with};
+ghost use Rattle.deb_relation.specs.SummaryViews.{part_of, told_behind, told_key, told_of};
 
-use crate::alternative::Alternative;
+use crate::alternative_summary::{AlternativeSummary, next_alternative};
 use crate::cursor::{begins, skip_white};
 use crate::fault::{Reason, Stop};
-use crate::group::next_alternative;
 use crate::kept_text::KeptText;
 use std::alloc::{AllocError, Global};
 use std::cmp::Ordering;
@@ -30,19 +26,19 @@ pub(crate) struct GroupSummary<'a> {
 }
 
 /// Appends a bar and the text of a further alternative.
-fn append_next(out: &mut Vec<u8>, alternative: &Alternative<'_>) -> Result<(), AllocError>
+fn append_next(out: &mut Vec<u8>, alternative: &AlternativeSummary<'_>) -> Result<(), AllocError>
     ensures { OnOk result (out.new.items ≡ out.old.items
-        ++ (codes " | " ++ alternative_text (alternative_of alternative.now))) }
+        ++ (codes " | " ++ (part_of alternative.now).text)) }
 {
     out.extend_from_slice(b" | ")?;
     alternative.append_to(out)
 }
 
 /// Whether no bound has an operator other than `=`, with one alternative more.
-fn still_equals(only_equals: bool, alternative: &Alternative<'_>) -> bool
-    ensures { result ≡ (only_equals && has_equal_bound (alternative_of alternative.now)) }
+fn still_equals(only_equals: bool, alternative: &AlternativeSummary<'_>) -> bool
+    ensures { result ≡ (only_equals && (part_of alternative.now).is_equal) }
 {
-    only_equals && alternative.has_equal_bound()
+    only_equals && alternative.is_equal()
 }
 
 /// Appends the texts of the alternatives behind the first, whose bound is none or has `=`; tells
@@ -54,7 +50,7 @@ fn append_rest<'a>(
     text: &'a [u8],
 ) -> Result<(bool, bool, &'a [u8]), Stop>
     ensures { Gives result (λ p. (summary_with out.new.items p.0 p.1, p.2.now))
-        (gather next_alternative add_alternative
+        (gather next_told add_told
         (summary_with out.old.items false first_equals) text.now) }
 {
     let mut has_two = false;
@@ -79,10 +75,10 @@ fn write_group<'a>(
     ensures { Gives result (λ p. (summary_with out.new.items p.0 p.1, p.2.now))
         (read_summary text.now) }
 {
-    let (first, rest) = Alternative::read(alloc, text)?;
+    let (first, rest) = AlternativeSummary::read(alloc, text)?;
     out.clear();
     first.append_to(out)?;
-    append_rest(alloc, out, first.has_equal_bound(), rest)
+    append_rest(alloc, out, first.is_equal(), rest)
 }
 
 /// The group, and what is left behind it and white space.

@@ -17,6 +17,7 @@
 #![tactic(auto)]
 
 mod alternative;
+mod alternative_summary;
 mod architectures;
 mod bound;
 mod cursor;
@@ -28,6 +29,7 @@ mod group_summary;
 mod items;
 mod kept_text;
 pub mod laws;
+mod list_texts;
 mod name;
 mod operator;
 mod relation;
