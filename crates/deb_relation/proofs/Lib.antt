@@ -11,6 +11,7 @@ pub mod Gathering
 pub mod Inserting
 pub mod Joining
 pub mod Mapped
+pub mod Names
 pub mod Parsed
 pub mod ReadLists
 pub mod ReadParts

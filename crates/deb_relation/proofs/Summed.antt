@@ -1,5 +1,5 @@
 -- What is read of groups as a field needs them is what is read of the groups themselves.
-use Rattle.std.proofs.Common.{◌≡◌, ℕ, zero, suc, ◌-◌, ◌<◌, ◌||◌, ◌&&◌, Bool, true, false, cond, List, [], ◌∷◌, ◌++◌, length, map, drop, codes, Option, Some, None, Ok, Err, refl, sym, ap, ◌∙◌, arith, append_assoc, append-nil, length-append}
+use Rattle.std.proofs.Common.{◌≡◌, ℕ, ◌-◌, ◌||◌, ◌&&◌, Bool, true, false, cond, List, [], ◌∷◌, ◌++◌, length, map, drop, codes, Option, Some, None, Ok, Err, refl, sym, ap, ◌∙◌, arith, append_assoc, append-nil, length-append}
 use Rattle.std.specs.List.{list_all, list_any}
 use Rattle.std.specs.Option.{option_map}
 use Rattle.std.proofs.Math.Bool.{and-true}
@@ -12,7 +12,7 @@ use Rattle.deb_relation.specs.Bodies.{meaning_of, meaning_in}
 use Rattle.deb_relation.specs.Faults.{fault_of, first_fault}
 use Rattle.deb_relation.specs.Grammar.{set_of}
 use Rattle.deb_relation.specs.Meaning.{Alternative, Group, Relation}
-use Rattle.deb_relation.specs.Reading.{Reading, Next, and_then, and_next, gathered, gather, begins, is_at_end, behind_white, read_alternative, next_alternative, append, read_group, piece_behind, next_piece, put_piece, placed, read_relation, relation_in}
+use Rattle.deb_relation.specs.Reading.{Reading, Next, and_then, gather, begins, is_at_end, behind_white, read_alternative, next_alternative, append, read_group, piece_behind, next_piece, put_piece, placed, read_relation, relation_in}
 use Rattle.deb_relation.specs.Summaries.{Summary, summary_with, summary_of, summary_key, told_alternative, first_summary, add_told, next_told, read_summary, summary_behind, next_summary, append_summary, put_summary}
 use Rattle.deb_relation.specs.SummaryViews.{told_of}
 use Rattle.deb_relation.specs.Tests.{has_equal_bound, has_alternatives, only_equals}

@@ -1,5 +1,5 @@
 -- What is read of alternatives as a field needs them is what is read of the alternatives themselves.
-use Rattle.std.proofs.Common.{◌≡◌, ℕ, Bool, true, false, cond, List, [], ◌++◌, map, drop, Option, Some, None, Ok, Err, refl, ap, ◌∙◌}
+use Rattle.std.proofs.Common.{◌≡◌, ℕ, Bool, true, false, cond, List, [], map, drop, None, Ok, Err, refl, ap, ◌∙◌}
 use Rattle.deb_relation.specs.Meaning.{Alternative, Restrictions}
 use Rattle.deb_relation.specs.Reading.{Reading, Next, and_then, begins, behind_white, some_next, read_name, read_qualifier, read_bound, read_architectures, read_restrictions, next_restrictions, read_formula, alternative_with, read_alternative, next_alternative}
 use Rattle.deb_relation.specs.Sets.{insert_by, itself}

@@ -1,5 +1,5 @@
 -- Steps of which others are views.
-use Rattle.std.proofs.Common.{◌≡◌, ℕ, zero, suc, ◌<◌, List, [], length, Option, Some, None, Ok, Err, refl, sym, ap, ◌∙◌, arith}
+use Rattle.std.proofs.Common.{◌≡◌, ℕ, zero, suc, ◌<◌, List, [], length, Some, None, Ok, Err, refl, sym, ap, ◌∙◌, arith}
 use Rattle.deb_relation.specs.Reading.{Reading, Next, and_then, and_next, gathered, gather}
 use Rattle.deb_relation.proofs.GatheredSets.{mapped}
 use Rattle.deb_relation.proofs.Gathering.{IsStep}

@@ -50,7 +50,7 @@ fn is_in_name(byte: u8) -> bool
         || byte == b':')
 }
 
-fn name_len(text: &[u8]) -> usize
+pub(crate) fn name_len(text: &[u8]) -> usize
     ensures value { result ≡ prefix_len is_in_name text.now }
     ensures bound { result ≤ length text.now }
 {

@@ -149,7 +149,7 @@ fn gather_groups(alloc: Global, text: &[u8]) -> Result<(Vec<GroupSummary<'_>>, &
         (gather next_summary append_summary [] text.now) }
 {
     let mut groups = Vec::new(alloc);
-    let mut scratch = Vec::new(alloc);
+    let mut scratch = Vec::with_capacity(alloc, text.len())?;
     let mut rest = text;
     while let Some((piece, behind)) = next_piece(alloc, &mut scratch, rest)? {
         push_piece(&mut groups, piece)?;

@@ -1,17 +1,55 @@
 //! The name of a package, and its qualifier.
 
+ghost use Rattle.std.specs.Prelude.{◌≡◌, ◌≤◌, Ok, IfSome, length};
+ghost use Rattle.std.specs.List.{prefix_len};
 ghost use Rattle.std.specs.Option.{option_copied};
+ghost use Rattle.deb_base.specs.PackageNames.{begins_small_or_digit, is_package_byte};
 ghost use Rattle.deb_relation.specs.Reading.{read_name, read_qualifier};
 ghost use Rattle.deb_relation.specs.Stops.{Gives};
 ghost use Rattle.deb_relation.specs.Views.{text_behind};
 
-use crate::cursor::{begins, cut_name};
+use crate::cursor::{begins, cut_name, name_len};
 use crate::fault::{Reason, Stop};
 use deb_base::{is_arch_name, is_package_name};
 
-/// The name, and what is left behind it.
+fn is_package_byte(byte: u8) -> bool
+    ensures { result ≡ is_package_byte byte }
+{
+    byte.is_ascii_lowercase() || byte.is_ascii_digit() || matches!(byte, b'+' | b'-' | b'.')
+}
+
+fn package_len(text: &[u8]) -> usize
+    ensures value { result ≡ prefix_len is_package_byte text.now }
+    ensures bound { result ≤ length text.now }
+{
+    text.iter()
+        .take_while(|byte| is_package_byte(**byte))
+        .count()
+}
+
+fn begins_small_or_digit(name: &[u8]) -> bool
+    ensures { result ≡ begins_small_or_digit name.now }
+{
+    matches!(name, [first, ..] if first.is_ascii_lowercase() || first.is_ascii_digit())
+}
+
+/// The name, and what is left behind it, where the bytes of package names that a text begins with
+/// are one: so that a good name is passed over once.
+#[tactic(auto, using(crate::proofs::Names::name_begun))]
+fn read_good_name(text: &[u8]) -> Option<(&[u8], &[u8])>
+    ensures { IfSome result (λ p. read_name text.now ≡ Ok (text_behind p)) }
+{
+    let (name, behind) = text.split_at(package_len(text));
+    if name.len() >= 2 && begins_small_or_digit(name) && name_len(behind) == 0 {
+        Some((name, behind))
+    } else {
+        None
+    }
+}
+
+/// The name, and what is left behind it, or why there is none.
 #[tactic(auto, unfolding(crate::specs::Reading::read_name))]
-pub(crate) fn read_name(text: &[u8]) -> Result<(&[u8], &[u8]), Stop>
+fn read_any_name(text: &[u8]) -> Result<(&[u8], &[u8]), Stop>
     ensures { Gives result text_behind (read_name text.now) }
 {
     let (name, behind) = cut_name(text);
@@ -28,6 +66,16 @@ pub(crate) fn read_name(text: &[u8]) -> Result<(&[u8], &[u8]), Stop>
         });
     }
     Ok((name, behind))
+}
+
+/// The name, and what is left behind it.
+pub(crate) fn read_name(text: &[u8]) -> Result<(&[u8], &[u8]), Stop>
+    ensures { Gives result text_behind (read_name text.now) }
+{
+    match read_good_name(text) {
+        Some(read) => Ok(read),
+        None => read_any_name(text),
+    }
 }
 
 /// A colon and a qualifier, or nothing; and what is left behind it.

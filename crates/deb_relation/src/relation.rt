@@ -69,7 +69,7 @@ fn gather_groups(alloc: Global, text: &[u8]) -> Result<(Vec<Group<'_>>, &[u8]), 
     ensures { Gives result (λ p. (map group_of p.0.items, p.1.now))
         (gather next_piece append_piece [] text.now) }
 {
-    let mut groups = Vec::new(alloc);
+    let mut groups = Vec::with_capacity(alloc, 1)?;
     let mut rest = text;
     while let Some((piece, behind)) = next_piece(alloc, rest)? {
         push_piece(&mut groups, piece)?;

@@ -44,12 +44,16 @@ fn append_more_texts(out: &mut Vec<u8>, groups: &[GroupSummary<'_>]) -> Result<(
     Ok(())
 }
 
-/// The texts of groups with commas between.
-fn joined_texts(alloc: Global, groups: &[GroupSummary<'_>]) -> Result<Vec<u8>, AllocError>
+/// The texts of groups with commas between, with room for so many bytes.
+fn joined_texts(
+    alloc: Global,
+    room: usize,
+    groups: &[GroupSummary<'_>],
+) -> Result<Vec<u8>, AllocError>
     ensures { IfOk result
         (λ text. text.items ≡ joined (codes ", ") (map summary_key (map told_of groups.now))) }
 {
-    let mut text = Vec::new(alloc);
+    let mut text = Vec::with_capacity(alloc, room)?;
     if let [first, rest @ ..] = groups {
         text.extend_from_slice(first.text.bytes())?;
         append_more_texts(&mut text, rest)?;
@@ -92,7 +96,7 @@ impl<'a> RelationText<'a> {
         match read_groups(alloc, body) {
             Ok((groups, _)) => {
                 let groups: &[GroupSummary<'_>] = &groups;
-                match joined_texts(alloc, groups) {
+                match joined_texts(alloc, body.len(), groups) {
                     Ok(text) => Ok(RelationText {
                         body,
                         text: KeptText::whole(body, text),

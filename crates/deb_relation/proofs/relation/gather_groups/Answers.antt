@@ -10,8 +10,8 @@ use Rattle.deb_relation.proofs.relation.gather_groups.Goals as goal
 
 pub returns-in_err-piece : goal.returns-in_err-piece
 returns-in_err-piece c =
-    let p = err_from_is_err_and c.from_residual.result c.from_residual.ensures.1 in
-    loop-stop next_piece append_piece step-next_piece [] c.args.text.now (map group_of c.loop-groups.groups.items) c.loop-groups.rest.now c.loop-groups.invariant (next_of piece_behind) _ c.from_residual.result p.0 _ p.1 p.2 c.in_err-piece.ensures.value
+    let p = err_from_is_err_and c.from_residual-in_err-piece.result c.from_residual-in_err-piece.ensures.1 in
+    loop-stop next_piece append_piece step-next_piece [] c.args.text.now (map group_of c.loop-groups.groups.items) c.loop-groups.rest.now c.loop-groups.invariant (next_of piece_behind) _ c.from_residual-in_err-piece.result p.0 _ p.1 p.2 c.in_err-piece.ensures.value
 
 pub loop-groups-smaller : goal.loop-groups-smaller
 loop-groups-smaller c = step-next_piece.shrinks c.loop-groups.rest.now (option_map group_of c.in-Some.piece) c.in-Some.behind.now (c.in_ok-piece.ensures.value ∙ ap (λ o. Ok (next_of piece_behind o)) c.in-Some.is)
