@@ -6,7 +6,7 @@ use Rattle.deb_relation.specs.Sets.{insert_by, itself}
 use Rattle.deb_relation.specs.Summaries.{Told, told_alternative, told_parts, list_text_behind, next_list_text, read_list_texts, read_told, next_told}
 use Rattle.deb_relation.specs.Texts.{restrictions_text}
 use Rattle.deb_relation.proofs.GatheredSets.{mapped}
-use Rattle.deb_relation.proofs.Gathering.{IsStep}
+use Rattle.deb_relation.proofs.Gathering.{IsStep, gather-none}
 use Rattle.deb_relation.proofs.Inserting.{map-insert_by}
 use Rattle.deb_relation.proofs.ReadLists.{step-next_restrictions}
 use Rattle.deb_relation.proofs.ReadRelation.{step-next_alternative}
@@ -23,6 +23,10 @@ lists_viewed rest = by_test (begins 60 rest) (read_restrictions (drop 1 rest))
 
 pub step-next_list_text : IsStep next_list_text
 step-next_list_text = step-viewed next_restrictions next_list_text restrictions_text lists_viewed step-next_restrictions
+
+pub no_texts : (text : List ℕ) → begins 60 text ≡ false → read_list_texts text ≡ Ok ([], text)
+unfolding read_list_texts next_list_text
+no_texts text none = gather-none next_list_text (insert_by itself) step-next_list_text [] text (ap (λ b. cond b (and_then (read_restrictions (drop 1 text)) list_text_behind) (Ok None)) none)
 
 texts_read : (rest : List ℕ) → read_list_texts rest ≡ mapped (map restrictions_text) (read_formula rest)
 unfolding read_list_texts read_formula

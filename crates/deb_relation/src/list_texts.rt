@@ -62,12 +62,16 @@ fn sort_texts(texts: &mut Vec<KeptText<'_>>) -> Result<(), AllocError>
 }
 
 /// The set of the texts of the lists of a formula, and what is left behind it and white space.
+#[tactic(auto, using(crate::proofs::ToldAlternatives::no_texts))]
 pub(crate) fn read_list_texts(
     alloc: Global,
     text: &[u8],
 ) -> Result<(Vec<KeptText<'_>>, &[u8]), Stop>
     ensures { Gives result (λ p. (texts_of p.0.items, p.1.now)) (read_list_texts text.now) }
 {
+    if !begins(text, b'<') {
+        return Ok((Vec::new(alloc), text));
+    }
     let (mut texts, rest) = gather_texts(alloc, text)?;
     sort_texts(&mut texts)?;
     Ok((texts, rest))
