@@ -1,9 +1,9 @@
 -- What is read of alternatives as a field needs them is what is read of the alternatives themselves.
 use Rattle.std.proofs.Common.{◌≡◌, ℕ, Bool, true, false, cond, List, [], map, drop, None, Ok, Err, refl, ap, ◌∙◌}
 use Rattle.deb_relation.specs.Meaning.{Alternative, Restrictions}
-use Rattle.deb_relation.specs.Reading.{Reading, Next, and_then, begins, behind_white, some_next, read_name, read_qualifier, read_bound, read_architectures, read_restrictions, next_restrictions, read_formula, alternative_with, read_alternative, next_alternative}
+use Rattle.deb_relation.specs.Reading.{Reading, Next, and_then, gather, begins, behind_white, some_next, read_name, read_qualifier, read_bound, read_architectures, read_restrictions, next_restrictions, read_formula, alternative_with, read_alternative, next_alternative}
 use Rattle.deb_relation.specs.Sets.{insert_by, itself}
-use Rattle.deb_relation.specs.Summaries.{Told, told_alternative, told_parts, list_text_behind, next_list_text, read_list_texts, read_told, next_told}
+use Rattle.deb_relation.specs.Summaries.{Summary, Told, add_told, told_alternative, told_parts, list_text_behind, next_list_text, read_list_texts, read_told, next_told}
 use Rattle.deb_relation.specs.Texts.{restrictions_text}
 use Rattle.deb_relation.proofs.GatheredSets.{mapped}
 use Rattle.deb_relation.proofs.Gathering.{IsStep, gather-none}
@@ -59,3 +59,7 @@ told_viewed rest =
 
 pub step-next_told : IsStep next_told
 step-next_told = step-viewed next_alternative next_told told_alternative told_viewed step-next_alternative
+
+pub no_more : (all : Summary) (text : List ℕ) → begins 124 text ≡ false → gather next_told add_told all text ≡ Ok (all, text)
+unfolding next_told
+no_more all text none = gather-none next_told add_told step-next_told all text (ap (λ b. cond b (and_then (read_told (behind_white (drop 1 text))) some_next) (Ok None)) none)

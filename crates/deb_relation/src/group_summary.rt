@@ -43,6 +43,7 @@ fn still_equals(only_equals: bool, alternative: &AlternativeSummary<'_>) -> bool
 
 /// Appends the texts of the alternatives behind the first, whose bound is none or has `=`; tells
 /// whether there are any and whether no bound has an operator other than `=`, and what is left.
+#[tactic(auto, using(crate::proofs::ToldAlternatives::no_more))]
 fn append_rest<'a>(
     alloc: Global,
     out: &mut Vec<u8>,
@@ -53,6 +54,9 @@ fn append_rest<'a>(
         (gather next_told add_told
         (summary_with out.old.items false first_equals) text.now) }
 {
+    if !begins(text, b'|') {
+        return Ok((false, first_equals, text));
+    }
     let mut has_two = false;
     let mut only_equals = first_equals;
     let mut rest = text;
