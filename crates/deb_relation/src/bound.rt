@@ -1,6 +1,6 @@
 //! The bound on a version: an operator and a version, in parentheses.
 
-ghost use Rattle.std.specs.Prelude.{◌≡◌, ◌++◌, OnOk};
+ghost use Rattle.std.specs.Prelude.{◌≡◌, ◌++◌, OnOk, codes};
 ghost use Rattle.deb_relation.specs.Texts.{bound_text, operator_text};
 ghost use Rattle.std.specs.Option.{option_map};
 ghost use Rattle.deb_version.specs.Version.{meaning_of};
@@ -103,15 +103,16 @@ pub(crate) fn bound_is_equal(bound: &Option<(Op, Version<'_>)>) -> bool
     }
 }
 
-fn operator_text(operator: Op) -> &'static [u8]
-    ensures { result.now ≡ operator_text operator }
+/// What stands before the version of a bound.
+fn bound_front(operator: Op) -> &'static [u8]
+    ensures { result.now ≡ codes " (" ++ (operator_text operator ++ codes " ") }
 {
     match operator {
-        Op::Earlier => b"<<",
-        Op::EarlierEqual => b"<=",
-        Op::Equal => b"=",
-        Op::LaterEqual => b">=",
-        Op::Later => b">>",
+        Op::Earlier => b" (<< ",
+        Op::EarlierEqual => b" (<= ",
+        Op::Equal => b" (= ",
+        Op::LaterEqual => b" (>= ",
+        Op::Later => b" (>> ",
     }
 }
 
@@ -124,9 +125,7 @@ pub(crate) fn append_bound(
         (out.new.items ≡ out.old.items ++ bound_text (option_map bound_of bound.now)) }
 {
     if let Some((operator, version)) = bound {
-        out.extend_from_slice(b" (")?;
-        out.extend_from_slice(operator_text(*operator))?;
-        out.push(b' ')?;
+        out.extend_from_slice(bound_front(*operator))?;
         version.canon_into(out)?;
         out.push(b')')?;
     }

@@ -152,7 +152,7 @@ fn gather_groups(alloc: Global, text: &[u8]) -> Result<(Vec<GroupSummary<'_>>, &
     ensures { Gives result (λ p. (map told_of p.0.items, p.1.now))
         (gather next_summary append_summary [] text.now) }
 {
-    let mut groups = Vec::new(alloc);
+    let mut groups = Vec::with_capacity(alloc, 8)?;
     let mut scratch = Vec::with_capacity(alloc, text.len())?;
     let mut rest = text;
     while let Some((piece, behind)) = next_piece(alloc, &mut scratch, rest)? {
