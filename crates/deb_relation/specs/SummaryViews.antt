@@ -1,12 +1,10 @@
 -- What the summaries of the code stand for.
-use Rattle.std.specs.Prelude.{ℕ, List, Option}
-use Rattle.std.specs.Option.{option_copied, option_map}
+use Rattle.std.specs.Prelude.{ℕ, Bool, List, Option}
+use Rattle.std.specs.Option.{option_map}
 use denote.Ref.{Bor}
-use Rattle.deb_relation.specs.declared.alternative_summary.AlternativeSummary.{AlternativeSummary}
 use Rattle.deb_relation.specs.declared.group_summary.GroupSummary.{GroupSummary}
-use Rattle.deb_relation.specs.KeptTexts.{bytes_of, texts_of}
-use Rattle.deb_relation.specs.Summaries.{Summary, Told, summary_with, told_parts}
-use Rattle.deb_relation.specs.Views.{bound_of, list_of}
+use Rattle.deb_relation.specs.KeptTexts.{bytes_of}
+use Rattle.deb_relation.specs.Summaries.{Summary, Told, summary_with, told_with}
 
 abbrev pub told_of : GroupSummary → Summary
 told_of group = summary_with (bytes_of group.text) group.has_two group.only_equals
@@ -19,8 +17,6 @@ told_key group = bytes_of group.text
 abbrev pub told_behind : Option GroupSummary × Bor (List ℕ) → Option Summary × List ℕ
 told_behind p = (option_map told_of p.0, p.1.now)
 
--- what is told of an alternative
-abbrev pub part_of : AlternativeSummary → Told
-part_of a =
-    told_parts a.name.now (option_copied a.qualifier) (option_map bound_of a.bound)
-    (option_map list_of a.architectures) (texts_of a.lists.items)
+-- what is told of an alternative whose text was written, and the text behind it
+abbrev pub written_behind : List ℕ → Bool × Bor (List ℕ) → Told × List ℕ
+written_behind text p = (told_with text p.0, p.1.now)

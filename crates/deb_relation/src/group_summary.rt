@@ -7,9 +7,9 @@ ghost use Rattle.deb_relation.specs.Reading.{gather};
 ghost use Rattle.deb_relation.specs.Sets.{byte_cmp};
 ghost use Rattle.deb_relation.specs.Stops.{Gives, next_of};
 ghost use Rattle.deb_relation.specs.Summaries.{add_told, append_summary, next_summary, next_told, put_summary, read_summary, summary_key, summary_with};
-ghost use Rattle.deb_relation.specs.SummaryViews.{part_of, told_behind, told_key, told_of};
+ghost use Rattle.deb_relation.specs.SummaryViews.{told_behind, told_key, told_of};
 
-use crate::alternative_summary::{AlternativeSummary, next_alternative};
+use crate::alternative_summary::{write_alternative, write_next};
 use crate::cursor::{begins, skip_white};
 use crate::fault::{Reason, Stop};
 use crate::kept_text::KeptText;
@@ -26,19 +26,18 @@ pub(crate) struct GroupSummary<'a> {
 }
 
 /// Appends a bar and the text of a further alternative.
-fn append_next(out: &mut Vec<u8>, alternative: &AlternativeSummary<'_>) -> Result<(), AllocError>
-    ensures { OnOk result (out.new.items ≡ out.old.items
-        ++ (codes " | " ++ (part_of alternative.now).text)) }
+fn append_next(out: &mut Vec<u8>, next: &[u8]) -> Result<(), AllocError>
+    ensures { OnOk result (out.new.items ≡ out.old.items ++ (codes " | " ++ next.now)) }
 {
     out.extend_from_slice(b" | ")?;
-    alternative.append_to(out)
+    out.extend_from_slice(next)
 }
 
 /// Whether no bound has an operator other than `=`, with one alternative more.
-fn still_equals(only_equals: bool, alternative: &AlternativeSummary<'_>) -> bool
-    ensures { result ≡ (only_equals && (part_of alternative.now).is_equal) }
+fn still_equals(only_equals: bool, is_equal: bool) -> bool
+    ensures { result ≡ (only_equals && is_equal) }
 {
-    only_equals && alternative.is_equal()
+    only_equals && is_equal
 }
 
 /// Appends the texts of the alternatives behind the first, whose bound is none or has `=`; tells
@@ -57,13 +56,14 @@ fn append_rest<'a>(
     if !begins(text, b'|') {
         return Ok((false, first_equals, text));
     }
+    let mut next = Vec::new(alloc);
     let mut has_two = false;
     let mut only_equals = first_equals;
     let mut rest = text;
-    while let Some((alternative, behind)) = next_alternative(alloc, rest)? {
-        append_next(out, &alternative)?;
+    while let Some((is_equal, behind)) = write_next(alloc, &mut next, rest)? {
+        append_next(out, &next)?;
         has_two = true;
-        only_equals = still_equals(only_equals, &alternative);
+        only_equals = still_equals(only_equals, is_equal);
         rest = behind;
     }
     Ok((has_two, only_equals, rest))
@@ -79,10 +79,8 @@ fn write_group<'a>(
     ensures { Gives result (λ p. (summary_with out.new.items p.0 p.1, p.2.now))
         (read_summary text.now) }
 {
-    let (first, rest) = AlternativeSummary::read(alloc, text)?;
-    out.clear();
-    first.append_to(out)?;
-    append_rest(alloc, out, first.is_equal(), rest)
+    let (is_equal, rest) = write_alternative(alloc, out, text)?;
+    append_rest(alloc, out, is_equal, rest)
 }
 
 /// The group, and what is left behind it and white space.
