@@ -3,3 +3,4 @@ pub mod SourceLemmas
 mod TableLookups
 pub mod RelationLemmas
 pub mod ValueLemmas
+pub mod LineBegins

@@ -1,8 +1,7 @@
 -- What reading a relation gives for its field.
-use Rattle.std.proofs.Common.{◌≡◌, ℕ, List, Ok, ap}
+use Rattle.std.proofs.Common.{◌≡◌, ℕ, List, ap}
 use Rattle.deb_relation.specs.Grammar.{SpellsRelation}
 use Rattle.deb_relation.specs.Meaning.{Relation}
-use Rattle.deb_relation.specs.Reading.{relation_in}
 use Rattle.deb_relation.proofs.SpelledGroups.{relation_read}
 use Rattle.deb_field.specs.RelationFields.{relation_refusal, reading_refusal, relationship_refusal}
 use Rattle.deb_field.specs.declared.kind.Relationship.{Relationship}

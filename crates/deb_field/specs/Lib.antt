@@ -4,6 +4,7 @@ pub mod Kinds
 pub mod Tables
 pub mod OneLine
 pub mod OneLineLaws
+pub mod LineBegins
 pub mod Texts
 pub mod TextLaws
 pub mod Flags

@@ -1,6 +1,7 @@
 //! Plain text, and lines.
 
 ghost use Rattle.std.specs.Prelude.{◌≡◌, ℕ, List, Some, IfOk, IfErr, IsTrue, refl};
+ghost use Rattle.deb_field.specs.LineBegins.{begins_with_newline};
 ghost use Rattle.deb_field.specs.Texts.{SpellsText, SpellsLine, text_itself, is_one_line, one_line_refusal};
 
 use crate::canon::Canon;
@@ -29,6 +30,13 @@ impl<'a> Text<'a> {
         ensures { result.now ≡ text_bytes self.now }
     {
         self.bytes
+    }
+
+    /// Whether the first byte is a newline.
+    pub fn begins_with_newline(&self) -> bool
+        ensures { result ≡ begins_with_newline (text_bytes self.now) }
+    {
+        matches!(self.bytes, [b'\n', ..])
     }
 }
 

@@ -64,12 +64,13 @@ impl From<Code> for ValueFault {
 }
 
 impl<'a> Value<'a> {
-    ghost use Rattle.std.specs.Prelude.{IfOk, IfErr};
+    ghost use Rattle.std.specs.Prelude.{◌≡◌, IfOk, IfErr};
     ghost use Rattle.deb_base.specs.Bodies.{IsBody};
     ghost use Rattle.deb_field.specs.Faults.{IsFaultOf, IsRead};
     ghost use Rattle.deb_field.specs.Kinds.{kind_of};
-    ghost use Rattle.deb_field.specs.ValueMeanings.{value_meaning};
-    ghost use Rattle.deb_field.specs.Values.{ValueMeaning, SpellsKind, SpellsValue};
+    ghost use Rattle.deb_field.specs.LineBegins.{begins_with_newline};
+    ghost use Rattle.deb_field.specs.ValueMeanings.{kind_of_value, value_meaning};
+    ghost use Rattle.deb_field.specs.Values.{ValueMeaning, SpellsKind, SpellsValue, value_text};
 
     /// The value that a body spells in the field of this name, in a document of this kind.
     ///
@@ -89,6 +90,7 @@ impl<'a> Value<'a> {
     ) -> Result<Value<'a>, ValueFault>
         requires { IsBody body.now }
         ensures ok { IfOk result (λ v. SpellsValue doc name.now body.now (value_meaning v)) }
+        ensures kind { IfOk result (λ v. kind_of_value v ≡ kind_of doc name.now) }
         ensures accepted { (m : ValueMeaning) → SpellsValue doc name.now body.now m
             → IsRead (kind_of doc name.now) result m }
         ensures refused { IfErr result (IsFaultOf (kind_of doc name.now) body.now) }
@@ -99,6 +101,7 @@ impl<'a> Value<'a> {
     /// The value that a body spells as one of a kind.
     fn of_kind(alloc: Global, kind: Kind, body: &'a [u8]) -> Result<Value<'a>, ValueFault>
         ensures ok { IfOk result (λ value. SpellsKind kind body.now (value_meaning value)) }
+        ensures kind { IfOk result (λ value. kind_of_value value ≡ kind) }
         ensures refused { IfErr result (IsFaultOf kind body.now) }
     {
         match kind {
@@ -116,6 +119,17 @@ impl<'a> Value<'a> {
             Kind::Folded => Ok(Value::Folded(Folded::new(body))),
             Kind::Relation(sort) => Ok(Value::Relation(RelationField::parse(alloc, sort, body)?)),
             Kind::Text => Ok(Value::Text(Text::new(body))),
+        }
+    }
+
+    /// Whether the canonical text begins with a newline, so that it stands on the lines below the
+    /// field's name: some texts do, and no other value.
+    pub fn begins_with_newline(&self) -> bool
+        ensures { result ≡ begins_with_newline (value_text (value_meaning self.now)) }
+    {
+        match self {
+            Value::Text(text) => text.begins_with_newline(),
+            _ => false,
         }
     }
 }
