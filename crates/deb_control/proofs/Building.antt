@@ -1,6 +1,6 @@
 -- What is built of a paragraph whose fields were read and sorted.
 use Rattle.std.proofs.Common.{◌≡◌, ◌<◌, ◌≤◌, ◌&&◌, not, true, List, [], ◌∷◌, length, map, Ok, Err, None, refl, sym, ap, ◌∙◌, subst, arith, All, IsPermutation}
-use Rattle.std.proofs.lemmas.Bool.{and_parts, not-true, lt-leb}
+use Rattle.std.proofs.lemmas.Bool.{and_parts, not-true}
 use Rattle.std.proofs.lemmas.List.Elements.{All-nil, All-cons, All-tail, All-get_or}
 use Rattle.std.proofs.lemmas.List.Sorted.{All-permutation}
 use Rattle.std.specs.List.{AllByRecursion}
@@ -17,13 +17,13 @@ use Rattle.deb_control.specs.Canonical.{paragraph_text}
 use Rattle.deb_control.specs.Documents.{rules_of}
 use Rattle.deb_control.specs.Pairs.{Pairwise}
 use Rattle.deb_control.specs.Paragraphs.{field_in, values_in, text_of_values, IsTypedField, AreValuesOf}
-use Rattle.deb_control.specs.Refusals.{value_refusal_of, have_names, canonical_entries, refused_or_built, built}
+use Rattle.deb_control.specs.Refusals.{value_refusal_of, have_names, canonical_entries, built}
 use Rattle.deb_control.specs.Sorting.{comes_before}
 use Rattle.deb_control.specs.ValueFiles.{SpellsEntry, body_under}
 use Rattle.deb_control.specs.declared.typed_field.TypedField.{TypedField}
 use Rattle.deb_control.proofs.DocumentRules.{document_rules}
 use Rattle.deb_control.proofs.FieldValues.{canonical-from_values}
-use Rattle.deb_control.proofs.Passing.{built-from_parts}
+use Rattle.deb_control.proofs.Passing.{built-from_parts, built-long}
 use Rattle.deb_control.proofs.SortedFields.{entry_of, entries_of-sorted_fields}
 
 to_all : {X : Type 0} (P : X → Type 0) (xs : List X) → AllByRecursion P xs → All P xs
@@ -62,7 +62,7 @@ AreRead-sorted doc fields was now are read good moved sorted =
       texts = canonical-from_values ValueMeaning (SpellsValue doc) value_text (value_law doc) (rules_of doc) (document_rules doc) fields (values_in now) distinct spelled;
     }
 
-limit_is : paragraph_limit ≡ 16777216
+pub limit_is : paragraph_limit ≡ 16777216
 unfolding paragraph_limit
 limit_is = refl
 
@@ -71,7 +71,7 @@ module _ (doc : Doc) (seen : Seen) (good : value_refusal_of (rules_of doc) seen.
   built-too_long now read named long =
       let longer : paragraph_limit < length (paragraph_text (canonical_entries (rules_of doc) seen.fields)) =
       subst (λ e. paragraph_limit < length (paragraph_text e)) (sym read.texts) (subst (λ n. n < length (text_of_values (values_in now))) (sym limit_is) long) in
-      ap (refused_or_built (rules_of doc) seen) good ∙ rw (sym named, lt-leb (length (paragraph_text (canonical_entries (rules_of doc) seen.fields))) paragraph_limit longer) refl
+      built-long (rules_of doc) seen good (sym named) longer
 
   pub AreValuesOf-read : (now : List TypedField) → AreRead doc seen.fields now → true ≡ have_names seen.fields (rules_of doc).required → length (text_of_values (values_in now)) ≤ 16777216 → AreValuesOf doc seen (values_in now)
   AreValuesOf-read now read named short =

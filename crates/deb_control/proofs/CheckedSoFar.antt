@@ -23,8 +23,9 @@ use Rattle.deb_control.specs.Calls.{IfRefused, IfCutOff, HasParagraphs, WritesCa
 use Rattle.deb_control.specs.Canonical.{paragraph_text, file_text}
 use Rattle.deb_control.specs.Checking.{Follow, Passing, CheckedState, CheckedMoment, FitsChecked, HasChecked, GivesPassing, GivesEnd, AnswersChecked, Checks, ChecksOn}
 use Rattle.deb_control.specs.Documents.{rules_of, canonical_text, refusal_of, out_of}
+use Rattle.deb_control.specs.Laws.{IsAllOf}
 use Rattle.deb_control.specs.Refusals.{outcome}
-use Rattle.deb_control.specs.ValueFiles.{body_under, bodies_of}
+use Rattle.deb_control.specs.ValueFiles.{body_under}
 use Rattle.deb_control.proofs.Accepting.{accepted-from_none, outcome-accepted, accepted_is_written}
 use Rattle.deb_control.proofs.DocumentRules.{document_rules}
 use Rattle.deb_control.proofs.FollowedParagraphs.{outcome-from_refusal, outcome-from_end, outcome-starts}
@@ -60,15 +61,24 @@ file_text-starts (first ∷ next ∷ before) (entries ∷ more) =
     let rest = file_text-starts (next ∷ before) (entries ∷ more) in
     (rest.0, ap (λ text. paragraph_text first ++ newline ∷ text) rest.1 ∙ sym (append_assoc (paragraph_text first) (newline ∷ file_text (next ∷ before)) rest.0))
 
--- A file whose paragraphs are all given has a meaning of so many.
-pub has_paragraphs : (doc : Doc) (text : List ℕ) (before : List Entries) (n : ℕ) → outcome (rules_of doc) text ≡ record { passed = before; refusal = None } → length before ≡ n → HasParagraphs doc text n
-has_paragraphs doc text before n is counted =
+-- A file of which these paragraphs are all that comes is accepted with them.
+pub is_all_of : (doc : Doc) (text : List ℕ) (before : List Entries) → outcome (rules_of doc) text ≡ record { passed = before; refusal = None } → IsAllOf doc text before
+is_all_of doc text before is =
     let found = accepted-from_none ValueMeaning (SpellsValue doc) value_text (value_law doc) (rules_of doc) (document_rules doc) text (ap (λ o. o.refusal) is) in
-    let same : bodies_of value_text found.0 ≡ before = ap (λ o. o.passed) (sym (outcome-accepted ValueMeaning (SpellsValue doc) value_text (value_law doc) (rules_of doc) (document_rules doc) text found.0 found.1) ∙ is) in
     record {
       meaning = found.0;
       accepted = found.1;
-      count = sym (length-map found.0 (map (body_under value_text))) ∙ ap length same ∙ counted;
+      bodies = ap (λ o. o.passed) (sym (outcome-accepted ValueMeaning (SpellsValue doc) value_text (value_law doc) (rules_of doc) (document_rules doc) text found.0 found.1) ∙ is);
+    }
+
+-- It has a meaning of so many.
+pub has_paragraphs : (doc : Doc) (text : List ℕ) (before : List Entries) (n : ℕ) → outcome (rules_of doc) text ≡ record { passed = before; refusal = None } → length before ≡ n → HasParagraphs doc text n
+has_paragraphs doc text before n is counted =
+    let all = is_all_of doc text before is in
+    record {
+      meaning = all.meaning;
+      accepted = all.accepted;
+      count = sym (length-map all.meaning (map (body_under value_text))) ∙ ap length all.bodies ∙ counted;
     }
 
 -- They are so many.

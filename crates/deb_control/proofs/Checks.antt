@@ -2,6 +2,7 @@
 use Rattle.std.proofs.Common.{◌≡◌, ◌⊎◌, inl, inr, ℕ, ◌+◌, ◌<◌, ◌≤◌, ◌==◌, ◌&&◌, not, Bool, true, false, cond, leb, List, [], ◌∷◌, ◌++◌, length, Option, None, Some, Result, Ok, Err, IfOk, IfErr, IfNone, IfSome, MatchResult, IsTrue, IsSome, ◌↔◌, refl, sym, ap, ◌∙◌, subst, arith, length-append, append-nil}
 use Rattle.std.proofs.Math.Bool.{and-false}
 use Rattle.std.proofs.lemmas.Bool.{ne_eqb, false≢true, and_parts, leb-true}
+use Rattle.std.proofs.lemmas.Slice.Eq.{bytes_eq-Decides}
 use Rattle.deb_base.specs.Devices.{read_failures_after}
 use Rattle.deb_base.specs.Faults.{IsReadersFault, RefusedOrMemory}
 use Rattle.deb_base.specs.declared.code.Code.TheVariants.{NoParagraph, TooManyParagraphs}
@@ -18,10 +19,10 @@ use Rattle.deb_syntax.specs.Reading.{State, Fits, passed_count, GivesNone, Answe
 use Rattle.deb_syntax.proofs.JudgingLaws.{push-append}
 use Rattle.deb_field.specs.Kinds.{is_single}
 use Rattle.deb_field.specs.declared.kind.Doc.{Doc}
-use Rattle.deb_control.specs.Canonical.{file_text}
-use Rattle.deb_control.specs.Checking.{Passing, CheckedState, CheckedMoment, Follow, FitsChecked, AnswersChecked, IsRefusalOfDocument, Checks, ChecksOn, found_answer}
+use Rattle.deb_control.specs.Canonical.{paragraph_text, file_text}
+use Rattle.deb_control.specs.Checking.{Passing, CheckedState, CheckedMoment, Follow, FitsChecked, AnswersChecked, IsRefusalOfDocument, Checks, ChecksOn, found_answer, passes_if}
 use Rattle.deb_control.specs.Documents.{rules_of}
-use Rattle.deb_control.specs.Finding.{end_answer, AddsPassing, RefusesSeen}
+use Rattle.deb_control.specs.Finding.{end_answer, given_answer, AddsPassing, RefusesSeen, SaysOf}
 use Rattle.deb_control.specs.Refusals.{has_some, answer_of_seen, next_checked, line_behind}
 use Rattle.deb_control.specs.Rules.{Rules}
 use Rattle.deb_control.specs.declared.tally.Tally.{Tally}
@@ -85,6 +86,13 @@ checked_at reader count bytes left failures = record { state = state_at reader c
 
 abbrev pub reader_at : State → Option (List ℕ) → ℕ → Moment
 reader_at reader left failures = record { state = reader; source = record { bytes = left; failures = failures } }
+
+abbrev pub passing_with : Seen → List ℕ → Passing
+passing_with seen text = record { seen = seen; text = text }
+
+-- what stands for the paragraph where none is given
+abbrev nothing : Passing
+nothing = passing_with (record { first = 0; fields = [] }) []
 
 module _ (doc : Doc) (reader new : State) (count bytes : ℕ) (left after : Option (List ℕ)) (failures failures_after : ℕ) (few : count ≤ file_limit + 1) where
   -- an error of the reader of paragraphs
@@ -197,8 +205,8 @@ module _ (doc : Doc) (reader new : State) (count bytes : ℕ) (left after : Opti
     }
 
     -- the next one passes
-    pub checks-passes : (given given_now : Tally) (seen : Seen) (written : List ℕ) → given.paragraphs ≡ count → given.bytes ≡ bytes → Advances (reader_at reader left failures) (Ok (Some seen)) (reader_at new after failures_after) → AddsPassing doc seen given written given_now → given_now.paragraphs ≤ file_limit + 1 → Checks doc (checked_at reader count bytes left failures) (Ok (Some (record { seen = seen; text = written }))) (checked_at new given_now.paragraphs given_now.bytes after failures_after)
-    checks-passes given given_now seen written counted is advances adds few_now = record {
+    pub checks-passes : (given given_now : Tally) (seen : Seen) (keeps : Bool) (written : List ℕ) → given.paragraphs ≡ count → given.bytes ≡ bytes → Advances (reader_at reader left failures) (Ok (Some seen)) (reader_at new after failures_after) → (adds : AddsPassing doc seen given keeps written given_now) → given_now.paragraphs ≤ file_limit + 1 → Checks doc (checked_at reader count bytes left failures) (Ok (Some (passing_with seen (paragraph_text adds.entries)))) (checked_at new given_now.paragraphs given_now.bytes after failures_after)
+    checks-passes given given_now seen keeps written counted is advances adds few_now = record {
       answers = λ text before fits.
           let next = advances.answers text fits.passed fits.fits in
           let at : next_answer text (length before) ≡ Ok (Some seen) = ap (next_answer text) (sym fits.paragraphs) ∙ next.answer in
@@ -209,7 +217,7 @@ module _ (doc : Doc) (reader new : State) (count bytes : ℕ) (left after : Opti
             answer = passes;
             seen = at;
             built = adds.built;
-            written = adds.written;
+            written = refl;
             again = record {
               passed = next.passed_now;
               fits = next.again;
@@ -227,17 +235,21 @@ module _ (doc : Doc) (reader new : State) (count bytes : ℕ) (left after : Opti
     }
 
     -- the next one is checked
-    pub checks-passed : (given given_now : Tally) (seen : Seen) (written : List ℕ) (result : Result Bool Fault) → are_numbered seen.first seen.fields ≡ true → given.paragraphs ≡ count → given.bytes ≡ bytes → Advances (reader_at reader left failures) (Ok (Some seen)) (reader_at new after failures_after) → IfOk result (λ gives. (gives ≡ true) × AddsPassing doc seen given written given_now) → IfErr result (λ fault. RefusedOrMemory fault (RefusesSeen doc seen given)) → IfErr result (λ fault. given_now ≡ given) → Checks doc (checked_at reader count bytes left failures) (found_answer (Some seen) written result) (checked_at new given_now.paragraphs given_now.bytes after failures_after)
-    checks-passed given given_now seen written (Ok true) numbered counted is advances ok fault same = checks-passes given given_now seen written counted is advances ok.1 (few-given given_now)
-    checks-passed given given_now seen written (Ok false) numbered counted is advances ok fault same = absurd (false≢true ok.0)
-    checks-passed given given_now seen written (Err f) numbered counted is advances ok fault same =
+    says-passed : (given given_now : Tally) (seen : Seen) (keeps : Bool) (written : List ℕ) (result : Result Bool Fault) → are_numbered seen.first seen.fields ≡ true → given.paragraphs ≡ count → given.bytes ≡ bytes → Advances (reader_at reader left failures) (Ok (Some seen)) (reader_at new after failures_after) → IfOk result (λ gives. (gives ≡ true) × AddsPassing doc seen given keeps written given_now) → IfErr result (λ fault. RefusedOrMemory fault (RefusesSeen doc seen given)) → IfErr result (λ fault. given_now ≡ given) → SaysOf (λ answer. Checks doc (checked_at reader count bytes left failures) answer (checked_at new given_now.paragraphs given_now.bytes after failures_after)) keeps (Some seen) written result
+    says-passed given given_now seen keeps written (Ok true) numbered counted is advances ok fault same = record {
+      given = passing_with seen (paragraph_text ok.1.entries);
+      says = checks-passes given given_now seen keeps written counted is advances ok.1 (few-given given_now);
+      kept = λ kept. ap (λ text. Ok (Some (passing_with seen text))) (sym (ok.1.written kept));
+    }
+    says-passed given given_now seen keeps written (Ok false) numbered counted is advances ok fault same = absurd (false≢true ok.0)
+    says-passed given given_now seen keeps written (Err f) numbered counted is advances ok fault same =
         let at : (given_now.paragraphs ≡ count) × (given_now.bytes ≡ bytes) = (ap (λ t. t.paragraphs) same ∙ counted, ap (λ t. t.bytes) same ∙ is) in
-        rw (at.0, at.1) (checks-unpassed given seen f numbered counted is advances fault)
+        rw (at.0, at.1) (record { given = nothing; says = checks-unpassed given seen f numbered counted is advances fault; kept = λ kept. refl })
 
-    pub checks-found : (given given_now : Tally) (seen : Seen) (found : Option Seen) (written : List ℕ) (answer : Result (Option Seen) Fault) (result : Result Bool Fault) → are_numbered seen.first seen.fields ≡ true → given.paragraphs ≡ count → given.bytes ≡ bytes → found ≡ Some seen → answer ≡ Ok (Some seen) → Advances (reader_at reader left failures) answer (reader_at new after failures_after) → IfOk result (λ gives. (gives ≡ true) × AddsPassing doc seen given written given_now) → IfErr result (λ fault. RefusedOrMemory fault (RefusesSeen doc seen given)) → IfErr result (λ fault. given_now ≡ given) → Checks doc (checked_at reader count bytes left failures) (found_answer found written result) (checked_at new given_now.paragraphs given_now.bytes after failures_after)
-    checks-found given given_now seen found written answer result numbered counted is one some goes ok fault same =
-        subst (λ f. Checks doc (checked_at reader count bytes left failures) (found_answer f written result) (checked_at new given_now.paragraphs given_now.bytes after failures_after)) (sym one)
-        (checks-passed given given_now seen written result numbered counted is (subst (λ a. Advances (reader_at reader left failures) a (reader_at new after failures_after)) some goes) ok fault same)
+    pub says-found : (given given_now : Tally) (seen : Seen) (keeps : Bool) (found : Option Seen) (written : List ℕ) (answer : Result (Option Seen) Fault) (result : Result Bool Fault) → are_numbered seen.first seen.fields ≡ true → given.paragraphs ≡ count → given.bytes ≡ bytes → found ≡ Some seen → answer ≡ Ok (Some seen) → Advances (reader_at reader left failures) answer (reader_at new after failures_after) → IfOk result (λ gives. (gives ≡ true) × AddsPassing doc seen given keeps written given_now) → IfErr result (λ fault. RefusedOrMemory fault (RefusesSeen doc seen given)) → IfErr result (λ fault. given_now ≡ given) → SaysOf (λ answer. Checks doc (checked_at reader count bytes left failures) answer (checked_at new given_now.paragraphs given_now.bytes after failures_after)) keeps found written result
+    says-found given given_now seen keeps found written answer result numbered counted is one some goes ok fault same =
+        subst (λ f. SaysOf (λ a. Checks doc (checked_at reader count bytes left failures) a (checked_at new given_now.paragraphs given_now.bytes after failures_after)) keeps f written result) (sym one)
+        (says-passed given given_now seen keeps written result numbered counted is (subst (λ a. Advances (reader_at reader left failures) a (reader_at new after failures_after)) some goes) ok fault same)
 
   -- what it says of the beginning of one that is one too many
   module _ (single : is_single doc ≡ true) (some : 0 < count) where
@@ -268,11 +280,28 @@ module _ (doc : Doc) (reader new : State) (count bytes : ℕ) (left after : Opti
       few = few;
     }
 
--- a second one is answered the same whatever was found before
-pub checks-none_found : (doc : Doc) (before after : CheckedMoment) (found : Option Seen) (written : List ℕ) (result : Result Bool Fault) → IfOk result (λ gives. gives ≡ false) → Checks doc before (found_answer None [] result) after → Checks doc before (found_answer found written result) after
-checks-none_found doc before after found written (Ok true) none checks = absurd (false≢true (sym none))
-checks-none_found doc before after found written (Ok false) none checks = checks
-checks-none_found doc before after found written (Err fault) none checks = checks
+-- where there is no paragraph, none is given, whatever was found before
+pub says-none : (says : Result (Option Passing) Fault → Type 0) (keeps : Bool) (found : Option Seen) (written : List ℕ) (result : Result Bool Fault) → IfOk result (λ gives. gives ≡ false) → says (found_answer None [] result) → SaysOf says keeps found written result
+says-none says keeps found written (Ok true) none h = absurd (false≢true (sym none))
+says-none says keeps found written (Ok false) none h = record { given = nothing; says = h; kept = λ kept. refl }
+says-none says keeps found written (Err fault) none h = record { given = nothing; says = h; kept = λ kept. refl }
+
+-- where text is kept, the one that was found is given
+pub says-kept : (says : Result (Option Passing) Fault → Type 0) (found : Option Seen) (written : List ℕ) (result : Result Bool Fault) → SaysOf says true found written result → says (found_answer found written result)
+says-kept says found written result s = subst says (s.kept refl) s.says
+
+-- what is kept of it is its canonical text
+pub kept-passes : (doc : Doc) (given given_now : Tally) (seen : Seen) (keeps : Bool) (found : Option Seen) (written : List ℕ) (result : Result Bool Fault) → found ≡ Some seen → IfOk result (λ gives. (gives ≡ true) × AddsPassing doc seen given keeps written given_now) → IfOk result (λ gives. IsTrue (passes_if (keeps && gives) doc found written))
+kept-passes doc given given_now seen false found written (Ok gives) one ok = refl
+kept-passes doc given given_now seen true found written (Ok true) one ok = rw (one, ok.1.built) ((bytes_eq-Decides written (paragraph_text ok.1.entries)).1 (ok.1.written refl))
+kept-passes doc given given_now seen true found written (Ok false) one ok = refl
+kept-passes doc given given_now seen keeps found written (Err fault) one ok = tt
+
+-- and where there is none, nothing is
+pub none-passes : (doc : Doc) (keeps : Bool) (found : Option Seen) (written : List ℕ) (result : Result Bool Fault) → IfOk result (λ gives. gives ≡ false) → IfOk result (λ gives. IsTrue (passes_if (keeps && gives) doc found written))
+none-passes doc false found written (Ok gives) none = refl
+none-passes doc true found written (Ok gives) none = rw none refl
+none-passes doc keeps found written (Err fault) none = tt
 
 -- what else a reader of checked paragraphs shows changes nothing
 fits-shown : (doc : Doc) (text : List ℕ) (before : List Entries) (state other : CheckedState) (left : Option (List ℕ)) → state.reader ≡ other.reader → state.count ≡ other.count → state.bytes ≡ other.bytes → FitsChecked doc text before state left → FitsChecked doc text before other left
@@ -330,3 +359,31 @@ module _ (doc : Doc) (reader new : State) (count bytes count_now bytes_now : ℕ
     keeps = subst (λ f. IfNone f (MatchResult answer (λ _. fault_now ≡ None) (λ g. fault_now ≡ Some g))) (sym none) keeps;
     repeats = subst (λ f. IfSome f (λ g. (answer ≡ Err g) × (moment_now ≡ moment))) (sym none) tt;
   }
+
+  says_keeps : (given : Passing) (result : Result Bool Fault) → MatchResult result (λ _. fault_now ≡ None) (λ f. fault_now ≡ Some f) → MatchResult (given_answer given result) (λ _. fault_now ≡ None) (λ f. fault_now ≡ Some f)
+  says_keeps given (Ok true) h = h
+  says_keeps given (Ok false) h = h
+  says_keeps given (Err f) h = h
+
+  pub says_on : (keeps : Bool) (found : Option Seen) (written : List ℕ) (result : Result Bool Fault) → fault ≡ None → SaysOf (λ answer. Checks doc (checked_at reader count bytes left failures) answer (checked_at new count_now bytes_now after failures_after)) keeps found written result → MatchResult result (λ _. fault_now ≡ None) (λ f. fault_now ≡ Some f) → SaysOf (λ answer. ChecksOn doc moment answer moment_now) keeps found written result
+  says_on keeps found written result none s held = record {
+    given = s.given;
+    says = checks_on (given_answer s.given result) none s.says (says_keeps s.given result held);
+    kept = s.kept;
+  }
+
+-- and of one with an error, which repeats it
+pub says_again : (doc : Doc) (moment : CheckedMoment) (keeps : Bool) (found : Option Seen) (written : List ℕ) (fault : Fault) → moment.state.fault ≡ Some fault → SaysOf (λ answer. ChecksOn doc moment answer moment) keeps found written (Err fault)
+says_again doc moment keeps found written fault is =
+    let answer : Result (Option Passing) Fault = Err fault in
+    let same : answer ≡ Err fault = refl in
+    let stays : moment ≡ moment = refl in
+    record {
+      given = nothing;
+      says = record {
+        goes = subst (λ f. IfNone f (Checks doc moment answer moment)) (sym is) tt;
+        keeps = subst (λ f. IfNone f (moment.state.fault ≡ Some fault)) (sym is) tt;
+        repeats = subst (λ f. IfSome f (λ g. (answer ≡ Err g) × (moment ≡ moment))) (sym is) (same, stays);
+      };
+      kept = λ kept. refl;
+    }

@@ -26,7 +26,7 @@ use Rattle.deb_control.specs.Acceptance.{has_values}
 use Rattle.deb_control.proofs.ValueBodies.{value_at, one_paragraph}
 
 -- equal in the order of bytes is the same
-same_from_equal : (a b : List ℕ) → byte_order a b ≡ Equal → a ≡ b
+pub same_from_equal : (a b : List ℕ) → byte_order a b ≡ Equal → a ≡ b
 same_from_equal a b e = (bytes_eq-Decides a b).0 (sym (is_eq-slice_cmp a b) ∙ ap is_eq e)
 
 -- a choice by an ordering, seen entry by entry

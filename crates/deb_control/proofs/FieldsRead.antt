@@ -28,7 +28,7 @@ pub record HasRead (doc : Doc) (fields : List Field) (items : List TypedField) (
   pub refusal : value_refusal_of (rules_of doc) fields ≡ value_refusal_of (rules_of doc) (drop i fields)
 
 -- the field at an index, and those behind it
-drop-at : (fields : List Field) (i : ℕ) (field : Field) → slice_get fields i ≡ Some field → drop i fields ≡ field ∷ drop (i + 1) fields
+pub drop-at : (fields : List Field) (i : ℕ) (field : Field) → slice_get fields i ≡ Some field → drop i fields ≡ field ∷ drop (i + 1) fields
 drop-at fields i field is =
     drop-cons fields i field (slice_get_within fields i field is)
     ∙ ap (λ first. first ∷ drop (suc i) fields) (get_or_from_slice_get fields i field field is)
@@ -41,11 +41,16 @@ all-push P (y ∷ ys) x h p = (h.0, all-push P ys x h.1 p)
 refusal-at : (doc : Doc) (fields : List Field) (i : ℕ) (field : Field) → slice_get fields i ≡ Some field → value_refusal_of (rules_of doc) (drop i fields) ≡ refusal_or (value_refusal doc (canonical_name field.name) field.body) field.line (value_refusal_of (rules_of doc) (drop (i + 1) fields))
 refusal-at doc fields i field is = ap (value_refusal_of (rules_of doc)) (drop-at fields i field is)
 
+-- a field whose body is not refused
+pub refusal-past : (doc : Doc) (fields : List Field) (i : ℕ) (field : Field) → slice_get fields i ≡ Some field → value_refusal doc (canonical_name field.name) field.body ≡ None → value_refusal_of (rules_of doc) (drop i fields) ≡ value_refusal_of (rules_of doc) (drop (i + 1) fields)
+refusal-past doc fields i field is good =
+    refusal-at doc fields i field is
+    ∙ ap (λ o. refusal_or o field.line (value_refusal_of (rules_of doc) (drop (i + 1) fields))) good
+
 pub HasRead-next : (doc : Doc) (fields : List Field) (items new : List TypedField) (i : ℕ) (raw : RawField) (typed : TypedField) → option_map field_of (Some raw) ≡ slice_get fields i → field_in typed ≡ field_of raw → IsTypedField doc typed → new ≡ items ++ typed ∷ [] → HasRead doc fields items i → HasRead doc fields new (i + 1)
 HasRead-next doc fields items new i raw typed is same good pushed before =
     let found : slice_get fields i ≡ Some (field_in typed) = sym is ∙ ap Some (sym same) in
     let field = field_in typed in
-    let unrefused = (document_rules doc).unrefused (canonical_name field.name) field.body _ good in
     record {
       read =
           ap (λ m. map field_in m ++ drop (i + 1) fields) pushed
@@ -54,13 +59,13 @@ HasRead-next doc fields items new i raw typed is same good pushed before =
           ∙ ap (λ m. map field_in items ++ m) (sym (drop-at fields i field found))
           ∙ before.read;
       good = subst (AllByRecursion (IsTypedField doc)) (sym pushed) (all-push (IsTypedField doc) items typed before.good good);
-      refusal = before.refusal ∙ refusal-at doc fields i field found ∙ ap (λ o. refusal_or o field.line (value_refusal_of (rules_of doc) (drop (i + 1) fields))) unrefused;
+      refusal = before.refusal ∙ refusal-past doc fields i field found ((document_rules doc).unrefused (canonical_name field.name) field.body _ good);
     }
 
 -- the body of the field at the index is refused
-pub HasRead-refused : (doc : Doc) (fields : List Field) (items : List TypedField) (i : ℕ) (raw : RawField) (refusal : Refusal) → option_map field_of (Some raw) ≡ slice_get fields i → HasRead doc fields items i → (refusal.line ≡ raw.line) × (value_refusal doc (canonical_name raw.name.now) raw.body.now ≡ Some refusal.code) → value_refusal_of (rules_of doc) fields ≡ Some refusal
-HasRead-refused doc fields items i raw refusal is before refused =
-    before.refusal
+pub refused-here : (doc : Doc) (fields : List Field) (i : ℕ) (raw : RawField) (refusal : Refusal) → option_map field_of (Some raw) ≡ slice_get fields i → value_refusal_of (rules_of doc) fields ≡ value_refusal_of (rules_of doc) (drop i fields) → (refusal.line ≡ raw.line) × (value_refusal doc (canonical_name raw.name.now) raw.body.now ≡ Some refusal.code) → value_refusal_of (rules_of doc) fields ≡ Some refusal
+refused-here doc fields i raw refusal is before refused =
+    before
     ∙ refusal-at doc fields i (field_of raw) (sym is)
     ∙ ap (λ o. refusal_or o raw.line (value_refusal_of (rules_of doc) (drop (i + 1) fields))) refused.1
     ∙ ap (λ line. Some (record { code = refusal.code; line = line })) (sym refused.0)

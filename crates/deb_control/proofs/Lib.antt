@@ -17,6 +17,8 @@ pub mod DocumentRules
 pub mod SortedFields
 pub mod FieldsRead
 pub mod Building
+pub mod Lengths
+pub mod Measured
 pub mod ValueLookups
 pub mod FollowedParagraphs
 pub mod CheckedSoFar

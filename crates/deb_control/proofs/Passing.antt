@@ -1,7 +1,7 @@
 -- Paragraphs that pass one after another, and what comes of a file whose paragraphs all pass.
-use Rattle.std.proofs.Common.{◌≡◌, ℕ, ◌+◌, ◌≤◌, ◌&&◌, not, Bool, true, false, cond, List, [], ◌∷◌, ◌++◌, ◌⊎◌, inl, inr, length, nat_le, Option, None, Some, Result, Ok, Err, refl, sym, ap, ◌∙◌, subst, append-nil}
-use Rattle.std.proofs.lemmas.Bool.{leb-true, le-leb, not-false}
-use Rattle.deb_base.specs.declared.code.Code.TheVariants.{NoParagraph, FileTooLong}
+use Rattle.std.proofs.Common.{◌≡◌, ℕ, ◌+◌, ◌≤◌, ◌&&◌, not, Bool, true, false, cond, List, [], ◌∷◌, ◌++◌, ◌⊎◌, inl, inr, ◌<◌, length, nat_le, Option, None, Some, Result, Ok, Err, refl, sym, ap, ◌∙◌, subst, append-nil}
+use Rattle.std.proofs.lemmas.Bool.{leb-true, le-leb, lt-leb, not-false}
+use Rattle.deb_base.specs.declared.code.Code.TheVariants.{NoParagraph, FileTooLong, ParagraphTooLong}
 use Rattle.deb_base.specs.declared.refusal.Refusal.{Refusal}
 use Rattle.deb_base.specs.Bodies.{paragraph_limit}
 use Rattle.deb_syntax.specs.Lines.{Paragraph, file_limit}
@@ -154,6 +154,11 @@ pub built-from_parts : (rules : Rules) (seen : Seen) → value_refusal_of rules 
 built-from_parts rules seen good named short =
     ap (refused_or_built rules seen) good
     ∙ rw (named, le-leb (length (paragraph_text (canonical_entries rules seen.fields))) paragraph_limit short) refl
+
+pub built-long : (rules : Rules) (seen : Seen) → value_refusal_of rules seen.fields ≡ None → have_names seen.fields rules.required ≡ true → paragraph_limit < length (paragraph_text (canonical_entries rules seen.fields)) → built rules seen ≡ Err (record { code = ParagraphTooLong; line = seen.first })
+built-long rules seen good named long =
+    ap (refused_or_built rules seen) good
+    ∙ rw (named, lt-leb (length (paragraph_text (canonical_entries rules seen.fields))) paragraph_limit long) refl
 
 within-from_parts : (before : List Entries) (line : ℕ) (entries : Entries) → length (file_text (before ++ entries ∷ [])) ≤ file_limit → within_file before line (Ok entries) ≡ Ok (Some entries)
 within-from_parts before line entries short = rw (le-leb (length (file_text (before ++ entries ∷ []))) file_limit short) refl

@@ -1,5 +1,5 @@
 -- What the parts of a reader of checked paragraphs show while the next one is found.
-use Rattle.std.specs.Prelude.{◌≡◌, ◌⊎◌, ℕ, ◌+◌, ◌<◌, ◌≤◌, ◌==◌, ◌&&◌, Bool, false, cond, List, length, Option, None, Result, Ok, Err}
+use Rattle.std.specs.Prelude.{◌≡◌, ◌⊎◌, ℕ, ◌+◌, ◌<◌, ◌≤◌, ◌==◌, ◌&&◌, Bool, true, false, IsTrue, cond, List, length, Option, None, Some, Result, Ok, Err}
 use Rattle.deb_base.specs.declared.code.Code.TheVariants.{NoParagraph, FileTooLong}
 use Rattle.deb_base.specs.declared.fault.Fault.{Fault}
 use Rattle.deb_base.specs.declared.fault.Fault.TheVariants.{Refused}
@@ -15,7 +15,7 @@ use Rattle.deb_control.specs.Refusals.{built}
 use Rattle.deb_control.specs.Tallies.{bytes_with}
 use Rattle.deb_syntax.specs.Paragraphs.{state_of}
 use Rattle.deb_syntax.specs.declared.paragraphs.Paragraphs.{Paragraphs}
-use Rattle.deb_control.specs.Checking.{CheckedMoment}
+use Rattle.deb_control.specs.Checking.{CheckedMoment, Passing, ChecksOn, found_answer}
 use Rattle.deb_control.specs.declared.tally.Tally.{Tally}
 
 -- a reader of paragraphs and what was given of it, with a source that has these bytes left and
@@ -39,13 +39,13 @@ end_answer doc given lines =
     cond (is_single doc && (given.paragraphs == 0))
     (Err (Refused (record { code = NoParagraph; line = lines + 1 }))) (Ok false)
 
--- The paragraph passes behind those that were given, and counts as given then; the bytes are its
--- canonical text.
-pub record AddsPassing (doc : Doc) (seen : Seen) (old : Tally) (text : List ℕ)
+-- The paragraph passes behind those that were given, and counts as given then; where text is kept,
+-- the bytes are its canonical text.
+pub record AddsPassing (doc : Doc) (seen : Seen) (old : Tally) (keeps : Bool) (text : List ℕ)
     (new : Tally) : Type 0 where
   pub entries : Entries
   pub built : built (rules_of doc) seen ≡ Ok entries
-  pub written : text ≡ paragraph_text entries
+  pub written : IsTrue keeps → text ≡ paragraph_text entries
   pub paragraphs : new.paragraphs ≡ old.paragraphs + 1
   pub bytes : new.bytes ≡ bytes_with old.paragraphs old.bytes (length (paragraph_text entries))
   pub within : new.bytes ≤ file_limit
@@ -61,3 +61,23 @@ pub record IsTooLong (doc : Doc) (seen : Seen) (given : Tally) (refusal : Refusa
 abbrev pub RefusesSeen : Doc → Seen → Tally → Refusal → Type 0
 RefusesSeen doc seen given refusal =
     (built (rules_of doc) seen ≡ Err refusal) ⊎ IsTooLong doc seen given refusal
+
+-- what an answer that there is a paragraph, or none, says where this one is given
+abbrev pub given_answer : Passing → Result Bool Fault → Result (Option Passing) Fault
+given_answer given (Ok true) = Ok (Some given)
+given_answer given (Ok false) = Ok None
+given_answer given (Err fault) = Err fault
+
+-- What is said of the paragraph that an answer gives, where that is told by whether there is one;
+-- where text is kept, it is the one that was found, with these bytes.
+pub record SaysOf (Says : Result (Option Passing) Fault → Type 0) (keeps : Bool)
+    (found : Option Seen) (written : List ℕ) (result : Result Bool Fault) : Type 0 where
+  pub given : Passing
+  pub says : Says (given_answer given result)
+  pub kept : IsTrue keeps → given_answer given result ≡ found_answer found written result
+
+-- A call that goes on behind the next paragraph, and answers whether there is one.
+pub record PassesOver (doc : Doc) (before : CheckedMoment) (result : Result Bool Fault)
+    (after : CheckedMoment) : Type 0 where
+  pub given : Passing
+  pub checks : ChecksOn doc before (given_answer given result) after

@@ -1,14 +1,19 @@
 -- Laws of documents: acceptance, refusals and canonical text.
-use Rattle.std.specs.Prelude.{◌≡◌, ◌⊎◌, ◌↔◌, ◌≤◌, ℕ, List, ◌++◌, length, None, Some}
+use Rattle.std.specs.Prelude.{◌≡◌, ◌⊎◌, ◌↔◌, ◌≤◌, ℕ, List, [], ◌++◌, length, None, Some, Ok, Err}
 use Rattle.deb_base.specs.Codes.{number_of}
 use Rattle.deb_base.specs.declared.code.Code.TheVariants.{NoParagraph}
 use Rattle.deb_base.specs.declared.refusal.Refusal.{Refusal}
 use Rattle.deb_syntax.specs.Lines.{lines_of}
+use Rattle.deb_syntax.specs.Meaning.{Entries}
 use Rattle.deb_field.specs.declared.kind.Doc.{Doc}
 use Rattle.deb_field.specs.declared.kind.Doc.TheVariants.{Any}
+use Rattle.deb_field.specs.Values.{value_text}
 use Rattle.deb_control.specs.Calls.{WritesCanonical}
-use Rattle.deb_control.specs.Documents.{Meaning, canonical_text, Accepted, refusal_of, out_of}
-use Rattle.deb_control.specs.Refusals.{line_behind}
+use Rattle.deb_control.specs.Canonical.{file_text}
+use Rattle.deb_control.specs.Checking.{Follow}
+use Rattle.deb_control.specs.Documents.{rules_of, Meaning, canonical_text, Accepted, refusal_of, out_of}
+use Rattle.deb_control.specs.Refusals.{line_behind, next_checked}
+use Rattle.deb_control.specs.ValueFiles.{bodies_of}
 
 -- A file has no refusal exactly where it is accepted with some meaning.
 abbrev pub RefusedOrAccepted : Type 0
@@ -85,3 +90,24 @@ abbrev pub RefusalsOfAnyAreOfText : Type 0
 RefusalsOfAnyAreOfText =
     (text : List ℕ) (refusal : Refusal) → refusal_of Any text ≡ Some refusal
     → number_of refusal.code ≤ 9
+
+-- What is refused behind paragraphs of a file, each of which is the answer behind those before it,
+-- is the refusal of the file, and they are all that is written of it.
+abbrev pub RefusalBehindIsOfTheFile : Type 0
+RefusalBehindIsOfTheFile =
+    (doc : Doc) (text : List ℕ) (before : List Entries) (refusal : Refusal)
+    → Follow (rules_of doc) text [] before
+    → next_checked (rules_of doc) text before ≡ Err refusal →
+    (refusal_of doc text ≡ Some refusal) × (out_of doc text ≡ file_text before)
+
+-- The file is accepted, and these are the canonical bodies of its paragraphs.
+pub record IsAllOf (doc : Doc) (text : List ℕ) (before : List Entries) : Type 0 where
+  pub meaning : Meaning
+  pub accepted : Accepted doc text meaning
+  pub bodies : bodies_of value_text meaning ≡ before
+
+-- Where none follows behind them, the file is accepted with exactly these.
+abbrev pub EndBehindIsOfTheFile : Type 0
+EndBehindIsOfTheFile =
+    (doc : Doc) (text : List ℕ) (before : List Entries) → Follow (rules_of doc) text [] before
+    → next_checked (rules_of doc) text before ≡ Ok None → IsAllOf doc text before

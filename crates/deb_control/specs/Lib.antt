@@ -13,6 +13,7 @@ pub mod Calls
 pub mod Sides
 pub mod Comparing
 pub mod Tallies
+pub mod Lengths
 pub mod Finding
 pub mod PassingValues
 pub mod CheckedStates

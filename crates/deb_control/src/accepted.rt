@@ -24,13 +24,14 @@ pub struct Accepted<'a> {
 impl<'a> Accepted<'a> {
     ghost use Rattle.std.specs.Prelude.{Some, None, IfOk, IfSome, option_map, length};
     ghost use Rattle.std.specs.FinMap.{find as value_under};
+    ghost use Rattle.std.specs.List.Sorted.{IsPermutation};
     ghost use Rattle.deb_base.specs.Names.{canonical_name};
     ghost use Rattle.deb_syntax.specs.Meaning.{byte_order};
     ghost use Rattle.deb_syntax.specs.Raw.{field_of, field_named, fields_left};
     ghost use Rattle.deb_field.specs.ValueMeanings.{value_meaning};
     ghost use Rattle.deb_control.specs.CheckedStates.{doc_of, passing_of};
     ghost use Rattle.deb_control.specs.Paragraphs.{AreValuesOf};
-    ghost use Rattle.deb_control.specs.ParagraphValues.{values_of};
+    ghost use Rattle.deb_control.specs.ParagraphValues.{fields_shown, values_of};
     ghost use Rattle.deb_control.specs.PassingValues.{HasValue};
 
     pub(crate) fn new(doc: Doc, raw: Raw<'a>, canonical: &'a [u8]) -> Accepted<'a>
@@ -103,8 +104,10 @@ impl<'a> Accepted<'a> {
     ///
     /// Want of memory alone.
     pub fn paragraph(&self, alloc: Global) -> Result<Paragraph<'a>, AllocError>
-        ensures { IfOk result
+        ensures values { IfOk result
             (λ typed. AreValuesOf (doc_of self.now) (passing_of self.now).seen (values_of typed)) }
+        ensures fields { IfOk result
+            (λ typed. IsPermutation (passing_of self.now).seen.fields (fields_shown typed)) }
     {
         match Paragraph::build(alloc, self.doc, &self.raw) {
             Ok(paragraph) => Ok(paragraph),

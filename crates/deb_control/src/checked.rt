@@ -1,8 +1,9 @@
 //! Paragraphs of a document, checked one after another.
 
-ghost use Rattle.std.specs.Prelude.{◌≡◌, ◌+◌, ◌≤◌, ℕ, List, [], Some, None, IfOk, IfSome, IsTrue};
+ghost use Rattle.std.specs.Prelude.{◌≡◌, ◌+◌, ◌≤◌, ◌&&◌, ℕ, List, [], Some, None, IfOk, IfSome, IsTrue};
 ghost use Rattle.deb_syntax.specs.Paragraphs.{state_of};
 ghost use Rattle.deb_control.specs.Checking.{passes_if, is_sound, found_answer};
+ghost use Rattle.deb_control.specs.Finding.{PassesOver, SaysOf};
 
 use crate::accepted::Accepted;
 use crate::find::find;
@@ -103,20 +104,49 @@ impl Checked {
         ensures gives { IfOk result (λ gives. self.new.gives ≡ gives) }
         ensures doc { self.new.doc ≡ self.old.doc }
     {
+        self.go_on(true, reader)
+    }
+
+    /// Goes on behind the next paragraph, and says whether there is one: what `next` answers, for a
+    /// caller that counts. No canonical text is built, and the last answer is no paragraph then.
+    ///
+    /// # Errors
+    ///
+    /// Those of `next`.
+    pub(crate) fn pass_over<R: Source>(&mut self, reader: &mut R) -> Result<bool, Fault>
+        ensures checks { PassesOver self.old.doc
+            (checked_moment self.old (R.left reader.old) (R.failures reader.old)) result
+            (checked_moment self.new (R.left reader.new) (R.failures reader.new)) }
+        ensures doc { self.new.doc ≡ self.old.doc }
+    {
+        self.go_on(false, reader)
+    }
+
+    /// Goes on behind the next paragraph, whose canonical text is kept or not.
+    fn go_on<R: Source>(&mut self, keeps_text: bool, reader: &mut R) -> Result<bool, Fault>
+        ensures checks { SaysOf
+            (λ answer. ChecksOn self.old.doc
+            (checked_moment self.old (R.left reader.old) (R.failures reader.old)) answer
+            (checked_moment self.new (R.left reader.new) (R.failures reader.new)))
+            keeps_text (state_of self.new.paragraphs).current self.new.canonical.items result }
+        ensures gives { IfOk result (λ gives. self.new.gives ≡ (keeps_text && gives)) }
+        ensures doc { self.new.doc ≡ self.old.doc }
+    {
         if let Some(fault) = self.fault {
             return Err(fault);
         }
         match find(
             self.alloc,
             self.doc,
+            keeps_text,
             &mut self.paragraphs,
             &mut self.given,
             &mut self.canonical,
             reader,
         ) {
-            Ok(gives) => {
-                self.gives = gives;
-                Ok(gives)
+            Ok(found) => {
+                self.gives = keeps_text && found;
+                Ok(found)
             }
             Err(fault) => {
                 self.gives = false;

@@ -61,9 +61,9 @@ pub(crate) fn count_rest<R: Source>(checked: &mut Checked, reader: &mut R) -> Re
     ensures reads { R.failures reader.new ≡ read_failures_after (R.failures reader.old) result }
 {
     for count in 0..u64::MAX {
-        let Some(_) = checked.next(reader)? else {
+        if !checked.pass_over(reader)? {
             return Ok(count);
-        };
+        }
     }
     // No file has so many paragraphs.
     unreachable!()

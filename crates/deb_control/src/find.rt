@@ -1,38 +1,43 @@
 //! The next paragraph of a document, checked.
 
-ghost use Rattle.std.specs.Prelude.{◌≡◌, ◌<◌, ◌≤◌, ℕ, List, [], None, Some, Ok, Err, false, true, length, IfOk, IfErr, IsTrue, OnOk};
+ghost use Rattle.std.specs.Prelude.{◌≡◌, ◌<◌, ◌≤◌, ◌&&◌, ℕ, List, [], None, Some, Ok, Err, false, true, length, IfOk, IfErr, IsTrue, OnOk};
 ghost use Rattle.deb_base.specs.Faults.{RefusedOrMemory};
 ghost use Rattle.deb_syntax.specs.Paragraphs.{state_of, seen_of};
 ghost use Rattle.deb_field.specs.Kinds.{is_single as is_one};
 ghost use Rattle.deb_control.specs.Checking.{passes_if, found_answer, is_passing, Checks};
 ghost use Rattle.deb_control.specs.Documents.{rules_of};
-ghost use Rattle.deb_control.specs.Finding.{moment_from, AddsPassing, RefusesSeen, end_answer};
+ghost use Rattle.deb_control.specs.Finding.{moment_from, AddsPassing, RefusesSeen, SaysOf, end_answer};
+ghost use Rattle.deb_control.specs.Lengths.{Measures};
+ghost use Rattle.deb_control.specs.Refusals.{built};
 
-use crate::paragraph::read_fields;
+use crate::measure::measure;
+use crate::paragraph::{read_fields, refused};
 use crate::tally::Tally;
-use deb_base::{Code, Fault, Refusal, Source};
+use deb_base::{Code, Fault, PARAGRAPH_LIMIT, Source};
 use deb_field::{Doc, is_single};
 use deb_syntax::{Paragraphs, Raw};
 use std::alloc::Global;
 
-/// Finds the next paragraph and checks it: where it passes, its canonical text stands in
-/// `canonical`.
+/// Finds the next paragraph and checks it: where it passes and text is kept, its canonical text
+/// stands in `canonical`.
 pub(crate) fn find<R: Source>(
     alloc: Global,
     doc: Doc,
+    keeps_text: bool,
     paragraphs: &mut Paragraphs,
     given: &mut Tally,
     canonical: &mut Vec<u8>,
     reader: &mut R,
 ) -> Result<bool, Fault>
     requires sound { (state_of paragraphs.old).fault ≡ None }
-    ensures checks { Checks doc
-        (moment_from paragraphs.old given.old (R.left reader.old) (R.failures reader.old))
-        (found_answer (state_of paragraphs.new).current canonical.new.items result)
-        (moment_from paragraphs.new given.new (R.left reader.new) (R.failures reader.new)) }
+    ensures checks { SaysOf
+        (λ answer. Checks doc
+        (moment_from paragraphs.old given.old (R.left reader.old) (R.failures reader.old)) answer
+        (moment_from paragraphs.new given.new (R.left reader.new) (R.failures reader.new)))
+        keeps_text (state_of paragraphs.new).current canonical.new.items result }
     ensures sound { IfOk result (λ _. (state_of paragraphs.new).fault ≡ None) }
     ensures passes { IfOk result
-        (λ gives. IsTrue (passes_if gives doc
+        (λ gives. IsTrue (passes_if (keeps_text && gives) doc
         (state_of paragraphs.new).current canonical.new.items)) }
 {
     if is_single(doc) && given.paragraphs > 0 {
@@ -41,7 +46,7 @@ pub(crate) fn find<R: Source>(
     paragraphs.advance(reader)?;
     match paragraphs.current() {
         None => end(doc, given, paragraphs.lines()),
-        Some(raw) => pass(alloc, doc, &raw, given, canonical),
+        Some(raw) => pass(alloc, doc, keeps_text, &raw, given, canonical),
     }
 }
 
@@ -64,7 +69,8 @@ fn none_follows<R: Source>(paragraphs: &mut Paragraphs, reader: &mut R) -> Resul
 /// Answers that no paragraph follows, or refuses a file that lacks the one that is asked.
 fn end(doc: Doc, given: &Tally, lines: u64) -> Result<bool, Fault>
     requires few { lines ≤ 4295032831 }
-    ensures { result ≡ end_answer doc given.now lines }
+    ensures answer { result ≡ end_answer doc given.now lines }
+    ensures none { IfOk result (λ gives. gives ≡ false) }
 {
     if is_single(doc) && given.paragraphs == 0 {
         return Err(refused(Code::NoParagraph, lines + 1));
@@ -76,27 +82,44 @@ fn end(doc: Doc, given: &Tally, lines: u64) -> Result<bool, Fault>
 fn pass(
     alloc: Global,
     doc: Doc,
+    keeps_text: bool,
     raw: &Raw<'_>,
     given: &mut Tally,
     canonical: &mut Vec<u8>,
 ) -> Result<bool, Fault>
     ensures ok { IfOk result
         (λ gives. (gives ≡ true)
-        × AddsPassing doc (seen_of raw.now) given.old canonical.new.items given.new) }
+        × AddsPassing doc (seen_of raw.now) given.old keeps_text canonical.new.items given.new) }
     ensures fault { IfErr result
         (λ fault. RefusedOrMemory fault (RefusesSeen doc (seen_of raw.now) given.old)) }
     ensures unchanged { IfErr result (λ fault. given.new ≡ given.old) }
 {
-    read_fields(alloc, doc, raw, canonical)?;
-    let Some(more) = given.with(canonical.len()) else {
+    let length = judge(alloc, doc, keeps_text, raw, canonical)?;
+    let Some(more) = given.with(length) else {
         return Err(refused(Code::FileTooLong, raw.first_line()));
     };
     *given = more;
     Ok(true)
 }
 
-fn refused(code: Code, line: u64) -> Fault
-    ensures { result ≡ Fault.Refused (record { code = code; line = line }) }
+/// The length of a paragraph's canonical text, which stands in `canonical` where text is kept. The
+/// errors are those of `Paragraph::build`.
+fn judge(
+    alloc: Global,
+    doc: Doc,
+    keeps_text: bool,
+    raw: &Raw<'_>,
+    canonical: &mut Vec<u8>,
+) -> Result<u64, Fault>
+    ensures ok { IfOk result (Measures doc (seen_of raw.now) keeps_text canonical.new.items) }
+    ensures short { IfOk result (λ n. n ≤ PARAGRAPH_LIMIT) }
+    ensures fault { IfErr result
+        (λ fault. RefusedOrMemory fault
+        (λ refusal. built (rules_of doc) (seen_of raw.now) ≡ Err refusal)) }
 {
-    Fault::Refused(Refusal { code, line })
+    if !keeps_text {
+        return measure(alloc, doc, raw);
+    }
+    read_fields(alloc, doc, raw, canonical)?;
+    Ok(canonical.len() as u64)
 }

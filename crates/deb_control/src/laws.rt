@@ -1,6 +1,6 @@
 //! Laws of documents. Each function does nothing, and its contract is the law.
 
-ghost use Rattle.deb_control.specs.Laws.{RefusedOrAccepted, AcceptedMeansOneThing, AcceptedIsWritten, CanonicalTextIsAccepted, CanonicalTextTellsMeanings, CanonicalTextIsItsOwn, WhatIsWrittenIsNormal, RefusalsAreOfTheFile, RefusalsOfAnyAreOfText};
+ghost use Rattle.deb_control.specs.Laws.{RefusedOrAccepted, AcceptedMeansOneThing, AcceptedIsWritten, CanonicalTextIsAccepted, CanonicalTextTellsMeanings, CanonicalTextIsItsOwn, WhatIsWrittenIsNormal, RefusalsAreOfTheFile, RefusalsOfAnyAreOfText, RefusalBehindIsOfTheFile, EndBehindIsOfTheFile};
 
 /// A file has no refusal exactly where it is accepted with some meaning.
 pub fn a_file_is_refused_or_accepted()
@@ -50,4 +50,16 @@ pub fn a_refusal_is_of_the_file()
 /// for its text alone.
 pub fn a_refusal_of_any_is_of_the_text()
     ensures { RefusalsOfAnyAreOfText }
+{}
+
+/// What `Checked::next` refuses behind the paragraphs that it has given is the refusal of the file,
+/// and they are all that is written of it.
+pub fn a_refusal_behind_paragraphs_is_of_the_file()
+    ensures { RefusalBehindIsOfTheFile }
+{}
+
+/// Where `Checked::next` answers that no paragraph follows those that it has given, the file is
+/// accepted with exactly these.
+pub fn an_end_behind_paragraphs_is_of_the_file()
+    ensures { EndBehindIsOfTheFile }
 {}

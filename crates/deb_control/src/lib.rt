@@ -19,6 +19,7 @@ mod comparing;
 mod field;
 mod find;
 pub mod laws;
+mod measure;
 mod name;
 mod normalising;
 mod paragraph;

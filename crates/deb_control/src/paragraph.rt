@@ -4,6 +4,7 @@ ghost use Rattle.std.specs.Prelude.{◌≡◌, ◌++◌, ◌≤◌, Some, None, 
 ghost use Rattle.std.specs.Option.{option_map};
 ghost use Rattle.std.specs.FinMap.{find as value_under};
 ghost use Rattle.std.specs.List.{AllByRecursion};
+ghost use Rattle.std.specs.List.Sorted.{IsPermutation};
 ghost use Rattle.deb_base.specs.Bodies.{IsBody};
 ghost use Rattle.deb_base.specs.Faults.{RefusedOrMemory};
 ghost use Rattle.deb_base.specs.Names.{canonical_name};
@@ -37,7 +38,7 @@ pub struct Paragraph<'a> {
 }
 
 impl<'a> Paragraph<'a> {
-    ghost use Rattle.deb_control.specs.ParagraphValues.{values_of};
+    ghost use Rattle.deb_control.specs.ParagraphValues.{fields_shown, values_of};
 
     /// Reads the values of a paragraph's fields.
     ///
@@ -50,6 +51,8 @@ impl<'a> Paragraph<'a> {
     pub fn build(alloc: Global, doc: Doc, paragraph: &Raw<'a>) -> Result<Paragraph<'a>, Fault>
         ensures ok { IfOk result
             (λ typed. AreValuesOf doc (seen_of paragraph.now) (values_of typed)) }
+        ensures fields { IfOk result
+            (λ typed. IsPermutation (fields_of paragraph.now) (fields_shown typed)) }
         ensures fault { IfErr result
             (λ fault. RefusedOrMemory fault
             (λ refusal. built (rules_of doc) (seen_of paragraph.now) ≡ Err refusal)) }
@@ -59,9 +62,11 @@ impl<'a> Paragraph<'a> {
         Ok(Paragraph { fields, text })
     }
 
-    /// The fields with their values, in ascending order of the canonical spellings of their names.
+    /// The fields with their values, in ascending order of the canonical spellings of their names:
+    /// those of the paragraph, each with its line, its name as it is spelled, and its body.
     pub fn fields(&self) -> &[TypedField<'a>]
-        ensures { values_in result.now ≡ values_of self.now }
+        ensures values { values_in result.now ≡ values_of self.now }
+        ensures raw { map field_in result.now ≡ fields_shown self.now }
     {
         self.fields.as_slice()
     }
@@ -113,6 +118,8 @@ pub(crate) fn read_fields<'a>(
 ) -> Result<Vec<TypedField<'a>>, Fault>
     ensures ok { IfOk result
         (λ fields. AreValuesOf doc (seen_of paragraph.now) (values_in fields.items)) }
+    ensures fields { IfOk result
+        (λ fields. IsPermutation (fields_of paragraph.now) (map field_in fields.items)) }
     ensures text { IfOk result
         (λ fields. text.new.items ≡ text_of_values (values_in fields.items)) }
     ensures short { IfOk result (λ fields. length text.new.items ≤ PARAGRAPH_LIMIT) }
@@ -122,19 +129,13 @@ pub(crate) fn read_fields<'a>(
 {
     let mut fields = fields_with_values(alloc, doc, paragraph)?;
     if !has_required(doc, paragraph) {
-        return Err(Fault::Refused(Refusal {
-            code: Code::MissingField,
-            line: paragraph.first_line(),
-        }));
+        return Err(refused(Code::MissingField, paragraph.first_line()));
     }
     sort(&mut fields);
     text.clear();
     append_fields(fields.as_slice(), text)?;
     if text.len() > PARAGRAPH_LIMIT {
-        return Err(Fault::Refused(Refusal {
-            code: Code::ParagraphTooLong,
-            line: paragraph.first_line(),
-        }));
+        return Err(refused(Code::ParagraphTooLong, paragraph.first_line()));
     }
     Ok(fields)
 }
@@ -181,16 +182,13 @@ pub(crate) fn value_of<'a>(
 {
     match Value::parse(alloc, doc, field.name, field.body) {
         Ok(value) => Ok(value),
-        Err(ValueFault::Refused(code)) => Err(Fault::Refused(Refusal {
-            code,
-            line: field.line,
-        })),
+        Err(ValueFault::Refused(code)) => Err(refused(code, field.line)),
         Err(ValueFault::Memory) => Err(Fault::Memory),
     }
 }
 
 /// Whether the paragraph has each field that a document of this kind asks for.
-fn has_required(doc: Doc, paragraph: &Raw<'_>) -> bool
+pub(crate) fn has_required(doc: Doc, paragraph: &Raw<'_>) -> bool
     ensures { result ≡ have_names (fields_of paragraph.now) (required doc) }
 {
     has_fields(paragraph, required(doc))
@@ -207,4 +205,10 @@ fn has_field(paragraph: &Raw<'_>, name: &[u8]) -> bool
     ensures { result ≡ has_name name.now (fields_of paragraph.now) }
 {
     paragraph.get(name).is_some()
+}
+
+pub(crate) fn refused(code: Code, line: u64) -> Fault
+    ensures { result ≡ Fault.Refused (record { code = code; line = line }) }
+{
+    Fault::Refused(Refusal { code, line })
 }

@@ -30,7 +30,7 @@ impl Tally {
 
     /// With a further paragraph, whose canonical text has this length; or `None` where the file's
     /// has too many bytes then.
-    pub(crate) fn with(self, length: usize) -> Option<Tally>
+    pub(crate) fn with(self, length: u64) -> Option<Tally>
         requires { length ≤ PARAGRAPH_LIMIT }
         ensures some { IfSome result
             (λ given. (given.paragraphs ≡ self.paragraphs + 1)
@@ -38,7 +38,7 @@ impl Tally {
         ensures none { IfNone result (FILE_LIMIT < bytes_with self.paragraphs self.bytes length) }
     {
         let separator = u64::from(self.paragraphs > 0);
-        let bytes = self.bytes + separator + length as u64;
+        let bytes = self.bytes + separator + length;
         if bytes > FILE_LIMIT {
             return None;
         }

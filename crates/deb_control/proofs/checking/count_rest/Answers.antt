@@ -14,57 +14,55 @@ loop-count-init g c = record {
   text = λ text before fits. record { checked = record { before = before; fits = fits }; count = omega arith };
 }
 
-pub returns-in_err-next-clause-refused : goal.returns-in_err-next-clause-refused
-returns-in_err-next-clause-refused g c = λ text before fits.
+pub returns-in_err-pass_over-clause-refused : goal.returns-in_err-pass_over-clause-refused
+returns-in_err-pass_over-clause-refused g c = λ text before fits.
     let p = err_from_is_err_and c.from_residual.result c.from_residual.ensures.1 in
-    let passes = rw (c.in_err-next.was, c.loop-count.invariant.doc) at c.next.follows.holds-at-none in
+    let passes = rw c.loop-count.invariant.doc at c.in_err-pass_over.ensures.checks.checks in
     let so_far = (c.loop-count.invariant.text text before fits).checked in
-    let checks = goes_on _ _ _ _ c.loop-count.invariant.fault passes.0 in
-    rw (p.1, p.2) (refusal_behind ℕ _ text _ _ _ _ c.in_err-next.field-0.0 so_far (checks.answers text so_far.before so_far.fits))
+    let checks = goes_on _ _ _ _ c.loop-count.invariant.fault passes in
+    rw (p.1, p.2) (refusal_behind ℕ _ text _ _ _ _ c.in_err-pass_over.field-0.0 so_far (checks.answers text so_far.before so_far.fits))
 
-pub returns-in_err-next-clause-fault : goal.returns-in_err-next-clause-fault
-returns-in_err-next-clause-fault g c =
+pub returns-in_err-pass_over-clause-fault : goal.returns-in_err-pass_over-clause-fault
+returns-in_err-pass_over-clause-fault g c =
     let p = err_from_is_err_and c.from_residual.result c.from_residual.ensures.1 in
-    let passes = rw (c.in_err-next.was, c.loop-count.invariant.doc) at c.next.follows.holds-at-none in
-    rw (p.1, p.2) (goes_on _ _ _ _ c.loop-count.invariant.fault passes.0).fault
+    rw (p.1, p.2) (goes_on _ _ _ _ c.loop-count.invariant.fault c.in_err-pass_over.ensures.checks.checks).fault
 
-pub returns-in_err-next-clause-reads : goal.returns-in_err-next-clause-reads
-returns-in_err-next-clause-reads g c =
+pub returns-in_err-pass_over-clause-reads : goal.returns-in_err-pass_over-clause-reads
+returns-in_err-pass_over-clause-reads g c =
     let p = err_from_is_err_and c.from_residual.result c.from_residual.ensures.1 in
-    let passes = rw (c.in_err-next.was, c.loop-count.invariant.doc) at c.next.follows.holds-at-none in
-    rw (p.1, p.2) (counted_on ℕ _ _ c.in_err-next.field-0.0 _ _ (goes_on _ _ _ _ c.loop-count.invariant.fault passes.0) c.loop-count.invariant.reads)
+    rw (p.1, p.2) (counted_on ℕ _ _ c.in_err-pass_over.field-0.0 _ _ (goes_on _ _ _ _ c.loop-count.invariant.fault c.in_err-pass_over.ensures.checks.checks) c.loop-count.invariant.reads)
 
-pub returns-in_default-clause-ok : goal.returns-in_default-clause-ok
-returns-in_default-clause-ok g c = λ text before fits.
-    let passes = rw (c.in_ok-next.was, c.in_default.is, c.loop-count.invariant.doc) at c.next.follows.holds-at-none in
+pub returns-in_err-pass_over-clause-taken : goal.returns-in_err-pass_over-clause-taken
+returns-in_err-pass_over-clause-taken g c = λ text before fits.
+    let passes = rw c.loop-count.invariant.doc at c.in_err-pass_over.ensures.checks.checks in
+    let so_far = (c.loop-count.invariant.text text before fits).checked in
+    (goes_on _ _ _ _ c.loop-count.invariant.fault passes).taken text so_far.before so_far.fits
+
+pub returns-then-not-branch-clause-ok : goal.returns-then-not-branch-clause-ok
+returns-then-not-branch-clause-ok g c = λ text before fits.
+    let passes = rw (c.if-not-branch.true, c.loop-count.invariant.doc) at c.in_ok-pass_over.ensures.checks.checks in
     let so_far = c.loop-count.invariant.text text before fits in
-    let checks = goes_on _ _ _ _ c.loop-count.invariant.fault passes.0 in
+    let checks = goes_on _ _ _ _ c.loop-count.invariant.fault passes in
     all_checked _ text _ _ _ _ _ so_far.checked (so_far.checked.fits.counted ∙ so_far.count) (checks.answers text so_far.checked.before so_far.checked.fits)
 
-pub returns-in_default-clause-reads : goal.returns-in_default-clause-reads
-returns-in_default-clause-reads g c =
-    let passes = rw (c.in_ok-next.was, c.in_default.is, c.loop-count.invariant.doc) at c.next.follows.holds-at-none in
-    (goes_on _ _ _ _ c.loop-count.invariant.fault passes.0).counted ∙ c.loop-count.invariant.reads
+pub returns-then-not-branch-clause-reads : goal.returns-then-not-branch-clause-reads
+returns-then-not-branch-clause-reads g c =
+    let passes = rw c.if-not-branch.true at c.in_ok-pass_over.ensures.checks.checks in
+    (goes_on _ _ _ _ c.loop-count.invariant.fault passes).counted ∙ c.loop-count.invariant.reads
 
-pub returns-in_err-next-clause-taken : goal.returns-in_err-next-clause-taken
-returns-in_err-next-clause-taken g c = λ text before fits.
-    let passes = rw (c.in_err-next.was, c.loop-count.invariant.doc) at c.next.follows.holds-at-none in
+pub returns-then-not-branch-clause-taken : goal.returns-then-not-branch-clause-taken
+returns-then-not-branch-clause-taken g c = λ text before fits.
+    let passes = rw (c.if-not-branch.true, c.loop-count.invariant.doc) at c.in_ok-pass_over.ensures.checks.checks in
     let so_far = (c.loop-count.invariant.text text before fits).checked in
-    (goes_on _ _ _ _ c.loop-count.invariant.fault passes.0).taken text so_far.before so_far.fits
-
-pub returns-in_default-clause-taken : goal.returns-in_default-clause-taken
-returns-in_default-clause-taken g c = λ text before fits.
-    let passes = rw (c.in_ok-next.was, c.in_default.is, c.loop-count.invariant.doc) at c.next.follows.holds-at-none in
-    let so_far = (c.loop-count.invariant.text text before fits).checked in
-    (goes_on _ _ _ _ c.loop-count.invariant.fault passes.0).taken text so_far.before so_far.fits
+    (goes_on _ _ _ _ c.loop-count.invariant.fault passes).taken text so_far.before so_far.fits
 
 pub loop-count-preserved : goal.loop-count-preserved
 loop-count-preserved g c =
-    let passes = rw (c.in_ok-next.was, c.in-Some.is, c.loop-count.invariant.doc) at c.next.follows.holds-at-none in
-    let checks = goes_on _ _ _ _ c.loop-count.invariant.fault passes.0 in
+    let passes = rw (c.if-not-branch.false, c.loop-count.invariant.doc) at c.in_ok-pass_over.ensures.checks.checks in
+    let checks = goes_on _ _ _ _ c.loop-count.invariant.fault passes in
     record {
-      doc = passes.1;
-      fault = sound_on _ _ _ _ c.loop-count.invariant.fault passes.0;
+      doc = c.in_ok-pass_over.ensures.doc ∙ c.loop-count.invariant.doc;
+      fault = sound_on _ _ _ _ c.loop-count.invariant.fault passes;
       reads = checks.counted ∙ c.loop-count.invariant.reads;
       count = omega (arith, checks.count, c.loop-count.invariant.count);
       text = λ text before fits.

@@ -5,7 +5,7 @@ use Rattle.deb_field.specs.Values.{value_refusal}
 use Rattle.deb_base.specs.Names.{canonical_name}
 use Rattle.deb_control.specs.Documents.{rules_of}
 use Rattle.deb_control.specs.Refusals.{value_refusal_of}
-use Rattle.deb_control.proofs.FieldsRead.{HasRead-next, HasRead-refused, RefusedOrMemory-to, none_is_past}
+use Rattle.deb_control.proofs.FieldsRead.{HasRead-next, refused-here, RefusedOrMemory-to, none_is_past}
 use Rattle.deb_control.proofs.paragraph.fields_with_values.Goals as goal
 use Rattle.deb_control.proofs.paragraph.fields_with_values.Goals.{in-Some+in_ok-value+in_ok-push, in_default}
 
@@ -16,7 +16,7 @@ returns-in_err-value-clause-fault c =
     let fields = fields_of c.args.paragraph.now in
     rw (p.1, p.2)
     (RefusedOrMemory-to (λ refusal. (refusal.line ≡ raw.line) × (value_refusal c.args.doc (canonical_name raw.name.now) raw.body.now ≡ Some refusal.code)) (λ refusal. value_refusal_of (rules_of c.args.doc) fields ≡ Some refusal)
-    (λ refusal refused. HasRead-refused c.args.doc fields c.loop-index.fields.items c.loop-index.index raw refusal c.in-Some.ensures.field c.loop-index.invariant refused)
+    (λ refusal refused. refused-here c.args.doc fields c.loop-index.index raw refusal c.in-Some.ensures.field c.loop-index.invariant.refusal refused)
     c.in_err-value.field-0.0 c.in_err-value.ensures.fault)
 
 pub loop-index-preserved : goal.loop-index-preserved

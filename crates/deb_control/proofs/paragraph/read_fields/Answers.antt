@@ -1,9 +1,10 @@
-use Rattle.std.proofs.Common.{◌≡◌, ◌∙◌, ◌++◌, length, true, sym, ap, subst, Err, arith}
+use Rattle.std.proofs.Common.{IsPermutation, map, ◌≡◌, ◌∙◌, ◌++◌, length, true, sym, ap, subst, Err, arith}
+use Rattle.std.proofs.lemmas.List.Sorted.{IsPermutation-map}
 use Rattle.deb_base.specs.declared.code.Code.TheVariants.{ParagraphTooLong}
 use Rattle.deb_syntax.specs.Paragraphs.{seen_of}
 use Rattle.deb_syntax.specs.Raw.{fields_of}
 use Rattle.deb_field.specs.Kinds.{required}
-use Rattle.deb_control.specs.Paragraphs.{values_in, text_of_values}
+use Rattle.deb_control.specs.Paragraphs.{field_in, values_in, text_of_values}
 use Rattle.deb_control.specs.Refusals.{have_names}
 use Rattle.deb_control.proofs.Building.{AreRead, AreRead-sorted, built-too_long, AreValuesOf-read}
 use Rattle.deb_control.proofs.paragraph.read_fields.Goals as goal
@@ -15,8 +16,9 @@ returns-then-len-gt-PARAGRAPH_LIMIT-clause-fault c =
     let named : true ≡ have_names (fields_of raw) (required c.args.doc) = sym c.if-not-has_required.false ∙ c.has_required.ensures in
     let written = c.in_ok-append_fields.ensures ∙ ap (λ m. m ++ text_of_values (values_in c.as_slice.result.now)) c.clear.ensures.items in
     let text : length c.append_fields.new.text.items ≡ length (text_of_values (values_in c.sort.new.fields.items)) = ap length (subst (λ fields. c.append_fields.new.text.items ≡ text_of_values (values_in fields)) c.as_slice.ensures.value written) in
-    built-too_long c.args.doc (seen_of raw) c.in_ok-fields.ensures.good c.sort.new.fields.items read named (omega (arith, text, c.len.ensures, c.append_fields.new.text.ok.0, c.if-len-gt-PARAGRAPH_LIMIT.true))
-    ∙ ap (λ line. Err (record { code = ParagraphTooLong; line = line })) (sym c.first_line-then-len-gt-PARAGRAPH_LIMIT.ensures.value)
+    rw c.refused-then-len-gt-PARAGRAPH_LIMIT.ensures
+    (built-too_long c.args.doc (seen_of raw) c.in_ok-fields.ensures.good c.sort.new.fields.items read named (omega (arith, text, c.len.ensures, c.append_fields.new.text.ok.0, c.if-len-gt-PARAGRAPH_LIMIT.true))
+    ∙ ap (λ line. Err (record { code = ParagraphTooLong; line = line })) (sym c.first_line-then-len-gt-PARAGRAPH_LIMIT.ensures.value))
 
 pub returns-clause-ok : goal.returns-clause-ok
 returns-clause-ok c =
@@ -26,3 +28,8 @@ returns-clause-ok c =
     let written = c.in_ok-append_fields.ensures ∙ ap (λ m. m ++ text_of_values (values_in c.as_slice.result.now)) c.clear.ensures.items in
     let text : length c.append_fields.new.text.items ≡ length (text_of_values (values_in c.sort.new.fields.items)) = ap length (subst (λ fields. c.append_fields.new.text.items ≡ text_of_values (values_in fields)) c.as_slice.ensures.value written) in
     AreValuesOf-read c.args.doc (seen_of raw) c.in_ok-fields.ensures.good c.sort.new.fields.items read named (omega (arith, text, c.len.ensures, c.append_fields.new.text.ok.0, c.if-len-gt-PARAGRAPH_LIMIT.false))
+
+pub returns-clause-fields : goal.returns-clause-fields
+returns-clause-fields c =
+    subst (λ fields. IsPermutation fields (map field_in c.sort.new.fields.items)) c.in_ok-fields.ensures.fields
+    (IsPermutation-map field_in c.in_ok-fields.fields.items c.sort.new.fields.items c.sort.ensures.permutation)

@@ -10,4 +10,4 @@ returns-in-Ok-clause-ok c =
 
 pub returns-in-Err-Refused-clause-fault : goal.returns-in-Err-Refused-clause-fault
 returns-in-Err-Refused-clause-fault c =
-    (refl, ap (λ kind. kind_refusal kind c.args.field.now.body.now) (kind_of_canonical_name c.args.doc c.args.field.now.name.now) ∙ (rw c.in-Err-Refused.field-0-is at c.in-Err-Refused.ensures.refused))
+    rw c.refused.ensures (refl, ap (λ kind. kind_refusal kind c.args.field.now.body.now) (kind_of_canonical_name c.args.doc c.args.field.now.name.now) ∙ (rw c.in-Err-Refused.field-0-is at c.in-Err-Refused.ensures.refused))

@@ -1,0 +1,110 @@
+-- The length of a paragraph's canonical text is the sum of those of its fields, whatever their order.
+use Rattle.std.proofs.Common.{◌≡◌, ℕ, ◌+◌, ◌||◌, ◌==◌, min, Bool, true, false, List, [], ◌∷◌, ◌++◌, length, map, Ordering, Less, Equal, Greater, refl, sym, ap, ◌∙◌, arith, length-append}
+use Rattle.std.proofs.lemmas.Bool.{or_parts, both_ways}
+use Rattle.std.proofs.lemmas.List.Sums.{sum_by-cons}
+use Rattle.std.proofs.lemmas.Slice.Eq.{bytes_eq-Decides}
+use Rattle.std.specs.BTreeMap.{insert_entry}
+use Rattle.std.specs.List.{AllByRecursion, sum_by}
+use Rattle.std.specs.Ordering.{match_ordering}
+use Rattle.std.specs.Str.{bytes_eq}
+use Rattle.deb_base.specs.Bodies.{newline}
+use Rattle.deb_base.specs.Names.{folded, capitalised, canonical_name}
+use Rattle.deb_base.proofs.CanonicalNames.{folded-from_canonical_name}
+use Rattle.deb_syntax.specs.Fields.{Field, has_name, AreDistinct}
+use Rattle.deb_syntax.specs.Meaning.{byte_order, Entries, entries_after}
+use Rattle.deb_control.specs.Canonical.{behind_colon, field_text, paragraph_text}
+use Rattle.deb_control.specs.Lengths.{field_length, fields_length}
+use Rattle.deb_control.specs.Refusals.{canonical_field, canonical_entries}
+use Rattle.deb_control.specs.Rules.{Rules}
+use Rattle.deb_control.proofs.FieldValues.{same_from_equal}
+use Rattle.deb_control.proofs.SortedFields.{entry_of}
+
+-- nothing stands under the name
+abbrev Lacks : Entries → List ℕ → Type 0
+Lacks entries name = AllByRecursion (λ entry. name ≡ entry.0 → ⊥) entries
+
+length-insert : (name body : List ℕ) (entries : Entries) → Lacks entries name → length (paragraph_text (insert_entry byte_order entries name body)) ≡ length (paragraph_text entries) + length (field_text (name, body))
+length-insert name body [] lacks = omega (arith, length-append (field_text (name, body)) [])
+length-insert name body (entry ∷ entries) lacks = go (byte_order name entry.0) refl (length-insert name body entries lacks.1)
+  where
+    go : (o : Ordering) → byte_order name entry.0 ≡ o → length (paragraph_text (insert_entry byte_order entries name body)) ≡ length (paragraph_text entries) + length (field_text (name, body)) → length (paragraph_text (match_ordering o ((name, body) ∷ entry ∷ entries) ((entry.0, body) ∷ entries) (entry ∷ insert_entry byte_order entries name body))) ≡ length (paragraph_text (entry ∷ entries)) + length (field_text (name, body))
+    go Less e rest = omega (arith, length-append (field_text (name, body)) (paragraph_text (entry ∷ entries)))
+    go Equal e rest = absurd (lacks.0 (same_from_equal name entry.0 e))
+    go Greater e rest = omega (arith, rest, length-append (field_text entry) (paragraph_text (insert_entry byte_order entries name body)), length-append (field_text entry) (paragraph_text entries))
+
+lacks-insert : (other name body : List ℕ) (entries : Entries) → (other ≡ name → ⊥) → Lacks entries other → Lacks (insert_entry byte_order entries name body) other
+lacks-insert other name body [] apart lacks = (apart, tt)
+lacks-insert other name body (entry ∷ entries) apart lacks = go (byte_order name entry.0) (lacks-insert other name body entries apart lacks.1)
+  where
+    go : (o : Ordering) → Lacks (insert_entry byte_order entries name body) other → Lacks (match_ordering o ((name, body) ∷ entry ∷ entries) ((entry.0, body) ∷ entries) (entry ∷ insert_entry byte_order entries name body)) other
+    go Less rest = (apart, lacks)
+    go Equal rest = lacks
+    go Greater rest = (lacks.0, rest)
+
+-- and under none of the fields' names
+abbrev LacksEach : Entries → List Field → Type 0
+LacksEach entries fields = AllByRecursion (λ field. Lacks entries (canonical_name field.name)) fields
+
+lacks-nil : (fields : List Field) → LacksEach [] fields
+lacks-nil [] = tt
+lacks-nil (field ∷ fields) = (tt, lacks-nil fields)
+
+names_apart : (name other : List ℕ) → bytes_eq (folded other) (folded name) ≡ false → canonical_name other ≡ canonical_name name → ⊥
+names_apart name other apart same = both_ways (bytes_eq (folded other) (folded name)) apart ((bytes_eq-Decides (folded other) (folded name)).1 (folded-from_canonical_name other name same))
+
+lacks-each : (field : Field) (entries : Entries) (fields : List Field) → has_name field.name fields ≡ false → LacksEach entries fields → LacksEach (insert_entry byte_order entries (canonical_name field.name) field.body) fields
+lacks-each field entries [] none lacks = tt
+lacks-each field entries (f ∷ fields) none lacks =
+    let p = or_parts (bytes_eq (folded f.name) (folded field.name)) (has_name field.name fields) none in
+    (lacks-insert (canonical_name f.name) (canonical_name field.name) field.body entries (names_apart field.name f.name p.0) lacks.0, lacks-each field entries fields p.1 lacks.1)
+
+-- how long a field is with its body as it stands
+abbrev own_length : Field → ℕ
+own_length field = length (field_text (entry_of field))
+
+length-after : (entries : Entries) (fields : List Field) → LacksEach entries fields → AreDistinct fields → length (paragraph_text (entries_after entries fields)) ≡ length (paragraph_text entries) + sum_by own_length fields
+length-after entries [] lacks distinct = omega arith
+length-after entries (field ∷ fields) lacks distinct =
+    let name = canonical_name field.name in
+    let more = insert_entry byte_order entries name field.body in
+    omega (arith, length-after more fields (lacks-each field entries fields distinct.0 lacks.1) distinct.1, length-insert name field.body entries lacks.0, sum_by-cons own_length field fields)
+
+-- canonical bodies leave names as they are
+has_name-canonical : (rules : Rules) (name : List ℕ) (fields : List Field) → has_name name (map (canonical_field rules) fields) ≡ has_name name fields
+has_name-canonical rules name [] = refl
+has_name-canonical rules name (field ∷ fields) = ap (λ t. bytes_eq (folded field.name) (folded name) || t) (has_name-canonical rules name fields)
+
+distinct-canonical : (rules : Rules) (fields : List Field) → AreDistinct fields → AreDistinct (map (canonical_field rules) fields)
+distinct-canonical rules [] distinct = tt
+distinct-canonical rules (field ∷ fields) distinct = (has_name-canonical rules field.name fields ∙ distinct.0, distinct-canonical rules fields distinct.1)
+
+sum-canonical : (rules : Rules) (fields : List Field) → sum_by own_length (map (canonical_field rules) fields) ≡ fields_length rules fields
+sum-canonical rules [] = refl
+sum-canonical rules (field ∷ fields) =
+    sum_by-cons own_length (canonical_field rules field) (map (canonical_field rules) fields)
+    ∙ ap (λ n. field_length rules field + n) (sum-canonical rules fields)
+    ∙ sym (sum_by-cons (field_length rules) field fields)
+
+pub length-canonical : (rules : Rules) (fields : List Field) → AreDistinct fields → length (paragraph_text (canonical_entries rules fields)) ≡ fields_length rules fields
+length-canonical rules fields distinct =
+    let each = map (canonical_field rules) fields in
+    omega (arith, length-after [] each (lacks-nil each) (distinct-canonical rules fields distinct), sum-canonical rules fields)
+
+length-capitalised : (begins : Bool) (name : List ℕ) → length (capitalised begins name) ≡ length name
+length-capitalised begins [] = refl
+length-capitalised begins (b ∷ bs) = omega (arith, length-capitalised (b == 45) bs)
+
+length-field : (name text : List ℕ) → length (field_text (canonical_name name, text)) ≡ length name + 2 + length (behind_colon text)
+length-field name text =
+    omega (arith, length-append (canonical_name name) (58 ∷ (behind_colon text ++ newline ∷ [])), length-append (behind_colon text) (newline ∷ []), length-capitalised true name)
+
+min_twice : (n k m : ℕ) → min (n + min k m) m ≡ min (n + k) m
+min_twice n k m = grind arith
+
+-- as far as a length is counted
+pub length-counted : (name text : List ℕ) (ends behind m : ℕ) → ends ≡ length name + 2 → behind ≡ min (length (behind_colon text)) m → min (ends + behind) m ≡ min (length (field_text (canonical_name name, text))) m
+length-counted name text ends behind m named counted =
+    ap (λ n. min (n + behind) m) named
+    ∙ ap (λ n. min (length name + 2 + n) m) counted
+    ∙ min_twice (length name + 2) (length (behind_colon text)) m
+    ∙ ap (λ n. min n m) (sym (length-field name text))

@@ -1,0 +1,13 @@
+use Rattle.std.proofs.Common.{min, ◌-◌, ◌^◌, ap, ◌∙◌}
+use Rattle.deb_base.specs.Names.{canonical_name}
+use Rattle.deb_field.specs.ValueMeanings.{value_meaning}
+use Rattle.deb_control.proofs.DocumentRules.{document_rules}
+use Rattle.deb_control.proofs.Measured.{length-spelled}
+use Rattle.deb_control.proofs.measure.field_len.Goals as goal
+
+pub returns-clause-length : goal.returns-clause-length
+returns-clause-length c =
+    c.canonical_len.ensures ∙ ap (λ n. min n (2 ^ 64 - 1)) (length-spelled c.args.doc c.args.field.now (value_meaning c.in_ok-value.value) c.in_ok-value.ensures.ok)
+
+pub returns-clause-good : goal.returns-clause-good
+returns-clause-good c = (document_rules c.args.doc).unrefused (canonical_name c.args.field.now.name.now) c.args.field.now.body.now (value_meaning c.in_ok-value.value) c.in_ok-value.ensures.ok

@@ -1,0 +1,6 @@
+use Rattle.deb_syntax.specs.Raw.{fields_of}
+use Rattle.deb_control.proofs.Measured.{HasMeasured}
+use Rattle.deb_control.proofs.measure.fields_len.Given as goal
+
+abbrev pub invariant-loop-index : goal.invariant-loop-index
+invariant-loop-index l = HasMeasured l.doc (fields_of l.paragraph) l.length l.index
