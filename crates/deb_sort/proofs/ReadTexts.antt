@@ -1,7 +1,8 @@
--- What a file that was read beyond the limit says of the whole file.
-use Rattle.std.proofs.Common.{◌≡◌, ◌<◌, ℕ, List, [], length, Option, Some, None, inr, sym, ap, ◌∙◌, unwrap_or}
+-- What a file that was read beyond the limit says of the whole file, and how much is taken of one.
+use Rattle.std.proofs.Common.{◌≡◌, ◌+◌, ◌<◌, ◌≤◌, ℕ, List, [], length, length-append, Option, Some, None, inr, refl, sym, ap, ◌∙◌, arith, unwrap_or}
 use Rattle.std.specs.Io.KnownBytes.{Consumes}
 use Rattle.deb_sort.specs.Reading.{ReadsEnough}
+use Rattle.deb_syntax.specs.Ahead.{TakesNoMore}
 use Rattle.deb_syntax.specs.Lines.{file_limit}
 
 -- more was read than a file may have
@@ -11,3 +12,22 @@ read_too_much (Some all) None read consumed long text is = absurd consumed
 read_too_much (Some all) (Some ys) read consumed long text is =
     let same : all ≡ text = ap (λ o. unwrap_or o []) is in
     record { rest = ys; whole = sym same ∙ consumed; enough = inr long }
+
+-- what was consumed was taken
+pub consumed_takes : (room : ℕ) (left after : Option (List ℕ)) (bytes : List ℕ) → Consumes left after bytes → length bytes ≤ room + 65536
+    → (text : List ℕ) → left ≡ Some text → TakesNoMore text room after
+consumed_takes room None after bytes consumed short text is = let bad : ⊥ = cc in absurd bad
+consumed_takes room (Some all) None bytes consumed short text is = absurd consumed
+consumed_takes room (Some all) (Some rest) bytes consumed short text is =
+    let same : all ≡ text = ap (λ o. unwrap_or o []) is in
+    record { rest = rest; told = refl; few = omega (arith, short, ap length (sym same ∙ consumed), length-append bytes rest) }
+
+-- one piece more was taken, behind no more bytes than a file may have
+pub piece_takes : (left mid after : Option (List ℕ)) (read : List ℕ) → Consumes left mid read → length read ≤ file_limit
+    → ((text : List ℕ) → mid ≡ Some text → TakesNoMore text 0 after) → (text : List ℕ) → left ≡ Some text → TakesNoMore text file_limit after
+piece_takes None mid after read consumed short takes text is = let bad : ⊥ = cc in absurd bad
+piece_takes (Some all) None after read consumed short takes text is = absurd consumed
+piece_takes (Some all) (Some more) after read consumed short takes text is =
+    let same : all ≡ text = ap (λ o. unwrap_or o []) is in
+    let piece = takes more refl in
+    record { rest = piece.rest; told = piece.told; few = omega (arith, short, piece.few, ap length (sym same ∙ consumed), length-append read more) }

@@ -1,7 +1,9 @@
 //! Reading a file whole.
 
-ghost use Rattle.std.specs.Prelude.{◌≡◌, ◌<◌, length, IfOk, IfErr};
+ghost use Rattle.std.specs.Prelude.{◌≡◌, ◌<◌, ◌≤◌, ℕ, List, Some, length, IfOk, IfErr};
 ghost use Rattle.deb_base.specs.Devices.{read_failures_after};
+ghost use Rattle.deb_syntax.specs.Ahead.{TakesNoMore};
+ghost use Rattle.deb_syntax.specs.Lines.{file_limit};
 ghost use Rattle.deb_sort.specs.Reading.{IsMemoryOrRead, ReadsEnough, TakesPiece};
 
 use deb_base::{Failed, Fault, Source};
@@ -11,9 +13,12 @@ use std::alloc::Global;
 /// The most bytes that one read is lent.
 const PIECE: usize = 65_536;
 
-/// Reads a file to its end, or until it has more bytes than a file may have.
+/// Reads a file to its end, or until it has more bytes than a file may have. Beyond these at most
+/// one piece is taken.
 pub(crate) fn read_text<R: Source>(alloc: Global, source: &mut R) -> Result<Vec<u8>, Fault>
     ensures ok { IfOk result (λ text. ReadsEnough (R.left source.old) text.items) }
+    ensures taken { (text : List ℕ) → R.left source.old ≡ Some text
+        → TakesNoMore text file_limit (R.left source.new) }
     ensures fault { IfErr result IsMemoryOrRead }
     ensures counted { R.failures source.new ≡ read_failures_after (R.failures source.old) result }
 {
@@ -24,7 +29,10 @@ pub(crate) fn read_text<R: Source>(alloc: Global, source: &mut R) -> Result<Vec<
 /// Reads a file so, by pieces that are first read into a buffer.
 fn read_by<R: Source>(alloc: Global, piece: &mut [u8], source: &mut R) -> Result<Vec<u8>, Fault>
     requires room { 0 < length piece.old }
+    requires small { length piece.old ≤ PIECE }
     ensures ok { IfOk result (λ text. ReadsEnough (R.left source.old) text.items) }
+    ensures taken { (text : List ℕ) → R.left source.old ≡ Some text
+        → TakesNoMore text file_limit (R.left source.new) }
     ensures fault { IfErr result IsMemoryOrRead }
     ensures counted { R.failures source.new ≡ read_failures_after (R.failures source.old) result }
 {
@@ -37,15 +45,19 @@ fn read_by<R: Source>(alloc: Global, piece: &mut [u8], source: &mut R) -> Result
     Ok(text)
 }
 
-/// Reads one piece into a buffer, and puts it behind a text. Says how many bytes came.
+/// Reads one piece into a buffer, and puts it behind a text. Says how many bytes came; no more than
+/// that piece is taken of the source.
 fn read_piece<R: Source>(
     piece: &mut [u8],
     source: &mut R,
     text: &mut Vec<u8>,
 ) -> Result<usize, Fault>
     requires room { 0 < length piece.old }
+    requires small { length piece.old ≤ PIECE }
     ensures ok { IfOk result (λ count. TakesPiece (R.left source.old) text.old.items count
         (R.left source.new) text.new.items) }
+    ensures taken { (text : List ℕ) → R.left source.old ≡ Some text
+        → TakesNoMore text 0 (R.left source.new) }
     ensures fault { IfErr result IsMemoryOrRead }
     ensures counted { R.failures source.new ≡ read_failures_after (R.failures source.old) result }
 {

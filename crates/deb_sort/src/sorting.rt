@@ -1,8 +1,9 @@
 //! Sorting the lines of a file.
 
-ghost use Rattle.std.specs.Prelude.{◌≡◌, OnOk, IfErr};
+ghost use Rattle.std.specs.Prelude.{◌≡◌, ℕ, List, Some, OnOk, IfErr};
 ghost use Rattle.deb_base.specs.Devices.{write_failures_after, Puts};
-ghost use Rattle.deb_syntax.specs.Lines.{with_newlines};
+ghost use Rattle.deb_syntax.specs.Ahead.{TakesNoMore};
+ghost use Rattle.deb_syntax.specs.Lines.{file_limit, with_newlines};
 ghost use Rattle.deb_sort.specs.Files.{SortsFile};
 ghost use Rattle.deb_sort.specs.Sorting.{Sorts};
 ghost use Rattle.deb_sort.specs.VersionLines.{texts_of};
@@ -20,15 +21,18 @@ use std::alloc::{AllocError, Global};
 /// A newline behind the last line may be missing. Refused is a file that is too long
 /// (`FileTooLong`, at the line that is cut off), and else the first line that is no version
 /// (`BadVersion`); the empty line is none. Nothing is written before the file was read to its end
-/// and all of its lines were found good.
+/// and all of its lines were found good. At most 4,295,032,831 bytes are taken from the source: those
+/// that a file may have, and one piece.
 pub fn sort<R: Source, W: Sink>(
     alloc: Global,
     source: &mut R,
     reverse: bool,
     out: &mut W,
 ) -> Result<(), Fault>
-    ensures { SortsFile reverse (R.left source.old) (R.failures source.old)
+    ensures sorts { SortsFile reverse (R.left source.old) (R.failures source.old)
         (R.failures source.new) W.held W.failures out.old out.new result }
+    ensures taken { (text : List ℕ) → R.left source.old ≡ Some text
+        → TakesNoMore text file_limit (R.left source.new) }
 {
     let text = read_text(alloc, source)?;
     let mut lines = version_lines(alloc, text.as_slice())?;

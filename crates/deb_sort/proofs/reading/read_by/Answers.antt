@@ -1,6 +1,8 @@
 -- The pieces that came make up what was read.
-use Rattle.std.proofs.Common.{arith}
-use Rattle.deb_sort.proofs.ReadTexts.{read_too_much}
+use Rattle.std.proofs.Common.{rules, arith, subst, sym}
+use Rattle.std.proofs.KnownBytes.{Consumes-trans}
+use Rattle.std.specs.Io.KnownBytes.{Consumes}
+use Rattle.deb_sort.proofs.ReadTexts.{piece_takes, read_too_much}
 use Rattle.deb_syntax.specs.Lines.{file_limit}
 use Rattle.deb_sort.proofs.reading.read_by.Goals as goal
 
@@ -9,3 +11,23 @@ unfolding file_limit
 returns-clause-ok g c =
     read_too_much (g.R.Source.left c.args.source.now) (g.R.Source.left c.loop-piece.source) c.loop-piece.text.items c.loop-piece.invariant.bytes
     (omega (arith, c.loop-piece-test.false, c.len.ensures, c.loop-piece.text.ok.0))
+
+pub returns-in_err-read_piece-clause-taken : goal.returns-in_err-read_piece-clause-taken
+unfolding file_limit
+returns-in_err-read_piece-clause-taken g c =
+    piece_takes (g.R.Source.left c.args.source.now) (g.R.Source.left c.loop-piece.source) (g.R.Source.left c.read_piece.new.source) c.loop-piece.text.items c.loop-piece.invariant.bytes
+    (omega (arith, c.loop-piece-test.true, c.len.ensures, c.loop-piece.text.ok.0)) c.in_err-read_piece.ensures.taken
+
+pub loop-piece-preserved : goal.loop-piece-preserved
+unfolding file_limit
+loop-piece-preserved g c = let t = c.in_ok-read_piece.ensures.ok in record {
+  room = search rules;
+  small = search rules;
+  bytes =
+      subst (λ read. Consumes (g.R.Source.left c.args.source.now) (g.R.Source.left c.read_piece.new.source) read) (sym t.behind)
+      (Consumes-trans (g.R.Source.left c.args.source.now) (g.R.Source.left c.loop-piece.source) (g.R.Source.left c.read_piece.new.source) c.loop-piece.text.items t.piece c.loop-piece.invariant.bytes t.consumed);
+  taken =
+      piece_takes (g.R.Source.left c.args.source.now) (g.R.Source.left c.loop-piece.source) (g.R.Source.left c.read_piece.new.source) c.loop-piece.text.items c.loop-piece.invariant.bytes
+      (omega (arith, c.loop-piece-test.true, c.len.ensures, c.loop-piece.text.ok.0)) c.in_ok-read_piece.ensures.taken;
+  counted = search rules;
+}

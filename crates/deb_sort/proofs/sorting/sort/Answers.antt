@@ -6,15 +6,15 @@ use Rattle.deb_sort.specs.VersionLines.{texts_of}
 use Rattle.deb_sort.proofs.SortedFiles.{refused, written}
 use Rattle.deb_sort.proofs.sorting.sort.Goals as goal
 
-pub returns-in_err-lines : goal.returns-in_err-lines
-returns-in_err-lines g c =
+pub returns-in_err-lines-clause-sorts : goal.returns-in_err-lines-clause-sorts
+returns-in_err-lines-clause-sorts g c =
     let p = err_from_is_err_and c.from_residual-in_err-lines.result c.from_residual-in_err-lines.ensures.1 in
     rw (p.1, p.2)
     (refused c.args.reverse (g.R.Source.left c.args.source.now) (g.R.Source.failures c.args.source.now) (g.R.Source.failures c.read_text.new.source) g.W.Sink.held g.W.Sink.failures c.args.out.now
     c.in_ok-text.text.items c.in_ok-text.ensures.ok c.in_ok-text.ensures.counted _ (rw c.as_slice.ensures.value at c.in_err-lines.ensures.fault))
 
-pub returns : goal.returns
-returns g c =
+pub returns-clause-sorts : goal.returns-clause-sorts
+returns-clause-sorts g c =
     written c.args.reverse (g.R.Source.left c.args.source.now) (g.R.Source.failures c.args.source.now) (g.R.Source.failures c.read_text.new.source) g.W.Sink.held g.W.Sink.failures c.args.out.now
     c.in_ok-text.text.items c.in_ok-text.ensures.ok c.in_ok-text.ensures.counted c.write_lines.new.out (texts_of c.as_slice-2.result.now) c.write_lines.result
     (rw c.as_slice.ensures.value at c.in_ok-lines.ensures.accepted)
