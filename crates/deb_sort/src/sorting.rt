@@ -21,8 +21,8 @@ use std::alloc::{AllocError, Global};
 /// A newline behind the last line may be missing. Refused is a file that is too long
 /// (`FileTooLong`, at the line that is cut off), and else the first line that is no version
 /// (`BadVersion`); the empty line is none. Nothing is written before the file was read to its end
-/// and all of its lines were found good. At most 4,295,032,831 bytes are taken from the source: those
-/// that a file may have, and one piece.
+/// and all of its lines were found good. At most 4,295,032,831 bytes are taken from the source:
+/// those that a file may have, and one piece.
 pub fn sort<R: Source, W: Sink>(
     alloc: Global,
     source: &mut R,

@@ -18,13 +18,20 @@ use Rattle.deb_index.specs.declared.index.Index.{Index}
 use Rattle.deb_relation.specs.Grammar.{SpellsRelation}
 use Rattle.deb_relation.specs.Meaning.{Relation}
 use Rattle.deb_relation.specs.Tests.{some_wildcard}
-use Rattle.debctl_jobs.specs.QueryJob.{IsGood, QueriesFile, Question, TellsQueryRefusal, environment_in, has_environment, wildcard}
+use Rattle.debctl_jobs.specs.QueryJob.{AreRefused, IsGood, QueriesFile, Question, TellsQueryRefusal, environment_in, has_environment, wildcard}
 use Rattle.debctl_jobs.specs.Telling.{TellsFault}
 use Rattle.debctl_jobs.proofs.Telling.{told_as_two}
 
 -- the words are good
 abbrev pub good_words : (q : Question) (relation : Relation) → SpellsRelation q.relation relation → IsTrue (has_environment q) → IsGood q
 good_words q relation spelled environment = record { relation = relation; spelled = spelled; environment = environment }
+
+-- and are not refused
+pub not_refused : (q : Question) → IsGood q → AreRefused q → ⊥
+not_refused q good bad = elim bad [
+  | inl none ↦ none good.relation good.spelled
+  | inr is_false ↦ let is = good.environment in cc
+]
 
 -- a fault of the index: nothing was written
 pub index_refused : {W : Type 0} (q : Question) (left : Option (List ℕ)) (count count_after : ℕ) (held : W → Option (List ℕ)) (failures : W → ℕ) (out : W) (fault : Fault)

@@ -3,6 +3,7 @@ pub mod QueryJob
 pub mod Running
 pub mod SameJob
 pub mod SortJob
+pub mod Taking
 pub mod Telling
 pub mod VersionJobs
 pub mod WordsTelling

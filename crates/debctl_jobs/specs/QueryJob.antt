@@ -76,6 +76,11 @@ pub record RefusesEnvironment (q : Question) (refusal : Refusal) : Type 0 where
   pub bad : IsFalse (has_environment q)
   pub is : refusal ≡ bad_environment
 
+-- The words are refused.
+abbrev pub AreRefused : Question → Type 0
+AreRefused q =
+    ((relation : Relation) → SpellsRelation q.relation relation → ⊥) ⊎ IsFalse (has_environment q)
+
 abbrev pub RefusesWords : Question → Refusal → Type 0
 RefusesWords q refusal = RefusesRelation q.relation refusal ⊎ RefusesEnvironment q refusal
 

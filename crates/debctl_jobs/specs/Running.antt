@@ -9,7 +9,7 @@ use Rattle.deb_control.specs.Calls.{WritesCanonical}
 use Rattle.deb_control.specs.declared.side.SideFault.{SideFault}
 use Rattle.deb_sort.specs.Files.{SortsFile, WritesSorted}
 use Rattle.debctl_jobs.specs.DocumentJobs.{ChecksFile, NormalisesFile, TellsRefusal, TellsRefusalBehind, WritesOk}
-use Rattle.debctl_jobs.specs.QueryJob.{QueriesFile, Question, TellsQueryRefusal, WritesReport, question}
+use Rattle.debctl_jobs.specs.QueryJob.{AreRefused, QueriesFile, Question, TellsQueryRefusal, WritesReport, question}
 use Rattle.debctl_jobs.specs.SameJob.{ComparesFiles, TellsComparison, TellsRefusedSide, WritesSame}
 use Rattle.debctl_jobs.specs.SortJob.{TellsLineRefusal}
 use Rattle.debctl_jobs.specs.Telling.{done_status, Tells}
@@ -150,3 +150,13 @@ IfSecondUnread (Compare former operator latter) P = P
 IfSecondUnread (CanonVersion version) P = P
 IfSecondUnread (Sort reverse) P = P
 IfSecondUnread (Query arch profiles relation) P = P
+
+-- A query whose words are refused leaves the first reader as it was.
+abbrev pub IfRefusedWords : Job → Type 0 → Type 0
+IfRefusedWords (Check doc) P = Unit {0}
+IfRefusedWords (Normalise doc) P = Unit {0}
+IfRefusedWords (Same doc) P = Unit {0}
+IfRefusedWords (Compare former operator latter) P = Unit {0}
+IfRefusedWords (CanonVersion version) P = Unit {0}
+IfRefusedWords (Sort reverse) P = Unit {0}
+IfRefusedWords (Query arch profiles relation) P = AreRefused (asked arch profiles relation) → P

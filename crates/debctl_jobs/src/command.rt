@@ -2,7 +2,8 @@
 
 ghost use Rattle.std.specs.Prelude.{◌≡◌, ◌<◌};
 ghost use Rattle.deb_base.specs.Devices.{one_more};
-ghost use Rattle.debctl_jobs.specs.Running.{Done, IfCompare, IfSecondUnread, IfUnread, IsRefused, SaysNo, Told};
+ghost use Rattle.debctl_jobs.specs.Running.{Done, IfCompare, IfRefusedWords, IfSecondUnread, IfUnread, IsRefused, SaysNo, Told};
+ghost use Rattle.debctl_jobs.specs.Taking.{TakesFile};
 
 use crate::document_jobs::{run_check, run_normalise};
 use crate::query_job::run_query;
@@ -16,7 +17,8 @@ use std::alloc::Global;
 /// Does a job over readers and writers, tells on `err` why it wasn't done, and answers the status.
 ///
 /// `check`, `normalise`, `sort` and `query` read `first`, and `same` reads both; a reader that a
-/// job doesn't use is left as it was.
+/// job doesn't use is left as it was, and so is that of a `query` whose words are refused. At most
+/// 4,295,032,831 bytes are taken from a reader: those that a file may have, and one piece.
 ///
 /// - 0: done, or the answer is yes. `out` has `ok N` and a newline, the canonical text of the file,
 ///   `same` and a newline, nothing, the canonical version and a newline, the sorted lines, or the
@@ -54,6 +56,11 @@ pub fn run<R: Source, S: Source, W: Sink, E: Sink>(
     // What a job doesn't use.
     ensures unread { IfUnread job.now (first.new ≡ first.old) }
     ensures second { IfSecondUnread job.now (second.new ≡ second.old) }
+    ensures words { IfRefusedWords job.now (first.new ≡ first.old) }
+
+    // How much is taken of the readers, whatever the status.
+    ensures taken { TakesFile (R.left first.old) (R.left first.new) }
+    ensures taken_second { TakesFile (S.left second.old) (S.left second.new) }
 
     // Comparing takes no memory: its status is 3 only where a write failed on `err`.
     ensures compared { IfCompare job.now

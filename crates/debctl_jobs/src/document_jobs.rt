@@ -4,6 +4,7 @@ ghost use Rattle.std.specs.Prelude.{◌≡◌, ◌<◌, ℕ, List, Some, Result,
 ghost use Rattle.deb_base.specs.declared.fault.Fault.{Fault};
 ghost use Rattle.deb_control.specs.Calls.{WritesCanonical};
 ghost use Rattle.debctl_jobs.specs.DocumentJobs.{ok_line, ChecksFile, NormalisesFile, TellsRefusal, TellsRefusalBehind, WritesOk};
+ghost use Rattle.debctl_jobs.specs.Taking.{TakesFile};
 ghost use Rattle.debctl_jobs.specs.Telling.{done_status, Tells};
 
 use crate::tell::tell;
@@ -31,6 +32,7 @@ pub(crate) fn run_check<R: Source, W: Sink, E: Sink>(
         → WritesOk doc text (W.held out.old) (W.held out.new)) }
     ensures refused { result ≡ 2 → (out.new ≡ out.old)
         × TellsRefusal doc (R.left first.old) (E.held err.old) (E.held err.new) }
+    ensures taken { TakesFile (R.left first.old) (R.left first.new) }
 
     // Where a call of a device failed, the status is 3.
     ensures read_failed { R.failures first.old < R.failures first.new → result ≡ 3 }
@@ -69,6 +71,7 @@ pub(crate) fn run_normalise<R: Source, W: Sink, E: Sink>(
     ensures refused { result ≡ 2
         → TellsRefusalBehind doc (R.left first.old) (W.held out.old) (W.held out.new)
         (E.held err.old) (E.held err.new) }
+    ensures taken { TakesFile (R.left first.old) (R.left first.new) }
 
     // Where a call of a device failed, the status is 3.
     ensures read_failed { R.failures first.old < R.failures first.new → result ≡ 3 }
@@ -94,8 +97,9 @@ fn write_verdict<R: Source, W: Sink>(
     first: &mut R,
     out: &mut W,
 ) -> Result<(), Fault>
-    ensures { ChecksFile doc (R.left first.old) (R.failures first.old)
+    ensures checks { ChecksFile doc (R.left first.old) (R.failures first.old)
         (R.failures first.new) W.held W.failures out.old out.new result }
+    ensures taken { TakesFile (R.left first.old) (R.left first.new) }
 {
     let paragraphs = check(alloc, doc, first)?;
     let line = ok_line(alloc, paragraphs)?;

@@ -6,7 +6,8 @@ ghost use Rattle.deb_relation.specs.Environments.{environment_of};
 ghost use Rattle.deb_relation.specs.Relations.{relation_of};
 ghost use Rattle.deb_relation.specs.Views.{names_of};
 ghost use Rattle.deb_index.specs.Indexes.{packages_of};
-ghost use Rattle.debctl_jobs.specs.QueryJob.{ParsesEnvironment, ParsesRelation, QueriesFile, TellsOf, TellsQueryRefusal, WritesReport, question};
+ghost use Rattle.debctl_jobs.specs.QueryJob.{AreRefused, ParsesEnvironment, ParsesRelation, QueriesFile, TellsOf, TellsQueryRefusal, WritesReport, question};
+ghost use Rattle.debctl_jobs.specs.Taking.{TakesFile};
 ghost use Rattle.debctl_jobs.specs.Telling.{Tells};
 ghost use Rattle.debctl_jobs.specs.VersionJobs.{verdict_status};
 
@@ -20,7 +21,8 @@ use std::alloc::{AllocError, Global};
 ///
 /// - 0 and 1: the report was written, and nothing on `err`. No group is unmet, or some group is.
 /// - 2: the relation, the target or a profile, the index, or a wildcard in an architecture list is
-///   refused, in this order. Nothing was written on `out`, and the refusal's line on `err`.
+///   refused, in this order. Nothing was written on `out`, and the refusal's line on `err`. The
+///   reader isn't asked before the relation, the target and the profiles are good.
 /// - 3: memory was wanting, a read failed, or a write failed. `err` has the fault's line; where a
 ///   write on `err` failed, a prefix of its line.
 pub(crate) fn run_query<R: Source, W: Sink, E: Sink>(
@@ -43,6 +45,9 @@ pub(crate) fn run_query<R: Source, W: Sink, E: Sink>(
     ensures refused { result ≡ 2 → (out.new ≡ out.old)
         × TellsQueryRefusal (question target.now (map string_bytes profiles.now) relation.now)
         (R.left first.old) (E.held err.old) (E.held err.new) }
+    ensures taken { TakesFile (R.left first.old) (R.left first.new) }
+    ensures words { AreRefused (question target.now (map string_bytes profiles.now) relation.now)
+        → first.new ≡ first.old }
 
     // Where a call of a device failed, the status is 3.
     ensures read_failed { R.failures first.old < R.failures first.new → result ≡ 3 }
@@ -72,9 +77,13 @@ fn write_report<R: Source, W: Sink>(
     first: &mut R,
     out: &mut W,
 ) -> Result<bool, Fault>
-    ensures { QueriesFile (question target.now (map string_bytes profiles.now) relation.now)
+    ensures queries { QueriesFile
+        (question target.now (map string_bytes profiles.now) relation.now)
         (R.left first.old) (R.failures first.old) (R.failures first.new)
         W.held W.failures out.old out.new result }
+    ensures taken { TakesFile (R.left first.old) (R.left first.new) }
+    ensures words { AreRefused (question target.now (map string_bytes profiles.now) relation.now)
+        → first.new ≡ first.old }
 {
     let relation = parse_relation(alloc, relation)?;
     let environment = environment_of(alloc, target, profiles)?;

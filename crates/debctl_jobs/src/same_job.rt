@@ -3,6 +3,7 @@
 ghost use Rattle.std.specs.Prelude.{◌≡◌, ◌<◌, true, false, Bool, Result};
 ghost use Rattle.deb_control.specs.declared.side.SideFault.{SideFault};
 ghost use Rattle.debctl_jobs.specs.SameJob.{ComparesFiles, TellsAnswer, TellsComparison, TellsRefusedSide, WritesSame};
+ghost use Rattle.debctl_jobs.specs.Taking.{TakesFile};
 
 use crate::tell::{tell, tell_side};
 use deb_base::{Sink, Source, put_all};
@@ -35,6 +36,8 @@ pub(crate) fn run_same<R: Source, S: Source, W: Sink, E: Sink>(
     ensures refused { result ≡ 2 → (out.new ≡ out.old)
         × TellsRefusedSide doc (R.left first.old) (S.left second.old) (E.held err.old)
         (E.held err.new) }
+    ensures taken { TakesFile (R.left first.old) (R.left first.new) }
+    ensures taken_second { TakesFile (S.left second.old) (S.left second.new) }
 
     // Where a call of a device failed, the status is 3.
     ensures read_failed { R.failures first.old < R.failures first.new → result ≡ 3 }

@@ -4,6 +4,7 @@ ghost use Rattle.std.specs.Prelude.{◌≡◌, ◌<◌, ℕ, List, Some, Result,
 ghost use Rattle.deb_base.specs.declared.fault.Fault.{Fault};
 ghost use Rattle.deb_sort.specs.Files.{SortsFile, WritesSorted};
 ghost use Rattle.debctl_jobs.specs.SortJob.{TellsLineRefusal};
+ghost use Rattle.debctl_jobs.specs.Taking.{TakesFile};
 ghost use Rattle.debctl_jobs.specs.Telling.{done_status, Tells};
 
 use crate::tell::tell;
@@ -30,6 +31,7 @@ pub(crate) fn run_sort<R: Source, W: Sink, E: Sink>(
         → WritesSorted reverse text (W.held out.old) (W.held out.new)) }
     ensures refused { result ≡ 2 → (out.new ≡ out.old)
         × TellsLineRefusal (R.left first.old) (E.held err.old) (E.held err.new) }
+    ensures taken { TakesFile (R.left first.old) (R.left first.new) }
 
     // Where a call of a device failed, the status is 3.
     ensures read_failed { R.failures first.old < R.failures first.new → result ≡ 3 }

@@ -1,4 +1,5 @@
-use Rattle.debctl_jobs.proofs.JobRefusals.{canon_version_refused, compare_refused}
+use Rattle.std.proofs.Common.{◌≡◌}
+use Rattle.debctl_jobs.proofs.JobRefusals.{canon_version_refused, compare_refused, refused_words}
 use Rattle.debctl_jobs.proofs.command.run.Goals as goal
 
 pub returns-in-Compare-clause-refused : goal.returns-in-Compare-clause-refused
@@ -10,3 +11,8 @@ pub returns-in-CanonVersion-clause-refused : goal.returns-in-CanonVersion-clause
 returns-in-CanonVersion-clause-refused g c = λ is.
     canon_version_refused c.args.job.now c.in-CanonVersion.version c.in-CanonVersion.is (g.R.Source.left c.args.first.now) (g.S.Source.left c.args.second.now) g.W.Sink.held c.args.out.now c.run_canon_version.new.out _ _
     c.as_str-in-CanonVersion.result.now c.as_str-in-CanonVersion.ensures.value (c.run_canon_version.ensures.refused is)
+
+pub returns-in-Query-clause-words : goal.returns-in-Query-clause-words
+returns-in-Query-clause-words g c =
+    refused_words c.args.job.now c.in-Query.arch c.in-Query.profiles c.in-Query.relation c.in-Query.is c.as_str-in-Query.result.now c.deref.result.now c.as_str-in-Query-2.result.now
+    c.as_str-in-Query.ensures.value c.deref.ensures.value c.as_str-in-Query-2.ensures.value (c.run_query.new.first ≡ c.args.first.now) c.run_query.ensures.words
