@@ -347,35 +347,46 @@ fn no_environments(rt: HostRuntime) {
     assert!(rt; Env::new(rt.alloc(), b"amd64", &[b"nocheck", b"+x"]).err() == bad);
 }
 
-/// Appends the canonical text to a list without room. Whether the list then has the text, or where
-/// memory is wanting what it had before.
-fn has_all_or_none(alloc: Global, relation: &Relation<'_>) -> Option<bool> {
-    let mut out = vec![in alloc; b'='; 3].ok()?;
-    let wanted: &[u8] = match relation.canon_into(&mut out) {
-        Ok(()) => b"===bb | aa",
-        Err(_) => b"===",
-    };
-    Some(out.as_slice() == wanted)
+/// Appends the canonical text twice to a list without room. Whether the list has after each call
+/// what was appended, and where memory is wanting what it had before.
+fn has_all_or_none(alloc: Global, relation: &Relation<'_>) -> bool {
+    let mut out = Vec::new(alloc);
+    let first = relation.canon_into(&mut out).is_ok();
+    if out.as_slice() != text_of(first, false) {
+        return false;
+    }
+    let second = relation.canon_into(&mut out).is_ok();
+    out.as_slice() == text_of(first, second)
 }
 
-/// Each second growth is one of `canon_into`.
+/// What a list has behind two calls, each of which appended the text or didn't.
+fn text_of(first: bool, second: bool) -> &'static [u8] {
+    match (first, second) {
+        (true, true) => b"bb | aabb | aa",
+        (true, false) | (false, true) => b"bb | aa",
+        (false, false) => b"",
+    }
+}
+
+/// Each growth behind the first ones is one of `canon_into`.
 #[test]
 fn want_of_memory_leaves_what_stands_before_a_relation(rt: HostRuntime) -> Result<(), Fail> {
     let relation = Relation::parse(rt.alloc(), b"bb|aa")?;
     for _ in 0..150 {
-        assert!(rt; has_all_or_none(rt.alloc(), &relation) == Some(true));
+        assert!(rt; has_all_or_none(rt.alloc(), &relation));
     }
     Ok(())
 }
 
 /// The same of a group.
-fn group_has_all_or_none(alloc: Global, group: &Group<'_>) -> Option<bool> {
-    let mut out = vec![in alloc; b'='; 3].ok()?;
-    let wanted: &[u8] = match group.canon_into(&mut out) {
-        Ok(()) => b"===bb | aa",
-        Err(_) => b"===",
-    };
-    Some(out.as_slice() == wanted)
+fn group_has_all_or_none(alloc: Global, group: &Group<'_>) -> bool {
+    let mut out = Vec::new(alloc);
+    let first = group.canon_into(&mut out).is_ok();
+    if out.as_slice() != text_of(first, false) {
+        return false;
+    }
+    let second = group.canon_into(&mut out).is_ok();
+    out.as_slice() == text_of(first, second)
 }
 
 #[test]
@@ -383,7 +394,7 @@ fn want_of_memory_leaves_what_stands_before_a_group(rt: HostRuntime) -> Result<(
     let relation = Relation::parse(rt.alloc(), b"bb|aa")?;
     let group = relation.groups().first().ok_or("no group")?;
     for _ in 0..150 {
-        assert!(rt; group_has_all_or_none(rt.alloc(), group) == Some(true));
+        assert!(rt; group_has_all_or_none(rt.alloc(), group));
     }
     Ok(())
 }
