@@ -3,6 +3,5 @@ pub mod JobRefusals
 pub mod QueryTelling
 pub mod SameTelling
 pub mod SortTelling
-pub mod Taking
 pub mod Telling
 pub mod VersionTelling
