@@ -1,13 +1,14 @@
 -- Look-ups in the two tables, one row after another.
-use Rattle.std.proofs.Common.{◌≡◌, ℕ, Bor, codes, ◌+◌, ◌<◌, Bool, true, false, cond, List, length, map, drop, get_or, Some, ap, sym, ◌∙◌}
-use Rattle.std.proofs.lemmas.Bool.Decides.{same_from_decides}
-use Rattle.std.proofs.lemmas.List.{drop_more}
+use Rattle.std.proofs.Common.{[], ◌∷◌, ◌==◌, refl, ◌≡◌, ℕ, Bor, codes, ◌+◌, ◌<◌, Bool, true, false, cond, List, length, map, drop, get_or, Some, ap, sym, ◌∙◌}
+use Rattle.std.proofs.lemmas.Bool.Decides.{Decides-eqb, not_from_Decides, same_from_decides}
+use Rattle.std.proofs.lemmas.List.{drop_more, length-map}
 use Rattle.std.proofs.lemmas.Slice.Eq.{bytes_eq-Decides}
 use Rattle.std.specs.Bool.{Decides}
+use Rattle.std.specs.Char.{to_ascii_lowercase}
 use Rattle.std.specs.Str.{bytes_eq}
 use Rattle.deb_base.specs.Names.{folded}
-use Rattle.deb_field.specs.Kinds.{document, kind_among, kind_of, named_among}
-use Rattle.deb_field.specs.Tables.{row_in}
+use Rattle.deb_field.specs.Kinds.{FieldRow, document, kind_among, kind_of, named_among}
+use Rattle.deb_field.specs.Tables.{row_in, rows_of_length}
 use Rattle.deb_field.specs.declared.kind.Doc.{Doc}
 use Rattle.deb_field.specs.declared.kind.Kind.{Kind}
 
@@ -37,3 +38,22 @@ pub word-passed : (docs : List Doc) (word : List ℕ) (i : ℕ) (d : Doc) → i 
 word-passed docs word i d within is =
     ap (λ rest. named_among rest word) (drop_more docs i d within)
     ∙ ap (λ u. cond u (Some (get_or docs i d)) (named_among (drop (i + 1) docs) word)) is
+
+told_false : {P : Type 0} (t : Bool) → Decides t P → (P → ⊥) → t ≡ false
+told_false true decides not = absurd (not (decides.0 refl))
+told_false false decides not = refl
+
+-- names of different lengths differ, also without case
+other_length : (a b : List ℕ) → (length a == length b) ≡ false → bytes_eq (folded a) (folded b) ≡ false
+other_length a b other =
+    told_false _ (bytes_eq-Decides (folded a) (folded b))
+    (λ same. not_from_Decides (length a == length b) (Decides-eqb (length a) (length b)) other (sym (length-map a to_ascii_lowercase) ∙ ap length same ∙ length-map b to_ascii_lowercase))
+
+with_length : (row : FieldRow) (rows : List FieldRow) (name : List ℕ) (kept : Bool) → (length row.0 == length name) ≡ kept → kind_among (rows_of_length (length name) rows) (folded name) ≡ kind_among rows (folded name) → kind_among (cond kept (row ∷ rows_of_length (length name) rows) (rows_of_length (length name) rows)) (folded name) ≡ kind_among (row ∷ rows) (folded name)
+with_length row rows name true is rest = ap (cond (bytes_eq (folded row.0) (folded name)) row.1) rest
+with_length row rows name false is rest = rest ∙ sym (ap (λ t. cond t row.1 (kind_among rows (folded name))) (other_length row.0 name is))
+
+-- the rows with names of a name's length decide
+pub length_decides : (rows : List FieldRow) (name : List ℕ) → kind_among (rows_of_length (length name) rows) (folded name) ≡ kind_among rows (folded name)
+length_decides [] name = refl
+length_decides (row ∷ rows) name = with_length row rows name (length row.0 == length name) refl (length_decides rows name)

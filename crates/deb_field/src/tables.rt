@@ -1,9 +1,9 @@
 //! The two tables: what a document of each kind is, and which kind of value a field has.
 
-ghost use Rattle.std.specs.Prelude.{◌≡◌, map};
+ghost use Rattle.std.specs.Prelude.{◌≡◌, ◌↔◌, IsTrue, map};
 ghost use Rattle.deb_base.specs.Names.{folded};
-ghost use Rattle.deb_field.specs.Kinds.{doc_named, document, is_single, kind_among, kind_of, required};
-ghost use Rattle.deb_field.specs.Tables.{document_in, row_in};
+ghost use Rattle.deb_field.specs.Kinds.{doc_named, document, field_kinds, is_single, kind_among, kind_of, required};
+ghost use Rattle.deb_field.specs.Tables.{document_in, row_in, rows_of_length};
 
 use crate::kind::{Doc, Kind, Relationship};
 use deb_base::same_name;
@@ -21,49 +21,13 @@ struct Document {
     required: &'static [&'static [u8]],
     /// What Architecture holds.
     architecture: Kind,
-    /// What the other fields hold; those without a row are texts.
-    fields: &'static [(&'static [u8], Kind)],
+    /// Whether the other fields hold what the table of fields says, or each is a text.
+    judged: bool,
 }
 
 const DEPENDENCY: Kind = Kind::Relation(Relationship::Depends);
 
 const CONFLICT: Kind = Kind::Relation(Relationship::Conflicts);
-
-/// The fields that aren't texts, but for Architecture (Debian Policy 5.6 and 7).
-const FIELDS: &[(&[u8], Kind)] = &[
-    (b"Package", Kind::Name),
-    (b"Source", Kind::Source),
-    (b"Version", Kind::Version),
-    (b"Essential", Kind::Flag),
-    (b"Multi-Arch", Kind::MultiArch),
-    (b"Installed-Size", Kind::Number),
-    (b"Size", Kind::Number),
-    (b"Maintainer", Kind::Line),
-    (b"Homepage", Kind::Line),
-    (b"Section", Kind::Line),
-    (b"Priority", Kind::Line),
-    (b"Filename", Kind::Line),
-    (b"Format", Kind::Line),
-    (b"Standards-Version", Kind::Line),
-    (b"Binary", Kind::Folded),
-    (b"Uploaders", Kind::Folded),
-    (b"Depends", DEPENDENCY),
-    (b"Pre-Depends", DEPENDENCY),
-    (b"Recommends", DEPENDENCY),
-    (b"Suggests", DEPENDENCY),
-    (b"Enhances", DEPENDENCY),
-    (b"Build-Depends", DEPENDENCY),
-    (b"Build-Depends-Indep", DEPENDENCY),
-    (b"Build-Depends-Arch", DEPENDENCY),
-    (b"Breaks", CONFLICT),
-    (b"Conflicts", CONFLICT),
-    (b"Replaces", CONFLICT),
-    (b"Built-Using", CONFLICT),
-    (b"Build-Conflicts", CONFLICT),
-    (b"Build-Conflicts-Indep", CONFLICT),
-    (b"Build-Conflicts-Arch", CONFLICT),
-    (b"Provides", Kind::Relation(Relationship::Provides)),
-];
 
 /// The row of a kind of document.
 fn row_of(doc: Doc) -> Document
@@ -76,7 +40,7 @@ fn row_of(doc: Doc) -> Document
             single: true,
             required: &[b"Package", b"Version", b"Architecture"],
             architecture: Kind::Architecture,
-            fields: FIELDS,
+            judged: true,
         },
         Doc::Packages => Document {
             word: "packages",
@@ -84,7 +48,7 @@ fn row_of(doc: Doc) -> Document
             single: false,
             required: &[b"Package", b"Version", b"Architecture"],
             architecture: Kind::Architecture,
-            fields: FIELDS,
+            judged: true,
         },
         Doc::Source => Document {
             word: "source",
@@ -92,7 +56,7 @@ fn row_of(doc: Doc) -> Document
             single: true,
             required: &[b"Format", b"Source", b"Version"],
             architecture: Kind::ArchitectureWords,
-            fields: FIELDS,
+            judged: true,
         },
         Doc::Sources => Document {
             word: "sources",
@@ -100,7 +64,7 @@ fn row_of(doc: Doc) -> Document
             single: false,
             required: &[b"Package", b"Version"],
             architecture: Kind::ArchitectureWords,
-            fields: FIELDS,
+            judged: true,
         },
         Doc::Any => Document {
             word: "any",
@@ -108,7 +72,7 @@ fn row_of(doc: Doc) -> Document
             single: false,
             required: &[],
             architecture: Kind::Text,
-            fields: &[],
+            judged: false,
         },
     }
 }
@@ -133,10 +97,64 @@ pub fn kind_of(doc: Doc, name: &[u8]) -> Kind
     ensures { result ≡ kind_of doc name.now }
 {
     let document = row_of(doc);
-    if same_name(b"Architecture", name) {
-        return document.architecture;
+    if is_named(b"Architecture", name) {
+        document.architecture
+    } else if document.judged {
+        kind_among(fields_of_length(name.len()), name)
+    } else {
+        Kind::Text
     }
-    kind_among(document.fields, name)
+}
+
+/// The rows of the fields that aren't texts, but for Architecture, whose names have this many bytes
+/// (Debian Policy 5.6 and 7): a name is compared with those of its length alone.
+fn fields_of_length(length: usize) -> &'static [(&'static [u8], Kind)]
+    ensures { map row_in result.now ≡ rows_of_length length field_kinds }
+{
+    match length {
+        4 => &[(b"Size", Kind::Number)],
+        6 => &[
+            (b"Source", Kind::Source),
+            (b"Format", Kind::Line),
+            (b"Binary", Kind::Folded),
+            (b"Breaks", CONFLICT),
+        ],
+        7 => &[
+            (b"Package", Kind::Name),
+            (b"Version", Kind::Version),
+            (b"Section", Kind::Line),
+            (b"Depends", DEPENDENCY),
+        ],
+        8 => &[
+            (b"Homepage", Kind::Line),
+            (b"Priority", Kind::Line),
+            (b"Filename", Kind::Line),
+            (b"Suggests", DEPENDENCY),
+            (b"Enhances", DEPENDENCY),
+            (b"Replaces", CONFLICT),
+            (b"Provides", Kind::Relation(Relationship::Provides)),
+        ],
+        9 => &[
+            (b"Essential", Kind::Flag),
+            (b"Uploaders", Kind::Folded),
+            (b"Conflicts", CONFLICT),
+        ],
+        10 => &[
+            (b"Multi-Arch", Kind::MultiArch),
+            (b"Maintainer", Kind::Line),
+            (b"Recommends", DEPENDENCY),
+        ],
+        11 => &[(b"Pre-Depends", DEPENDENCY), (b"Built-Using", CONFLICT)],
+        13 => &[(b"Build-Depends", DEPENDENCY)],
+        14 => &[(b"Installed-Size", Kind::Number)],
+        15 => &[(b"Build-Conflicts", CONFLICT)],
+        17 => &[(b"Standards-Version", Kind::Line)],
+        18 => &[(b"Build-Depends-Arch", DEPENDENCY)],
+        19 => &[(b"Build-Depends-Indep", DEPENDENCY)],
+        20 => &[(b"Build-Conflicts-Arch", CONFLICT)],
+        21 => &[(b"Build-Conflicts-Indep", CONFLICT)],
+        _ => &[],
+    }
 }
 
 /// The kind of the first row that has the name; of no row: text.
@@ -144,11 +162,18 @@ fn kind_among(rows: &[(&[u8], Kind)], name: &[u8]) -> Kind
     ensures { result ≡ kind_among (map row_in rows.now) (folded name.now) }
 {
     for (field, kind) in rows {
-        if same_name(field, name) {
+        if is_named(field, name) {
             return *kind;
         }
     }
     Kind::Text
+}
+
+/// Whether a name is this one; most names are spelled so.
+fn is_named(field: &[u8], name: &[u8]) -> bool
+    ensures { IsTrue result ↔ (folded field.now ≡ folded name.now) }
+{
+    field == name || same_name(field, name)
 }
 
 impl Doc {
