@@ -46,6 +46,27 @@ component_text-first bytes (b ∷ after) cut e =
     ∙ component_text-cons (part_of cut) (parts_of (b ∷ after)) (parts_some (cuts_of (b ∷ after)) (AreCuts-cuts_of (b ∷ after)))
     ∙ ap (λ v. cut.0 ++ (number_text cut v ++ component_text (parts_of (b ∷ after)))) (sym (ne_eqb (length (b ∷ after)) 0 (λ h. omega arith)))
 
+-- what follows a cut is the text behind it, and so is its canonical text if it is its own
+joined_after : (after : List ℕ) → joined (cuts_after after) ≡ after
+joined_after [] = refl
+joined_after (b ∷ after) = joined-cuts_of (b ∷ after)
+
+pub rest_text-none : (after : List ℕ) → (length after == 0) ≡ true → rest_text after ≡ after
+rest_text-none after e = let none = nil_of_length after e in ap rest_text none ∙ sym none
+
+pub rest_text-some : (after : List ℕ) → (length after == 0) ≡ false → component_text (parts_of after) ≡ after → rest_text after ≡ after
+rest_text-some [] e itself = refl
+rest_text-some (b ∷ after) e itself = itself
+
+-- A component is its own canonical text where the number of its first cut is spelled so, and the rest is too.
+pub component_text-itself : (bytes after : List ℕ) (cut : Cut) → cuts_of bytes ≡ cut ∷ cuts_after after
+    → number_text cut (length after == 0) ≡ cut.1 → rest_text after ≡ after → component_text (parts_of bytes) ≡ bytes
+component_text-itself bytes after cut e number rest =
+    component_text-first bytes after cut e
+    ∙ ap (λ n. cut.0 ++ (n ++ rest_text after)) number
+    ∙ ap (λ r. cut.0 ++ (cut.1 ++ r)) (rest ∙ sym (joined_after after))
+    ∙ ap joined (sym e) ∙ joined-cuts_of bytes
+
 -- Where nothing is left without leading zeros the value is 0.
 pub without_zeros-none : (run : List ℕ) → without_zeros run ≡ [] → value_of run ≡ 0
 without_zeros-none run e = sym (value_of-without_zeros run) ∙ ap value_of e

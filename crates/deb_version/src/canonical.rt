@@ -1,6 +1,6 @@
 //! The canonical text of a version.
 
-ghost use Rattle.std.specs.Prelude.{◌≡◌, ◌+◌, ◌*◌, ◌≤◌, ◌==◌, ◌++◌, length, drop, OnOk, OnErr, if◌then◌else◌};
+ghost use Rattle.std.specs.Prelude.{◌≡◌, ◌+◌, ◌*◌, ◌≤◌, ◌==◌, ◌++◌, length, drop, IsTrue, OnOk, OnErr, if◌then◌else◌};
 ghost use Rattle.std.specs.List.{prefix_len};
 ghost use Rattle.std.specs.Option.{option_copied, option_map};
 ghost use Rattle.deb_version.specs.Cuts.{cut_of};
@@ -126,6 +126,9 @@ fn append_component(component: &[u8], out: &mut Vec<u8>) -> Result<(), AllocErro
         (out.new.items ≡ out.old.items ++ component_text (parts_of component.now)) }
     ensures begun { OnErr result (Extends out.old.items out.new.items) }
 {
+    if is_canonical(component) {
+        return out.extend_from_slice(component);
+    }
     let mut rest = component;
     loop {
         let (cut, after) = Cut::first(rest);
@@ -136,6 +139,32 @@ fn append_component(component: &[u8], out: &mut Vec<u8>) -> Result<(), AllocErro
         }
         rest = after;
     }
+}
+
+/// Whether a component is spelled as its canonical text, which most are.
+fn is_canonical(component: &[u8]) -> bool
+    ensures { IsTrue result → component_text (parts_of component.now) ≡ component.now }
+{
+    let mut rest = component;
+    loop {
+        let (cut, after) = Cut::first(rest);
+        if !has_canonical_digits(cut, after.is_empty()) {
+            return false;
+        }
+        if after.is_empty() {
+            return true;
+        }
+        rest = after;
+    }
+}
+
+/// Whether the number of a cut is spelled as in canonical text.
+fn has_canonical_digits(cut: Cut<'_>, is_last: bool) -> bool
+    ensures { IsTrue result →
+        (if is_last then last_digits_of (part_of (cut_of cut.entry)) else digits_of
+        (value_of cut.entry.run.now)) ≡ cut.entry.run.now }
+{
+    canonical_digits(cut, is_last) == cut.run
 }
 
 /// The number of a cut without leading zeros; in the last cut the number 0 is left out exactly if
