@@ -38,15 +38,4 @@ impl<'a> KeptText<'a> {
         }
         Ok(KeptText::Owned(Vec::from_slice(alloc, text)?))
     }
-
-    /// A text, lent where it is the body.
-    pub(crate) fn whole(body: &'a [u8], text: Vec<u8>) -> KeptText<'a>
-        ensures { bytes_of result ≡ text.items }
-    {
-        if body == text.as_slice() {
-            KeptText::Lent(body)
-        } else {
-            KeptText::Owned(text)
-        }
-    }
 }

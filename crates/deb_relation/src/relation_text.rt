@@ -1,7 +1,7 @@
 //! A relation as a field needs it: its canonical text and what a field asks of it, without its
 //! parts.
 
-ghost use Rattle.std.specs.Prelude.{◌≡◌, ◌++◌, Ok, IfOk, IfErr, OnErr, OnOk, codes, length, map};
+ghost use Rattle.std.specs.Prelude.{◌≡◌, ◌++◌, Ok, IfOk, IfErr, IfSome, IsTrue, OnErr, OnOk, codes, length, map};
 ghost use Rattle.std.specs.List.{list_all, list_any};
 ghost use Rattle.deb_relation.specs.Bodies.{meaning_in};
 ghost use Rattle.deb_relation.specs.KeptTexts.{bytes_of};
@@ -61,6 +61,64 @@ fn joined_texts(
     Ok(text)
 }
 
+/// What is left of a body behind a text, where the body begins with it.
+fn behind_text<'a>(body: &'a [u8], text: &[u8]) -> Option<&'a [u8]>
+    ensures { IfSome result (λ behind. body.now ≡ text.now ++ behind.now) }
+{
+    match body.split_at_checked(text.len()) {
+        Some((front, behind)) if front == text => Some(behind),
+        _ => None,
+    }
+}
+
+/// Whether a body is the texts of groups, each with a comma before it.
+fn is_more_texts(body: &[u8], groups: &[GroupSummary<'_>]) -> bool
+    ensures { IsTrue result
+        → body.now ≡ separated (codes ", ") (map summary_key (map told_of groups.now)) }
+{
+    let mut rest = body;
+    for group in groups {
+        let Some(next) = behind_text(rest, b", ") else {
+            return false;
+        };
+        let Some(behind) = behind_text(next, group.text.bytes()) else {
+            return false;
+        };
+        rest = behind;
+    }
+    rest.is_empty()
+}
+
+/// Whether a body is the texts of groups with commas between.
+fn is_joined_texts(body: &[u8], groups: &[GroupSummary<'_>]) -> bool
+    ensures { IsTrue result
+        → body.now ≡ joined (codes ", ") (map summary_key (map told_of groups.now)) }
+{
+    match groups {
+        [] => body.is_empty(),
+        [first, rest @ ..] => match behind_text(body, first.text.bytes()) {
+            Some(behind) => is_more_texts(behind, rest),
+            None => false,
+        },
+    }
+}
+
+/// The texts of groups with commas between, lent from a body that is spelled so.
+fn kept_text<'a>(
+    alloc: Global,
+    body: &'a [u8],
+    groups: &[GroupSummary<'_>],
+) -> Result<KeptText<'a>, AllocError>
+    ensures { IfOk result
+        (λ kept. bytes_of kept ≡ joined (codes ", ") (map summary_key (map told_of groups.now))) }
+{
+    if is_joined_texts(body, groups) {
+        return Ok(KeptText::Lent(body));
+    }
+    let text = joined_texts(alloc, body.len(), groups)?;
+    Ok(KeptText::Owned(text))
+}
+
 fn some_has_two(groups: &[GroupSummary<'_>]) -> bool
     ensures { result ≡ list_any (λ group. group.has_two) groups.now }
 {
@@ -96,10 +154,10 @@ impl<'a> RelationText<'a> {
         match read_groups(alloc, body) {
             Ok((groups, _)) => {
                 let groups: &[GroupSummary<'_>] = &groups;
-                match joined_texts(alloc, body.len(), groups) {
+                match kept_text(alloc, body, groups) {
                     Ok(text) => Ok(RelationText {
                         body,
-                        text: KeptText::whole(body, text),
+                        text,
                         some_alternatives: some_has_two(groups),
                         equals_alone: each_has_only_equals(groups),
                     }),
