@@ -1,5 +1,5 @@
 -- What a call of a reader of checked paragraphs says, from what its reader of paragraphs says.
-use Rattle.std.proofs.Common.{◌≡◌, ◌⊎◌, inl, inr, ℕ, ◌+◌, ◌<◌, ◌≤◌, ◌==◌, ◌&&◌, not, Bool, true, false, cond, leb, List, [], ◌∷◌, ◌++◌, length, Option, None, Some, Result, Ok, Err, IfOk, IfErr, IfNone, IfSome, MatchResult, IsTrue, IsSome, ◌↔◌, refl, sym, ap, ◌∙◌, subst, arith, length-append, append-nil}
+use Rattle.std.proofs.Common.{◌≡◌, ◌⊎◌, inl, inr, ℕ, ◌+◌, ◌<◌, ◌≤◌, ◌==◌, ◌&&◌, not, Bool, true, false, cond, leb, List, [], ◌∷◌, ◌++◌, length, Option, None, Some, Result, Ok, Err, is_ok, IfOk, IfErr, IfNone, IfSome, MatchResult, IsTrue, IsSome, ◌↔◌, refl, sym, ap, ◌∙◌, subst, arith, length-append, append-nil}
 use Rattle.std.proofs.Math.Bool.{and-false}
 use Rattle.std.proofs.lemmas.Bool.{ne_eqb, false≢true, and_parts, leb-true}
 use Rattle.std.proofs.lemmas.Slice.Eq.{bytes_eq-Decides}
@@ -20,10 +20,10 @@ use Rattle.deb_syntax.proofs.JudgingLaws.{push-append}
 use Rattle.deb_field.specs.Kinds.{is_single}
 use Rattle.deb_field.specs.declared.kind.Doc.{Doc}
 use Rattle.deb_control.specs.Canonical.{paragraph_text, file_text}
-use Rattle.deb_control.specs.Checking.{Passing, CheckedState, CheckedMoment, Follow, FitsChecked, AnswersChecked, IsRefusalOfDocument, Checks, ChecksOn, found_answer, passes_if}
+use Rattle.deb_control.specs.Checking.{Passing, CheckedState, CheckedMoment, Follow, FitsChecked, AnswersChecked, IsRefusalOfDocument, Checks, ChecksOn, found_answer, judged_answer, passes_if, judged_if, is_passing, is_judged, is_text_of, passing_seen, text_built}
 use Rattle.deb_control.specs.Documents.{rules_of}
-use Rattle.deb_control.specs.Finding.{end_answer, given_answer, AddsPassing, RefusesSeen, SaysOf}
-use Rattle.deb_control.specs.Refusals.{has_some, answer_of_seen, next_checked, line_behind}
+use Rattle.deb_control.specs.Finding.{end_answer, given_answer, passing_of_found, AddsPassing, RefusesSeen}
+use Rattle.deb_control.specs.Refusals.{built, has_some, answer_of_seen, next_checked, line_behind}
 use Rattle.deb_control.specs.Rules.{Rules}
 use Rattle.deb_control.specs.declared.tally.Tally.{Tally}
 use Rattle.deb_control.proofs.NextChecked.{next_checked-seen, next_checked-second, next_checked-last, next_checked-refused, bytes-with, next_checked-passes, next_checked-unbuilt, next_checked-too_long}
@@ -89,10 +89,6 @@ reader_at reader left failures = record { state = reader; source = record { byte
 
 abbrev pub passing_with : Seen → List ℕ → Passing
 passing_with seen text = record { seen = seen; text = text }
-
--- what stands for the paragraph where none is given
-abbrev nothing : Passing
-nothing = passing_with (record { first = 0; fields = [] }) []
 
 module _ (doc : Doc) (reader new : State) (count bytes : ℕ) (left after : Option (List ℕ)) (failures failures_after : ℕ) (few : count ≤ file_limit + 1) where
   -- an error of the reader of paragraphs
@@ -235,20 +231,18 @@ module _ (doc : Doc) (reader new : State) (count bytes : ℕ) (left after : Opti
     }
 
     -- the next one is checked
-    says-passed : (given given_now : Tally) (seen : Seen) (keeps : Bool) (written : List ℕ) (result : Result Bool Fault) → are_numbered seen.first seen.fields ≡ true → given.paragraphs ≡ count → given.bytes ≡ bytes → Advances (reader_at reader left failures) (Ok (Some seen)) (reader_at new after failures_after) → IfOk result (λ gives. (gives ≡ true) × AddsPassing doc seen given keeps written given_now) → IfErr result (λ fault. RefusedOrMemory fault (RefusesSeen doc seen given)) → IfErr result (λ fault. given_now ≡ given) → SaysOf (λ answer. Checks doc (checked_at reader count bytes left failures) answer (checked_at new given_now.paragraphs given_now.bytes after failures_after)) keeps (Some seen) written result
-    says-passed given given_now seen keeps written (Ok true) numbered counted is advances ok fault same = record {
-      given = passing_with seen (paragraph_text ok.1.entries);
-      says = checks-passes given given_now seen keeps written counted is advances ok.1 (few-given given_now);
-      kept = λ kept. ap (λ text. Ok (Some (passing_with seen text))) (sym (ok.1.written kept));
-    }
+    says-passed : (given given_now : Tally) (seen : Seen) (keeps : Bool) (written : List ℕ) (result : Result Bool Fault) → are_numbered seen.first seen.fields ≡ true → given.paragraphs ≡ count → given.bytes ≡ bytes → Advances (reader_at reader left failures) (Ok (Some seen)) (reader_at new after failures_after) → IfOk result (λ gives. (gives ≡ true) × AddsPassing doc seen given keeps written given_now) → IfErr result (λ fault. RefusedOrMemory fault (RefusesSeen doc seen given)) → IfErr result (λ fault. given_now ≡ given) → Checks doc (checked_at reader count bytes left failures) (given_answer (passing_seen doc seen) result) (checked_at new given_now.paragraphs given_now.bytes after failures_after)
+    says-passed given given_now seen keeps written (Ok true) numbered counted is advances ok fault same =
+        subst (λ text. Checks doc (checked_at reader count bytes left failures) (Ok (Some (passing_with seen text))) (checked_at new given_now.paragraphs given_now.bytes after failures_after)) (sym (ap text_built ok.1.built))
+        (checks-passes given given_now seen keeps written counted is advances ok.1 (few-given given_now))
     says-passed given given_now seen keeps written (Ok false) numbered counted is advances ok fault same = absurd (false≢true ok.0)
     says-passed given given_now seen keeps written (Err f) numbered counted is advances ok fault same =
         let at : (given_now.paragraphs ≡ count) × (given_now.bytes ≡ bytes) = (ap (λ t. t.paragraphs) same ∙ counted, ap (λ t. t.bytes) same ∙ is) in
-        rw (at.0, at.1) (record { given = nothing; says = checks-unpassed given seen f numbered counted is advances fault; kept = λ kept. refl })
+        rw (at.0, at.1) (checks-unpassed given seen f numbered counted is advances fault)
 
-    pub says-found : (given given_now : Tally) (seen : Seen) (keeps : Bool) (found : Option Seen) (written : List ℕ) (answer : Result (Option Seen) Fault) (result : Result Bool Fault) → are_numbered seen.first seen.fields ≡ true → given.paragraphs ≡ count → given.bytes ≡ bytes → found ≡ Some seen → answer ≡ Ok (Some seen) → Advances (reader_at reader left failures) answer (reader_at new after failures_after) → IfOk result (λ gives. (gives ≡ true) × AddsPassing doc seen given keeps written given_now) → IfErr result (λ fault. RefusedOrMemory fault (RefusesSeen doc seen given)) → IfErr result (λ fault. given_now ≡ given) → SaysOf (λ answer. Checks doc (checked_at reader count bytes left failures) answer (checked_at new given_now.paragraphs given_now.bytes after failures_after)) keeps found written result
+    pub says-found : (given given_now : Tally) (seen : Seen) (keeps : Bool) (found : Option Seen) (written : List ℕ) (answer : Result (Option Seen) Fault) (result : Result Bool Fault) → are_numbered seen.first seen.fields ≡ true → given.paragraphs ≡ count → given.bytes ≡ bytes → found ≡ Some seen → answer ≡ Ok (Some seen) → Advances (reader_at reader left failures) answer (reader_at new after failures_after) → IfOk result (λ gives. (gives ≡ true) × AddsPassing doc seen given keeps written given_now) → IfErr result (λ fault. RefusedOrMemory fault (RefusesSeen doc seen given)) → IfErr result (λ fault. given_now ≡ given) → Checks doc (checked_at reader count bytes left failures) (given_answer (passing_of_found doc found) result) (checked_at new given_now.paragraphs given_now.bytes after failures_after)
     says-found given given_now seen keeps found written answer result numbered counted is one some goes ok fault same =
-        subst (λ f. SaysOf (λ a. Checks doc (checked_at reader count bytes left failures) a (checked_at new given_now.paragraphs given_now.bytes after failures_after)) keeps f written result) (sym one)
+        subst (λ f. Checks doc (checked_at reader count bytes left failures) (given_answer (passing_of_found doc f) result) (checked_at new given_now.paragraphs given_now.bytes after failures_after)) (sym one)
         (says-passed given given_now seen keeps written result numbered counted is (subst (λ a. Advances (reader_at reader left failures) a (reader_at new after failures_after)) some goes) ok fault same)
 
   -- what it says of the beginning of one that is one too many
@@ -281,14 +275,52 @@ module _ (doc : Doc) (reader new : State) (count bytes : ℕ) (left after : Opti
     }
 
 -- where there is no paragraph, none is given, whatever was found before
-pub says-none : (says : Result (Option Passing) Fault → Type 0) (keeps : Bool) (found : Option Seen) (written : List ℕ) (result : Result Bool Fault) → IfOk result (λ gives. gives ≡ false) → says (found_answer None [] result) → SaysOf says keeps found written result
-says-none says keeps found written (Ok true) none h = absurd (false≢true (sym none))
-says-none says keeps found written (Ok false) none h = record { given = nothing; says = h; kept = λ kept. refl }
-says-none says keeps found written (Err fault) none h = record { given = nothing; says = h; kept = λ kept. refl }
+pub says-none : (doc : Doc) (before after : CheckedMoment) (given : Passing) (result : Result Bool Fault) → IfOk result (λ gives. gives ≡ false) → Checks doc before (found_answer None [] result) after → Checks doc before (given_answer given result) after
+says-none doc before after given (Ok true) none h = absurd (false≢true (sym none))
+says-none doc before after given (Ok false) none h = h
+says-none doc before after given (Err fault) none h = h
 
--- where text is kept, the one that was found is given
-pub says-kept : (says : Result (Option Passing) Fault → Type 0) (found : Option Seen) (written : List ℕ) (result : Result Bool Fault) → SaysOf says true found written result → says (found_answer found written result)
-says-kept says found written result s = subst says (s.kept refl) s.says
+-- where text is kept, the one that was found is given with it
+module _ (doc : Doc) (before after : CheckedMoment) where
+  pub says-kept : (found : Option Seen) (written : List ℕ) (result : Result Bool Fault) → IfOk result (λ gives. IsTrue (passes_if gives doc found written)) → ChecksOn doc before (given_answer (passing_of_found doc found) result) after → ChecksOn doc before (found_answer found written result) after
+  says-kept None written (Ok true) passes h = absurd (false≢true passes)
+  says-kept (Some seen) written (Ok true) passes h = go (built (rules_of doc) seen) refl passes
+    where
+      go : (r : Result Entries Refusal) → built (rules_of doc) seen ≡ r → IsTrue (is_text_of r written) → ChecksOn doc before (Ok (Some (passing_with seen written))) after
+      go (Ok entries) e is = subst (λ text. ChecksOn doc before (Ok (Some (passing_with seen text))) after) (ap text_built e ∙ sym ((bytes_eq-Decides written (paragraph_text entries)).0 is)) h
+      go (Err refusal) e is = absurd (false≢true is)
+  says-kept found written (Ok false) passes h = h
+  says-kept found written (Err fault) passes h = h
+
+  -- where it isn't, the one that was found is judged
+  pub says-judged : (found : Option Seen) (result : Result Bool Fault) → IfOk result (λ gives. IsTrue (judged_if gives doc found)) → ChecksOn doc before (given_answer (passing_of_found doc found) result) after → ChecksOn doc before (judged_answer doc found result) after
+  says-judged None (Ok true) passes h = absurd (false≢true passes)
+  says-judged (Some seen) (Ok true) passes h = h
+  says-judged found (Ok false) passes h = h
+  says-judged found (Err fault) passes h = h
+
+-- what is told of an answer holds of what is equal to it
+pub told-of : (result : Result Bool Fault) (kept : Bool) (P : Bool → Type 0) → IfOk result (λ gives. kept ≡ gives) → P kept → IfOk result P
+told-of (Ok gives) kept P same h = subst P same h
+told-of (Err fault) kept P same h = tt
+
+-- a paragraph that was built is judged
+pub found-judged : (doc : Doc) (given given_now : Tally) (seen : Seen) (keeps : Bool) (found : Option Seen) (written : List ℕ) (result : Result Bool Fault) → found ≡ Some seen → IfOk result (λ gives. (gives ≡ true) × AddsPassing doc seen given keeps written given_now) → IfOk result (λ gives. IsTrue (judged_if gives doc found))
+found-judged doc given given_now seen keeps found written (Ok true) one ok = rw (one, ok.1.built) refl
+found-judged doc given given_now seen keeps found written (Ok false) one ok = refl
+found-judged doc given given_now seen keeps found written (Err fault) one ok = tt
+
+pub none-judged : (doc : Doc) (found : Option Seen) (result : Result Bool Fault) → IfOk result (λ gives. gives ≡ false) → IfOk result (λ gives. IsTrue (judged_if gives doc found))
+none-judged doc found (Ok gives) none = rw none refl
+none-judged doc found (Err fault) none = tt
+
+-- and so is one that passes with its text
+pub passing-judged : (doc : Doc) (seen : Seen) (text : List ℕ) → IsTrue (is_passing doc seen text) → IsTrue (is_judged doc seen)
+passing-judged doc seen text passes = go (built (rules_of doc) seen) refl passes
+  where
+    go : (r : Result Entries Refusal) → built (rules_of doc) seen ≡ r → IsTrue (is_text_of r text) → IsTrue (is_judged doc seen)
+    go (Ok entries) e is = ap is_ok e
+    go (Err refusal) e is = absurd (false≢true is)
 
 -- what is kept of it is its canonical text
 pub kept-passes : (doc : Doc) (given given_now : Tally) (seen : Seen) (keeps : Bool) (found : Option Seen) (written : List ℕ) (result : Result Bool Fault) → found ≡ Some seen → IfOk result (λ gives. (gives ≡ true) × AddsPassing doc seen given keeps written given_now) → IfOk result (λ gives. IsTrue (passes_if (keeps && gives) doc found written))
@@ -365,25 +397,17 @@ module _ (doc : Doc) (reader new : State) (count bytes count_now bytes_now : ℕ
   says_keeps given (Ok false) h = h
   says_keeps given (Err f) h = h
 
-  pub says_on : (keeps : Bool) (found : Option Seen) (written : List ℕ) (result : Result Bool Fault) → fault ≡ None → SaysOf (λ answer. Checks doc (checked_at reader count bytes left failures) answer (checked_at new count_now bytes_now after failures_after)) keeps found written result → MatchResult result (λ _. fault_now ≡ None) (λ f. fault_now ≡ Some f) → SaysOf (λ answer. ChecksOn doc moment answer moment_now) keeps found written result
-  says_on keeps found written result none s held = record {
-    given = s.given;
-    says = checks_on (given_answer s.given result) none s.says (says_keeps s.given result held);
-    kept = s.kept;
-  }
+  pub says_on : (given : Passing) (result : Result Bool Fault) → fault ≡ None → Checks doc (checked_at reader count bytes left failures) (given_answer given result) (checked_at new count_now bytes_now after failures_after) → MatchResult result (λ _. fault_now ≡ None) (λ f. fault_now ≡ Some f) → ChecksOn doc moment (given_answer given result) moment_now
+  says_on given result none checks held = checks_on (given_answer given result) none checks (says_keeps given result held)
 
 -- and of one with an error, which repeats it
-pub says_again : (doc : Doc) (moment : CheckedMoment) (keeps : Bool) (found : Option Seen) (written : List ℕ) (fault : Fault) → moment.state.fault ≡ Some fault → SaysOf (λ answer. ChecksOn doc moment answer moment) keeps found written (Err fault)
-says_again doc moment keeps found written fault is =
+pub says_again : (doc : Doc) (moment : CheckedMoment) (fault : Fault) → moment.state.fault ≡ Some fault → ChecksOn doc moment (Err fault) moment
+says_again doc moment fault is =
     let answer : Result (Option Passing) Fault = Err fault in
     let same : answer ≡ Err fault = refl in
     let stays : moment ≡ moment = refl in
     record {
-      given = nothing;
-      says = record {
-        goes = subst (λ f. IfNone f (Checks doc moment answer moment)) (sym is) tt;
-        keeps = subst (λ f. IfNone f (moment.state.fault ≡ Some fault)) (sym is) tt;
-        repeats = subst (λ f. IfSome f (λ g. (answer ≡ Err g) × (moment ≡ moment))) (sym is) (same, stays);
-      };
-      kept = λ kept. refl;
+      goes = subst (λ f. IfNone f (Checks doc moment answer moment)) (sym is) tt;
+      keeps = subst (λ f. IfNone f (moment.state.fault ≡ Some fault)) (sym is) tt;
+      repeats = subst (λ f. IfSome f (λ g. (answer ≡ Err g) × (moment ≡ moment))) (sym is) (same, stays);
     }

@@ -1,5 +1,5 @@
 -- The values of a paragraph that passes.
-use Rattle.std.proofs.Common.{◌≡◌, ℕ, List, [], ◌∷◌, Option, None, Some, Result, Ok, Err, IsTrue, is_some, Bool, true, false, cond, refl, sym, ap, ◌∙◌, subst}
+use Rattle.std.proofs.Common.{◌≡◌, ℕ, List, [], ◌∷◌, Option, None, Some, Result, Ok, Err, is_ok, IsTrue, is_some, Bool, true, false, cond, refl, sym, ap, ◌∙◌, subst}
 use Rattle.std.proofs.lemmas.Bool.{false≢true}
 use Rattle.std.proofs.lemmas.Slice.Eq.{bytes_eq-Decides}
 use Rattle.std.specs.FinMap.{find}
@@ -21,7 +21,7 @@ use Rattle.deb_syntax.specs.Raw.{field_named}
 use Rattle.deb_field.specs.declared.kind.Doc.{Doc}
 use Rattle.deb_field.specs.Values.{ValueMeaning, value_text, SpellsValue, value_refusal}
 use Rattle.deb_field.specs.ValueLaws.{value_law}
-use Rattle.deb_control.specs.Checking.{is_text_of, is_passing}
+use Rattle.deb_control.specs.Checking.{is_judged}
 use Rattle.deb_control.specs.Documents.{rules_of}
 use Rattle.deb_control.specs.Paragraphs.{AreValuesOf}
 use Rattle.deb_control.specs.PassingValues.{HasValue}
@@ -34,15 +34,15 @@ use Rattle.deb_control.proofs.Passing.{built-parts}
 use Rattle.deb_control.proofs.ValueBodies.{value_at}
 
 -- what is built of it
-pub built-passing : (doc : Doc) (seen : Seen) (text : List ℕ) → IsTrue (is_passing doc seen text) → (entries : Entries) × (built (rules_of doc) seen ≡ Ok entries)
-built-passing doc seen text passes = go (built (rules_of doc) seen) refl passes
+pub built-passing : (doc : Doc) (seen : Seen) → IsTrue (is_judged doc seen) → (entries : Entries) × (built (rules_of doc) seen ≡ Ok entries)
+built-passing doc seen passes = go (built (rules_of doc) seen) refl passes
   where
-    go : (r : Result Entries Refusal) → built (rules_of doc) seen ≡ r → IsTrue (is_text_of r text) → (entries : Entries) × (built (rules_of doc) seen ≡ Ok entries)
+    go : (r : Result Entries Refusal) → built (rules_of doc) seen ≡ r → IsTrue (is_ok r) → (entries : Entries) × (built (rules_of doc) seen ≡ Ok entries)
     go (Ok entries) e is = (entries, e)
     go (Err refusal) e is = absurd (cc)
 
-pub built-unrefused : (doc : Doc) (seen : Seen) (text : List ℕ) → IsTrue (is_passing doc seen text) → (refusal : Refusal) → built (rules_of doc) seen ≡ Err refusal → ⊥
-built-unrefused doc seen text passes refusal is = let found = built-passing doc seen text passes in go (built (rules_of doc) seen) found.0 found.1 is
+pub built-unrefused : (doc : Doc) (seen : Seen) → IsTrue (is_judged doc seen) → (refusal : Refusal) → built (rules_of doc) seen ≡ Err refusal → ⊥
+built-unrefused doc seen passes refusal is = let found = built-passing doc seen passes in go (built (rules_of doc) seen) found.0 found.1 is
   where
     go : (r : Result Entries Refusal) (entries : Entries) → r ≡ Ok entries → r ≡ Err refusal → ⊥
     go r entries e f = cc
@@ -55,9 +55,9 @@ only_memory Read P is none = absurd is
 only_memory Write P is none = absurd is
 
 -- its values
-pub values-passing : (doc : Doc) (seen : Seen) (text : List ℕ) → IsTrue (is_passing doc seen text) → (values : ValueEntries ValueMeaning) × AreValuesOf doc seen values
-values-passing doc seen text passes =
-    let found = built-passing doc seen text passes in
+pub values-passing : (doc : Doc) (seen : Seen) → IsTrue (is_judged doc seen) → (values : ValueEntries ValueMeaning) × AreValuesOf doc seen values
+values-passing doc seen passes =
+    let found = built-passing doc seen passes in
     let parts = built-parts (rules_of doc) seen found.0 (value_refusal_of (rules_of doc) seen.fields) refl found.1 in
     let values = values-from_none ValueMeaning (SpellsValue doc) value_text (value_law doc) (rules_of doc) (document_rules doc) seen.fields parts.good in
     (values.0, record { spelled = values.1; passes = found.1 ∙ ap Ok (parts.is ∙ values.2) })
@@ -83,10 +83,10 @@ no-body name (first ∷ fields) none = go (bytes_eq (folded first.name) (folded 
     go false e rest = rest e
 
 -- what was read under a name is the paragraph's value under it
-module _ (doc : Doc) (seen : Seen) (text : List ℕ) (passes : IsTrue (is_passing doc seen text)) (are : are_fields seen.fields ≡ true) (name : List ℕ) where
+module _ (doc : Doc) (seen : Seen) (passes : IsTrue (is_judged doc seen)) (are : are_fields seen.fields ≡ true) (name : List ℕ) where
   pub none-passing : field_named name seen.fields ≡ None → HasValue doc seen name None
   none-passing none =
-      let values = values-passing doc seen text passes in
+      let values = values-passing doc seen passes in
       let no_entry : find byte_order (canonical_name name) (entries_of seen.fields) ≡ None = body_at-entries_of seen.fields (distinct-from seen.fields are) name ∙ no-body name seen.fields none in
       let no_value : is_some (find byte_order (canonical_name name) values.0) ≡ false = is_some-find (SpellsValue doc) (canonical_name name) (entries_of seen.fields) values.0 values.1.spelled ∙ ap is_some no_entry in
       record { values = values.0; are = values.1; found = sym (go (find byte_order (canonical_name name) values.0) no_value) }
@@ -97,7 +97,7 @@ module _ (doc : Doc) (seen : Seen) (text : List ℕ) (passes : IsTrue (is_passin
 
   pub value-passing : (field : Field) (value : ValueMeaning) → field_named name seen.fields ≡ Some field → SpellsValue doc (canonical_name field.name) field.body value → HasValue doc seen name (Some value)
   value-passing field value is spells =
-      let values = values-passing doc seen text passes in
+      let values = values-passing doc seen passes in
       let found = field-body name seen.fields field is in
       let entry : find byte_order (canonical_name name) (entries_of seen.fields) ≡ Some field.body = body_at-entries_of seen.fields (distinct-from seen.fields are) name ∙ found.0 in
       let at = value_at ValueMeaning (SpellsValue doc) value_text (value_law doc) (canonical_name name) field.body (entries_of seen.fields) values.0 values.1.spelled entry in
@@ -107,7 +107,7 @@ module _ (doc : Doc) (seen : Seen) (text : List ℕ) (passes : IsTrue (is_passin
   -- and it isn't refused
   pub unrefused-passing : (field : Field) (code : Code) → field_named name seen.fields ≡ Some field → value_refusal doc (canonical_name field.name) field.body ≡ Some code → ⊥
   unrefused-passing field code is refused =
-      let found = built-passing doc seen text passes in
+      let found = built-passing doc seen passes in
       let parts = built-parts (rules_of doc) seen found.0 (value_refusal_of (rules_of doc) seen.fields) refl found.1 in
       go seen.fields is (each-from_none (rules_of doc) seen.fields parts.good)
     where

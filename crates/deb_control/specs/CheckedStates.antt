@@ -4,9 +4,10 @@ use Rattle.std.specs.Option.{option_map}
 use Rattle.deb_base.specs.declared.fault.Fault.{Fault}
 use Rattle.deb_syntax.specs.Paragraphs.{state_of, seen_of}
 use Rattle.deb_field.specs.declared.kind.Doc.{Doc}
-use Rattle.deb_control.specs.Checking.{CheckedMoment, CheckedState, Passing, passing_found}
+use Rattle.deb_control.specs.Checking.{CheckedMoment, CheckedState, Passing, passing_found, passing_seen}
 use Rattle.deb_control.specs.declared.accepted.Accepted.{Accepted}
 use Rattle.deb_control.specs.declared.checked.Checked.{Checked}
+use Rattle.deb_control.specs.declared.judged.Judged.{Judged}
 
 abbrev pub checked_state : Checked → CheckedState
 checked_state c = record {
@@ -28,13 +29,27 @@ checked_moment c left failures = record {
 }
 
 -- what a view of a paragraph that passes shows
-abbrev pub passing_of : Accepted → Passing
-passing_of accepted = record { seen = seen_of accepted.raw; text = accepted.canonical.now }
+abbrev pub passing_judged : Judged → Passing
+passing_judged judged = passing_seen judged.doc (seen_of judged.raw)
 
--- and the kind of its document
+-- and what one with its canonical text does
+abbrev pub passing_of : Accepted → Passing
+passing_of accepted = record {
+  seen = seen_of accepted.judged.raw;
+  text = accepted.canonical.now;
+}
+
+-- and the kinds of their documents
+abbrev pub doc_judged : Judged → Doc
+doc_judged judged = judged.doc
+
 abbrev pub doc_of : Accepted → Doc
-doc_of accepted = accepted.doc
+doc_of accepted = accepted.judged.doc
 
 abbrev pub checked_answer : Result (Option Accepted) Fault → Result (Option Passing) Fault
 checked_answer (Ok accepted) = Ok (option_map passing_of accepted)
 checked_answer (Err fault) = Err fault
+
+abbrev pub answer_judged : Result (Option Judged) Fault → Result (Option Passing) Fault
+answer_judged (Ok judged) = Ok (option_map passing_judged judged)
+answer_judged (Err fault) = Err fault

@@ -1,6 +1,6 @@
 -- What a reader of checked paragraphs is to its callers, which texts fit it, and what its calls say
 -- of them (Debian Policy 5.1; the limits and the order of the refusals are this project's own).
-use Rattle.std.specs.Prelude.{◌≡◌, ℕ, ◌+◌, ◌≤◌, Bool, true, false, List, [], ◌∷◌, ◌++◌, length, Option, Some, None, IfSome, IfNone, Result, Ok, Err, IfErr, MatchResult}
+use Rattle.std.specs.Prelude.{◌≡◌, ℕ, ◌+◌, ◌≤◌, Bool, true, false, List, [], ◌∷◌, ◌++◌, length, Option, Some, None, IfSome, IfNone, Result, Ok, Err, is_ok, IfErr, MatchResult}
 use Rattle.std.specs.Option.{option_map}
 use Rattle.std.specs.Str.{bytes_eq}
 use Rattle.deb_base.specs.Codes.{number_of}
@@ -138,6 +138,35 @@ is_text_of (Err refusal) text = false
 -- the paragraph passes by itself, and the bytes are its canonical text
 abbrev pub is_passing : Doc → Seen → List ℕ → Bool
 is_passing doc seen text = is_text_of (built (rules_of doc) seen) text
+
+-- the paragraph passes by itself
+abbrev pub is_judged : Doc → Seen → Bool
+is_judged doc seen = is_ok (built (rules_of doc) seen)
+
+-- the canonical text of what is built
+abbrev pub text_built : Result Entries Refusal → List ℕ
+text_built (Ok entries) = paragraph_text entries
+text_built (Err refusal) = []
+
+-- a paragraph that passes by itself, with its canonical text
+abbrev pub passing_seen : Doc → Seen → Passing
+passing_seen doc seen = record { seen = seen; text = text_built (built (rules_of doc) seen) }
+
+-- where a paragraph was judged, that is the one that was found, and it passes
+abbrev pub judged_if : Bool → Doc → Option Seen → Bool
+judged_if false doc found = true
+judged_if true doc None = false
+judged_if true doc (Some seen) = is_judged doc seen
+
+-- the paragraph that was judged, where one was
+abbrev pub judged_found : Bool → Doc → Option Seen → Option Passing
+judged_found false doc found = None
+judged_found true doc found = option_map (passing_seen doc) found
+
+-- what an answer that there is a paragraph, or none, shows by the one that was judged
+abbrev pub judged_answer : Doc → Option Seen → Result Bool Fault → Result (Option Passing) Fault
+judged_answer doc found (Ok gives) = Ok (judged_found gives doc found)
+judged_answer doc found (Err fault) = Err fault
 
 -- where a paragraph is given, that is the one that was found, and it passes
 abbrev pub passes_if : Bool → Doc → Option Seen → List ℕ → Bool

@@ -1,5 +1,5 @@
 -- What the parts of a reader of checked paragraphs show while the next one is found.
-use Rattle.std.specs.Prelude.{◌≡◌, ◌⊎◌, ℕ, ◌+◌, ◌<◌, ◌≤◌, ◌==◌, ◌&&◌, Bool, true, false, IsTrue, cond, List, length, Option, None, Some, Result, Ok, Err}
+use Rattle.std.specs.Prelude.{◌≡◌, ◌⊎◌, ℕ, ◌+◌, ◌<◌, ◌≤◌, ◌==◌, ◌&&◌, Bool, true, false, IsTrue, cond, List, [], length, Option, None, Some, Result, Ok, Err}
 use Rattle.deb_base.specs.declared.code.Code.TheVariants.{NoParagraph, FileTooLong}
 use Rattle.deb_base.specs.declared.fault.Fault.{Fault}
 use Rattle.deb_base.specs.declared.fault.Fault.TheVariants.{Refused}
@@ -15,7 +15,7 @@ use Rattle.deb_control.specs.Refusals.{built}
 use Rattle.deb_control.specs.Tallies.{bytes_with}
 use Rattle.deb_syntax.specs.Paragraphs.{state_of}
 use Rattle.deb_syntax.specs.declared.paragraphs.Paragraphs.{Paragraphs}
-use Rattle.deb_control.specs.Checking.{CheckedMoment, Passing, ChecksOn, found_answer}
+use Rattle.deb_control.specs.Checking.{CheckedMoment, Passing, ChecksOn, passing_seen}
 use Rattle.deb_control.specs.declared.tally.Tally.{Tally}
 
 -- a reader of paragraphs and what was given of it, with a source that has these bytes left and
@@ -68,13 +68,10 @@ given_answer given (Ok true) = Ok (Some given)
 given_answer given (Ok false) = Ok None
 given_answer given (Err fault) = Err fault
 
--- What is said of the paragraph that an answer gives, where that is told by whether there is one;
--- where text is kept, it is the one that was found, with these bytes.
-pub record SaysOf (Says : Result (Option Passing) Fault → Type 0) (keeps : Bool)
-    (found : Option Seen) (written : List ℕ) (result : Result Bool Fault) : Type 0 where
-  pub given : Passing
-  pub says : Says (given_answer given result)
-  pub kept : IsTrue keeps → given_answer given result ≡ found_answer found written result
+-- the paragraph that was found, with its canonical text; nothing where none was
+abbrev pub passing_of_found : Doc → Option Seen → Passing
+passing_of_found doc None = record { seen = record { first = 0; fields = [] }; text = [] }
+passing_of_found doc (Some seen) = passing_seen doc seen
 
 -- A call that goes on behind the next paragraph, and answers whether there is one.
 pub record PassesOver (doc : Doc) (before : CheckedMoment) (result : Result Bool Fault)

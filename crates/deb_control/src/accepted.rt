@@ -1,13 +1,13 @@
-//! A view of a paragraph that passes.
+//! A view of a paragraph that passes, with its canonical text.
 
 ghost use Rattle.std.specs.Prelude.{◌≡◌, List, IsTrue};
 ghost use Rattle.deb_syntax.specs.Paragraphs.{seen_of};
 ghost use Rattle.deb_control.specs.Checking.{is_passing};
 
-use crate::paragraph::{Paragraph, value_of};
-use deb_base::Fault;
-use deb_field::{Doc, Value};
-use deb_syntax::{Fields, Raw, RawField};
+use crate::judged::Judged;
+use crate::paragraph::Paragraph;
+use deb_field::Value;
+use deb_syntax::{Fields, RawField};
 use std::alloc::{AllocError, Global};
 
 /// A paragraph of a document that passes every rule of its kind, as a view: its fields as they
@@ -15,10 +15,9 @@ use std::alloc::{AllocError, Global};
 /// refused.
 #[derive(Clone, Copy)]
 pub struct Accepted<'a> {
-    doc: Doc,
-    raw: Raw<'a>,
+    judged: Judged<'a>,
     canonical: &'a [u8],
-    ghost passes: { IsTrue (is_passing doc (seen_of raw) canonical.now) },
+    ghost passes: { IsTrue (is_passing judged.doc (seen_of judged.raw) canonical.now) },
 }
 
 impl<'a> Accepted<'a> {
@@ -34,24 +33,20 @@ impl<'a> Accepted<'a> {
     ghost use Rattle.deb_control.specs.ParagraphValues.{fields_shown, values_of};
     ghost use Rattle.deb_control.specs.PassingValues.{HasValue};
 
-    pub(crate) fn new(doc: Doc, raw: Raw<'a>, canonical: &'a [u8]) -> Accepted<'a>
-        requires { IsTrue (is_passing doc (seen_of raw) canonical.now) }
-        ensures doc { result.doc ≡ doc }
+    pub(crate) fn new(judged: Judged<'a>, canonical: &'a [u8]) -> Accepted<'a>
+        requires { IsTrue (is_passing judged.doc (seen_of judged.raw) canonical.now) }
+        ensures doc { doc_of result ≡ judged.entry.doc }
         ensures passing { passing_of result
-            ≡ record { seen = seen_of raw.entry; text = canonical.now } }
+            ≡ record { seen = seen_of judged.entry.raw; text = canonical.now } }
     {
-        Accepted {
-            doc,
-            raw,
-            canonical,
-        }
+        Accepted { judged, canonical }
     }
 
     /// The number of the paragraph's first line in its file, which is counted from 1.
     pub fn first_line(&self) -> u64
         ensures { result ≡ (passing_of self.now).seen.first }
     {
-        self.raw.first_line()
+        self.judged.first_line()
     }
 
     /// The field of a name as it stands in the file, without ASCII case, or `None` where there is
@@ -60,14 +55,14 @@ impl<'a> Accepted<'a> {
         ensures { option_map field_of result
             ≡ field_named name.now (passing_of self.now).seen.fields }
     {
-        self.raw.get(name)
+        self.judged.get(name)
     }
 
     /// The fields in the order of the file.
     pub fn fields(&self) -> Fields<'a>
         ensures { fields_left result ≡ (passing_of self.now).seen.fields }
     {
-        self.raw.fields()
+        self.judged.fields()
     }
 
     /// The paragraph's canonical text: each field on lines of its own, in ascending order of the
@@ -89,13 +84,7 @@ impl<'a> Accepted<'a> {
             (λ value. HasValue (doc_of self.now) (passing_of self.now).seen name.now
             (option_map value_meaning value)) }
     {
-        let Some(field) = self.raw.get(name) else {
-            return Ok(None);
-        };
-        match value_of(alloc, self.doc, &field) {
-            Ok(value) => Ok(Some(value)),
-            Err(fault) => Err(want_of_memory(fault)),
-        }
+        self.judged.value(alloc, name)
     }
 
     /// The paragraph with its values.
@@ -109,19 +98,6 @@ impl<'a> Accepted<'a> {
         ensures fields { IfOk result
             (λ typed. IsPermutation (passing_of self.now).seen.fields (fields_shown typed)) }
     {
-        match Paragraph::build(alloc, self.doc, &self.raw) {
-            Ok(paragraph) => Ok(paragraph),
-            Err(fault) => Err(want_of_memory(fault)),
-        }
-    }
-}
-
-/// Want of memory, which is the only fault that reading again what passes can have.
-fn want_of_memory(fault: Fault) -> AllocError
-    requires { fault ≡ Fault.Memory }
-{
-    match fault {
-        Fault::Memory => AllocError,
-        Fault::Refused(_) | Fault::Read | Fault::Write => unreachable!(),
+        self.judged.paragraph(alloc)
     }
 }

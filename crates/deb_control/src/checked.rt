@@ -2,11 +2,12 @@
 
 ghost use Rattle.std.specs.Prelude.{◌≡◌, ◌+◌, ◌≤◌, ◌&&◌, ℕ, List, [], Some, None, IfOk, IfSome, IsTrue};
 ghost use Rattle.deb_syntax.specs.Paragraphs.{state_of};
-ghost use Rattle.deb_control.specs.Checking.{passes_if, is_sound, found_answer};
-ghost use Rattle.deb_control.specs.Finding.{PassesOver, SaysOf};
+ghost use Rattle.deb_control.specs.Checking.{passes_if, is_sound, found_answer, judged_answer, judged_found, judged_if};
+ghost use Rattle.deb_control.specs.Finding.{PassesOver, given_answer, passing_of_found};
 
 use crate::accepted::Accepted;
 use crate::find::find;
+use crate::judged::Judged;
 use crate::tally::Tally;
 use deb_base::{Fault, Source};
 use deb_field::Doc;
@@ -24,14 +25,17 @@ pub struct Checked {
     paragraphs: Paragraphs,
     doc: Doc,
     given: Tally,
-    /// The canonical text of the paragraph that was given last.
+    /// The canonical text of the paragraph that was given last with it.
     canonical: Vec<u8>,
-    /// Whether the last answer was a paragraph.
+    /// Whether the last answer was a paragraph with its canonical text.
     gives: bool,
+    /// Whether the last answer was a paragraph.
+    judged: bool,
     fault: Option<Fault>,
     alloc: Global,
     ghost sound: { IsTrue (is_sound fault (state_of paragraphs).fault) },
     ghost passes: { IsTrue (passes_if gives doc (state_of paragraphs).current canonical.items) },
+    ghost found: { IsTrue (judged_if judged doc (state_of paragraphs).current) },
 }
 
 impl Checked {
@@ -41,7 +45,7 @@ impl Checked {
     ghost use Rattle.deb_control.specs.contracts.checked.Checked.{the_row};
     ghost use Rattle.deb_control.specs.Checking.{FitsChecked, ChecksOn};
     ghost use Rattle.deb_control.specs.CheckedStates.{checked_state, checked_moment};
-    ghost use Rattle.deb_control.specs.CheckedStates.{checked_answer, doc_of, doc_read, passing_of};
+    ghost use Rattle.deb_control.specs.CheckedStates.{answer_judged, checked_answer, doc_judged, doc_of, doc_read, passing_judged, passing_of};
 
     /// A reader of checked paragraphs that has read nothing: whatever its source has left is the
     /// file. Takes no memory.
@@ -58,6 +62,7 @@ impl Checked {
             given: Tally::none(),
             canonical: Vec::new(alloc),
             gives: false,
+            judged: false,
             fault: None,
             alloc,
         }
@@ -95,6 +100,32 @@ impl Checked {
         }
     }
 
+    /// The next paragraph of the file as `next` gives it, but without its canonical text, which
+    /// isn't built.
+    ///
+    /// # Errors
+    ///
+    /// Those of `next`. After an error every later call answers the same error, and reads nothing.
+    pub fn next_judged<'a, R: Source>(
+        &'a mut self,
+        reader: &mut R,
+    ) -> Result<Option<Judged<'a>>, Fault>
+        ensures doc { IfOk result
+            (λ given. IfSome given (λ judged. doc_judged judged ≡ doc_read self.old)) }
+        ensures* after { sem 𝓛
+            (Rests the_row self.entry
+            (λ new. ChecksOn (doc_read self.old)
+            (checked_moment self.old (R.left reader.old) (R.failures reader.old))
+            (answer_judged result) (checked_moment new (R.left reader.new) (R.failures reader.new))
+            × (doc_read new ≡ doc_read self.old))) }
+    {
+        if self.judge(reader)? {
+            Ok(self.current_judged())
+        } else {
+            Ok(None)
+        }
+    }
+
     /// Goes on to the next paragraph, which `current` then gives, and says whether there is one.
     fn step<R: Source>(&mut self, reader: &mut R) -> Result<bool, Fault>
         ensures checks { ChecksOn self.old.doc
@@ -107,8 +138,21 @@ impl Checked {
         self.go_on(true, reader)
     }
 
+    /// Goes on to the next paragraph, which `current_judged` then gives, and says whether there is
+    /// one.
+    fn judge<R: Source>(&mut self, reader: &mut R) -> Result<bool, Fault>
+        ensures checks { ChecksOn self.old.doc
+            (checked_moment self.old (R.left reader.old) (R.failures reader.old))
+            (judged_answer self.old.doc (state_of self.new.paragraphs).current result)
+            (checked_moment self.new (R.left reader.new) (R.failures reader.new)) }
+        ensures judged { IfOk result (λ gives. self.new.judged ≡ gives) }
+        ensures doc { self.new.doc ≡ self.old.doc }
+    {
+        self.go_on(false, reader)
+    }
+
     /// Goes on behind the next paragraph, and says whether there is one: what `next` answers, for a
-    /// caller that counts. No canonical text is built, and the last answer is no paragraph then.
+    /// caller that counts. No canonical text is built.
     ///
     /// # Errors
     ///
@@ -124,12 +168,13 @@ impl Checked {
 
     /// Goes on behind the next paragraph, whose canonical text is kept or not.
     fn go_on<R: Source>(&mut self, keeps_text: bool, reader: &mut R) -> Result<bool, Fault>
-        ensures checks { SaysOf
-            (λ answer. ChecksOn self.old.doc
-            (checked_moment self.old (R.left reader.old) (R.failures reader.old)) answer
-            (checked_moment self.new (R.left reader.new) (R.failures reader.new)))
-            keeps_text (state_of self.new.paragraphs).current self.new.canonical.items result }
+        ensures checks { ChecksOn self.old.doc
+            (checked_moment self.old (R.left reader.old) (R.failures reader.old))
+            (given_answer
+            (passing_of_found self.old.doc (state_of self.new.paragraphs).current) result)
+            (checked_moment self.new (R.left reader.new) (R.failures reader.new)) }
         ensures gives { IfOk result (λ gives. self.new.gives ≡ (keeps_text && gives)) }
+        ensures judged { IfOk result (λ gives. self.new.judged ≡ gives) }
         ensures doc { self.new.doc ≡ self.old.doc }
     {
         if let Some(fault) = self.fault {
@@ -146,10 +191,12 @@ impl Checked {
         ) {
             Ok(found) => {
                 self.gives = keeps_text && found;
+                self.judged = found;
                 Ok(found)
             }
             Err(fault) => {
                 self.gives = false;
+                self.judged = false;
                 self.fault = Some(fault);
                 Err(fault)
             }
@@ -159,12 +206,27 @@ impl Checked {
     /// The paragraph that was given last, or `None` where the last answer was none.
     fn current(&self) -> Option<Accepted<'_>>
         ensures passing { option_map passing_of result ≡ (checked_state self.now).current }
-        ensures doc { IfSome result (λ accepted. accepted.doc ≡ self.now.doc) }
+        ensures doc { IfSome result (λ accepted. doc_of accepted ≡ self.now.doc) }
     {
         if !self.gives {
             return None;
         }
         let raw = self.paragraphs.current()?;
-        Some(Accepted::new(self.doc, raw, self.canonical.as_slice()))
+        let judged = Judged::new(self.doc, raw);
+        Some(Accepted::new(judged, self.canonical.as_slice()))
+    }
+
+    /// The paragraph that was given last, whether its canonical text was kept or not, or `None`
+    /// where the last answer was none.
+    fn current_judged(&self) -> Option<Judged<'_>>
+        ensures passing { option_map passing_judged result
+            ≡ judged_found self.now.judged self.now.doc (state_of self.now.paragraphs).current }
+        ensures doc { IfSome result (λ judged. judged.doc ≡ self.now.doc) }
+    {
+        if !self.judged {
+            return None;
+        }
+        let raw = self.paragraphs.current()?;
+        Some(Judged::new(self.doc, raw))
     }
 }

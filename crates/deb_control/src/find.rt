@@ -4,9 +4,9 @@ ghost use Rattle.std.specs.Prelude.{◌≡◌, ◌<◌, ◌≤◌, ◌&&◌, ℕ
 ghost use Rattle.deb_base.specs.Faults.{RefusedOrMemory};
 ghost use Rattle.deb_syntax.specs.Paragraphs.{state_of, seen_of};
 ghost use Rattle.deb_field.specs.Kinds.{is_single as is_one};
-ghost use Rattle.deb_control.specs.Checking.{passes_if, found_answer, is_passing, Checks};
+ghost use Rattle.deb_control.specs.Checking.{passes_if, judged_if, found_answer, Checks};
 ghost use Rattle.deb_control.specs.Documents.{rules_of};
-ghost use Rattle.deb_control.specs.Finding.{moment_from, AddsPassing, RefusesSeen, SaysOf, end_answer};
+ghost use Rattle.deb_control.specs.Finding.{moment_from, AddsPassing, RefusesSeen, end_answer, given_answer, passing_of_found};
 ghost use Rattle.deb_control.specs.Lengths.{Measures};
 ghost use Rattle.deb_control.specs.Refusals.{built};
 
@@ -30,15 +30,16 @@ pub(crate) fn find<R: Source>(
     reader: &mut R,
 ) -> Result<bool, Fault>
     requires sound { (state_of paragraphs.old).fault ≡ None }
-    ensures checks { SaysOf
-        (λ answer. Checks doc
-        (moment_from paragraphs.old given.old (R.left reader.old) (R.failures reader.old)) answer
-        (moment_from paragraphs.new given.new (R.left reader.new) (R.failures reader.new)))
-        keeps_text (state_of paragraphs.new).current canonical.new.items result }
+    ensures checks { Checks doc
+        (moment_from paragraphs.old given.old (R.left reader.old) (R.failures reader.old))
+        (given_answer (passing_of_found doc (state_of paragraphs.new).current) result)
+        (moment_from paragraphs.new given.new (R.left reader.new) (R.failures reader.new)) }
     ensures sound { IfOk result (λ _. (state_of paragraphs.new).fault ≡ None) }
     ensures passes { IfOk result
         (λ gives. IsTrue (passes_if (keeps_text && gives) doc
         (state_of paragraphs.new).current canonical.new.items)) }
+    ensures found { IfOk result
+        (λ gives. IsTrue (judged_if gives doc (state_of paragraphs.new).current)) }
 {
     if is_single(doc) && given.paragraphs > 0 {
         return none_follows(paragraphs, reader);

@@ -21,7 +21,7 @@ use Rattle.deb_field.specs.declared.flag.MultiArch.{MultiArch}
 use Rattle.deb_field.specs.declared.kind.Doc.{Doc}
 use Rattle.deb_field.specs.declared.kind.Doc.TheVariants.{Packages}
 use Rattle.deb_control.specs.Acceptance.{has_values}
-use Rattle.deb_control.specs.Checking.{is_passing}
+use Rattle.deb_control.specs.Checking.{is_judged}
 use Rattle.deb_control.specs.Documents.{rules_of}
 use Rattle.deb_control.specs.Paragraphs.{AreValuesOf}
 use Rattle.deb_control.specs.PassingValues.{HasValue}
@@ -52,13 +52,13 @@ all_there seen fields values are =
 not_none : (name : List ℕ) (values : ValueEntries ValueMeaning) → is_some (find byte_order name values) ≡ true → None ≡ find byte_order name values → ⊥
 not_none name values some none = false≢true (ap is_some none ∙ some)
 
-module _ (doc : Doc) (seen : Seen) (text : List ℕ) (kind : doc ≡ Packages) (passing : IsTrue (is_passing doc seen text)) (fields : are_fields seen.fields ≡ true) where
-  passes : IsTrue (is_passing Packages seen text)
-  passes = subst (λ d. IsTrue (is_passing d seen text)) kind passing
+module _ (doc : Doc) (seen : Seen) (kind : doc ≡ Packages) (passing : IsTrue (is_judged doc seen)) (fields : are_fields seen.fields ≡ true) where
+  passes : IsTrue (is_judged Packages seen)
+  passes = subst (λ d. IsTrue (is_judged d seen)) kind passing
 
   -- where no field has a name no value has it
   pub none-read : (name : List ℕ) → field_named name seen.fields ≡ None → HasValue Packages seen name None
-  none-read name none = none-passing Packages seen text passes fields name none
+  none-read name none = none-passing Packages seen passes fields name none
 
   -- so their fields are
   pub name-there : field_named (codes "Package") seen.fields ≡ None → ⊥
@@ -79,7 +79,7 @@ module _ (doc : Doc) (seen : Seen) (text : List ℕ) (kind : doc ≡ Packages) (
   -- the body of a field spells the value under its name
   spelled-under : (name : List ℕ) (field : Field) → field_named name seen.fields ≡ Some field → (v : ValueMeaning) × SpellsValue Packages (canonical_name name) field.body v × HasValue Packages seen name (Some v)
   spelled-under name field is =
-      let values = values-passing Packages seen text passes in
+      let values = values-passing Packages seen passes in
       let entry : find byte_order (canonical_name name) (entries_of seen.fields) ≡ Some field.body = body_at-entries_of seen.fields (distinct-from seen.fields fields) name ∙ (field-body name seen.fields field is).0 in
       let at = value_at ValueMeaning (SpellsValue Packages) value_text (value_law Packages) (canonical_name name) field.body (entries_of seen.fields) values.0 values.1.spelled entry in
       (at.0, at.1, record { values = values.0; are = values.1; found = sym at.2 })

@@ -77,7 +77,7 @@ impl Index {
         let mut checked = Checked::new(alloc, Doc::Packages);
         let mut packages = Vec::new(alloc);
         for count in 0..u64::MAX {
-            let Some(paragraph) = checked.next(reader)? else {
+            let Some(paragraph) = checked.next_judged(reader)? else {
                 return Ok(Index::of(alloc, packages)?);
             };
             packages.push(package_of(alloc, &paragraph)?)?;

@@ -3,7 +3,7 @@
 ghost use Rattle.std.specs.Prelude.{◌≡◌, Some, IfOk, codes, map};
 ghost use Rattle.std.specs.Option.{option_map};
 ghost use Rattle.deb_field.specs.Values.{NameMeans, VersionMeans, ArchitectureMeans, MultiArchMeans};
-ghost use Rattle.deb_control.specs.CheckedStates.{passing_of};
+ghost use Rattle.deb_control.specs.CheckedStates.{passing_judged};
 ghost use Rattle.deb_control.specs.PassingValues.{HasValue};
 ghost use Rattle.deb_version.specs.Kept.{kept_version};
 ghost use Rattle.deb_index.specs.Kept.{listed_of, provision_of};
@@ -11,17 +11,17 @@ ghost use Rattle.deb_index.specs.Listing.{HasProvisions, SeenLists};
 
 use crate::package::Package;
 use crate::provision::{Provision, provisions_of};
-use deb_control::Accepted;
+use deb_control::Judged;
 use deb_field::{Doc, MultiArch};
 use deb_relation::{Relation, RelationFault};
 use deb_version::{CanonicalVersion, Version};
 use std::alloc::{AllocError, Global};
 
 /// The package that a paragraph of an index lists.
-pub(crate) fn package_of(alloc: Global, paragraph: &Accepted<'_>) -> Result<Package, AllocError>
+pub(crate) fn package_of(alloc: Global, paragraph: &Judged<'_>) -> Result<Package, AllocError>
     requires { paragraph.now.doc ≡ Doc.Packages }
     ensures { IfOk result
-        (λ kept. SeenLists (passing_of paragraph.now).seen (listed_of kept)) }
+        (λ kept. SeenLists (passing_judged paragraph.now).seen (listed_of kept)) }
 {
     Ok(Package {
         name: name_of(alloc, paragraph)?,
@@ -33,10 +33,10 @@ pub(crate) fn package_of(alloc: Global, paragraph: &Accepted<'_>) -> Result<Pack
 }
 
 /// A copy of the name.
-fn name_of(alloc: Global, paragraph: &Accepted<'_>) -> Result<Vec<u8>, AllocError>
+fn name_of(alloc: Global, paragraph: &Judged<'_>) -> Result<Vec<u8>, AllocError>
     requires { paragraph.now.doc ≡ Doc.Packages }
     ensures { IfOk result
-        (λ name. HasValue Doc.Packages (passing_of paragraph.now).seen (codes "Package")
+        (λ name. HasValue Doc.Packages (passing_judged paragraph.now).seen (codes "Package")
         (Some (NameMeans name.items))) }
 {
     let Some(field) = paragraph.get(b"Package") else {
@@ -46,10 +46,10 @@ fn name_of(alloc: Global, paragraph: &Accepted<'_>) -> Result<Vec<u8>, AllocErro
 }
 
 /// A copy of the architecture.
-fn architecture_of(alloc: Global, paragraph: &Accepted<'_>) -> Result<Vec<u8>, AllocError>
+fn architecture_of(alloc: Global, paragraph: &Judged<'_>) -> Result<Vec<u8>, AllocError>
     requires { paragraph.now.doc ≡ Doc.Packages }
     ensures { IfOk result
-        (λ name. HasValue Doc.Packages (passing_of paragraph.now).seen (codes "Architecture")
+        (λ name. HasValue Doc.Packages (passing_judged paragraph.now).seen (codes "Architecture")
         (Some (ArchitectureMeans name.items))) }
 {
     let Some(field) = paragraph.get(b"Architecture") else {
@@ -59,10 +59,10 @@ fn architecture_of(alloc: Global, paragraph: &Accepted<'_>) -> Result<Vec<u8>, A
 }
 
 /// The version.
-fn version_of(alloc: Global, paragraph: &Accepted<'_>) -> Result<CanonicalVersion, AllocError>
+fn version_of(alloc: Global, paragraph: &Judged<'_>) -> Result<CanonicalVersion, AllocError>
     requires { paragraph.now.doc ≡ Doc.Packages }
     ensures { IfOk result
-        (λ version. HasValue Doc.Packages (passing_of paragraph.now).seen (codes "Version")
+        (λ version. HasValue Doc.Packages (passing_judged paragraph.now).seen (codes "Version")
         (Some (VersionMeans (kept_version version)))) }
 {
     let Some(field) = paragraph.get(b"Version") else {
@@ -75,9 +75,9 @@ fn version_of(alloc: Global, paragraph: &Accepted<'_>) -> Result<CanonicalVersio
 }
 
 /// What Multi-Arch says, if it is there.
-fn multi_arch_of(paragraph: &Accepted<'_>) -> Option<MultiArch>
+fn multi_arch_of(paragraph: &Judged<'_>) -> Option<MultiArch>
     requires { paragraph.now.doc ≡ Doc.Packages }
-    ensures { HasValue Doc.Packages (passing_of paragraph.now).seen (codes "Multi-Arch")
+    ensures { HasValue Doc.Packages (passing_judged paragraph.now).seen (codes "Multi-Arch")
         (option_map MultiArchMeans result) }
 {
     let Some(field) = paragraph.get(b"Multi-Arch") else {
@@ -90,10 +90,10 @@ fn multi_arch_of(paragraph: &Accepted<'_>) -> Option<MultiArch>
 }
 
 /// What Provides provides.
-fn provided_by(alloc: Global, paragraph: &Accepted<'_>) -> Result<Vec<Provision>, AllocError>
+fn provided_by(alloc: Global, paragraph: &Judged<'_>) -> Result<Vec<Provision>, AllocError>
     requires { paragraph.now.doc ≡ Doc.Packages }
     ensures { IfOk result
-        (λ provisions. HasProvisions (passing_of paragraph.now).seen
+        (λ provisions. HasProvisions (passing_judged paragraph.now).seen
         (map provision_of provisions.items)) }
 {
     let Some(field) = paragraph.get(b"Provides") else {

@@ -1,7 +1,7 @@
 //! What a paragraph that is given shows: its fields as they stand in the file, and their values.
 
 use super::*;
-use deb_control::{Accepted, Paragraph};
+use deb_control::{Accepted, Judged, Paragraph};
 use deb_field::{Canon, Value};
 
 /// A field as it stands in the file: its name, its line and its body.
@@ -55,6 +55,40 @@ fn paragraphs_that_are_given(rt: HostRuntime) -> Result<(), Fail> {
         assert!(rt; checked.next(&mut input)?.is_none(), "the end");
     }
     Ok(())
+}
+
+#[test]
+fn paragraphs_that_are_judged(rt: HostRuntime) -> Result<(), Fail> {
+    for size in SIZES {
+        let mut input = Input::new(Pieces::new(FILE, size, 0));
+        let mut checked = Checked::new(rt.alloc(), Doc::Packages);
+        for shown in &SHOWN {
+            let paragraph = checked.next_judged(&mut input)?.ok_or("no paragraph")?;
+            let is_judged = is_judged(rt.alloc(), &paragraph, shown)?;
+            assert!(rt; is_judged, "in pieces of {size}");
+        }
+        assert!(rt; checked.next_judged(&mut input)?.is_none(), "the end");
+    }
+    Ok(())
+}
+
+/// Whether a paragraph without its canonical text shows its first line, a field, its version and
+/// all of its values.
+fn is_judged(alloc: Global, paragraph: &Judged<'_>, shown: &Shown) -> Result<bool, Fail> {
+    let Shown(first_line, fields, version_text, text) = shown;
+    let version = paragraph.value(alloc, b"VERSION")?.ok_or("no version")?;
+    let mut written = Vec::new(alloc);
+    version.canon_into(&mut written)?;
+    let is_version = written.as_slice() == *version_text;
+    written.clear();
+    paragraph.paragraph(alloc)?.canon_into(&mut written)?;
+    let first = paragraph.fields().next().map(|field| field.line);
+    Ok(
+        is_version
+            && written.as_slice() == *text
+            && paragraph.first_line() == *first_line
+            && paragraph.get(fields[0].0).map(|field| field.line) == first,
+    )
 }
 
 /// Whether the first line, the canonical text, and the fields in the order of the file are right.

@@ -1,4 +1,4 @@
-use Rattle.std.proofs.Common.{◌≡◌, [], None, Some, Err, inl, inr, true, refl, sym, ◌∙◌, arith}
+use Rattle.std.proofs.Common.{◌≡◌, [], None, Some, inl, inr, true, refl, sym, ◌∙◌, arith}
 use Rattle.std.proofs.lemmas.Result.{err_from_is_err_and}
 use Rattle.deb_syntax.proofs.Callers.{goes-from_passes}
 use Rattle.deb_syntax.specs.Paragraphs.{state_of, seen_of}
@@ -11,7 +11,7 @@ use Rattle.deb_control.proofs.find.find.Goals.{else-is_single-via-then-is_single
 pub returns-then-given-gt0-clause-checks : goal.returns-then-given-gt0-clause-checks
 returns-then-given-gt0-clause-checks g c =
     let single : is_single c.args.doc ≡ true = sym c.is_single.ensures ∙ c.if-is_single.true in
-    says-none _ c.args.keeps_text (state_of c.none_follows.new.paragraphs).current c.args.canonical.now.items c.none_follows.result c.none_follows.ensures.none
+    says-none c.args.doc _ _ _ c.none_follows.result c.none_follows.ensures.none
     (c.none_follows.ensures.checks c.args.doc c.args.given.now single c.if-given-gt0.true)
 
 pub returns-in_err-advance-clause-checks : goal.returns-in_err-advance-clause-checks
@@ -23,7 +23,7 @@ returns-in_err-advance-clause-checks g c =
       | else-is_single-via-else-is_single w ↦ inl (sym c.is_single.ensures ∙ w.if-is_single.false)
     ] in
     let advances = goes-from_passes Advances _ _ _ c.requires.sound c.in_err-advance.ensures.passes in
-    rw (p.1, p.2) (says-none _ c.args.keeps_text _ _ (Err c.in_err-advance.field-0.0) tt (checks-advance_err c.args.doc _ _ given.paragraphs given.bytes _ _ _ _ (few-given given) may c.in_err-advance.field-0.0 advances))
+    rw (p.1, p.2) (checks-advance_err c.args.doc _ _ given.paragraphs given.bytes _ _ _ _ (few-given given) may c.in_err-advance.field-0.0 advances)
 
 pub returns-in-None-clause-checks : goal.returns-in-None-clause-checks
 returns-in-None-clause-checks g c =
@@ -35,7 +35,7 @@ returns-in-None-clause-checks g c =
     let state = state_of c.advance.new.self in
     let none : state.current ≡ None = sym c.in-None.ensures in
     let advances = goes-from_passes Advances _ _ _ c.requires.sound c.in_ok-advance.ensures.passes in
-    says-none _ c.args.keeps_text state.current c.args.canonical.now.items c.end.result c.end.ensures.none
+    says-none c.args.doc _ _ _ c.end.result c.end.ensures.none
     (checks-end c.args.doc _ state given.paragraphs given.bytes _ _ _ _ (few-given given) may given c.lines.result None [] _ c.end.result
     refl (none_found state c.in_ok-advance.field-0 none) advances c.lines.ensures.finished c.end.ensures.answer)
 

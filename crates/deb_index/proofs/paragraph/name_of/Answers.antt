@@ -11,10 +11,10 @@ use Rattle.deb_index.proofs.paragraph.name_of.Goals as goal
 pub unreachable-requires : goal.unreachable-requires
 unreachable-requires c =
     let view = c.args.paragraph.now in
-    name-there view.doc (seen_of view.raw) view.canonical.now c.requires view.passes view.raw.fields (sym c.in_default.ensures)
+    name-there view.doc (seen_of view.raw) c.requires view.passes view.raw.fields (sym c.in_default.ensures)
 
 pub returns : goal.returns
 returns c =
     let view = c.args.paragraph.now in
     of_copy (λ name. HasValue Packages (seen_of view.raw) (codes "Package") (Some (NameMeans name))) c.from_slice.result c.in-Some.field.body.now c.from_slice.ensures.items
-    (name-read view.doc (seen_of view.raw) view.canonical.now c.requires view.passes view.raw.fields (field_of c.in-Some.field) (sym c.in-Some.ensures))
+    (name-read view.doc (seen_of view.raw) c.requires view.passes view.raw.fields (field_of c.in-Some.field) (sym c.in-Some.ensures))

@@ -13,18 +13,18 @@ use Rattle.deb_index.proofs.paragraph.version_of.Goals as goal
 pub unreachable-requires : goal.unreachable-requires
 unreachable-requires c =
     let view = c.args.paragraph.now in
-    version-there view.doc (seen_of view.raw) view.canonical.now c.requires view.passes view.raw.fields (sym c.in_default.ensures)
+    version-there view.doc (seen_of view.raw) c.requires view.passes view.raw.fields (sym c.in_default.ensures)
 
 pub unreachable-requires-in-Err : goal.unreachable-requires-in-Err
 unreachable-requires-in-Err c =
     let view = c.args.paragraph.now in
-    let read = version-read view.doc (seen_of view.raw) view.canonical.now c.requires view.passes view.raw.fields (field_of c.in-Some.field) (sym c.in-Some.ensures) in
+    let read = version-read view.doc (seen_of view.raw) c.requires view.passes view.raw.fields (field_of c.in-Some.field) (sym c.in-Some.ensures) in
     rw c.in-Err.is at c.parse.ensures.accepted read.0 read.1
 
 pub returns : goal.returns
 returns c =
     let view = c.args.paragraph.now in
-    let read = version-read view.doc (seen_of view.raw) view.canonical.now c.requires view.passes view.raw.fields (field_of c.in-Some.field) (sym c.in-Some.ensures) in
+    let read = version-read view.doc (seen_of view.raw) c.requires view.passes view.raw.fields (field_of c.in-Some.field) (sym c.in-Some.ensures) in
     let same : meaning_of c.in-Ok.version ≡ read.0 = rw c.in-Ok.is at c.parse.ensures.accepted read.0 read.1 in
     of_kept kept_version (λ version. HasValue Packages (seen_of view.raw) (codes "Version") (Some (VersionMeans version))) c.of.result (meaning_of c.in-Ok.version) c.of.ensures
     (rw same read.2)

@@ -1,6 +1,7 @@
+use Rattle.deb_syntax.specs.Paragraphs.{state_of}
+use Rattle.deb_control.specs.Finding.{passing_of_found}
 use Rattle.deb_control.proofs.checked.Checked.pass_over.Goals as goal
 
 pub returns-clause-checks : goal.returns-clause-checks
 returns-clause-checks g c =
-    let says = c.go_on.ensures.checks in
-    record { given = says.given; checks = says.says }
+    record { given = passing_of_found c.args.self.now.doc (state_of c.go_on.new.self.paragraphs).current; checks = c.go_on.ensures.checks }

@@ -1,8 +1,8 @@
 use Rattle.deb_syntax.specs.Paragraphs.{seen_of}
 use Rattle.deb_control.proofs.PassingParagraphs.{only_memory, built-unrefused}
-use Rattle.deb_control.proofs.accepted.Accepted.paragraph.Goals as goal
+use Rattle.deb_control.proofs.judged.Judged.paragraph.Goals as goal
 
 pub want_of_memory-requires : goal.want_of_memory-requires
 want_of_memory-requires c =
     let view = c.args.self.now in
-    only_memory c.in-Err.fault _ c.in-Err.ensures.fault (built-unrefused view.doc (seen_of view.raw) view.canonical.now view.passes)
+    only_memory c.in-Err.fault _ c.in-Err.ensures.fault (built-unrefused view.doc (seen_of view.raw) view.passes)

@@ -1,0 +1,110 @@
+//! A view of a paragraph that passes, without its canonical text.
+
+ghost use Rattle.std.specs.Prelude.{◌≡◌, List, IsTrue};
+ghost use Rattle.deb_syntax.specs.Paragraphs.{seen_of};
+ghost use Rattle.deb_control.specs.Checking.{is_judged};
+
+use crate::paragraph::{Paragraph, value_of};
+use deb_base::Fault;
+use deb_field::{Doc, Value};
+use deb_syntax::{Fields, Raw, RawField};
+use std::alloc::{AllocError, Global};
+
+/// A paragraph of a document that passes every rule of its kind, as a view of its fields as they
+/// stand in the file. Values are read from it on demand, and are never refused.
+#[derive(Clone, Copy)]
+pub struct Judged<'a> {
+    doc: Doc,
+    raw: Raw<'a>,
+    ghost passes: { IsTrue (is_judged doc (seen_of raw)) },
+}
+
+impl<'a> Judged<'a> {
+    ghost use Rattle.std.specs.Prelude.{Some, None, IfOk, IfSome, option_map};
+    ghost use Rattle.std.specs.List.Sorted.{IsPermutation};
+    ghost use Rattle.deb_syntax.specs.Raw.{field_of, field_named, fields_left};
+    ghost use Rattle.deb_field.specs.ValueMeanings.{value_meaning};
+    ghost use Rattle.deb_control.specs.CheckedStates.{doc_judged, passing_judged};
+    ghost use Rattle.deb_control.specs.Paragraphs.{AreValuesOf};
+    ghost use Rattle.deb_control.specs.ParagraphValues.{fields_shown, values_of};
+    ghost use Rattle.deb_control.specs.PassingValues.{HasValue};
+
+    pub(crate) fn new(doc: Doc, raw: Raw<'a>) -> Judged<'a>
+        requires { IsTrue (is_judged doc (seen_of raw)) }
+        ensures doc { result.doc ≡ doc }
+        ensures seen { (passing_judged result).seen ≡ seen_of raw.entry }
+    {
+        Judged { doc, raw }
+    }
+
+    /// The number of the paragraph's first line in its file, which is counted from 1.
+    pub fn first_line(&self) -> u64
+        ensures { result ≡ (passing_judged self.now).seen.first }
+    {
+        self.raw.first_line()
+    }
+
+    /// The field of a name as it stands in the file, without ASCII case, or `None` where there is
+    /// no such field.
+    pub fn get(&self, name: &[u8]) -> Option<RawField<'a>>
+        ensures { option_map field_of result
+            ≡ field_named name.now (passing_judged self.now).seen.fields }
+    {
+        self.raw.get(name)
+    }
+
+    /// The fields in the order of the file.
+    pub fn fields(&self) -> Fields<'a>
+        ensures { fields_left result ≡ (passing_judged self.now).seen.fields }
+    {
+        self.raw.fields()
+    }
+
+    /// The value of the field of a name, without ASCII case, or `None` where there is no such
+    /// field.
+    ///
+    /// # Errors
+    ///
+    /// Want of memory alone.
+    pub fn value(&self, alloc: Global, name: &[u8]) -> Result<Option<Value<'a>>, AllocError>
+        ensures { IfOk result
+            (λ value. HasValue (doc_judged self.now) (passing_judged self.now).seen name.now
+            (option_map value_meaning value)) }
+    {
+        let Some(field) = self.raw.get(name) else {
+            return Ok(None);
+        };
+        match value_of(alloc, self.doc, &field) {
+            Ok(value) => Ok(Some(value)),
+            Err(fault) => Err(want_of_memory(fault)),
+        }
+    }
+
+    /// The paragraph with its values.
+    ///
+    /// # Errors
+    ///
+    /// Want of memory alone.
+    pub fn paragraph(&self, alloc: Global) -> Result<Paragraph<'a>, AllocError>
+        ensures values { IfOk result
+            (λ typed. AreValuesOf (doc_judged self.now) (passing_judged self.now).seen
+            (values_of typed)) }
+        ensures fields { IfOk result
+            (λ typed. IsPermutation (passing_judged self.now).seen.fields (fields_shown typed)) }
+    {
+        match Paragraph::build(alloc, self.doc, &self.raw) {
+            Ok(paragraph) => Ok(paragraph),
+            Err(fault) => Err(want_of_memory(fault)),
+        }
+    }
+}
+
+/// Want of memory, which is the only fault that reading again what passes can have.
+fn want_of_memory(fault: Fault) -> AllocError
+    requires { fault ≡ Fault.Memory }
+{
+    match fault {
+        Fault::Memory => AllocError,
+        Fault::Refused(_) | Fault::Read | Fault::Write => unreachable!(),
+    }
+}
