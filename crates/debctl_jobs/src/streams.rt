@@ -123,8 +123,11 @@ fn reader_of(rt: &HostRuntime, path: &Option<String>) -> Result<Reader, Fault> {
     }
 }
 
-/// An open file. A directory can be opened, but not read.
+/// The file of a path, or standard input for `-`. A directory can be opened, but not read.
 fn opened(rt: &HostRuntime, path: &str) -> Result<Reader, Fault> {
+    if path == "-" {
+        return Ok(Reader::Standard(rt.stdin()));
+    }
     match open_file(rt, path) {
         Ok(file) => Ok(Reader::Opened(file)),
         Err(_) => Err(Fault::Read),

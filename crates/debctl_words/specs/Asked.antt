@@ -1,6 +1,6 @@
 -- What the program's words ask, as a function of what `clap` makes of them. (The words are this
 -- project's own.)
-use Rattle.std.specs.Prelude.{◌≡◌, ◌⊎◌, ◌==◌, Bool, true, false, not, List, [], map, Option, Some, None, unwrap_or, option_map, if◌then◌else◌, codes, string_bytes, bytes_eq, Result, Ok, Err}
+use Rattle.std.specs.Prelude.{◌≡◌, ◌⊎◌, ◌==◌, ◌&&◌, Bool, true, false, not, List, [], map, Option, Some, None, unwrap_or, option_map, if◌then◌else◌, codes, string_bytes, bytes_eq, Result, Ok, Err}
 use Rattle.std.specs.List.{list_any, slice_split}
 use Rattle.std.specs.Option.{option_map_or}
 use Rattle.clap.specs.Kinds.{Kinds}
@@ -27,15 +27,20 @@ unfoldable pub kind_asked : Option Text → Option Doc
 kind_asked None = Some Packages
 kind_asked (Some word) = doc_named word
 
--- the operator that a word names
+-- the operator that a word names, also as it stands in a relation
 abbrev pub operator_named : Text → Option Cmp
 operator_named word =
     if bytes_eq word (codes "lt") then Some cmp.Less
+    else if bytes_eq word (codes "<<") then Some cmp.Less
     else if bytes_eq word (codes "le") then Some cmp.LessOrEqual
+    else if bytes_eq word (codes "<=") then Some cmp.LessOrEqual
     else if bytes_eq word (codes "eq") then Some cmp.Equal
+    else if bytes_eq word (codes "=") then Some cmp.Equal
     else if bytes_eq word (codes "ne") then Some cmp.NotEqual
     else if bytes_eq word (codes "ge") then Some cmp.GreaterOrEqual
+    else if bytes_eq word (codes ">=") then Some cmp.GreaterOrEqual
     else if bytes_eq word (codes "gt") then Some cmp.Greater
+    else if bytes_eq word (codes ">>") then Some cmp.Greater
     else None
 
 -- what stands between the commas (44) of a text
@@ -103,13 +108,14 @@ request_of call =
 
 -- ---- what is asked
 
--- a call, help, or something that isn't known
+-- a call, help, something that isn't known, or standard input for two files
 pub data Asked : Type 0 where
   asks : Request → Asked
   asks_help : Asked
   unknown_kind : Asked
   unknown_operator : Asked
   unknown_command : Asked
+  standard_input_twice : Asked
 
 -- a word that a command has to have; `clap` refuses words without it
 abbrev pub word_in : Text → List Row → Text
@@ -122,10 +128,16 @@ document_asked wanted rows = option_map_or
     { wanted = wanted kind; first = first_of (codes "path") rows; second = None }))
     (kind_asked (first_of (codes "kind") rows)) unknown_kind
 
--- `same`, which has two paths
+-- the path stands for standard input
+abbrev pub is_standard_input : Text → Bool
+is_standard_input path = bytes_eq path (codes "-")
+
+-- `same`, which has two paths, not both of which are standard input
 abbrev pub same_asked : List Row → Asked
 same_asked rows = option_map_or
-    (λ kind. asks (record {
+    (λ kind. if is_standard_input (word_in (codes "first") rows)
+    && is_standard_input (word_in (codes "second") rows) then standard_input_twice
+    else asks (record {
       wanted = tells_same kind;
       first = Some (word_in (codes "first") rows);
       second = Some (word_in (codes "second") rows);
@@ -194,11 +206,12 @@ asked_of words = asked_in (subcommand_of debctl_app words)
 
 -- ---- answers
 
--- the text names what isn't known
+-- the text names what isn't known, or what stands twice
 abbrev pub IsUsage : Asked → Text → Type 0
 IsUsage unknown_kind text = text ≡ codes "usage: unknown kind"
 IsUsage unknown_operator text = text ≡ codes "usage: unknown operator"
 IsUsage unknown_command text = text ≡ codes "usage: unknown command"
+IsUsage standard_input_twice text = text ≡ codes "usage: standard input twice"
 IsUsage (asks _) text = ⊥
 IsUsage asks_help text = ⊥
 

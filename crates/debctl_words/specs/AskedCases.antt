@@ -5,7 +5,7 @@ use Rattle.clap.specs.Faults.{fault_of}
 use Rattle.clap.specs.Takes.{takes}
 use Rattle.clap.specs.Walk.{Text}
 use Rattle.clap.specs.declared.error.kind.ErrorKind.TheVariants as kind
-use Rattle.debctl_words.specs.Asked.{asked_of, asks, asks_help, canonicalises, checks, comma_pieces, compares, kind_asked, normalises, profiles_asked, queries, sorts, tells_same, unknown_command, unknown_kind, unknown_operator, Asked}
+use Rattle.debctl_words.specs.Asked.{asked_of, asks, asks_help, canonicalises, checks, comma_pieces, compares, kind_asked, normalises, profiles_asked, queries, sorts, tells_same, unknown_command, unknown_kind, unknown_operator, standard_input_twice, operator_named, Asked}
 use Rattle.debctl_words.specs.Commands.{debctl_app}
 use Rattle.deb_field.specs.declared.kind.Doc.TheVariants.{Any, Binary, Packages, Source, Sources}
 use Rattle.debctl_words.specs.declared.jobs.Cmp.TheVariants as cmp
@@ -44,6 +44,36 @@ unknown_kind_word : asked_of (line (codes "check" ∷ codes "--kind" ∷ codes "
 unfolding clap_on_literals kind_asked
 unknown_kind_word = refl
 
+short_kind : asked_of (line (codes "check" ∷ codes "-k" ∷ codes "source" ∷ codes "-" ∷ []))
+    ≡ Some (asks (record { wanted = checks Source; first = Some (codes "-"); second = None }))
+unfolding clap_on_literals kind_asked
+short_kind = refl
+
+short_kind_with_its_word : asked_of (line (codes "check" ∷ codes "-kany" ∷ []))
+    ≡ Some (asks (record { wanted = checks Any; first = None; second = None }))
+unfolding clap_on_literals kind_asked
+short_kind_with_its_word = refl
+
+standard_input_and_a_file : asked_of (line (codes "same" ∷ codes "x" ∷ codes "-" ∷ []))
+    ≡ Some (asks (record {
+      wanted = tells_same Packages;
+      first = Some (codes "x");
+      second = Some (codes "-");
+    }))
+unfolding clap_on_literals kind_asked
+standard_input_and_a_file = refl
+
+standard_input_for_both : asked_of (line (codes "same" ∷ codes "-" ∷ codes "-" ∷ []))
+    ≡ Some standard_input_twice
+unfolding clap_on_literals kind_asked
+standard_input_for_both = refl
+
+unknown_kind_goes_first : asked_of
+    (line (codes "same" ∷ codes "-k" ∷ codes "foo" ∷ codes "-" ∷ codes "-" ∷ []))
+    ≡ Some unknown_kind
+unfolding clap_on_literals kind_asked
+unknown_kind_goes_first = refl
+
 two_paths : asked_of
     (line (codes "same" ∷ codes "--kind" ∷ codes "binary" ∷ codes "x" ∷ codes "y" ∷ []))
     ≡ Some (asks (record {
@@ -62,6 +92,16 @@ comparison : asked_of (line (codes "compare" ∷ codes "1" ∷ codes "lt" ∷ co
     }))
 unfolding clap_on_literals
 comparison = refl
+
+operators_of_relations : (operator_named (codes "<<") ≡ Some cmp.Less)
+    × (operator_named (codes "<=") ≡ Some cmp.LessOrEqual)
+    × (operator_named (codes "=") ≡ Some cmp.Equal)
+    × (operator_named (codes ">=") ≡ Some cmp.GreaterOrEqual)
+    × (operator_named (codes ">>") ≡ Some cmp.Greater)
+operators_of_relations = (refl, refl, refl, refl, refl)
+
+former_operators : (operator_named (codes "<") ≡ None) × (operator_named (codes ">") ≡ None)
+former_operators = (refl, refl)
 
 unknown_operator_word : asked_of (line (codes "compare" ∷ codes "1" ∷ codes "xx" ∷ codes "2" ∷ []))
     ≡ Some unknown_operator

@@ -7,9 +7,11 @@ use Rattle.clap.specs.declared.builder.action.ArgAction.TheVariants.{SetTrue}
 use Rattle.clap.specs.declared.builder.command.Command.{Command}
 use Rattle.clap.specs.declared.builder.command.Command.TheViews.{out-Command}
 
--- `--kind K`
+-- `--kind K`, or `-k K` (k is 107)
 abbrev pub kind_rule : Rule
-kind_rule = record (new_rule (codes "kind")) { long = Some (codes "kind"); value_names = 1 }
+kind_rule =
+    record (new_rule (codes "kind"))
+    { short = Some 107; long = Some (codes "kind"); value_names = 1 }
 
 -- `--arch A`, which has to be there
 abbrev pub arch_rule : Rule

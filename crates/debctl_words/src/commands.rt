@@ -91,7 +91,8 @@ behind it:
   0";
 
 const OPERATORS_HELP: &str =
-    "lt (earlier), le (earlier or equal), eq (equal), ne (not equal), ge or gt (later)";
+    "lt or << (earlier), le or <= (earlier or equal), eq or = (equal), ne (not equal), \
+    ge or >= (later or equal), gt or >> (later)";
 
 const CANON_VERSION_HELP: &str = "\
 Versions are equal exactly if their canonical texts are the same.
@@ -254,7 +255,7 @@ fn document_command<'a>(
             alloc,
             "path",
             "PATH",
-            "The file; without it standard input is read",
+            "The file; `-` or none is standard input",
         ))
 }
 
@@ -266,8 +267,18 @@ pub(crate) fn same_command<'a>(alloc: Global, kinds: &'a str) -> Result<Command<
         .about("Says whether two files mean the same")
         .after_help(SAME_HELP)
         .arg(kind_option(alloc, kinds))?
-        .arg(required_word(alloc, "first", "PATH", "The first file"))?
-        .arg(required_word(alloc, "second", "PATH", "The second file"))
+        .arg(required_word(
+            alloc,
+            "first",
+            "PATH",
+            "The first file; `-` is standard input",
+        ))?
+        .arg(required_word(
+            alloc,
+            "second",
+            "PATH",
+            "The second file; `-` is standard input",
+        ))
 }
 
 /// `compare V OP V`
@@ -304,7 +315,7 @@ pub(crate) fn sort_command<'a>(alloc: Global) -> Result<Command<'a>, AllocError>
             alloc,
             "path",
             "PATH",
-            "The file; without it standard input is read",
+            "The file; `-` or none is standard input",
         ))
 }
 
@@ -327,7 +338,7 @@ pub(crate) fn query_command<'a>(alloc: Global) -> Result<Command<'a>, AllocError
             alloc,
             "path",
             "PATH",
-            "The index, a list of packages; without it standard input is read",
+            "The index, a list of packages; `-` or none is standard input",
         ))
 }
 
@@ -345,12 +356,13 @@ pub(crate) fn help_command<'a>(alloc: Global) -> Result<Command<'a>, AllocError>
         ))
 }
 
-/// `--kind K`
+/// `--kind K` or `-k K`
 fn kind_option<'a>(alloc: Global, help: &'a str) -> Arg<'a>
     ensures rule { rule_of result ≡ kind_rule }
     ensures local { result.global ≡ false }
 {
     Arg::new(alloc, "kind")
+        .short('k')
         .long("kind")
         .value_name("K")
         .help(help)

@@ -5,17 +5,17 @@ use deb_field::Doc;
 /// How two versions are asked to compare, in Debian's order (deb-version(7)).
 #[derive(Clone, Copy, Debug, PartialEq, Eq)]
 pub enum Cmp {
-    /// `lt`: earlier.
+    /// `lt` or `<<`: earlier.
     Less,
-    /// `le`: earlier or equal.
+    /// `le` or `<=`: earlier or equal.
     LessOrEqual,
-    /// `eq`: equal.
+    /// `eq` or `=`: equal.
     Equal,
     /// `ne`: earlier or later.
     NotEqual,
-    /// `ge`: later or equal.
+    /// `ge` or `>=`: later or equal.
     GreaterOrEqual,
-    /// `gt`: later.
+    /// `gt` or `>>`: later.
     Greater,
 }
 

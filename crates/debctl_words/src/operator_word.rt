@@ -10,12 +10,12 @@ pub(crate) fn operator_named(word: &str) -> Option<Cmp>
     ensures { result ≡ operator_named word.now }
 {
     match word {
-        "lt" => Some(Cmp::Less),
-        "le" => Some(Cmp::LessOrEqual),
-        "eq" => Some(Cmp::Equal),
+        "lt" | "<<" => Some(Cmp::Less),
+        "le" | "<=" => Some(Cmp::LessOrEqual),
+        "eq" | "=" => Some(Cmp::Equal),
         "ne" => Some(Cmp::NotEqual),
-        "ge" => Some(Cmp::GreaterOrEqual),
-        "gt" => Some(Cmp::Greater),
+        "ge" | ">=" => Some(Cmp::GreaterOrEqual),
+        "gt" | ">>" => Some(Cmp::Greater),
         _ => None,
     }
 }

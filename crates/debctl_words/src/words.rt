@@ -51,9 +51,12 @@ impl From<AllocError> for UsageFault {
 /// none. Of a version, an architecture, a profile and a relation any text is taken: whether it is
 /// one is judged by the job.
 ///
+/// `-k` stands for `--kind`. Where a path is `-`, it is answered as it is: the program reads
+/// standard input there.
+///
 /// - `UsageFault::Usage`: a word is wrong, or one is missing. Of a K, an OP or a COMMAND that isn't
 ///   known the text is `usage: unknown kind`, `usage: unknown operator` or
-///   `usage: unknown command`, of all else `clap`'s.
+///   `usage: unknown command`, of `same - -` `usage: standard input twice`, of all else `clap`'s.
 /// - `UsageFault::Help`: the words ask for help or for the version.
 /// - `UsageFault::Memory`: a growth of memory was refused.
 pub fn job_of(alloc: Global, words: &[String]) -> Result<Call, UsageFault>
@@ -157,8 +160,12 @@ fn same_call(alloc: Global, found: &ArgMatches<'_>) -> Result<Call, UsageFault>
     ensures { Answers (same_asked (rows_of (found_of found.now))) result }
 {
     let kind = kind_in(alloc, found)?;
-    let first = String::from_str(alloc, word_in(found, "first"))?;
-    let second = String::from_str(alloc, word_in(found, "second"))?;
+    let (first, second) = (word_in(found, "first"), word_in(found, "second"));
+    if first == "-" && second == "-" {
+        return Err(usage(alloc, "usage: standard input twice"));
+    }
+    let first = String::from_str(alloc, first)?;
+    let second = String::from_str(alloc, second)?;
     Ok(Call {
         job: Job::Same(kind),
         first: Some(first),
