@@ -37,7 +37,7 @@ class Case:
     err: bytes = b""
     status: int = 0
     open_ended: tuple = ()
-    growths: int = 0
+    growths: Dict[str, int] = field(default_factory=dict)
 
     @property
     def command(self):
@@ -64,10 +64,15 @@ class Case:
         return self.words[0] != "help" and not self.err.startswith(told)
 
     def completed(self, answer):
-        """The case with the count of growths of its first run, and with the whole texts that this
-        wrote, where only their beginnings are known."""
+        """The case with the whole texts that its first run wrote, where only their beginnings are
+        known."""
         texts = {name: getattr(answer, name) for name in self.open_ended}
-        return replace(self, open_ended=(), growths=answer.record["growths"], **texts)
+        return replace(self, open_ended=(), **texts)
+
+    def with_growths(self, records):
+        """The case with the count of growths of its first runs, by how slow their devices were."""
+        growths = {pace: record.get("growths", 0) for pace, record in records.items()}
+        return replace(self, growths=growths)
 
 
 @dataclass

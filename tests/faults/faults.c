@@ -1,14 +1,15 @@
 /*
  * A library that is put before the C library (LD_PRELOAD) and makes calls of a program fail, or
- * move one byte only, as the environment says. At the program's end it writes down which calls
+ * move a few bytes only, as the environment says. At the program's end it writes down which calls
  * there were.
  *
  *   FAULTS_CALLS    the calls that are touched: growth, read, write, open or stat; without it none
  *   FAULTS_FIRST    the number of the first of them that is touched, from 1
  *   FAULTS_LAST     the number of the last one; without it all from the first one on are touched
  *   FAULTS_ERROR    the errno with which a touched call fails; 0: a read or write moves nothing;
- *                   without it a read or write moves one byte
- *   FAULTS_SLOW     read or write: each of these that doesn't fail moves one byte
+ *                   without it a read or write moves a few bytes
+ *   FAULTS_SLOW     read or write: each of these that doesn't fail moves a few bytes
+ *   FAULTS_BYTES    how many bytes a few are at most; without it 1
  *   FAULTS_RECORD   the number of an open descriptor, on which the record is written: one line of
  *                   NAME=NUMBER, of all names in `write_record`
  *
@@ -44,13 +45,14 @@ enum kind { GROWTH, READ, WRITE, OPEN, STAT, KINDS };
 static const char *const names[KINDS] = {"growth", "read", "write", "open", "stat"};
 
 /* What becomes of a call. */
-enum fate { PASSES, MOVES_ONE_BYTE, FAILS };
+enum fate { PASSES, MOVES_FEW_BYTES, FAILS };
 
 /* What the environment asks for. */
 static int touched = KINDS;
 static int slow = KINDS;
 static long first = 1;
 static long last = LONG_MAX;
+static size_t few = 1;
 static int is_failing;
 static int error;
 
@@ -92,6 +94,7 @@ __attribute__((constructor)) static void begin(void)
     slow = kind_in("FAULTS_SLOW");
     first = number_in("FAULTS_FIRST", 1);
     last = number_in("FAULTS_LAST", LONG_MAX);
+    few = (size_t)number_in("FAULTS_BYTES", 1);
     is_failing = getenv("FAULTS_ERROR") != NULL;
     error = (int)number_in("FAULTS_ERROR", 0);
     is_counting = 1;
@@ -118,7 +121,7 @@ __attribute__((destructor)) static void write_record(void)
 /* Counts a call, and says what becomes of it. */
 static enum fate fate_of(int kind)
 {
-    enum fate usual = kind == slow ? MOVES_ONE_BYTE : PASSES;
+    enum fate usual = kind == slow ? MOVES_FEW_BYTES : PASSES;
 
     if (!is_counting)
         return PASSES;
@@ -126,7 +129,7 @@ static enum fate fate_of(int kind)
     if (kind != touched || calls[kind] < first || calls[kind] > last)
         return usual;
     met++;
-    return is_failing ? FAILS : MOVES_ONE_BYTE;
+    return is_failing ? FAILS : MOVES_FEW_BYTES;
 }
 
 /* The answer of a growth. */
@@ -215,7 +218,7 @@ static ssize_t refuse(int descriptor)
 static ssize_t move(int kind, long call, int descriptor, void *bytes, size_t size, off_t place)
 {
     enum fate fate = fate_of(kind);
-    size_t moving = fate == MOVES_ONE_BYTE && size > 1 ? 1 : size;
+    size_t moving = fate == MOVES_FEW_BYTES && size > few ? few : size;
     ssize_t moved;
 
     ask(descriptor);
@@ -223,7 +226,7 @@ static ssize_t move(int kind, long call, int descriptor, void *bytes, size_t siz
     return tell(descriptor, kind, size, moved);
 }
 
-/* A read or a write of several pieces. One byte is that of the first piece that has one. */
+/* A read or a write of several pieces. A few bytes are those of the first piece that has any. */
 static ssize_t move_pieces(int kind, long call, int descriptor, const struct iovec *pieces,
                            int count)
 {
@@ -238,8 +241,9 @@ static ssize_t move_pieces(int kind, long call, int descriptor, const struct iov
         if (pieces[i].iov_len > 0)
             piece = pieces[i];
     }
-    if (fate == MOVES_ONE_BYTE && size > 1) {
-        piece.iov_len = 1;
+    if (fate == MOVES_FEW_BYTES && size > few) {
+        if (piece.iov_len > few)
+            piece.iov_len = few;
         pieces = &piece;
         count = 1;
     }

@@ -21,18 +21,24 @@ FAULT_LINES = {
 @dataclass(frozen=True)
 class Fault:
     """What becomes of the k-th call of a kind, or of all from it on: it fails with an error, or
-    without one moves one byte. Where it is slow, all other calls of the kind move one byte."""
+    without one moves a few bytes. Where reads or writes are slow, all others of them move so few."""
 
     name: str
     calls: str = ""
     error: Optional[int] = None
     is_lasting: bool = False
-    is_slow: bool = False
+    slow: str = ""
+    few: int = 1
 
     @property
     def counted(self):
         """The name under which the library counts these calls."""
         return self.calls + "s"
+
+    @property
+    def pace(self):
+        """Which devices are slow, and how slow; empty where none is."""
+        return f"{self.slow} {self.few}" if self.slow else ""
 
     def environment(self, k):
         """The variables that ask the library for it."""
@@ -41,31 +47,42 @@ class Fault:
             asked["FAULTS_LAST"] = str(k)
         if self.error is not None:
             asked["FAULTS_ERROR"] = str(self.error)
-        if self.is_slow:
-            asked["FAULTS_SLOW"] = self.calls
+        if self.slow:
+            asked["FAULTS_SLOW"] = self.slow
+        if self.few != 1:
+            asked["FAULTS_BYTES"] = str(self.few)
         return asked
 
 
 # Those of which one run of a case is enough.
 NOTHING = Fault("nothing fails")
-SLOW_READS = Fault("every read moves one byte", "read", is_lasting=True)
-SLOW_WRITES = Fault("every write moves one byte", "write", is_lasting=True)
+SLOW = [
+    Fault("every read moves one byte", "read", is_lasting=True, slow="read"),
+    Fault("every read moves 7 bytes", "read", is_lasting=True, slow="read", few=7),
+    Fault("every write moves one byte", "write", is_lasting=True, slow="write"),
+    Fault("every write moves 7 bytes", "write", is_lasting=True, slow="write", few=7),
+]
 
 # Those that are tried at every k. An error of 0 is a write that takes nothing.
 FAULTS = [
     Fault("growth k is refused", "growth", errno.ENOMEM),
     Fault("growths from k on are refused", "growth", errno.ENOMEM, is_lasting=True),
+    Fault("growth k is refused, reads move one byte", "growth", errno.ENOMEM, slow="read"),
+    Fault("growth k is refused, reads move 7 bytes", "growth", errno.ENOMEM, slow="read", few=7),
     Fault("read k fails with EIO", "read", errno.EIO),
     Fault("read k fails with EINTR", "read", errno.EINTR),
     Fault("read k moves one byte", "read"),
-    Fault("read k fails with EIO, those before it move one byte", "read", errno.EIO, is_slow=True),
+    Fault("read k fails with EIO, others move one byte", "read", errno.EIO, slow="read"),
+    Fault("read k fails with EIO, others move 7 bytes", "read", errno.EIO, slow="read", few=7),
     Fault("write k fails with EIO", "write", errno.EIO),
     Fault("write k fails with ENOSPC", "write", errno.ENOSPC),
     Fault("write k fails with EINTR", "write", errno.EINTR),
     Fault("write k takes nothing", "write", 0),
     Fault("writes from k on fail with EIO", "write", errno.EIO, is_lasting=True),
+    Fault("writes from k on take nothing", "write", 0, is_lasting=True),
     Fault("write k moves one byte", "write"),
-    Fault("write k fails with EIO, others move one byte", "write", errno.EIO, is_slow=True),
+    Fault("write k fails with EIO, others move one byte", "write", errno.EIO, slow="write"),
+    Fault("write k fails with EIO, others move 7 bytes", "write", errno.EIO, slow="write", few=7),
     Fault("open k fails with EIO", "open", errno.EIO),
     Fault("open k fails with EINTR", "open", errno.EINTR),
     Fault("stat k fails with EIO", "stat", errno.EIO),
@@ -138,7 +155,7 @@ def is_asked_for_less(case: Case, fault: Fault, record):
     one line. Then there are more growths than where nothing fails."""
     if fault.calls != "growth" or fault.is_lasting or case.words[0] != "sort":
         return False
-    return record.get("growths", 0) > case.growths
+    return record.get("growths", 0) > case.growths.get(fault.pace, 0)
 
 
 def wanted_of(case: Case, fault: Fault, record):

@@ -1,0 +1,204 @@
+"""The laws that the fuzzer asks of the program, over one case."""
+import os
+import random as chance
+import re
+import signal
+from dataclasses import dataclass
+from typing import Iterator, NamedTuple
+
+from laws.documents import REQUIRED, alternative, made, mistaken, read, text_of
+from laws.spelling import respelled, spoiled
+
+SECONDS = 10
+REFUSAL = re.compile(rb"line [1-9][0-9]*: (?:[1-9]|1[0-9]|2[01]) [A-Z][A-Za-z0-9]*\n")
+KINDS = tuple(REQUIRED)
+
+
+class Answer(NamedTuple):
+    """What a run wrote, and its status: None where it had to be ended."""
+
+    out: bytes
+    err: bytes
+    status: int
+
+
+@dataclass
+class Case:
+    """A case: a kind of document, a file, another one like it, and how many bytes a read gives."""
+
+    kind: str
+    text: bytes
+    other: bytes
+    is_good: bool
+    piece: int
+    random: chance.Random
+
+
+def case_of(seed, number: int, files) -> Case:
+    """The case of a number. Some are good documents; the others have mistakes, or are one of the
+    files with some."""
+    random = chance.Random(f"{seed} {number}")
+    kind = random.choice(KINDS)
+    text = text_of(made(random, kind))
+    is_good = random.random() < 0.5
+    if not is_good:
+        if random.random() < 0.4:
+            text = random.choice(files)
+        text = mistaken(random, text)
+    other = mistaken(random, text) if random.random() < 0.7 else text_of(made(random, kind))
+    return Case(kind, text, other, is_good, random.choice((1, 1, 2, 3, 7, 16)), random)
+
+
+class Program:
+    """The program, run over files in a folder, and the library that cuts its reads into pieces."""
+
+    def __init__(self, path, library, folder):
+        self.path = path
+        self.library = library
+        self.folder = folder
+        signal.signal(signal.SIGALRM, self.end)
+
+    def end(self, *_):
+        """Ends the run that has taken too long."""
+        os.kill(self.running, signal.SIGKILL)
+
+    def run(self, words, files, piece=0) -> Answer:
+        """Runs it over files, which are named 0, 1, ..; with a piece no read gives more bytes."""
+        for name, text in enumerate(files):
+            with open(f"{self.folder}/{name}", "wb") as it:
+                it.write(text)
+        out, err = f"{self.folder}/out", f"{self.folder}/err"
+        write = os.O_WRONLY | os.O_CREAT | os.O_TRUNC
+        actions = [
+            (os.POSIX_SPAWN_OPEN, 0, "/dev/null", os.O_RDONLY, 0),
+            (os.POSIX_SPAWN_OPEN, 1, out, write, 0o600),
+            (os.POSIX_SPAWN_OPEN, 2, err, write, 0o600),
+        ]
+        asked = {}
+        if piece:
+            slow = {"FAULTS_CALLS": "read", "FAULTS_SLOW": "read", "FAULTS_BYTES": str(piece)}
+            asked = {"LD_PRELOAD": self.library, **slow}
+        words = [self.path, *words, *(f"{self.folder}/{name}" for name in range(len(files)))]
+        self.running = os.posix_spawn(self.path, words, asked, file_actions=actions)
+        signal.alarm(SECONDS)
+        _, status = os.waitpid(self.running, 0)
+        signal.alarm(0)
+        with open(out, "rb") as it, open(err, "rb") as it_too:
+            return Answer(it.read(), it_too.read(), os.waitstatus_to_exitcode(status))
+
+
+class Asked:
+    """The laws, asked over one case. Each gives what is wrong, in words."""
+
+    def __init__(self, program: Program, case: Case):
+        self.program = program
+        self.case = case
+
+    def normalise(self, text, piece=0) -> Answer:
+        """What `normalise` answers of a file."""
+        return self.program.run(["normalise", "--kind", self.case.kind], [text], piece)
+
+    def wrong(self) -> Iterator[str]:
+        """What is wrong, one law after another."""
+        case = self.case
+        normal = self.normalise(case.text)
+        yield from self.of_check(normal)
+        yield from self.of_normal_text(normal)
+        yield from self.of_pieces(normal)
+        if normal.status == 0:
+            yield from self.of_copies(normal)
+        elif case.is_good:
+            yield f"a good document is refused: {normal.err!r}"
+        yield from self.of_pairs(normal)
+        if normal.status == 0 and case.kind == "packages":
+            yield from self.of_query(normal)
+
+    def of_check(self, normal):
+        """`check` and `normalise` agree, and the number of paragraphs is that of the text."""
+        checked = self.program.run(["check", "--kind", self.case.kind], [self.case.text])
+        if normal.status not in (0, 2) or checked.status != normal.status:
+            yield f"check ends with {checked.status}, normalise with {normal.status}"
+        if checked.err != normal.err:
+            yield f"check tells {checked.err!r}, normalise {normal.err!r}"
+        if normal.status == 2 and not REFUSAL.fullmatch(normal.err):
+            yield f"this is no refusal: {normal.err!r}"
+        number = b"ok %d\n" % len(paragraphs_of(normal.out)) if normal.status == 0 else b""
+        if checked.out != number:
+            yield f"check prints {checked.out!r}, and not {number!r}"
+
+    def of_normal_text(self, normal):
+        """Normalised text is accepted and normal, also that before a refusal."""
+        if normal.status == 2 and not normal.out:
+            return
+        again = self.normalise(normal.out)
+        if again != Answer(normal.out, b"", 0):
+            yield f"normalised text isn't normal: {shown(normal)}; again {shown(again)}"
+
+    def of_pieces(self, normal):
+        """In pieces of any size the answer is the same."""
+        pieces = self.normalise(self.case.text, self.case.piece)
+        if pieces != normal:
+            yield f"in pieces of {self.case.piece} bytes: {shown(pieces)}"
+
+    def of_copies(self, normal):
+        """A copy in another spelling has the same normal text; one with a fault is refused for it,
+        behind the paragraphs before it."""
+        case = self.case
+        document = read(case.text)
+        copy = respelled(case.random, case.kind, document)
+        answer = self.normalise(copy)
+        if answer != normal:
+            yield f"respelled as {copy!r}: {shown(answer)}"
+        if document:
+            copy, number, refusal = spoiled(case.random, case.kind, document)
+            front = file_of(paragraphs_of(normal.out)[:number])
+            answer = self.normalise(copy)
+            if answer != Answer(front, refusal, 2):
+                yield f"spoiled as {copy!r}, which is {refusal!r}: {shown(answer)}"
+
+    def of_pairs(self, normal):
+        """`same` goes by the normal texts, and by the refusals of the first file and then of the
+        second one, whichever goes first."""
+        case = self.case
+        other = self.normalise(case.other)
+        pairs = ((case.text, normal, case.other, other), (case.other, other, case.text, normal))
+        for text, first, text_too, second in pairs:
+            if first.status == 2:
+                wanted = Answer(b"", b"first: " + first.err, 2)
+            elif second.status == 2:
+                wanted = Answer(b"", b"second: " + second.err, 2)
+            elif first.out == second.out:
+                wanted = Answer(b"same\n", b"", 0)
+            else:
+                wanted = Answer(b"different\n", b"", 1)
+            answer = self.program.run(["same", "--kind", case.kind], [text, text_too])
+            if answer != wanted:
+                yield f"same of {text!r} and {text_too!r}: {shown(answer)}, and not {shown(wanted)}"
+
+    def of_query(self, normal):
+        """A relation has one answer, in any order of its groups and with some of them twice, over
+        the file and its normal text."""
+        random = self.case.random
+        groups = [alternative(random) for _ in range(random.randint(1, 4))]
+        words = ["query", "--arch", "amd64", "--profiles", "nocheck"]
+        answer = self.program.run([*words, b", ".join(groups)], [self.case.text])
+        groups += random.sample(groups, random.randint(0, len(groups)))
+        random.shuffle(groups)
+        again = self.program.run([*words, b" ,, ".join(groups)], [normal.out])
+        if answer.status not in (0, 1) or answer != again:
+            yield f"query of {groups!r}: {shown(answer)}; of normal text {shown(again)}"
+
+
+def paragraphs_of(text: bytes):
+    """The paragraphs of a canonical text, each without its last newline."""
+    return text[:-1].split(b"\n\n") if text else []
+
+
+def file_of(paragraphs) -> bytes:
+    """The canonical text of these."""
+    return b"\n\n".join(paragraphs) + b"\n" * bool(paragraphs)
+
+
+def shown(answer: Answer) -> str:
+    """An answer on one line."""
+    return f"status {answer.status}, {answer.out!r} and {answer.err!r}"
