@@ -91,6 +91,27 @@ fn is_judged(alloc: Global, paragraph: &Judged<'_>, shown: &Shown) -> Result<boo
     )
 }
 
+/// A source description with a body of ten thousand bytes: its value, its typed paragraph, and that
+/// one's text behind a thousand bytes.
+#[test]
+fn a_long_body_of_a_source(rt: HostRuntime) -> Result<(), Fail> {
+    let mut file = Vec::new(rt.alloc());
+    file.extend_from_slice(b"Format: 1.0\nSource: aa\nVersion: 1\nX: ")?;
+    file.resize(10_037, b'x')?;
+    file.push(b'\n')?;
+    let mut checked = Checked::new(rt.alloc(), Doc::Source);
+    let paragraph = checked
+        .next(&mut Input::new(file.as_slice()))?
+        .ok_or("no paragraph")?;
+    let value = paragraph.value(rt.alloc(), b"x")?.ok_or("no value")?;
+    assert!(rt; value.canon_len() == 10_000);
+    let typed = paragraph.paragraph(rt.alloc())?;
+    let mut out = vec![in rt.alloc(); b'='; 1_000]?;
+    typed.canon_into(&mut out)?;
+    assert!(rt; out.get(1_000..) == Some(file.as_slice()));
+    Ok(())
+}
+
 /// Whether the first line, the canonical text, and the fields in the order of the file are right.
 fn shows(paragraph: &Accepted<'_>, shown: &Shown) -> bool {
     let Shown(first_line, wanted, _, text) = shown;
