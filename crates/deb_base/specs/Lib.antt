@@ -4,6 +4,7 @@ pub mod Devices
 pub mod Faults
 pub mod FieldNames
 pub mod Lines
+pub mod Memory
 pub mod Names
 pub mod PackageNames
 pub mod Trimming

@@ -5,11 +5,12 @@
 //! - A refusal has one of 23 codes and the number of a line, and is printed as
 //!   `line 3: 7 DuplicateField`.
 //! - A [`Source`] and a [`Sink`] count their failed calls, so that a caller can tell whether a read
-//!   or a write failed; [`Input`] and [`Output`] make them of std's readers and writers.
+//!   or a write failed; [`Input`] and [`Output`] make them of std's readers and writers, and
+//!   [`SliceSource`] and [`VecSink`] are over memory.
 //! - [`put_all`] writes all of its bytes, and [`put_pieces`] all of its pieces, or says that a
 //!   write failed and has then written a front of them.
 //!
-//! Nothing in this crate takes memory.
+//! Nothing in this crate takes memory but a write to a [`VecSink`].
 //!
 //! ```text
 //! let mut out = Output::new(io::writer(&rt));
@@ -26,6 +27,7 @@ mod device;
 mod fault;
 mod input;
 pub mod laws;
+mod memory;
 mod names;
 mod output;
 mod package_names;
@@ -40,6 +42,7 @@ pub use code::Code;
 pub use device::{Failed, Sink, Source};
 pub use fault::Fault;
 pub use input::Input;
+pub use memory::{SliceSource, VecSink};
 pub use names::same_name;
 pub use output::Output;
 pub use package_names::{is_arch_name, is_package_name, is_profile_name, is_wildcard};
