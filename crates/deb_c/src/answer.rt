@@ -1,0 +1,72 @@
+//! What is answered to C.
+
+ghost use Rattle.std.specs.Prelude.{◌≡◌};
+ghost use Rattle.deb_c.specs.Answers.{counting, plain, refusing};
+
+use deb_base::Refusal;
+
+/// What a call answers: its status, and what goes with that.
+///
+/// The statuses are those of `deb_status` in `include/debctl.h`.
+#[repr(C)]
+#[derive(Clone, Copy, Debug, PartialEq, Eq)]
+pub struct Answer {
+    /// How the call ended.
+    pub status: u8,
+    /// The code of the refusal, from 1 to 23, where a text is refused, else 0.
+    pub code: u8,
+    /// Its line in a file, from 1; 0 for any other text, and where nothing is refused.
+    pub line: u64,
+    /// How many paragraphs the file has, where that is told, else 0.
+    pub count: u64,
+}
+
+/// The answer 0: done, or yes. With the number of paragraphs.
+pub(crate) fn yes(count: u64) -> Answer
+    ensures { result ≡ counting 0 count }
+{
+    Answer {
+        status: 0,
+        code: 0,
+        line: 0,
+        count,
+    }
+}
+
+/// The answer 2: the text is refused, or the first of two.
+pub(crate) fn refused(refusal: &Refusal) -> Answer
+    ensures { result ≡ refusing 2 refusal.now }
+{
+    Answer {
+        status: 2,
+        code: refusal.number(),
+        line: refusal.line,
+        count: 0,
+    }
+}
+
+/// The answer 4: the buffer has no room.
+pub(crate) fn no_room() -> Answer
+    ensures { result ≡ plain 4 }
+{
+    bare(4)
+}
+
+/// The answer 5: a growth of memory was refused.
+pub(crate) fn no_memory() -> Answer
+    ensures { result ≡ plain 5 }
+{
+    bare(5)
+}
+
+/// A status that nothing goes with.
+fn bare(status: u8) -> Answer
+    ensures { result ≡ plain status }
+{
+    Answer {
+        status,
+        code: 0,
+        line: 0,
+        count: 0,
+    }
+}
