@@ -1,3 +1,5 @@
 pub mod Answers
 pub mod Buffers
 pub mod Versions
+pub mod Documents
+pub mod Queries

@@ -33,6 +33,13 @@ pub(crate) fn yes(count: u64) -> Answer
     }
 }
 
+/// The answer 1: no.
+pub(crate) fn no() -> Answer
+    ensures { result ≡ plain 1 }
+{
+    bare(1)
+}
+
 /// The answer 2: the text is refused, or the first of two.
 pub(crate) fn refused(refusal: &Refusal) -> Answer
     ensures { result ≡ refusing 2 refusal.now }
@@ -42,6 +49,16 @@ pub(crate) fn refused(refusal: &Refusal) -> Answer
         code: refusal.number(),
         line: refusal.line,
         count: 0,
+    }
+}
+
+/// The answer 3: the first text is accepted, and the second is refused.
+pub(crate) fn second_refused(refusal: &Refusal) -> Answer
+    ensures { result ≡ refusing 3 refusal.now }
+{
+    Answer {
+        status: 3,
+        ..refused(refusal)
     }
 }
 
@@ -57,6 +74,13 @@ pub(crate) fn no_memory() -> Answer
     ensures { result ≡ plain 5 }
 {
     bare(5)
+}
+
+/// The answer 6: there is no kind of document of this number.
+pub(crate) fn no_kind() -> Answer
+    ensures { result ≡ plain 6 }
+{
+    bare(6)
 }
 
 /// A status that nothing goes with.

@@ -14,4 +14,9 @@
 
 mod answer;
 mod buffer;
+mod documents;
+mod files;
+mod kind;
+mod query;
+mod report;
 mod versions;

@@ -1,0 +1,2 @@
+mod SideFaults
+mod Refusals
