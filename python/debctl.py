@@ -1,0 +1,249 @@
+"""Debian control data: versions, files of control data, and queries of an index of packages.
+
+Each function calls one of the library libdebctl and has no rule of its own; what the library
+answers is proved. It is looked for at DEBCTL_LIBRARY, else beside this file, else where the system
+keeps its libraries. Texts are `bytes`, or `str`, which stands for its UTF-8.
+
+    >>> import debctl
+    >>> debctl.compare("1.0~rc1", "1.0")
+    -1
+    >>> sorted(["1.10", "1.9", "1.10~rc1"], key=debctl.Version)
+    ['1.9', '1.10~rc1', '1.10']
+    >>> debctl.normalise("vERSION: 01.0-0\\npackage:hello\\nArchitecture: amd64\\n")
+    b'Architecture: amd64\\nPackage: hello\\nVersion: 1.0\\n'
+    >>> debctl.check("Package: hello\\nVersion: 1-\\n")
+    Traceback (most recent call last):
+    debctl.Refused: line 2: 18 BadVersion
+"""
+
+import ctypes
+import enum
+import functools
+import os
+from pathlib import Path
+from typing import Callable, Iterable, NamedTuple, Tuple, Union
+
+__all__ = [
+    "Code", "Refused", "Report", "Version", "canonical", "check", "compare", "normalise", "query",
+    "same",
+]
+
+Text = Union[bytes, str]
+
+
+class Code(enum.IntEnum):
+    """Why a text is refused."""
+
+    NotUtf8 = 1
+    Armour = 2
+    Comment = 3
+    StrayContinuation = 4
+    BadFieldName = 5
+    NoColon = 6
+    DuplicateField = 7
+    ParagraphTooLong = 8
+    FileTooLong = 9
+    NoParagraph = 10
+    TooManyParagraphs = 11
+    MissingField = 12
+    NotOneLine = 13
+    BadName = 14
+    BadNumber = 15
+    BadWord = 16
+    BadArchitecture = 17
+    BadVersion = 18
+    BadRelation = 19
+    AlternativesNotAllowed = 20
+    ProvidesBound = 21
+    Wildcard = 22
+    BadEnvironment = 23
+
+
+class Refused(ValueError):
+    """A text is refused. Its message is the line that the program debctl tells.
+
+    `line` is counted from 1, and 0 for a text that is no file; `code` is a number from 1 to 23, and
+    `name` its name; `second` tells that it is the second of two files.
+    """
+
+    def __init__(self, code: int, line: int, second: bool = False) -> None:
+        super().__init__(f"line {line}: {code} {Code(code).name}")
+        self.code = Code(code)
+        self.line = line
+        self.name = self.code.name
+        self.second = second
+
+    def __reduce__(self):
+        return Refused, (int(self.code), self.line, self.second)
+
+
+class Report(NamedTuple):
+    """What an index tells of a relation: whether no group is unmet, and the report's text."""
+
+    met: bool
+    text: bytes
+
+
+class _Text(ctypes.Structure):
+    _fields_ = [("bytes", ctypes.c_char_p), ("length", ctypes.c_size_t)]
+
+
+class _Answer(ctypes.Structure):
+    _fields_ = [
+        ("status", ctypes.c_uint8), ("code", ctypes.c_uint8),
+        ("line", ctypes.c_uint64), ("count", ctypes.c_uint64),
+    ]
+
+
+class _Comparison(ctypes.Structure):
+    _fields_ = [("status", ctypes.c_uint8), ("code", ctypes.c_uint8), ("order", ctypes.c_int8)]
+
+
+_YES, _NO, _REFUSED, _SECOND_REFUSED, _NO_ROOM, _NO_MEMORY, _NO_KIND = range(7)
+_KINDS = {"binary": 0, "packages": 1, "source": 2, "sources": 3, "any": 4}
+_TEXT = [ctypes.c_char_p, ctypes.c_size_t]
+_BUFFER = [ctypes.c_char_p, ctypes.c_size_t, ctypes.POINTER(ctypes.c_size_t)]
+
+
+def _library() -> ctypes.CDLL:
+    beside = Path(__file__).with_name("libdebctl.so")
+    path = os.environ.get("DEBCTL_LIBRARY") or (beside if beside.exists() else "libdebctl.so.0")
+    library = ctypes.CDLL(str(path))
+    profiles = [ctypes.POINTER(_Text), ctypes.c_size_t]
+    for name, result, arguments in [
+        ("deb_version_compare", _Comparison, _TEXT + _TEXT),
+        ("deb_version_canonical", _Answer, _TEXT + _BUFFER),
+        ("deb_check", _Answer, [ctypes.c_uint8] + _TEXT),
+        ("deb_normalise", _Answer, [ctypes.c_uint8] + _TEXT + _BUFFER),
+        ("deb_same", _Answer, [ctypes.c_uint8] + _TEXT + _TEXT),
+        ("deb_query", _Answer, _TEXT + profiles + _TEXT + _TEXT + _BUFFER),
+    ]:
+        function = getattr(library, name)
+        function.restype, function.argtypes = result, arguments
+    return library
+
+
+_lib = _library()
+
+
+def _text(text: Text) -> Tuple[bytes, int]:
+    """A text as the library is handed it: its bytes and their number."""
+    data = text.encode() if isinstance(text, str) else bytes(text)
+    return data, len(data)
+
+
+def _kind(kind: str) -> int:
+    if kind not in _KINDS:
+        raise ValueError(f"unknown kind: {kind!r}")
+    return _KINDS[kind]
+
+
+def _answered(answer: Union[_Answer, _Comparison]) -> Union[_Answer, _Comparison]:
+    """The answer of a call, or the exception that it stands for."""
+    if answer.status in (_REFUSED, _SECOND_REFUSED):
+        raise Refused(answer.code, getattr(answer, "line", 0), answer.status == _SECOND_REFUSED)
+    if answer.status == _NO_MEMORY:
+        raise MemoryError
+    return answer
+
+
+def _given(room: int, call: Callable) -> Tuple[_Answer, bytes]:
+    """The answer of a call that writes to a buffer, and what it wrote: if this room is too little,
+    it is called again with as much as it needs."""
+    length = ctypes.c_size_t(room)
+    while True:
+        out = ctypes.create_string_buffer(length.value)
+        answer = _answered(call(out, len(out), ctypes.byref(length)))
+        if answer.status != _NO_ROOM:
+            return answer, ctypes.string_at(out, length.value)
+
+
+def compare(left: Text, right: Text) -> int:
+    """Debian's order of two versions: -1, 0 or 1.
+
+    Raises Refused where one of them is no version.
+    """
+    return _answered(_lib.deb_version_compare(*_text(left), *_text(right))).order
+
+
+def canonical(version: Text) -> bytes:
+    """The canonical text of a version: two are equal exactly if theirs is the same.
+
+    Raises Refused where this is no version.
+    """
+    data, length = _text(version)
+    call = functools.partial(_lib.deb_version_canonical, data, length)
+    return _given(length + 1, call)[1]
+
+
+@functools.total_ordering
+class Version:
+    """A version, by Debian's order: it can be compared, sorted, and be a key.
+
+    Raises Refused where the text is no version.
+    """
+
+    def __init__(self, text: Text) -> None:
+        self.text = text
+        self.canonical = canonical(text)
+
+    def __eq__(self, other: object) -> bool:
+        if not isinstance(other, Version):
+            return NotImplemented
+        return compare(self.canonical, other.canonical) == 0
+
+    def __lt__(self, other: "Version") -> bool:
+        if not isinstance(other, Version):
+            return NotImplemented
+        return compare(self.canonical, other.canonical) < 0
+
+    def __hash__(self) -> int:
+        return hash(self.canonical)
+
+    def __str__(self) -> str:
+        return self.text if isinstance(self.text, str) else self.text.decode()
+
+    def __repr__(self) -> str:
+        return f"Version({self.text!r})"
+
+
+def check(text: Text, kind: str = "packages") -> int:
+    """The number of paragraphs of a file that is accepted as a document of this kind: `packages`,
+    `binary`, `source`, `sources` or `any`.
+
+    Raises Refused where it is refused.
+    """
+    return _answered(_lib.deb_check(_kind(kind), *_text(text))).count
+
+
+def normalise(text: Text, kind: str = "packages") -> bytes:
+    """The canonical text of a file: two that are accepted mean the same exactly if theirs is the
+    same.
+
+    Raises Refused where it is refused.
+    """
+    data, length = _text(text)
+    call = functools.partial(_lib.deb_normalise, _kind(kind), data, length)
+    return _given(length + 64, call)[1]
+
+
+def same(text: Text, other: Text, kind: str = "packages") -> bool:
+    """Whether two files mean the same.
+
+    Raises Refused where one of them is refused; `second` tells which.
+    """
+    return _answered(_lib.deb_same(_kind(kind), *_text(text), *_text(other))).status == _YES
+
+
+def query(relation: Text, index: Text, arch: Text, profiles: Iterable[Text] = ()) -> Report:
+    """Which packages of an index meet a relation, for this architecture and these build profiles.
+
+    Raises Refused where one of these is refused.
+    """
+    active = [_text(profile) for profile in profiles]
+    texts = (_Text * len(active))(*active)
+    call = functools.partial(
+        _lib.deb_query, *_text(arch), texts, len(active), *_text(relation), *_text(index)
+    )
+    answer, report = _given(4096, call)
+    return Report(answer.status == _YES, report)
