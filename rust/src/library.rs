@@ -1,0 +1,152 @@
+//! The functions of `debctl.h`, over slices.
+
+use std::marker::PhantomData;
+
+pub const YES: u8 = 0;
+pub const REFUSED: u8 = 2;
+pub const SECOND_REFUSED: u8 = 3;
+pub const NO_ROOM: u8 = 4;
+pub const NO_MEMORY: u8 = 5;
+
+#[repr(C)]
+pub struct Answer {
+    pub status: u8,
+    pub code: u8,
+    pub line: u64,
+    pub count: u64,
+}
+
+#[repr(C)]
+pub struct Comparison {
+    pub status: u8,
+    pub code: u8,
+    pub order: i8,
+}
+
+/// A text among several.
+#[repr(C)]
+pub struct Text<'a> {
+    bytes: *const u8,
+    length: usize,
+    lent: PhantomData<&'a [u8]>,
+}
+
+impl<'a> Text<'a> {
+    pub fn of(text: &'a [u8]) -> Text<'a> {
+        Text {
+            bytes: text.as_ptr(),
+            length: text.len(),
+            lent: PhantomData,
+        }
+    }
+}
+
+extern "C" {
+    fn deb_version_compare(
+        left: *const u8,
+        left_length: usize,
+        right: *const u8,
+        right_length: usize,
+    ) -> Comparison;
+    fn deb_version_canonical(
+        text: *const u8,
+        text_length: usize,
+        out: *mut u8,
+        out_size: usize,
+        length: *mut usize,
+    ) -> Answer;
+    fn deb_check(kind: u8, text: *const u8, text_length: usize) -> Answer;
+    fn deb_normalise(
+        kind: u8,
+        text: *const u8,
+        text_length: usize,
+        out: *mut u8,
+        out_size: usize,
+        length: *mut usize,
+    ) -> Answer;
+    fn deb_same(
+        kind: u8,
+        text: *const u8,
+        text_length: usize,
+        other: *const u8,
+        other_length: usize,
+    ) -> Answer;
+    fn deb_query(
+        target: *const u8,
+        target_length: usize,
+        profiles: *const Text,
+        profile_count: usize,
+        relation: *const u8,
+        relation_length: usize,
+        index: *const u8,
+        index_length: usize,
+        out: *mut u8,
+        out_size: usize,
+        length: *mut usize,
+    ) -> Answer;
+}
+
+// Of each call: every pointer comes from a slice with its length, and a slice that may be written
+// overlaps no other. The library keeps none of them.
+
+pub fn version_compare(left: &[u8], right: &[u8]) -> Comparison {
+    unsafe { deb_version_compare(left.as_ptr(), left.len(), right.as_ptr(), right.len()) }
+}
+
+pub fn version_canonical(text: &[u8], out: &mut [u8], length: &mut usize) -> Answer {
+    unsafe {
+        deb_version_canonical(
+            text.as_ptr(),
+            text.len(),
+            out.as_mut_ptr(),
+            out.len(),
+            length,
+        )
+    }
+}
+
+pub fn check(kind: u8, text: &[u8]) -> Answer {
+    unsafe { deb_check(kind, text.as_ptr(), text.len()) }
+}
+
+pub fn normalise(kind: u8, text: &[u8], out: &mut [u8], length: &mut usize) -> Answer {
+    unsafe {
+        deb_normalise(
+            kind,
+            text.as_ptr(),
+            text.len(),
+            out.as_mut_ptr(),
+            out.len(),
+            length,
+        )
+    }
+}
+
+pub fn same(kind: u8, text: &[u8], other: &[u8]) -> Answer {
+    unsafe { deb_same(kind, text.as_ptr(), text.len(), other.as_ptr(), other.len()) }
+}
+
+pub fn query(
+    target: &[u8],
+    profiles: &[Text],
+    relation: &[u8],
+    index: &[u8],
+    out: &mut [u8],
+    length: &mut usize,
+) -> Answer {
+    unsafe {
+        deb_query(
+            target.as_ptr(),
+            target.len(),
+            profiles.as_ptr(),
+            profiles.len(),
+            relation.as_ptr(),
+            relation.len(),
+            index.as_ptr(),
+            index.len(),
+            out.as_mut_ptr(),
+            out.len(),
+            length,
+        )
+    }
+}
