@@ -1,0 +1,201 @@
+/* The table of statuses of debctl.h, and its buffers, function by function. */
+#include "debctl.h"
+
+#include <stdio.h>
+#include <stdlib.h>
+#include <string.h>
+
+static int passed, failed;
+
+#define IS(what) \
+    ((what) ? (void)passed++ : (void)(failed++, printf("calls.c:%d: %s\n", __LINE__, #what)))
+
+static const uint8_t *bytes(const char *text) { return (const uint8_t *)text; }
+
+/* A buffer of so much room, whose bytes are all 7, and what was written to it. The room is taken
+ * from the heap, so that a byte behind it is one too many for the address sanitiser. */
+struct buffer {
+    uint8_t *bytes;
+    size_t room, length;
+};
+
+static struct buffer buffer_of(size_t room) {
+    struct buffer it = {room ? malloc(room) : NULL, room, 99};
+    if (room)
+        memset(it.bytes, 7, room);
+    return it;
+}
+
+/* The text stands at the front, and nothing was written behind it. */
+static int holds(struct buffer it, const char *text) {
+    size_t at = strlen(text);
+    if (it.length != at || at > it.room || (at && memcmp(it.bytes, text, at) != 0))
+        return 0;
+    for (; at < it.room; at++)
+        if (it.bytes[at] != 7)
+            return 0;
+    return 1;
+}
+
+/* Nothing was written, and this length is told. */
+static int untouched(struct buffer it, size_t length) {
+    size_t at;
+    for (at = 0; at < it.room; at++)
+        if (it.bytes[at] != 7)
+            return 0;
+    return it.length == length;
+}
+
+static int is(struct deb_answer answer, int status, int code, uint64_t line, uint64_t count) {
+    return answer.status == status && answer.code == code && answer.line == line &&
+           answer.count == count;
+}
+
+static struct deb_comparison compare(const char *left, const char *right) {
+    return deb_version_compare(bytes(left), strlen(left), bytes(right), strlen(right));
+}
+
+static int compares(const char *left, const char *right, int status, int code, int order) {
+    struct deb_comparison answer = compare(left, right);
+    return answer.status == status && answer.code == code && answer.order == order;
+}
+
+static void try_versions(void) {
+    size_t rooms[] = {0, 4, 5, 6, 64}, at;
+    struct deb_comparison empty = deb_version_compare(NULL, 0, bytes("1"), 1);
+
+    IS(compares("1.0~rc1", "1.0", DEB_YES, 0, -1));
+    IS(compares("0:1.0-0", "1.00", DEB_YES, 0, 0));
+    IS(compares("1.10", "1.9", DEB_YES, 0, 1));
+    IS(compares("1_", "1", DEB_REFUSED, DEB_BAD_VERSION, 0));
+    IS(compares("1", "1_", DEB_SECOND_REFUSED, DEB_BAD_VERSION, 0));
+    IS(compares("1_", "1_", DEB_REFUSED, DEB_BAD_VERSION, 0));
+    IS(empty.status == DEB_REFUSED && empty.code == DEB_BAD_VERSION && empty.order == 0);
+    for (at = 0; at < sizeof rooms / sizeof *rooms; at++) {
+        struct buffer it = buffer_of(rooms[at]), bad = buffer_of(rooms[at]);
+        struct deb_answer answer =
+            deb_version_canonical(bytes("00:1:02-0"), 9, it.bytes, it.room, &it.length);
+        if (rooms[at] < 5)
+            IS(is(answer, DEB_NO_ROOM, 0, 0, 0) && untouched(it, 5));
+        else
+            IS(is(answer, DEB_YES, 0, 0, 0) && holds(it, "0:1:2"));
+        answer = deb_version_canonical(bytes("1-"), 2, bad.bytes, bad.room, &bad.length);
+        IS(is(answer, DEB_REFUSED, DEB_BAD_VERSION, 0, 0) && untouched(bad, 0));
+        answer = deb_version_canonical(NULL, 0, bad.bytes, bad.room, &bad.length);
+        IS(is(answer, DEB_REFUSED, DEB_BAD_VERSION, 0, 0) && untouched(bad, 0));
+        free(it.bytes);
+        free(bad.bytes);
+    }
+}
+
+static const char *hello = "vERSION: 01.0-0\npackage:hello\nArchitecture: amd64\n";
+static const char *canonical = "Architecture: amd64\nPackage: hello\nVersion: 1.0\n";
+static const char *newer = "Package: hello\nVersion: 1.1\nArchitecture: amd64\n";
+static const char *bad = "Package: hello\nVersion: 1.1\nArchitecture: amd64\nSize: 1k\n";
+
+static struct deb_answer check(int kind, const char *text) {
+    return deb_check((uint8_t)kind, bytes(text), strlen(text));
+}
+
+static struct deb_answer same(int kind, const char *text, const char *other) {
+    return deb_same((uint8_t)kind, bytes(text), strlen(text), bytes(other), strlen(other));
+}
+
+static void try_files(void) {
+    size_t whole = strlen(canonical), at;
+    size_t rooms[] = {0, whole - 1, whole, whole + 1, 4096};
+
+    IS(is(check(DEB_PACKAGES, hello), DEB_YES, 0, 0, 1));
+    IS(is(check(DEB_PACKAGES, "Package hello\n"), DEB_REFUSED, DEB_NO_COLON, 1, 0));
+    IS(is(check(DEB_PACKAGES, bad), DEB_REFUSED, DEB_BAD_NUMBER, 4, 0));
+    IS(is(check(DEB_ANY, bad), DEB_YES, 0, 0, 1));
+    IS(is(check(5, hello), DEB_NO_KIND, 0, 0, 0));
+    IS(is(check(255, "x"), DEB_NO_KIND, 0, 0, 0));
+    IS(is(deb_check(DEB_PACKAGES, NULL, 0), DEB_YES, 0, 0, 0));
+    IS(is(deb_check(DEB_BINARY, NULL, 0), DEB_REFUSED, DEB_NO_PARAGRAPH, 1, 0));
+    for (at = 0; at < sizeof rooms / sizeof *rooms; at++) {
+        struct buffer it = buffer_of(rooms[at]), no = buffer_of(rooms[at]);
+        struct deb_answer answer =
+            deb_normalise(DEB_PACKAGES, bytes(hello), strlen(hello), it.bytes, it.room, &it.length);
+        if (rooms[at] < whole)
+            IS(is(answer, DEB_NO_ROOM, 0, 0, 0) && untouched(it, whole));
+        else
+            IS(is(answer, DEB_YES, 0, 0, 1) && holds(it, canonical));
+        answer = deb_normalise(DEB_PACKAGES, bytes(bad), strlen(bad), no.bytes, no.room, &no.length);
+        IS(is(answer, DEB_REFUSED, DEB_BAD_NUMBER, 4, 0) && untouched(no, 0));
+        answer = deb_normalise(9, bytes(hello), strlen(hello), no.bytes, no.room, &no.length);
+        IS(is(answer, DEB_NO_KIND, 0, 0, 0) && untouched(no, 0));
+        answer = deb_normalise(DEB_PACKAGES, NULL, 0, no.bytes, no.room, &no.length);
+        IS(is(answer, DEB_YES, 0, 0, 0) && holds(no, ""));
+        free(it.bytes);
+        free(no.bytes);
+    }
+    IS(is(same(DEB_PACKAGES, hello, canonical), DEB_YES, 0, 0, 0));
+    IS(is(same(DEB_PACKAGES, hello, newer), DEB_NO, 0, 0, 0));
+    IS(is(same(DEB_PACKAGES, hello, ""), DEB_NO, 0, 0, 0));
+    IS(is(same(DEB_PACKAGES, bad, "x"), DEB_REFUSED, DEB_BAD_NUMBER, 4, 0));
+    IS(is(same(DEB_PACKAGES, hello, bad), DEB_SECOND_REFUSED, DEB_BAD_NUMBER, 4, 0));
+    IS(is(same(7, hello, hello), DEB_NO_KIND, 0, 0, 0));
+    IS(is(deb_same(DEB_PACKAGES, NULL, 0, NULL, 0), DEB_YES, 0, 0, 0));
+}
+
+/* A query of an index of hello and of a package for the profiles, whose report is as told. */
+static struct deb_answer query(const char *target, const char *profile, const char *relation,
+                               const char *index, struct buffer *it) {
+    struct deb_text profiles[2] = {{bytes("stage1"), 6}, {NULL, 0}};
+    profiles[1].bytes = bytes(profile ? profile : "");
+    profiles[1].length = profile ? strlen(profile) : 0;
+    return deb_query(bytes(target), strlen(target), profile ? profiles : NULL, profile ? 2 : 0,
+                     bytes(relation), strlen(relation), bytes(index), strlen(index), it->bytes,
+                     it->room, &it->length);
+}
+
+struct question {
+    const char *target, *profile, *relation, *index;
+    int status, code;
+    uint64_t line;
+    const char *report;
+};
+
+static void try_queries(void) {
+    const struct question all[] = {
+        {"amd64", NULL, "hello (>= 1)", hello, DEB_YES, 0, 0,
+         "met hello (>= 1)\n 1 hello 1.0 amd64\n"},
+        {"i386", NULL, "hello", hello, DEB_NO, 0, 0, "unmet hello\n"},
+        {"amd64", "nodoc", "hello <!nodoc>", hello, DEB_YES, 0, 0, "ignored hello <!nodoc>\n"},
+        {"amd64", "nodoc", "hello <!stage1>", hello, DEB_YES, 0, 0, "ignored hello <!stage1>\n"},
+        {"amd64", NULL, "", hello, DEB_YES, 0, 0, ""},
+        {"amd64", NULL, "hello (", "x", DEB_REFUSED, DEB_BAD_RELATION, 0, NULL},
+        {"any", NULL, "hello (", "x", DEB_REFUSED, DEB_BAD_RELATION, 0, NULL},
+        {"any", NULL, "hello", "x", DEB_REFUSED, DEB_BAD_ENVIRONMENT, 0, NULL},
+        {"", NULL, "hello", hello, DEB_REFUSED, DEB_BAD_ENVIRONMENT, 0, NULL},
+        {"amd64", "No", "hello", hello, DEB_REFUSED, DEB_BAD_ENVIRONMENT, 0, NULL},
+        {"amd64", "", "hello", hello, DEB_REFUSED, DEB_BAD_ENVIRONMENT, 0, NULL},
+        {"amd64", NULL, "hello [linux-any]", bad, DEB_REFUSED, DEB_BAD_NUMBER, 4, NULL},
+        {"amd64", NULL, "hello [linux-any]", hello, DEB_REFUSED, DEB_WILDCARD, 0, NULL},
+    };
+    size_t at;
+    for (at = 0; at < sizeof all / sizeof *all; at++) {
+        const struct question *q = &all[at];
+        size_t whole = q->report ? strlen(q->report) : 5, room = whole ? whole - 1 : 0;
+        for (; room <= whole + 1; room++) {
+            struct buffer it = buffer_of(room);
+            struct deb_answer answer = query(q->target, q->profile, q->relation, q->index, &it);
+            if (!q->report)
+                IS(is(answer, q->status, q->code, q->line, 0) && untouched(it, 0));
+            else if (room < whole)
+                IS(is(answer, DEB_NO_ROOM, 0, 0, 0) && untouched(it, whole));
+            else
+                IS(is(answer, q->status, 0, 0, 0) && holds(it, q->report));
+            free(it.bytes);
+        }
+    }
+}
+
+int main(void) {
+    try_versions();
+    try_files();
+    try_queries();
+    printf("calls: %d passed, %d failed\n", passed, failed);
+    return failed != 0;
+}

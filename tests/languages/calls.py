@@ -1,0 +1,103 @@
+"""The Python module: its answers, its exceptions, and versions as keys."""
+
+import pickle
+import sys
+import threading
+
+import debctl
+from debctl import Code, Refused, Version
+
+HELLO = "vERSION: 01.0-0\npackage:hello\nArchitecture: amd64\n"
+CANONICAL = b"Architecture: amd64\nPackage: hello\nVersion: 1.0\n"
+BAD = "Package: hello\nVersion: 1.1\nArchitecture: amd64\nSize: 1k\n"
+
+
+def refusal(call, *words, **more):
+    """The code, the line, the name and the side of what a call refuses."""
+    try:
+        return call(*words, **more)
+    except Refused as refused:
+        assert str(refused) == f"line {refused.line}: {int(refused.code)} {refused.name}"
+        again = pickle.loads(pickle.dumps(refused))
+        assert (again.code, again.line, again.second) == (refused.code, refused.line, refused.second)
+        return refused.code, refused.line, refused.name, refused.second
+
+
+def error(call, *words, **more):
+    """The sort of the exception that a call raises."""
+    try:
+        return call(*words, **more)
+    except Exception as raised:
+        return type(raised)
+
+
+def from_threads():
+    """Whether calls from four threads at once are answered as one alone is."""
+    answers = []
+    run = lambda: answers.extend(debctl.normalise(HELLO) for _ in range(200))
+    threads = [threading.Thread(target=run) for _ in range(4)]
+    for thread in threads:
+        thread.start()
+    for thread in threads:
+        thread.join()
+    return answers == [CANONICAL] * 800
+
+
+long_index = "\n".join(f"Package: p{at}\nVersion: {at}\nArchitecture: all\n" for at in range(2000))
+long_version = "1" * 100000 + "-0"
+bad_version = (Code.BadVersion, 0, "BadVersion", False)
+
+TESTS = {
+    "earlier": debctl.compare("1.0~rc1", b"1.0") == -1,
+    "equal": debctl.compare("0:1.0-0", "1.00") == 0,
+    "later": debctl.compare("1.10", "1.9") == 1,
+    "no version first": refusal(debctl.compare, "1_", "1") == bad_version,
+    "no version second": refusal(debctl.compare, "1", "") == (*bad_version[:3], True),
+    "no text": error(debctl.compare, None, "1") is TypeError,
+    "canonical version": debctl.canonical("00:1:02-0") == b"0:1:2",
+    "long canonical version": debctl.canonical(long_version) == b"1" * 100000,
+    "no canonical version": refusal(debctl.canonical, "") == bad_version,
+    "order": sorted(map(Version, ["1.10", "1.9", "1~"])) == [Version(v) for v in ("1~", "1.9", "1.10")],
+    "every comparison": Version("1") <= Version("1.0-1") and Version("2") > Version("1")
+    and Version("2") >= Version("2-0") and Version("2") != Version("1"),
+    "keys": len({Version("1.0"), Version("0:1.0-0"), Version("1.1")}) == 2,
+    "versions and others": Version("1") != "1" and error(lambda: Version("1") < "1") is TypeError,
+    "spelled": (str(Version("01.0")), repr(Version(b"1"))) == ("01.0", "Version(b'1')"),
+    "no Version": refusal(Version, "1-") == bad_version,
+    "check": debctl.check(HELLO) == 1,
+    "check nothing": debctl.check(b"") == 0,
+    "check a kind": debctl.check(BAD, kind="any") == 1,
+    "refused": refusal(debctl.check, BAD) == (Code.BadNumber, 4, "BadNumber", False),
+    "refused kind": refusal(debctl.check, "", "binary") == (Code.NoParagraph, 1, "NoParagraph", False),
+    "unknown kind": error(debctl.check, HELLO, "foo") is ValueError,
+    "zero bytes": refusal(debctl.check, b"A\0: x\n") == (Code.BadFieldName, 1, "BadFieldName", False),
+    "not UTF-8": refusal(debctl.check, b"A: \xff\n") == (Code.NotUtf8, 1, "NotUtf8", False),
+    "normalise": debctl.normalise(HELLO) == CANONICAL,
+    "normalise nothing": debctl.normalise("") == b"",
+    "normalise refused": refusal(debctl.normalise, BAD) == (Code.BadNumber, 4, "BadNumber", False),
+    "longer canonical text": debctl.normalise("\n".join(f"a{at}:b" for at in range(200)), "any")
+    .count(b": b\n") == 200,
+    "same": debctl.same(HELLO, CANONICAL) is True,
+    "different": debctl.same(HELLO, "") is False,
+    "first refused": refusal(debctl.same, BAD, "x") == (Code.BadNumber, 4, "BadNumber", False),
+    "second refused": refusal(debctl.same, HELLO, BAD) == (Code.BadNumber, 4, "BadNumber", True),
+    "met": debctl.query("hello (>= 1)", HELLO, "amd64")
+    == (True, b"met hello (>= 1)\n 1 hello 1.0 amd64\n"),
+    "unmet": debctl.query("hello", HELLO, "i386") == (False, b"unmet hello\n"),
+    "profiles": debctl.query("hello <!nodoc>", HELLO, "amd64", ["stage1", "nodoc"]).text
+    == b"ignored hello <!nodoc>\n",
+    "long report": debctl.query(" | ".join(f"p{at}" for at in range(2000)), long_index, "amd64")
+    .text.count(b"\n") == 2001,
+    "bad relation": refusal(debctl.query, "a (", HELLO, "amd64") == (19, 0, "BadRelation", False),
+    "bad target": refusal(debctl.query, "hello", HELLO, "any") == (23, 0, "BadEnvironment", False),
+    "bad profile": refusal(debctl.query, "hello", HELLO, "amd64", [""]) == (23, 0, "BadEnvironment", False),
+    "bad index": refusal(debctl.query, "hello", BAD, "amd64") == (15, 4, "BadNumber", False),
+    "wildcard": refusal(debctl.query, "hello [linux-any]", HELLO, "amd64") == (22, 0, "Wildcard", False),
+    "threads": from_threads(),
+}
+
+failed = [name for name, passed in TESTS.items() if not passed]
+for name in failed:
+    print(f"calls.py: {name}")
+print(f"calls.py: {len(TESTS) - len(failed)} passed, {len(failed)} failed")
+sys.exit(bool(failed))

@@ -1,0 +1,85 @@
+/* Each growth of memory of each call is refused in turn: the answer is DEB_NO_MEMORY, and the
+ * buffer is as it was; then, with none refused, it is the right one. Linked with
+ * -Wl,--wrap=malloc,--wrap=realloc. */
+#include "debctl.h"
+
+#include <stdio.h>
+#include <stdlib.h>
+#include <string.h>
+
+void *__real_malloc(size_t size);
+void *__real_realloc(void *old, size_t size);
+
+static long until_refused = -1; /* how many growths are granted first; below 0: all are */
+
+static int is_refused(void) { return until_refused >= 0 && until_refused-- == 0; }
+
+void *__wrap_malloc(size_t size) { return is_refused() ? NULL : __real_malloc(size); }
+
+void *__wrap_realloc(void *old, size_t size) {
+    return is_refused() ? NULL : __real_realloc(old, size);
+}
+
+static const uint8_t *bytes(const char *text) { return (const uint8_t *)text; }
+
+static const char *index_of_two =
+    "Package: hello\nVersion: 1.0-0\nArchitecture: amd64\nDepends: libc6 (>= 2.36), aa | bb\n\n"
+    "Package: mailer\nVersion: 2\nArchitecture: all\nProvides: mta (= 2), other\n";
+
+static uint8_t out[512];
+static size_t length;
+
+static struct deb_answer call(int which) {
+    const uint8_t *text = bytes(index_of_two);
+    size_t size = strlen(index_of_two);
+    struct deb_text profile = {bytes("nocheck"), 7};
+    switch (which) {
+    case 0:
+        return deb_version_canonical(bytes("01:02.030-0004"), 14, out, sizeof out, &length);
+    case 1:
+        return deb_check(DEB_PACKAGES, text, size);
+    case 2:
+        return deb_normalise(DEB_PACKAGES, text, size, out, sizeof out, &length);
+    case 3:
+        return deb_same(DEB_PACKAGES, text, size, text, size);
+    default:
+        return deb_query(bytes("amd64"), 5, &profile, 1, bytes("hello (>= 1) | xx, mta"), 22, text,
+                         size, out, sizeof out, &length);
+    }
+}
+
+int main(void) {
+    static const char *names[] = {"version_canonical", "check", "normalise", "same", "query"};
+    int which, passed = 0, failed = 0;
+    for (which = 0; which < 5; which++) {
+        long growth = 0;
+        struct deb_answer answer;
+        do {
+            size_t at, touched = 0;
+            memset(out, 7, sizeof out);
+            length = 0;
+            until_refused = growth;
+            answer = call(which);
+            if (until_refused >= 0)
+                break; /* there is no such growth */
+            until_refused = -1;
+            for (at = 0; at < sizeof out; at++)
+                touched += out[at] != 7;
+            if (answer.status == DEB_NO_MEMORY && touched == 0 && length == 0)
+                passed++;
+            else {
+                printf("deb_%s, growth %ld: status %d\n", names[which], growth, answer.status);
+                failed++;
+            }
+        } while (growth++ < 10000);
+        until_refused = -1;
+        if (answer.status == DEB_YES && growth > 0)
+            passed++;
+        else {
+            printf("deb_%s: status %d after %ld growths\n", names[which], answer.status, growth);
+            failed++;
+        }
+    }
+    printf("memory: %d passed, %d failed\n", passed, failed);
+    return failed != 0;
+}

@@ -1,0 +1,46 @@
+/* Four threads call every function at once, and each is answered as one alone is. */
+#include "debctl.h"
+
+#include <pthread.h>
+#include <stdio.h>
+#include <string.h>
+
+static const uint8_t *bytes(const char *text) { return (const uint8_t *)text; }
+
+static const char *hello = "Package: hello\nVersion: 1.0-0\nArchitecture: amd64\n";
+
+static void *run(void *wrong) {
+    int turn;
+    for (turn = 0; turn < 2000; turn++) {
+        uint8_t out[128];
+        size_t length;
+        const uint8_t *text = bytes(hello);
+        size_t size = strlen(hello);
+        struct deb_comparison order = deb_version_compare(bytes("1~"), 2, bytes("1"), 1);
+        *(int *)wrong += order.status != DEB_YES || order.order >= 0;
+        *(int *)wrong += deb_check(DEB_PACKAGES, text, size).count != 1;
+        *(int *)wrong += deb_same(DEB_PACKAGES, text, size, text, size).status != DEB_YES;
+        *(int *)wrong +=
+            deb_normalise(DEB_PACKAGES, text, size, out, sizeof out, &length).status != DEB_YES ||
+            length != 48 || memcmp(out, "Architecture: amd64\nPackage: hello\nVersion: 1.0\n", 48);
+        *(int *)wrong += deb_query(bytes("amd64"), 5, NULL, 0, bytes("hello"), 5, text, size, out,
+                                   sizeof out, &length)
+                                 .status != DEB_YES ||
+                         length != 29;
+    }
+    return NULL;
+}
+
+int main(void) {
+    pthread_t threads[4];
+    int wrong[4] = {0}, sum = 0, at;
+    for (at = 0; at < 4; at++)
+        if (pthread_create(&threads[at], NULL, run, &wrong[at]) != 0)
+            return 1;
+    for (at = 0; at < 4; at++) {
+        pthread_join(threads[at], NULL);
+        sum += wrong[at] != 0;
+    }
+    printf("threads: %d passed, %d failed\n", 4 - sum, sum);
+    return sum != 0;
+}
