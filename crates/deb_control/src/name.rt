@@ -2,6 +2,7 @@
 
 ghost use Rattle.std.specs.Prelude.{◌≡◌, ◌++◌, if◌then◌else◌, OnOk};
 ghost use Rattle.std.specs.Char.{to_ascii_lowercase, to_ascii_uppercase};
+ghost use Rattle.std.specs.Str.{bytes_eq};
 ghost use Rattle.deb_base.specs.Names.{canonical_name};
 ghost use Rattle.deb_syntax.specs.Meaning.{byte_order};
 
@@ -38,12 +39,31 @@ pub(crate) fn compare(name: &[u8], other: &[u8]) -> Ordering
 pub(crate) fn append_name(name: &[u8], text: &mut Vec<u8>) -> Result<(), AllocError>
     ensures { OnOk result (text.new.items ≡ text.old.items ++ canonical_name name.now) }
 {
+    if is_canonical(name) {
+        return text.extend_from_slice(name);
+    }
     let mut begins_word = true;
     for byte in name {
         text.push(canonical_byte(begins_word, *byte))?;
         begins_word = *byte == b'-';
     }
     Ok(())
+}
+
+/// Whether a name is spelled canonically.
+fn is_canonical(name: &[u8]) -> bool
+    ensures { result ≡ bytes_eq (canonical_name name.now) name.now }
+{
+    let mut rest = name;
+    let mut begins_word = true;
+    while let [byte, behind @ ..] = rest {
+        if canonical_byte(begins_word, *byte) != *byte {
+            return false;
+        }
+        rest = behind;
+        begins_word = *byte == b'-';
+    }
+    true
 }
 
 /// A byte of a name in the canonical spelling: a letter that begins a word in upper case, each

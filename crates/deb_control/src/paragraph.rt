@@ -154,7 +154,7 @@ fn fields_with_values<'a>(
         (λ fault. RefusedOrMemory fault
         (λ refusal. value_refusal_of (rules_of doc) (fields_of paragraph.now) ≡ Some refusal)) }
 {
-    let mut fields = Vec::new(alloc);
+    let mut fields = Vec::with_capacity(alloc, paragraph.len())?;
     for index in 0..paragraph.len() {
         if let Some(raw) = paragraph.field(index) {
             let value = value_of(alloc, doc, &raw)?;

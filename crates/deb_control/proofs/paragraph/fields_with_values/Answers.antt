@@ -11,7 +11,7 @@ use Rattle.deb_control.proofs.paragraph.fields_with_values.Goals.{in-Some+in_ok-
 
 pub returns-in_err-value-clause-fault : goal.returns-in_err-value-clause-fault
 returns-in_err-value-clause-fault c =
-    let p = err_from_is_err_and c.from_residual.result c.from_residual.ensures.1 in
+    let p = err_from_is_err_and c.from_residual-in_err-value.result c.from_residual-in_err-value.ensures.1 in
     let raw = c.in-Some.raw in
     let fields = fields_of c.args.paragraph.now in
     rw (p.1, p.2)
