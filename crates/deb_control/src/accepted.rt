@@ -21,11 +21,8 @@ pub struct Accepted<'a> {
 }
 
 impl<'a> Accepted<'a> {
-    ghost use Rattle.std.specs.Prelude.{Some, None, IfOk, IfSome, option_map, length};
-    ghost use Rattle.std.specs.FinMap.{find as value_under};
+    ghost use Rattle.std.specs.Prelude.{IfOk, option_map};
     ghost use Rattle.std.specs.List.Sorted.{IsPermutation};
-    ghost use Rattle.deb_base.specs.Names.{canonical_name};
-    ghost use Rattle.deb_syntax.specs.Meaning.{byte_order};
     ghost use Rattle.deb_syntax.specs.Raw.{field_of, field_named, fields_left};
     ghost use Rattle.deb_field.specs.ValueMeanings.{value_meaning};
     ghost use Rattle.deb_control.specs.CheckedStates.{doc_of, passing_of};
