@@ -7,13 +7,13 @@ _debctl() {
     local command='' given=0 options='--help' i
     for ((i = 1; i < cword; i++)); do
         case ${words[i]} in
-            --kind | --arch | --profiles) ((i++)) ;;
+            -k | --kind | --arch | --profiles) ((i++)) ;;
             -*) ;;
             *) if [[ -z $command ]]; then command=${words[i]}; else ((given++)); fi ;;
         esac
     done
     case $prev in
-        --kind)
+        -k | --kind)
             mapfile -t COMPREPLY < <(compgen -W 'packages binary source sources any' -- "$cur")
             return
             ;;

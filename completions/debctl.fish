@@ -10,7 +10,7 @@ complete -c debctl -n __fish_use_subcommand -a help -d 'Print the help'
 complete -c debctl -n __fish_use_subcommand -s V -l version -d 'Print the version'
 complete -c debctl -s h -l help -d 'Print the help'
 complete -c debctl -n '__fish_seen_subcommand_from help' -a 'check normalise same compare canon-version sort query help'
-complete -c debctl -n '__fish_seen_subcommand_from check normalise same' -l kind -x -a 'packages binary source sources any' -d 'Kind of file'
+complete -c debctl -n '__fish_seen_subcommand_from check normalise same' -s k -l kind -x -a 'packages binary source sources any' -d 'Kind of file'
 complete -c debctl -n '__fish_seen_subcommand_from check normalise same sort query' -F
 complete -c debctl -n '__fish_seen_subcommand_from sort' -l reverse -d 'The latest version first'
 complete -c debctl -n '__fish_seen_subcommand_from compare' -a 'lt le eq ne ge gt'
