@@ -1,0 +1,6 @@
+pub mod Causes
+pub mod Subjects
+pub mod Explanations
+pub mod Reading
+pub mod Sentences
+pub mod Shown

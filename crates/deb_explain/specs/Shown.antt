@@ -1,0 +1,29 @@
+-- What the values of the code show of an explanation.
+use Rattle.std.specs.Prelude.{ℕ}
+use Rattle.deb_explain.specs.Explanations.{Told}
+use Rattle.deb_explain.specs.Subjects.{About, AboutWhole, AboutLine, AboutName, AboutMissing, AboutField}
+use Rattle.deb_explain.specs.declared.explained.Explained.{Explained}
+use Rattle.deb_explain.specs.declared.explained.Explained.TheVariants.{Accepted, Refused}
+use Rattle.deb_explain.specs.declared.explained.Explanation.{Explanation}
+use Rattle.deb_explain.specs.declared.explained.Subject.{Subject}
+use Rattle.deb_explain.specs.declared.explained.Subject.TheVariants.{Whole, Line, Name, Missing, Field}
+
+abbrev pub about_of : Subject → About
+about_of Whole = AboutWhole
+about_of (Line line) = AboutLine line.items
+about_of (Name name) = AboutName name.items
+about_of (Missing name) = AboutMissing name.now
+about_of (Field field) = AboutField field.name.items field.body.items field.cause
+
+abbrev pub shown_by : Explanation → Told
+shown_by explanation =
+    record { refusal = explanation.refusal; about = about_of explanation.subject }
+
+-- a fact for the answer that a text is accepted, and one for the answer that it is refused
+abbrev pub IfAccepted : Explained → (ℕ → Type 0) → Type 0
+IfAccepted (Accepted count) P = P count
+IfAccepted (Refused explanation) P = Unit {0}
+
+abbrev pub IfRefused : Explained → (Explanation → Type 0) → Type 0
+IfRefused (Accepted count) P = Unit {0}
+IfRefused (Refused explanation) P = P explanation

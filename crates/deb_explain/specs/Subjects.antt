@@ -1,0 +1,99 @@
+-- What a refusal is about, and what is wrong there. Debian Policy 5.1 (fields), 5.3 and 5.4 (required
+-- fields), 5.6 and 7 (values); which of it is told is this project's own.
+use Rattle.std.specs.Prelude.{ℕ, ◌-◌, ◌==◌, not, List, find, slice_get, Option, Some, None}
+use Rattle.std.specs.List.{before_first}
+use Rattle.deb_base.specs.Bodies.{Line, pieces_of}
+use Rattle.deb_base.specs.FieldNames.{colon}
+use Rattle.deb_base.specs.declared.code.Code.{Code}
+use Rattle.deb_base.specs.declared.code.Code.TheVariants as code
+use Rattle.deb_base.specs.declared.refusal.Refusal.{Refusal}
+use Rattle.deb_syntax.specs.Answers.{Seen}
+use Rattle.deb_syntax.specs.Fields.{Field, has_name}
+use Rattle.deb_field.specs.Kinds.{required}
+use Rattle.deb_field.specs.declared.kind.Doc.{Doc}
+use Rattle.deb_explain.specs.Causes.{cause_of}
+use Rattle.deb_explain.specs.declared.cause.Cause.{Cause}
+use Rattle.deb_explain.specs.declared.topic.Topic.{Topic}
+use Rattle.deb_explain.specs.declared.topic.Topic.TheVariants as topics
+
+-- what a refusal is about: a paragraph or the file as a whole, a line, what stands before the colon
+-- of a line, the name of a required field that is missing, or a field, with its name as spelled,
+-- its body and what is wrong in that
+pub data About : Type 0 where
+  AboutWhole : About
+  AboutLine : Line → About
+  AboutName : List ℕ → About
+  AboutMissing : List ℕ → About
+  AboutField : List ℕ → List ℕ → Option Cause → About
+
+-- what a code is about
+abbrev pub topic_of : Code → Topic
+topic_of code.NotUtf8 = topics.Line
+topic_of code.Armour = topics.Line
+topic_of code.Comment = topics.Line
+topic_of code.StrayContinuation = topics.Line
+topic_of code.BadFieldName = topics.Name
+topic_of code.NoColon = topics.Line
+topic_of code.DuplicateField = topics.Name
+topic_of code.ParagraphTooLong = topics.Whole
+topic_of code.FileTooLong = topics.Whole
+topic_of code.NoParagraph = topics.Whole
+topic_of code.TooManyParagraphs = topics.Whole
+topic_of code.MissingField = topics.Missing
+topic_of code.NotOneLine = topics.Value
+topic_of code.BadName = topics.Value
+topic_of code.BadNumber = topics.Value
+topic_of code.BadWord = topics.Value
+topic_of code.BadArchitecture = topics.Value
+topic_of code.BadVersion = topics.Value
+topic_of code.BadRelation = topics.Value
+topic_of code.AlternativesNotAllowed = topics.Value
+topic_of code.ProvidesBound = topics.Value
+topic_of code.Wildcard = topics.Whole
+topic_of code.BadEnvironment = topics.Whole
+
+-- the line of a number, which is counted from 1
+abbrev pub line_numbered : ℕ → List ℕ → Option Line
+line_numbered number text = slice_get (pieces_of text) (number - 1)
+
+-- the first field that begins at a line; no two do
+abbrev pub field_at : ℕ → List Field → Option Field
+field_at line fields = find (λ field. field.line == line) fields
+
+-- the first of the names that no field has, without ASCII case
+abbrev pub missing_among : List (List ℕ) → List Field → Option (List ℕ)
+missing_among names fields = find (λ name. not (has_name name fields)) names
+
+-- where a thing is found, it is what the refusal is about
+abbrev pub about_found : {A : Type 0} → (A → About) → Option A → About
+about_found about None = AboutWhole
+about_found about (Some a) = about a
+
+abbrev pub about_line : ℕ → List ℕ → About
+about_line number text = about_found AboutLine (line_numbered number text)
+
+abbrev pub about_name : ℕ → List ℕ → About
+about_name number text =
+    about_found (λ line. AboutName (before_first (λ b. b == colon) line))
+    (line_numbered number text)
+
+abbrev pub about_missing : Doc → Seen → About
+about_missing doc seen = about_found AboutMissing (missing_among (required doc) seen.fields)
+
+abbrev pub about_field : Doc → Code → Field → About
+about_field doc code field =
+    AboutField field.name field.body (cause_of doc code field.name field.body)
+
+abbrev pub about_value : Doc → Refusal → Seen → About
+about_value doc refusal seen =
+    about_found (about_field doc refusal.code) (field_at refusal.line seen.fields)
+
+-- of a refusal by what its code is about, of which this paragraph was refused, where its lines are
+-- no reason to
+abbrev pub about_topic : Topic → Doc → List ℕ → Refusal → Option Seen → About
+about_topic topics.Whole doc text refusal paragraph = AboutWhole
+about_topic topics.Line doc text refusal paragraph = about_line refusal.line text
+about_topic topics.Name doc text refusal paragraph = about_name refusal.line text
+about_topic topics.Missing doc text refusal paragraph = about_found (about_missing doc) paragraph
+about_topic topics.Value doc text refusal paragraph =
+    about_found (about_value doc refusal) paragraph

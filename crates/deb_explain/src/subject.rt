@@ -1,0 +1,149 @@
+//! What a refusal is about.
+
+ghost use Rattle.std.specs.Prelude.{◌≡◌, ◌≤◌, ◌==◌, not, length, map, option_map, IfOk};
+ghost use Rattle.std.specs.List.{before_first, position_or_len};
+ghost use Rattle.deb_base.specs.FieldNames.{colon};
+ghost use Rattle.deb_syntax.specs.Fields.{has_name};
+ghost use Rattle.deb_syntax.specs.Paragraphs.{seen_of};
+ghost use Rattle.deb_syntax.specs.Raw.{field_of, fields_of};
+ghost use Rattle.deb_explain.specs.Subjects.{about_field, about_line, about_missing, about_name, about_topic, about_value, field_at, line_numbered, missing_among, topic_of};
+ghost use Rattle.deb_explain.specs.Shown.{about_of};
+
+use crate::cause::cause_of;
+use crate::explained::{RefusedField, Subject};
+use crate::topic::{Topic, topic_of};
+use deb_base::{Code, Refusal};
+use deb_field::{Doc, required};
+use deb_syntax::{Raw, RawField};
+use std::alloc::{AllocError, Global};
+
+/// What the refusal of a text is about, by the paragraph that is refused, where its lines are not.
+pub(crate) fn subject_of(
+    alloc: Global,
+    doc: Doc,
+    text: &[u8],
+    refusal: Refusal,
+    paragraph: Option<Raw<'_>>,
+) -> Result<Subject, AllocError>
+    ensures { IfOk result (λ subject. about_of subject
+        ≡ about_topic (topic_of refusal.code) doc text.now refusal
+        (option_map seen_of paragraph.entry)) }
+{
+    match (topic_of(refusal.code), paragraph) {
+        (Topic::Line, _) => line_subject(alloc, text, refusal.line),
+        (Topic::Name, _) => name_subject(alloc, text, refusal.line),
+        (Topic::Missing, Some(paragraph)) => Ok(missing_subject(doc, &paragraph)),
+        (Topic::Value, Some(paragraph)) => value_subject(alloc, doc, refusal, &paragraph),
+        (Topic::Whole, _) | (Topic::Missing | Topic::Value, None) => Ok(Subject::Whole),
+    }
+}
+
+/// The line of a number.
+fn line_subject(alloc: Global, text: &[u8], number: u64) -> Result<Subject, AllocError>
+    ensures { IfOk result (λ subject. about_of subject ≡ about_line number text.now) }
+{
+    match line_numbered(text, number) {
+        Some(line) => Ok(Subject::Line(line.to_vec(alloc)?)),
+        None => Ok(Subject::Whole),
+    }
+}
+
+/// What stands before the first colon of the line of a number.
+fn name_subject(alloc: Global, text: &[u8], number: u64) -> Result<Subject, AllocError>
+    ensures { IfOk result (λ subject. about_of subject ≡ about_name number text.now) }
+{
+    match line_numbered(text, number) {
+        Some(line) => Ok(Subject::Name(before_colon(line).to_vec(alloc)?)),
+        None => Ok(Subject::Whole),
+    }
+}
+
+/// The line of a number, which is counted from 1, without its newline.
+fn line_numbered(text: &[u8], number: u64) -> Option<&[u8]>
+    ensures { option_map (λ line. line.now) result ≡ line_numbered number text.now }
+{
+    text.split(|byte| *byte == b'\n')
+        .nth(number.saturating_sub(1) as usize)
+}
+
+/// What stands before the first colon, or all where there is none.
+fn before_colon(line: &[u8]) -> &[u8]
+    ensures { result.now ≡ before_first (λ b. b == colon) line.now }
+{
+    &line[..colon_at(line)]
+}
+
+/// Where the first colon stands, or the length where there is none.
+fn colon_at(line: &[u8]) -> usize
+    ensures value { result ≡ position_or_len (λ b. b == colon) line.now }
+    ensures bound { result ≤ length line.now }
+{
+    line.iter().take_while(|byte| **byte != b':').count()
+}
+
+/// The first required field that a paragraph lacks.
+fn missing_subject(doc: Doc, paragraph: &Raw<'_>) -> Subject
+    ensures { about_of result ≡ about_missing doc (seen_of paragraph.now) }
+{
+    match missing_among(required(doc), paragraph) {
+        Some(name) => Subject::Missing(name),
+        None => Subject::Whole,
+    }
+}
+
+/// The first of the names that no field of a paragraph has.
+fn missing_among<'n>(names: &[&'n [u8]], paragraph: &Raw<'_>) -> Option<&'n [u8]>
+    ensures { option_map (λ name. name.now) result
+        ≡ missing_among (map (λ name. name.now) names.now) (fields_of paragraph.now) }
+{
+    names
+        .iter()
+        .find(|name| lacks_field(paragraph, name))
+        .copied()
+}
+
+fn lacks_field(paragraph: &Raw<'_>, name: &[u8]) -> bool
+    ensures { result ≡ not (has_name name.now (fields_of paragraph.now)) }
+{
+    paragraph.get(name).is_none()
+}
+
+/// The field at the line of a refusal, with what is wrong in its body.
+fn value_subject(
+    alloc: Global,
+    doc: Doc,
+    refusal: Refusal,
+    paragraph: &Raw<'_>,
+) -> Result<Subject, AllocError>
+    ensures { IfOk result
+        (λ subject. about_of subject ≡ about_value doc refusal (seen_of paragraph.now)) }
+{
+    match field_at(paragraph, refusal.line) {
+        Some(field) => Ok(Subject::Field(refused_field(alloc, doc, refusal.code, &field)?)),
+        None => Ok(Subject::Whole),
+    }
+}
+
+/// The field of a paragraph that begins at a line.
+fn field_at<'a>(paragraph: &Raw<'a>, line: u64) -> Option<RawField<'a>>
+    ensures { option_map field_of result ≡ field_at line (fields_of paragraph.now) }
+{
+    paragraph.fields().find(|field| field.line == line)
+}
+
+/// A copy of a field, with what is wrong in its body.
+fn refused_field(
+    alloc: Global,
+    doc: Doc,
+    code: Code,
+    field: &RawField<'_>,
+) -> Result<RefusedField, AllocError>
+    ensures { IfOk result
+        (λ refused. about_of (Subject.Field refused) ≡ about_field doc code (field_of field.now)) }
+{
+    Ok(RefusedField {
+        name: field.name.to_vec(alloc)?,
+        body: field.body.to_vec(alloc)?,
+        cause: cause_of(alloc, doc, code, field.name, field.body)?,
+    })
+}
