@@ -1,6 +1,6 @@
 //! What words ask for, and what is told of those that ask for nothing.
 
-use debctl_words::{Job, job_of};
+use debctl_words::{Call, Job, Task, job_of};
 use std::alloc::{AllocError, Global};
 use std::process::Abort;
 use std::test::Fail;
@@ -15,43 +15,61 @@ fn words(alloc: Global, line: &str) -> Result<Vec<String>, AllocError> {
     Ok(words)
 }
 
-/// A command line, and the call or the fault that it has.
-const LINES: [(&str, &str); 10] = [
+/// A command line, and the task or the fault that it has.
+const LINES: [(&str, &str); 16] = [
     (
         "check",
-        "Ok(Call { job: Check(Packages), first: None, second: None })",
+        "Ok(Run(Call { job: Check(Packages), first: None, second: None }))",
     ),
     (
         "check --kind=binary x",
-        "Ok(Call { job: Check(Binary), first: Some(\"x\"), second: None })",
+        "Ok(Run(Call { job: Check(Binary), first: Some(\"x\"), second: None }))",
     ),
     (
         "normalise --kind source x",
-        "Ok(Call { job: Normalise(Source), first: Some(\"x\"), second: None })",
+        "Ok(Run(Call { job: Normalise(Source), first: Some(\"x\"), second: None }))",
     ),
     (
         "same x y",
-        "Ok(Call { job: Same(Packages), first: Some(\"x\"), second: Some(\"y\") })",
+        "Ok(Run(Call { job: Same(Packages), first: Some(\"x\"), second: Some(\"y\") }))",
     ),
     (
         "compare 1 lt 2",
-        "Ok(Call { job: Compare(\"1\", Less, \"2\"), first: None, second: None })",
+        "Ok(Run(Call { job: Compare(\"1\", Less, \"2\"), first: None, second: None }))",
     ),
     (
         "canon-version 00:1:02-0",
-        "Ok(Call { job: CanonVersion(\"00:1:02-0\"), first: None, second: None })",
+        "Ok(Run(Call { job: CanonVersion(\"00:1:02-0\"), first: None, second: None }))",
     ),
     (
         "sort --reverse x",
-        "Ok(Call { job: Sort { reverse: true }, first: Some(\"x\"), second: None })",
+        "Ok(Run(Call { job: Sort { reverse: true }, first: Some(\"x\"), second: None }))",
     ),
     (
         "query --arch amd64 --profiles a,,b aa x",
-        "Ok(Call { job: Query { arch: \"amd64\", profiles: [\"a\", \"\", \"b\"], relation: \"aa\" \
-        }, first: Some(\"x\"), second: None })",
+        "Ok(Run(Call { job: Query { arch: \"amd64\", profiles: [\"a\", \"\", \"b\"], \
+        relation: \"aa\" }, first: Some(\"x\"), second: None }))",
     ),
     ("compare 1 xx 2", "Err(Usage(\"usage: unknown operator\"))"),
     ("check --kind foo", "Err(Usage(\"usage: unknown kind\"))"),
+    (
+        "explain --kind source x",
+        "Ok(Explain(File { doc: Source, path: Some(\"x\") }))",
+    ),
+    ("explain --code 18", "Ok(Explain(Rule(BadVersion)))"),
+    (
+        "audit y --kind any - x",
+        "Ok(Audit(Audit { doc: Any, files: Paths([\"y\", \"-\", \"x\"]) }))",
+    ),
+    (
+        "audit --files0-from -",
+        "Ok(Audit(Audit { doc: Packages, files: Listed(\"-\") }))",
+    ),
+    ("explain --code 24", "Err(Usage(\"usage: unknown code\"))"),
+    (
+        "audit",
+        "Err(Usage(\"usage: audit takes paths, or --files0-from\"))",
+    ),
 ];
 
 #[test]
@@ -84,13 +102,18 @@ fn long_line(alloc: Global) -> Option<String> {
 }
 
 /// How many profiles a query has, and how many bytes its relation has.
-fn sizes(job: &Job) -> (usize, usize) {
-    match job {
-        Job::Query {
-            profiles,
-            relation,
-            ..
-        } => (profiles.len(), relation.len()),
+fn sizes(task: &Task) -> (usize, usize) {
+    match task {
+        Task::Run(
+            Call {
+                job: Job::Query {
+                    profiles,
+                    relation,
+                    ..
+                },
+                ..
+            },
+        ) => (profiles.len(), relation.len()),
         _ => (0, 0),
     }
 }
@@ -99,7 +122,7 @@ fn sizes(job: &Job) -> (usize, usize) {
 fn long_words(rt: HostRuntime) -> Result<(), Fail> {
     let line = long_line(rt.alloc()).ok_or("memory")?;
     let words = words(rt.alloc(), line.as_str())?;
-    let call = job_of(rt.alloc(), &words)?;
-    assert!(rt; sizes(&call.job) == (1_000, 10_000));
+    let task = job_of(rt.alloc(), &words)?;
+    assert!(rt; sizes(&task) == (1_000, 10_000));
     Ok(())
 }

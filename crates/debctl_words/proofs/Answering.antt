@@ -13,9 +13,9 @@ use Rattle.clap.specs.Walk.{Row, Text}
 use Rattle.clap.specs.declared.error.Error.{Error}
 use Rattle.clap.specs.declared.error.kind.ErrorKind.{ErrorKind}
 use Rattle.clap.specs.declared.error.kind.ErrorKind.TheVariants.{OutOfMemory}
-use Rattle.debctl_words.specs.Asked.{Asked, Request, asked_in, asked_of, asks, asks_help, unknown_kind, unknown_operator, unknown_command, standard_input_twice, has_mistake, has_request, is_request_kind, request_of, Answers, AreMistakes, AreRequests, AnswersMet, MeansError, TellsKind}
+use Rattle.debctl_words.specs.Asked.{Asked, Request, asked_in, asked_of, asks, asks_help, unknown_kind, unknown_operator, unknown_command, unknown_code, standard_input_twice, code_beside_file, paths_or_list, has_mistake, has_request, is_request_kind, request_of, Answers, AreMistakes, AreRequests, AnswersMet, MeansError, TellsKind}
 use Rattle.debctl_words.specs.Commands.{debctl_app}
-use Rattle.debctl_words.specs.declared.jobs.Call.{Call}
+use Rattle.debctl_words.specs.declared.jobs.Task.{Task}
 use Rattle.debctl_words.specs.declared.words.UsageFault.{UsageFault}
 use Rattle.debctl_words.specs.declared.words.UsageFault.TheVariants.{Usage, Help, Memory}
 
@@ -29,26 +29,26 @@ pub is_taken : (words : List (List ℕ)) → fault_of debctl_app words ≡ [] �
 is_taken words none = taken_where_no_kind debctl_app words is_simple_app refl refl none
 
 -- words that are taken are answered by what they ask
-pub taken_means : (kinds : Kinds) (asked : Option Asked) (result : Result Call UsageFault) → kinds ≡ [] → AnswersMet asked result → IfErr result (MeansError kinds asked)
-taken_means kinds asked (Ok call) none answers = tt
+pub taken_means : (kinds : Kinds) (asked : Option Asked) (result : Result Task UsageFault) → kinds ≡ [] → AnswersMet asked result → IfErr result (MeansError kinds asked)
+taken_means kinds asked (Ok task) none answers = tt
 taken_means kinds asked (Err (Usage text)) none answers = inr (none, answers)
 taken_means kinds asked (Err (Help text)) none answers = inr (none, answers)
 taken_means kinds asked (Err Memory) none answers = tt
 
 -- what is answered to the command that a parse met is answered to the words
-pub words_are_answered : (app : App) (words : List Text) (met : Option (Text × List Row)) (result : Result Call UsageFault) → app ≡ debctl_app → met ≡ subcommand_of app words
+pub words_are_answered : (app : App) (words : List Text) (met : Option (Text × List Row)) (result : Result Task UsageFault) → app ≡ debctl_app → met ≡ subcommand_of app words
     → AnswersMet (asked_in met) result → AnswersMet (asked_of words) result
 words_are_answered app words met result is of answers = subst (λ asked. AnswersMet asked result) (ap asked_in (of ∙ ap (λ a. subcommand_of a words) is)) answers
 
--- a call is the one that is asked
-pub call_is_asked : (asked : Option Asked) (result : Result Call UsageFault) → AnswersMet asked result → IfOk result (λ call. asked ≡ Some (asks (request_of call)))
-call_is_asked None result answers = absurd answers
-call_is_asked (Some asked) (Ok call) answers = ap Some answers
-call_is_asked (Some asked) (Err error) answers = tt
+-- a task is the one that is asked
+pub task_is_asked : (asked : Option Asked) (result : Result Task UsageFault) → AnswersMet asked result → IfOk result (λ task. asked ≡ Some (asks (request_of task)))
+task_is_asked None result answers = absurd answers
+task_is_asked (Some asked) (Ok task) answers = ap Some answers
+task_is_asked (Some asked) (Err error) answers = tt
 
--- a call is refused for want of memory alone
-pub asked_is_met : (asked : Option Asked) (request : Request) (result : Result Call UsageFault) → AnswersMet asked result → asked ≡ Some (asks request) → IfErr result (λ error. error ≡ Memory)
-asked_is_met asked request (Ok call) answers is = tt
+-- a task is refused for want of memory alone
+pub asked_is_met : (asked : Option Asked) (request : Request) (result : Result Task UsageFault) → AnswersMet asked result → asked ≡ Some (asks request) → IfErr result (λ error. error ≡ Memory)
+asked_is_met asked request (Ok task) answers is = tt
 asked_is_met None request (Err error) answers is = absurd answers
 asked_is_met (Some asked) request (Err (Usage text)) answers is = go asked answers cc
   where
@@ -58,13 +58,16 @@ asked_is_met (Some asked) request (Err (Usage text)) answers is = go asked answe
     go unknown_kind answers is = cc
     go unknown_operator answers is = cc
     go unknown_command answers is = cc
+    go unknown_code answers is = cc
     go standard_input_twice answers is = cc
+    go code_beside_file answers is = cc
+    go paths_or_list answers is = cc
 asked_is_met (Some asked) request (Err (Help text)) answers is = cc
 asked_is_met (Some asked) request (Err Memory) answers is = refl
 
-pub on_any_call : (result : Result Call UsageFault) (P : Type 0) → P → IfOk result (λ _. P)
-on_any_call (Ok call) P p = p
-on_any_call (Err error) P p = tt
+pub on_any_task : (result : Result Task UsageFault) (P : Type 0) → P → IfOk result (λ _. P)
+on_any_task (Ok task) P p = p
+on_any_task (Err error) P p = tt
 
 is_among : (p : ErrorKind → Bool) (kinds : Kinds) (kind : ErrorKind) → IsAmong kind kinds → p kind ≡ true → list_any p kinds ≡ true
 is_among p [] kind among passes = absurd among

@@ -1,22 +1,30 @@
 -- What the program's words ask, as a function of what `clap` makes of them. (The words are this
 -- project's own.)
-use Rattle.std.specs.Prelude.{◌≡◌, ◌⊎◌, ◌==◌, ◌&&◌, Bool, true, false, not, List, [], map, Option, Some, None, unwrap_or, option_map, if◌then◌else◌, codes, string_bytes, bytes_eq, Result, Ok, Err}
+use Rattle.std.specs.Prelude.{◌≡◌, ◌⊎◌, ◌==◌, ◌&&◌, Bool, true, false, not, List, [], ◌∷◌, ◌||◌, is_some, find, nat_lt, count_by, map, Option, Some, None, unwrap_or, option_map, if◌then◌else◌, codes, string_bytes, bytes_eq, Result, Ok, Err}
+use Rattle.std.specs.Fmt.{decimal}
 use Rattle.std.specs.List.{list_any, slice_split}
 use Rattle.std.specs.Option.{option_map_or}
 use Rattle.clap.specs.Kinds.{Kinds}
 use Rattle.clap.specs.Simple.{subcommand_of}
-use Rattle.clap.specs.Walk.{Row, Text, first_of}
+use Rattle.clap.specs.Walk.{Row, Text, all_of, first_of}
 use Rattle.clap.specs.declared.error.kind.ErrorKind.{ErrorKind}
 use Rattle.clap.specs.declared.error.kind.ErrorKind.TheVariants.{DisplayHelp, DisplayVersion, OutOfMemory}
-use Rattle.debctl_words.specs.Commands.{debctl_app, check_word, normalise_word, same_word, compare_word, canon_version_word, sort_word, query_word, help_word}
+use Rattle.debctl_words.specs.Commands.{debctl_app, audit_word, check_word, explain_word, normalise_word, same_word, compare_word, canon_version_word, sort_word, query_word, help_word}
+use Rattle.deb_base.specs.Codes.{number_of}
+use Rattle.deb_base.specs.declared.code.Code.{Code}
+use Rattle.deb_base.specs.declared.code.Code.TheVariants as code
 use Rattle.deb_field.specs.declared.kind.Doc.{Doc}
 use Rattle.deb_field.specs.declared.kind.Doc.TheVariants.{Packages}
 use Rattle.deb_field.specs.Kinds.{doc_named}
-use Rattle.debctl_words.specs.declared.jobs.Call.{Call}
 use Rattle.debctl_words.specs.declared.jobs.Cmp.{Cmp}
 use Rattle.debctl_words.specs.declared.jobs.Cmp.TheVariants as cmp
+use Rattle.debctl_words.specs.declared.jobs.Explain.TheVariants as explain
+use Rattle.debctl_words.specs.declared.jobs.Files.{Files}
+use Rattle.debctl_words.specs.declared.jobs.Files.TheVariants as files
 use Rattle.debctl_words.specs.declared.jobs.Job.{Job}
 use Rattle.debctl_words.specs.declared.jobs.Job.TheVariants as job
+use Rattle.debctl_words.specs.declared.jobs.Task.{Task}
+use Rattle.debctl_words.specs.declared.jobs.Task.TheVariants as task
 use Rattle.debctl_words.specs.declared.words.UsageFault.{UsageFault}
 use Rattle.debctl_words.specs.declared.words.UsageFault.TheVariants.{Usage, Help, Memory}
 
@@ -43,6 +51,20 @@ operator_named word =
     else if bytes_eq word (codes ">>") then Some cmp.Greater
     else None
 
+-- the codes, by their numbers
+abbrev pub all_codes : List Code
+all_codes =
+    code.NotUtf8 ∷ code.Armour ∷ code.Comment ∷ code.StrayContinuation ∷ code.BadFieldName
+    ∷ code.NoColon ∷ code.DuplicateField ∷ code.ParagraphTooLong ∷ code.FileTooLong
+    ∷ code.NoParagraph ∷ code.TooManyParagraphs ∷ code.MissingField ∷ code.NotOneLine
+    ∷ code.BadName ∷ code.BadNumber ∷ code.BadWord ∷ code.BadArchitecture ∷ code.BadVersion
+    ∷ code.BadRelation ∷ code.AlternativesNotAllowed ∷ code.ProvidesBound ∷ code.Wildcard
+    ∷ code.BadEnvironment ∷ []
+
+-- the code whose number a word is, in decimal as it is told
+abbrev pub code_named : Text → Option Code
+code_named word = find (λ code. bytes_eq word (decimal (number_of code))) all_codes
+
 -- what stands between the commas (44) of a text
 abbrev pub comma_pieces : Text → List Text
 comma_pieces text = slice_split (λ b. b == 44) text
@@ -61,6 +83,8 @@ reverse_asked (Some word) = bytes_eq word (codes "true")
 abbrev pub is_command : Text → Bool
 is_command word =
     if bytes_eq word check_word then true
+    else if bytes_eq word explain_word then true
+    else if bytes_eq word audit_word then true
     else if bytes_eq word normalise_word then true
     else if bytes_eq word same_word then true
     else if bytes_eq word compare_word then true
@@ -69,9 +93,14 @@ is_command word =
     else if bytes_eq word query_word then true
     else bytes_eq word help_word
 
--- ---- calls
+-- ---- requests
 
--- a job, with the bytes of its words
+-- the files of `audit`: those of these paths, or those that a file lists
+pub data Audited : Type 0 where
+  paths : List Text → Audited
+  listed : Text → Audited
+
+-- a task, with the bytes of its words
 pub data Wanted : Type 0 where
   checks : Doc → Wanted
   normalises : Doc → Wanted
@@ -80,8 +109,11 @@ pub data Wanted : Type 0 where
   canonicalises : Text → Wanted
   sorts : Bool → Wanted
   queries : Text → List Text → Text → Wanted
+  explains : Doc → Wanted
+  tells_rule : Code → Wanted
+  audits : Doc → Audited → Wanted
 
--- a call, with the bytes of its words and paths
+-- what is wanted, and the paths of the files, two at most, that it reads if it is no audit
 pub record Request : Type 0 where
   pub wanted : Wanted
   pub first : Option Text
@@ -98,30 +130,44 @@ wanted_of (job.Sort reverse) = sorts reverse
 wanted_of (job.Query arch profiles relation) =
     queries (string_bytes arch) (map string_bytes profiles.items) (string_bytes relation)
 
-abbrev pub request_of : Call → Request
-request_of call =
+abbrev pub audited_of : Files → Audited
+audited_of (files.Paths given) = paths (map string_bytes given.items)
+audited_of (files.Listed path) = listed (string_bytes path)
+
+abbrev pub request_of : Task → Request
+request_of (task.Run call) =
     record {
       wanted = wanted_of call.job;
       first = option_map string_bytes call.first;
       second = option_map string_bytes call.second;
     }
+request_of (task.Explain (explain.File kind path)) =
+    record { wanted = explains kind; first = option_map string_bytes path; second = None }
+request_of (task.Explain (explain.Rule code)) =
+    record { wanted = tells_rule code; first = None; second = None }
+request_of (task.Audit audit) =
+    record { wanted = audits audit.doc (audited_of audit.files); first = None; second = None }
 
 -- ---- what is asked
 
--- a call, help, something that isn't known, or standard input for two files
+-- a request, help, something that isn't known, standard input for two files, or words that don't
+-- go together
 pub data Asked : Type 0 where
   asks : Request → Asked
   asks_help : Asked
   unknown_kind : Asked
   unknown_operator : Asked
   unknown_command : Asked
+  unknown_code : Asked
   standard_input_twice : Asked
+  code_beside_file : Asked
+  paths_or_list : Asked
 
 -- a word that a command has to have; `clap` refuses words without it
 abbrev pub word_in : Text → List Row → Text
 word_in id rows = unwrap_or (first_of id rows) []
 
--- `check` and `normalise`
+-- `check`, `normalise`, and `explain` without a code
 abbrev pub document_asked : (Doc → Wanted) → List Row → Asked
 document_asked wanted rows = option_map_or
     (λ kind. asks (record
@@ -142,6 +188,46 @@ same_asked rows = option_map_or
       first = Some (word_in (codes "first") rows);
       second = Some (word_in (codes "second") rows);
     }))
+    (kind_asked (first_of (codes "kind") rows)) unknown_kind
+
+-- the rule of the code that a word names, beside which neither a kind nor a path may stand
+abbrev pub rule_asked : List Row → Text → Asked
+rule_asked rows word =
+    if is_some (first_of (codes "kind") rows) || is_some (first_of (codes "path") rows)
+    then code_beside_file
+    else option_map_or
+    (λ code. asks (record { wanted = tells_rule code; first = None; second = None }))
+    (code_named word) unknown_code
+
+-- `explain`, of a code or of a file
+abbrev pub explain_asked : List Row → Asked
+explain_asked rows =
+    option_map_or (rule_asked rows) (first_of (codes "code") rows) (document_asked explains rows)
+
+-- the files of `audit`, of which its words name either paths or a list
+abbrev pub audited_by : Option (List Text) → Option Text → Option Audited
+audited_by (Some given) None = Some (paths given)
+audited_by None (Some path) = Some (listed path)
+audited_by None None = None
+audited_by (Some given) (Some path) = None
+
+-- two of the paths are standard input
+abbrev pub has_standard_input_twice : Audited → Bool
+has_standard_input_twice (paths given) = nat_lt 1 (count_by is_standard_input given)
+has_standard_input_twice (listed path) = false
+
+-- an audit of files of this kind
+abbrev pub files_asked : Option Audited → Doc → Asked
+files_asked None kind = paths_or_list
+files_asked (Some audited) kind =
+    if has_standard_input_twice audited then standard_input_twice
+    else asks (record { wanted = audits kind audited; first = None; second = None })
+
+-- `audit`
+abbrev pub audit_asked : List Row → Asked
+audit_asked rows = option_map_or
+    (files_asked
+    (audited_by (all_of (codes "path") rows) (first_of (codes "files0-from") rows)))
     (kind_asked (first_of (codes "kind") rows)) unknown_kind
 
 abbrev pub compare_asked : List Row → Asked
@@ -188,6 +274,8 @@ help_asked (Some word) = if is_command word then asks_help else unknown_command
 abbrev pub asked_by : Text → List Row → Asked
 asked_by name rows =
     if bytes_eq name check_word then document_asked checks rows
+    else if bytes_eq name explain_word then explain_asked rows
+    else if bytes_eq name audit_word then audit_asked rows
     else if bytes_eq name normalise_word then document_asked normalises rows
     else if bytes_eq name same_word then same_asked rows
     else if bytes_eq name compare_word then compare_asked rows
@@ -206,12 +294,15 @@ asked_of words = asked_in (subcommand_of debctl_app words)
 
 -- ---- answers
 
--- the text names what isn't known, or what stands twice
+-- the text names what isn't known, what stands twice, or what doesn't go together
 abbrev pub IsUsage : Asked → Text → Type 0
 IsUsage unknown_kind text = text ≡ codes "usage: unknown kind"
 IsUsage unknown_operator text = text ≡ codes "usage: unknown operator"
 IsUsage unknown_command text = text ≡ codes "usage: unknown command"
+IsUsage unknown_code text = text ≡ codes "usage: unknown code"
 IsUsage standard_input_twice text = text ≡ codes "usage: standard input twice"
+IsUsage code_beside_file text = text ≡ codes "usage: explain takes a code or a file"
+IsUsage paths_or_list text = text ≡ codes "usage: audit takes paths, or --files0-from"
 IsUsage (asks _) text = ⊥
 IsUsage asks_help text = ⊥
 
@@ -221,10 +312,10 @@ AnswersError asked (Usage text) = IsUsage asked (string_bytes text)
 AnswersError asked (Help text) = asked ≡ asks_help
 AnswersError asked Memory = Unit {0}
 
--- an answer to what is asked: the call itself, and an error only where there is none, or for want
+-- an answer to what is asked: the task itself, and an error only where there is none, or for want
 -- of memory
-abbrev pub Answers : Asked → Result Call UsageFault → Type 0
-Answers asked (Ok call) = asked ≡ asks (request_of call)
+abbrev pub Answers : Asked → Result Task UsageFault → Type 0
+Answers asked (Ok task) = asked ≡ asks (request_of task)
 Answers asked (Err error) = AnswersError asked error
 
 -- `clap`'s kinds of error: a call for help or for the version, and a mistake
@@ -240,7 +331,7 @@ abbrev pub has_mistake : Kinds → Bool
 has_mistake = list_any (λ kind. not (is_request_kind kind))
 
 -- an answer to words that `clap` takes
-abbrev pub AnswersMet : Option Asked → Result Call UsageFault → Type 0
+abbrev pub AnswersMet : Option Asked → Result Task UsageFault → Type 0
 AnswersMet None result = ⊥
 AnswersMet (Some asked) result = Answers asked result
 
@@ -252,7 +343,7 @@ AreMistakes kinds = (has_mistake kinds ≡ true) × (has_request kinds ≡ false
 abbrev pub AreRequests : Kinds → Type 0
 AreRequests kinds = (has_request kinds ≡ true) × (has_mistake kinds ≡ false)
 
--- why words give no call: by the kinds of `clap`'s error, or where that has none, by what is asked
+-- why words give no task: by the kinds of `clap`'s error, or where that has none, by what is asked
 abbrev pub MeansError : Kinds → Option Asked → UsageFault → Type 0
 MeansError kinds asked (Usage text) =
     AreMistakes kinds ⊎ ((kinds ≡ []) × AnswersMet asked (Err (Usage text)))

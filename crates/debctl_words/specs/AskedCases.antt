@@ -1,12 +1,14 @@
 -- Worked cases of what words ask: rows of words, with what `clap` and this project make of them.
-use Rattle.std.specs.Prelude.{◌≡◌, List, [], ◌∷◌, Option, Some, None, true, false, codes, refl}
+use Rattle.std.specs.Fmt.{digits}
+use Rattle.std.specs.Prelude.{◌≡◌, List, [], map, ◌∷◌, Option, Some, None, true, false, codes, refl}
 use Rattle.clap.proofs.OnLiterals.{clap_on_literals}
 use Rattle.clap.specs.Faults.{fault_of}
 use Rattle.clap.specs.Takes.{takes}
 use Rattle.clap.specs.Walk.{Text}
 use Rattle.clap.specs.declared.error.kind.ErrorKind.TheVariants as kind
-use Rattle.debctl_words.specs.Asked.{asked_of, asks, asks_help, canonicalises, checks, comma_pieces, compares, kind_asked, normalises, profiles_asked, queries, sorts, tells_same, unknown_command, unknown_kind, unknown_operator, standard_input_twice, operator_named, Asked}
+use Rattle.debctl_words.specs.Asked.{asked_of, asks, asks_help, audits, code_beside_file, code_named, explains, listed, paths, paths_or_list, tells_rule, unknown_code, canonicalises, checks, comma_pieces, compares, kind_asked, normalises, profiles_asked, queries, sorts, tells_same, unknown_command, unknown_kind, unknown_operator, standard_input_twice, operator_named, Asked}
 use Rattle.debctl_words.specs.Commands.{debctl_app}
+use Rattle.deb_base.specs.declared.code.Code.TheVariants as code
 use Rattle.deb_field.specs.declared.kind.Doc.TheVariants.{Any, Binary, Packages, Source, Sources}
 use Rattle.debctl_words.specs.declared.jobs.Cmp.TheVariants as cmp
 
@@ -172,6 +174,126 @@ query_without_path : asked_of (query_line (codes "--profiles=a,,x" ∷ codes "aa
 unfolding clap_on_literals
 query_without_path = refl
 
+-- ---- `explain`
+
+explain_alone : asked_of (line (codes "explain" ∷ []))
+    ≡ Some (asks (record { wanted = explains Packages; first = None; second = None }))
+unfolding clap_on_literals kind_asked
+explain_alone = refl
+
+explain_a_file : asked_of
+    (line (codes "explain" ∷ codes "-k" ∷ codes "source" ∷ codes "x" ∷ []))
+    ≡ Some (asks (record { wanted = explains Source; first = Some (codes "x"); second = None }))
+unfolding clap_on_literals kind_asked
+explain_a_file = refl
+
+explain_of_no_kind : asked_of (line (codes "explain" ∷ codes "--kind" ∷ codes "foo" ∷ []))
+    ≡ Some unknown_kind
+unfolding clap_on_literals kind_asked
+explain_of_no_kind = refl
+
+explain_a_code : asked_of (line (codes "explain" ∷ codes "--code" ∷ codes "18" ∷ []))
+    ≡ Some (asks (record { wanted = tells_rule code.BadVersion; first = None; second = None }))
+unfolding clap_on_literals digits
+explain_a_code = refl
+
+codes_have_two_digits_at_most : map code_named
+    (codes "1" ∷ codes "9" ∷ codes "10" ∷ codes "23" ∷ [])
+    ≡ Some code.NotUtf8 ∷ Some code.FileTooLong ∷ Some code.NoParagraph ∷ Some code.BadEnvironment
+    ∷ []
+unfolding digits
+codes_have_two_digits_at_most = refl
+
+no_codes : map code_named
+    (codes "0" ∷ codes "24" ∷ codes "01" ∷ codes "+1" ∷ codes "BadVersion" ∷ codes "1 " ∷ [] ∷ [])
+    ≡ None ∷ None ∷ None ∷ None ∷ None ∷ None ∷ None ∷ []
+unfolding digits
+no_codes = refl
+
+unknown_code_word : asked_of (line (codes "explain" ∷ codes "--code=24" ∷ []))
+    ≡ Some unknown_code
+unfolding clap_on_literals digits
+unknown_code_word = refl
+
+code_beside_a_path : asked_of (line (codes "explain" ∷ codes "--code" ∷ codes "1" ∷ codes "-" ∷ []))
+    ≡ Some code_beside_file
+unfolding clap_on_literals
+code_beside_a_path = refl
+
+code_beside_a_kind : asked_of
+    (line (codes "explain" ∷ codes "--kind=foo" ∷ codes "--code=24" ∷ []))
+    ≡ Some code_beside_file
+unfolding clap_on_literals
+code_beside_a_kind = refl
+
+-- ---- `audit`
+
+-- the paths that an audit of packages is asked of
+abbrev audits_paths : List Text → Option Asked
+audits_paths given =
+    Some (asks (record { wanted = audits Packages (paths given); first = None; second = None }))
+
+audit_of_one : asked_of (line (codes "audit" ∷ codes "x" ∷ []))
+    ≡ audits_paths (codes "x" ∷ [])
+unfolding clap_on_literals kind_asked
+audit_of_one = refl
+
+audit_in_order : asked_of
+    (line (codes "audit" ∷ codes "y" ∷ codes "-" ∷ codes "x" ∷ codes "y" ∷ []))
+    ≡ audits_paths (codes "y" ∷ codes "-" ∷ codes "x" ∷ codes "y" ∷ [])
+unfolding clap_on_literals kind_asked
+audit_in_order = refl
+
+kind_between_paths : asked_of
+    (line (codes "audit" ∷ codes "x" ∷ codes "--kind" ∷ codes "any" ∷ codes "y" ∷ []))
+    ≡ Some (asks (record {
+      wanted = audits Any (paths (codes "x" ∷ codes "y" ∷ []));
+      first = None;
+      second = None;
+    }))
+unfolding clap_on_literals kind_asked
+kind_between_paths = refl
+
+-- a path that begins with a hyphen comes after `--`
+path_with_hyphen : asked_of
+    (line (codes "audit" ∷ codes "x" ∷ codes "--" ∷ codes "--kind" ∷ codes "any" ∷ []))
+    ≡ audits_paths (codes "x" ∷ codes "--kind" ∷ codes "any" ∷ [])
+unfolding clap_on_literals kind_asked
+path_with_hyphen = refl
+
+audit_of_a_list : asked_of
+    (line (codes "audit" ∷ codes "-ksource" ∷ codes "--files0-from" ∷ codes "-" ∷ []))
+    ≡ Some (asks (record {
+      wanted = audits Source (listed (codes "-"));
+      first = None;
+      second = None;
+    }))
+unfolding clap_on_literals kind_asked
+audit_of_a_list = refl
+
+audit_of_nothing : asked_of (line (codes "audit" ∷ [])) ≡ Some paths_or_list
+unfolding clap_on_literals kind_asked
+audit_of_nothing = refl
+
+paths_beside_a_list : asked_of
+    (line (codes "audit" ∷ codes "--files0-from" ∷ codes "list" ∷ codes "-" ∷ codes "-" ∷ []))
+    ≡ Some paths_or_list
+unfolding clap_on_literals kind_asked
+paths_beside_a_list = refl
+
+standard_input_twice_among_paths : asked_of
+    (line (codes "audit" ∷ codes "-" ∷ codes "x" ∷ codes "-" ∷ []))
+    ≡ Some standard_input_twice
+unfolding clap_on_literals kind_asked
+standard_input_twice_among_paths = refl
+
+audit_of_no_kind : asked_of (line (codes "audit" ∷ codes "--kind" ∷ codes "foo" ∷ []))
+    ≡ Some unknown_kind
+unfolding clap_on_literals kind_asked
+audit_of_no_kind = refl
+
+-- ---- help, and words that `clap` refuses
+
 help_on_command : asked_of (line (codes "help" ∷ codes "check" ∷ [])) ≡ Some asks_help
 unfolding clap_on_literals
 help_on_command = refl
@@ -179,6 +301,14 @@ help_on_command = refl
 help_on_query : asked_of (line (codes "help" ∷ codes "query" ∷ [])) ≡ Some asks_help
 unfolding clap_on_literals
 help_on_query = refl
+
+help_on_explain : asked_of (line (codes "help" ∷ codes "explain" ∷ [])) ≡ Some asks_help
+unfolding clap_on_literals
+help_on_explain = refl
+
+help_on_audit : asked_of (line (codes "help" ∷ codes "audit" ∷ [])) ≡ Some asks_help
+unfolding clap_on_literals
+help_on_audit = refl
 
 help_on_nothing_known : asked_of (line (codes "help" ∷ codes "frob" ∷ [])) ≡ Some unknown_command
 unfolding clap_on_literals
@@ -239,6 +369,23 @@ word_behind_a_path : fault_of debctl_app
     ≡ kind.UnknownArgument ∷ []
 unfolding clap_on_literals
 word_behind_a_path = refl
+
+code_twice : fault_of debctl_app
+    (line (codes "explain" ∷ codes "--code=1" ∷ codes "--code=2" ∷ []))
+    ≡ kind.ArgumentConflict ∷ []
+unfolding clap_on_literals
+code_twice = refl
+
+list_twice : fault_of debctl_app
+    (line (codes "audit" ∷ codes "--files0-from=x" ∷ codes "--files0-from=y" ∷ []))
+    ≡ kind.ArgumentConflict ∷ []
+unfolding clap_on_literals
+list_twice = refl
+
+many_paths : takes debctl_app
+    (line (codes "audit" ∷ codes "x" ∷ codes "--kind=any" ∷ codes "y" ∷ codes "x" ∷ [])) ≡ true
+unfolding clap_on_literals
+many_paths = refl
 
 call_for_help : fault_of debctl_app (line (codes "check" ∷ codes "--help" ∷ [])) ≡ kind.DisplayHelp
     ∷ []

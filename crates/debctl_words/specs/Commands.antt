@@ -1,6 +1,7 @@
 -- The commands, as what `clap` reads of them: their names, their options and the words that they
 -- take. (This project's own.)
 use Rattle.std.specs.Prelude.{◌≡◌, true, false, Some, codes}
+use Rattle.clap.specs.Lexer.{usize_max}
 use Rattle.clap.specs.Simple.{App, app_of, new_app, new_rule, on_top, with_rule, with_subcommand}
 use Rattle.clap.specs.Walk.{Rule, Text}
 use Rattle.clap.specs.declared.builder.action.ArgAction.TheVariants.{SetTrue}
@@ -24,6 +25,22 @@ abbrev pub profiles_rule : Rule
 profiles_rule =
     record (new_rule (codes "profiles")) { long = Some (codes "profiles"); value_names = 1 }
 
+-- `--code N`
+abbrev pub code_rule : Rule
+code_rule = record (new_rule (codes "code")) { long = Some (codes "code"); value_names = 1 }
+
+-- `--files0-from PATH`
+abbrev pub list_rule : Rule
+list_rule =
+    record (new_rule (codes "files0-from")) { long = Some (codes "files0-from"); value_names = 1 }
+
+-- paths, of which there may be any number
+abbrev pub paths_rule : Rule
+paths_rule = record (new_rule (codes "path")) {
+  range = Some (record { start_inclusive = 1; end_inclusive = usize_max });
+  value_names = 1;
+}
+
 -- `--reverse`, which takes no value
 abbrev pub reverse_rule : Rule
 reverse_rule =
@@ -38,6 +55,12 @@ required_rule id = record (new_rule id) { value_names = 1; required = true }
 
 abbrev pub check_word : Text
 check_word = codes "check"
+
+abbrev pub explain_word : Text
+explain_word = codes "explain"
+
+abbrev pub audit_word : Text
+audit_word = codes "audit"
 
 abbrev pub normalise_word : Text
 normalise_word = codes "normalise"
@@ -63,6 +86,16 @@ help_word = codes "help"
 -- `check` and `normalise`: `[--kind K] [PATH]`
 abbrev pub document_app : Text → App
 document_app name = with_rule (with_rule (new_app name) kind_rule) (optional_rule (codes "path"))
+
+-- `explain [--kind K] [PATH]` and `explain --code N`
+abbrev pub explain_app : App
+explain_app =
+    with_rule (with_rule (with_rule (new_app explain_word) kind_rule) code_rule)
+    (optional_rule (codes "path"))
+
+-- `audit [--kind K] PATH ..` and `audit [--kind K] --files0-from PATH`
+abbrev pub audit_app : App
+audit_app = with_rule (with_rule (with_rule (new_app audit_word) kind_rule) list_rule) paths_rule
 
 -- `same [--kind K] PATH PATH`
 abbrev pub same_app : App
@@ -105,7 +138,8 @@ bare_app =
 abbrev pub debctl_app : App
 debctl_app =
     with_subcommand (with_subcommand (with_subcommand (with_subcommand (with_subcommand
-    (with_subcommand (with_subcommand (with_subcommand bare_app (document_app check_word).top)
+    (with_subcommand (with_subcommand (with_subcommand (with_subcommand (with_subcommand bare_app
+    (document_app check_word).top) explain_app.top) audit_app.top)
     (document_app normalise_word).top) same_app.top) compare_app.top) canon_version_app.top)
     sort_app.top) query_app.top) help_app.top
 

@@ -1,170 +1,17 @@
-//! The commands as `clap` knows them: their names, options and words, and their help.
+//! The commands as `clap` knows them: their names, options and words.
 
 ghost use Rattle.std.specs.Prelude.{◌≡◌, IfOk, false};
 ghost use Rattle.clap.specs.Words.{rule_of};
-ghost use Rattle.debctl_words.specs.Commands.{arch_rule, bare_app, canon_version_app, check_word, normalise_word, compare_app, debctl_app, document_app, help_app, kind_rule, optional_rule, profiles_rule, query_app, required_rule, reverse_rule, same_app, sort_app, IsShaped};
+ghost use Rattle.debctl_words.specs.Commands.{arch_rule, audit_app, bare_app, code_rule, explain_app, list_rule, paths_rule, canon_version_app, check_word, normalise_word, compare_app, debctl_app, document_app, help_app, kind_rule, optional_rule, profiles_rule, query_app, required_rule, reverse_rule, same_app, sort_app, IsShaped};
 
+use crate::helps::{
+    ARCH_HELP, AUDIT_HELP, CANON_VERSION_HELP, CHECK_HELP, CODE_HELP, COMPARE_HELP, DEBCTL_HELP,
+    EXPLAIN_HELP, FILES_HELP, NORMALISE_HELP, OPERATORS_HELP, PROFILES_HELP, QUERY_HELP, SAME_HELP,
+    SORT_HELP,
+};
 use clap::{Arg, ArgAction, Command};
 use deb_field::{Doc, is_single};
 use std::alloc::{AllocError, Global};
-
-const DEBCTL_HELP: &str = "\
-Statuses:
-  0  done, or the answer is yes
-  1  the answer is no; by `query`: a group of the relation is unmet
-  2  a file, a version, a relation, an architecture or a profile is refused:
-     standard error has `line N: CODE NAME`, with line 0 for a word of the
-     command line, and by `same` with `first: ` or `second: ` before it
-  3  a word is wrong, memory is wanting, or a read or a write failed
-
-A version or a path that begins with a hyphen comes after `--`:
-  $ debctl canon-version -- -1-1
-  -1-1
-
-`debctl help COMMAND` has more on a command, with an example.";
-
-const CHECK_HELP: &str = "\
-An index of source packages wants `--kind sources`: read as packages, binary or
-source it is mostly refused, for an Architecture or a missing field. Control data
-without a kind of its own, such as a `.changes`, `Release`, status or copyright
-file, wants `--kind any`, under which no value is judged.
-
-Statuses:
-  0  accepted: `ok N` is printed, for a file of N paragraphs
-  2  refused: standard error has `line N: CODE NAME`, for the first fault
-  3  a word is wrong, memory is wanting, or a read or a write failed
-
-Example:
-  $ printf 'Package: aa\\nVersion: 1\\nArchitecture: all\\n' | debctl check
-  ok 1";
-
-const NORMALISE_HELP: &str = "\
-Files of one kind that mean the same have one canonical text.
-
-Statuses:
-  0  accepted: the canonical text is printed
-  2  refused: standard error has `line N: CODE NAME`, for the first fault, and
-     the paragraphs before the one with the fault are printed
-  3  a word is wrong, memory is wanting, or a read or a write failed
-
-Example:
-  $ printf 'package:aa\\nVERSION: 1.0-0\\narchitecture: all\\n' | debctl normalise
-  Architecture: all
-  Package: aa
-  Version: 1.0";
-
-const SAME_HELP: &str = "\
-Files mean the same if they have the same paragraphs in the same order, each
-with equal values, whatever the order of its fields and the case of their names.
-
-Statuses:
-  0  they mean the same: `same` is printed
-  1  they don't: `different` is printed
-  2  a file is refused: standard error has `first: line N: CODE NAME` or
-     `second: line N: CODE NAME`, for its first fault; a refusal of the first
-     file goes before one of the second
-  3  a word is wrong, memory is wanting, or a read or a write failed
-
-Example:
-  $ printf 'Package: aa\\nVersion: 1.0-0\\nArchitecture: all\\n' > one
-  $ printf 'architecture:all\\nVERSION:0:1.00\\npackage:aa\\n' > other
-  $ debctl same one other; echo $?
-  same
-  0";
-
-const COMPARE_HELP: &str = "\
-Nothing is printed: the status is the answer.
-
-Statuses:
-  0  the versions compare so
-  1  they don't
-  2  one of them is no version: standard error has `line 0: 18 BadVersion`
-  3  a word is wrong, memory is wanting, or a write failed
-
-Example:
-  $ debctl compare 1.0~rc1 lt 1.0; echo $?
-  0
-
-A version that begins with a hyphen comes after `--`, and so do the words
-behind it:
-  $ debctl compare -- -1-1 gt 2; echo $?
-  0";
-
-const OPERATORS_HELP: &str =
-    "lt or << (earlier), le or <= (earlier or equal), eq or = (equal), ne (not equal), \
-    ge or >= (later or equal), gt or >> (later)";
-
-const CANON_VERSION_HELP: &str = "\
-Versions are equal exactly if their canonical texts are the same.
-
-Statuses:
-  0  the canonical text is printed
-  2  this is no version: standard error has `line 0: 18 BadVersion`
-  3  a word is wrong, memory is wanting, or a write failed
-
-Example:
-  $ debctl canon-version 00:1.02-0
-  1.2
-
-A version that begins with a hyphen comes after `--`:
-  $ debctl canon-version -- -1-1
-  -1-1";
-
-const SORT_HELP: &str = "\
-Each line of the file is a version. The lines are printed in Debian's order, each
-as it is spelled; those of equal versions keep the order that they have. The
-whole file is held in memory, and nothing is printed before it was read.
-
-Statuses:
-  0  the lines are printed in order
-  2  a line is no version, or the file is too long: standard error has
-     `line N: CODE NAME`, for the first such line; an empty line is no version
-  3  a word is wrong, memory is wanting, or a read or a write failed
-
-Example:
-  $ printf '1.10\\n1.9\\n1.10~rc1\\n' | debctl sort
-  1.9
-  1.10~rc1
-  1.10";
-
-const QUERY_HELP: &str = "\
-For each group of the relation (what stands between its commas), in byte order,
-one line is printed:
-  met GROUP      a package of the index meets it
-  unmet GROUP    no package does
-  ignored GROUP  nothing of it applies to the architecture and the profiles
-Below a line `met GROUP`, each package that meets it has a line
-` NUMBER PACKAGE VERSION ARCHITECTURE`, with its place in the index, from 1.
-The former operators `<` and `>` of a bound mean `<=` and `>=`.
-
-Statuses:
-  0  no group is unmet
-  1  a group is unmet
-  2  a word or the index is refused, or the relation has a wildcard in an
-     architecture list: standard error has `line N: CODE NAME`, with line 0 for
-     what isn't of the index, and nothing is printed
-  3  a word is wrong, memory is wanting, or a read or a write failed
-
-Example: is this build dependency met by this index?
-  $ printf 'Package: gcc\\nVersion: 12.2\\nArchitecture: amd64\\n' > index
-  $ debctl query --arch amd64 'gcc (>= 12), make' index; echo $?
-  met gcc (>= 12)
-   1 gcc 12.2 amd64
-  unmet make
-  1
-
-Which packages have this name, or provide it?
-  $ printf 'Provides: c-compiler\\n\\nPackage: tcc\\nVersion: 0.9\\n' >> index
-  $ printf 'Architecture: amd64\\nProvides: c-compiler\\n' >> index
-  $ debctl query --arch amd64 c-compiler index
-  met c-compiler
-   1 gcc 12.2 amd64
-   2 tcc 0.9 amd64";
-
-const ARCH_HELP: &str = "The architecture that packages are asked for, such as amd64";
-
-const PROFILES_HELP: &str =
-    "The build profiles that are active, with commas between them; none without it";
 
 /// The help of `--kind`: a line for each kind of document.
 pub(crate) fn kinds_help(alloc: Global) -> Result<String, AllocError> {
@@ -187,6 +34,8 @@ pub(crate) fn debctl_command<'a>(alloc: Global, kinds: &'a str) -> Result<Comman
 {
     bare_command(alloc)
         .subcommand(check_command(alloc, kinds)?)?
+        .subcommand(explain_command(alloc, kinds)?)?
+        .subcommand(audit_command(alloc, kinds)?)?
         .subcommand(normalise_command(alloc, kinds)?)?
         .subcommand(same_command(alloc, kinds)?)?
         .subcommand(compare_command(alloc)?)?
@@ -219,6 +68,35 @@ pub(crate) fn check_command<'a>(alloc: Global, kinds: &'a str) -> Result<Command
         CHECK_HELP,
         kinds,
     )
+}
+
+/// `explain [--kind K] [PATH]` and `explain --code N`
+pub(crate) fn explain_command<'a>(alloc: Global, kinds: &'a str) -> Result<Command<'a>, AllocError>
+    ensures { IfOk result (IsShaped explain_app) }
+{
+    Command::new(alloc, "explain")
+        .about("Says in full why a file is refused")
+        .after_help(EXPLAIN_HELP)
+        .arg(kind_option(alloc, kinds))?
+        .arg(code_option(alloc))?
+        .arg(optional_word(
+            alloc,
+            "path",
+            "PATH",
+            "The file; `-` or none is standard input",
+        ))
+}
+
+/// `audit [--kind K] PATH ..` and `audit [--kind K] --files0-from PATH`
+pub(crate) fn audit_command<'a>(alloc: Global, kinds: &'a str) -> Result<Command<'a>, AllocError>
+    ensures { IfOk result (IsShaped audit_app) }
+{
+    Command::new(alloc, "audit")
+        .about("Says of each of many files whether it is accepted")
+        .after_help(AUDIT_HELP)
+        .arg(kind_option(alloc, kinds))?
+        .arg(list_option(alloc))?
+        .arg(paths(alloc))
 }
 
 /// `normalise [--kind K] [PATH]`
@@ -366,6 +244,39 @@ fn kind_option<'a>(alloc: Global, help: &'a str) -> Arg<'a>
         .long("kind")
         .value_name("K")
         .help(help)
+}
+
+/// `--code N`
+fn code_option<'a>(alloc: Global) -> Arg<'a>
+    ensures rule { rule_of result ≡ code_rule }
+    ensures local { result.global ≡ false }
+{
+    Arg::new(alloc, "code")
+        .long("code")
+        .value_name("N")
+        .help(CODE_HELP)
+}
+
+/// `--files0-from PATH`
+fn list_option<'a>(alloc: Global) -> Arg<'a>
+    ensures rule { rule_of result ≡ list_rule }
+    ensures local { result.global ≡ false }
+{
+    Arg::new(alloc, "files0-from")
+        .long("files0-from")
+        .value_name("PATH")
+        .help(FILES_HELP)
+}
+
+/// `PATH ..`
+fn paths<'a>(alloc: Global) -> Arg<'a>
+    ensures rule { rule_of result ≡ paths_rule }
+    ensures local { result.global ≡ false }
+{
+    Arg::new(alloc, "path")
+        .value_name("PATH")
+        .num_args(1..)
+        .help("A file; `-` is standard input, and stands there once at most")
 }
 
 /// `--reverse`

@@ -1,6 +1,18 @@
 //! What the program can be asked to do.
 
+use deb_base::Code;
 use deb_field::Doc;
+
+/// What the program is asked to do.
+#[derive(Debug, PartialEq, Eq, Drop)]
+pub enum Task {
+    /// A job over at most two files.
+    Run(Call),
+    /// `explain`: tell a file's refusal in full, or a rule.
+    Explain(Explain),
+    /// `audit`: say of each file whether it is accepted.
+    Audit(Audit),
+}
 
 /// How two versions are asked to compare, in Debian's order (deb-version(7)).
 #[derive(Clone, Copy, Debug, PartialEq, Eq)]
@@ -54,4 +66,31 @@ pub struct Call {
     pub job: Job,
     pub first: Option<String>,
     pub second: Option<String>,
+}
+
+/// What `explain` tells of.
+#[derive(Debug, PartialEq, Eq, Drop)]
+pub enum Explain {
+    /// The refusal of a file of this kind; without a path, or with `-`, of standard input.
+    File { doc: Doc, path: Option<String> },
+    /// `--code N`: the rule of a code.
+    Rule(Code),
+}
+
+/// The files that `audit` reads, each of this kind.
+#[derive(Debug, PartialEq, Eq, Drop)]
+pub struct Audit {
+    pub doc: Doc,
+    pub files: Files,
+}
+
+/// Which files `audit` reads.
+#[derive(Debug, PartialEq, Eq, Drop)]
+pub enum Files {
+    /// Those of the paths, in their order. There is a path at least, and one of them at most is
+    /// `-`, which is standard input.
+    Paths(Vec<String>),
+    /// Those of the paths that a file lists, each path ended by a byte 0: the file at this path, or
+    /// standard input where it is `-`.
+    Listed(String),
 }

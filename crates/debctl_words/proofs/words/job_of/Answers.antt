@@ -6,34 +6,34 @@ use Rattle.clap.specs.Takes.{takes}
 use Rattle.clap.specs.Words.{kind_of, subcommand_rows_of}
 use Rattle.debctl_words.specs.Asked.{asked_of}
 use Rattle.debctl_words.specs.Commands.{debctl_app}
-use Rattle.debctl_words.proofs.Answering.{is_simple_app, is_free_app, is_taken, taken_means, words_are_answered, call_is_asked, asked_is_met, on_any_call, app_unmixed, kind_means, memory_is_told}
+use Rattle.debctl_words.proofs.Answering.{is_simple_app, is_free_app, is_taken, taken_means, words_are_answered, task_is_asked, asked_is_met, on_any_task, app_unmixed, kind_means, memory_is_told}
 use Rattle.debctl_words.proofs.words.job_of.Goals as goal
 
 pub returns-in-Ok-clause-faultless : goal.returns-in-Ok-clause-faultless
 returns-in-Ok-clause-faultless c =
     let is : app_of c.in_ok-command.command ≡ debctl_app = c.in_ok-command.ensures.is in
-    on_any_call c.call_of.result _ (ap (λ a. fault_of a (map string_bytes c.args.words.now)) (sym is) ∙ c.in-Ok.ensures.kinds (ap is_simple_and_free is ∙ is_free_app))
+    on_any_task c.task_of.result _ (ap (λ a. fault_of a (map string_bytes c.args.words.now)) (sym is) ∙ c.in-Ok.ensures.kinds (ap is_simple_and_free is ∙ is_free_app))
 
 pub returns-in-Ok-clause-taken : goal.returns-in-Ok-clause-taken
 returns-in-Ok-clause-taken c =
     let is : app_of c.in_ok-command.command ≡ debctl_app = c.in_ok-command.ensures.is in
-    on_any_call c.call_of.result _ (is_taken (map string_bytes c.args.words.now) (ap (λ a. fault_of a (map string_bytes c.args.words.now)) (sym is) ∙ c.in-Ok.ensures.kinds (ap is_simple_and_free is ∙ is_free_app)))
+    on_any_task c.task_of.result _ (is_taken (map string_bytes c.args.words.now) (ap (λ a. fault_of a (map string_bytes c.args.words.now)) (sym is) ∙ c.in-Ok.ensures.kinds (ap is_simple_and_free is ∙ is_free_app)))
 
 pub returns-in-Ok-clause-refused : goal.returns-in-Ok-clause-refused
 returns-in-Ok-clause-refused c =
     let is : app_of c.in_ok-command.command ≡ debctl_app = c.in_ok-command.ensures.is in
     let none : fault_of debctl_app (map string_bytes c.args.words.now) ≡ [] = ap (λ a. fault_of a (map string_bytes c.args.words.now)) (sym is) ∙ c.in-Ok.ensures.kinds (ap is_simple_and_free is ∙ is_free_app) in
-    taken_means _ _ c.call_of.result none (words_are_answered (app_of c.in_ok-command.command) (map string_bytes c.args.words.now) (subcommand_rows_of c.in-Ok.matches) c.call_of.result is (c.in-Ok.ensures.matches (ap is_simple is ∙ is_simple_app)).1 c.call_of.ensures)
+    taken_means _ _ c.task_of.result none (words_are_answered (app_of c.in_ok-command.command) (map string_bytes c.args.words.now) (subcommand_rows_of c.in-Ok.matches) c.task_of.result is (c.in-Ok.ensures.matches (ap is_simple is ∙ is_simple_app)).1 c.task_of.ensures)
 
 pub returns-in-Ok-clause-ok : goal.returns-in-Ok-clause-ok
 returns-in-Ok-clause-ok c =
     let is : app_of c.in_ok-command.command ≡ debctl_app = c.in_ok-command.ensures.is in
-    call_is_asked (asked_of (map string_bytes c.args.words.now)) c.call_of.result (words_are_answered (app_of c.in_ok-command.command) (map string_bytes c.args.words.now) (subcommand_rows_of c.in-Ok.matches) c.call_of.result is (c.in-Ok.ensures.matches (ap is_simple is ∙ is_simple_app)).1 c.call_of.ensures)
+    task_is_asked (asked_of (map string_bytes c.args.words.now)) c.task_of.result (words_are_answered (app_of c.in_ok-command.command) (map string_bytes c.args.words.now) (subcommand_rows_of c.in-Ok.matches) c.task_of.result is (c.in-Ok.ensures.matches (ap is_simple is ∙ is_simple_app)).1 c.task_of.ensures)
 
 pub returns-in-Ok-clause-accepted : goal.returns-in-Ok-clause-accepted
 returns-in-Ok-clause-accepted c taken request asked =
     let is : app_of c.in_ok-command.command ≡ debctl_app = c.in_ok-command.ensures.is in
-    asked_is_met (asked_of (map string_bytes c.args.words.now)) request c.call_of.result (words_are_answered (app_of c.in_ok-command.command) (map string_bytes c.args.words.now) (subcommand_rows_of c.in-Ok.matches) c.call_of.result is (c.in-Ok.ensures.matches (ap is_simple is ∙ is_simple_app)).1 c.call_of.ensures) asked
+    asked_is_met (asked_of (map string_bytes c.args.words.now)) request c.task_of.result (words_are_answered (app_of c.in_ok-command.command) (map string_bytes c.args.words.now) (subcommand_rows_of c.in-Ok.matches) c.task_of.result is (c.in-Ok.ensures.matches (ap is_simple is ∙ is_simple_app)).1 c.task_of.ensures) asked
 
 pub returns-clause-refused : goal.returns-clause-refused
 returns-clause-refused c =

@@ -7,7 +7,7 @@ use Rattle.clap.specs.Words.{found_of, rows_of, subcommand_name_of}
 use Rattle.clap.specs.declared.parser.matches.ArgMatches.TheViews.{out-ArgMatches, out-SubCommand}
 use Rattle.clap.specs.declared.parser.matches.SubCommand.{SubCommand}
 use Rattle.debctl_words.specs.Asked.{asked_in, AnswersMet}
-use Rattle.debctl_words.proofs.words.call_of.Goals as goal
+use Rattle.debctl_words.proofs.words.task_of.Goals as goal
 
 -- the name and the rows of a command that was met are those two that were told
 met_is : {Z : Type 0} (met : Option (Box SubCommand Z)) (name : Text) (rows : List Row) → Some name ≡ option_map (λ b. (out-SubCommand (box_value b)).name.now) met
@@ -20,4 +20,4 @@ returns c =
     let is_name : Some c.in-Some.name.now ≡ subcommand_name_of c.args.matches.now = search rules in
     let is_rows : Some (rows_of (found_of c.in-Some.found.now)) ≡ option_map (λ p. p.1) (subcommand_rows_of c.args.matches.now) = search rules in
     let met = met_is (out-ArgMatches c.args.matches.now).subcommand c.in-Some.name.now (rows_of (found_of c.in-Some.found.now)) is_name is_rows in
-    subst (λ m. AnswersMet (asked_in m) c.call_by.result) (sym met) c.call_by.ensures
+    subst (λ m. AnswersMet (asked_in m) c.task_by.result) (sym met) c.task_by.ensures

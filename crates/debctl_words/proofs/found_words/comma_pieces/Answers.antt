@@ -1,7 +1,7 @@
 use Rattle.std.proofs.Common.{◌∙◌, lit<}
 use Rattle.std.proofs.lemmas.Iterator.Consumers.{YieldsList-end}
 use Rattle.std.proofs.lemmas.Iterator.Splits.{YieldsList-from_str_split}
-use Rattle.debctl_words.proofs.words.comma_pieces.Goals as goal
+use Rattle.debctl_words.proofs.found_words.comma_pieces.Goals as goal
 
 pub returns : goal.returns
 returns c =
