@@ -1,3 +1,4 @@
+pub mod AuditTelling
 pub mod DocumentTelling
 pub mod JobRefusals
 pub mod QueryTelling

@@ -1,11 +1,11 @@
 -- What status 2 says of the fault that was told.
-use Rattle.std.proofs.Common.{◌≡◌, ℕ, inl, inr, List, Option, arith, refl}
+use Rattle.std.proofs.Common.{◌≡◌, ℕ, inl, inr, List, Option, arith, refl, ap, ◌∙◌}
 use Rattle.std.specs.Io.KnownBytes.{Appends}
 use Rattle.deb_base.specs.Lines.{refusal_line}
 use Rattle.deb_base.specs.declared.fault.Fault.{Fault}
 use Rattle.deb_base.specs.declared.fault.Fault.TheVariants.{Refused, Memory, Read, Write}
 use Rattle.deb_base.specs.declared.refusal.Refusal.{Refusal}
-use Rattle.debctl_jobs.specs.Telling.{TellsFault}
+use Rattle.debctl_jobs.specs.Telling.{status_of, TellsFault}
 
 -- a fault whose status is 2 is a refusal, and its line was written
 pub told_as_two : {E : Type 0} (held : E → Option (List ℕ)) (failures : E → ℕ) (err err_after : E) (status : ℕ) (fault : Fault)
@@ -15,3 +15,9 @@ told_as_two held failures err err_after status (Refused refusal) (inl whole) is 
 told_as_two held failures err err_after status Memory (inl whole) is = absurd (omega (arith, whole.status, is))
 told_as_two held failures err err_after status Read (inl whole) is = absurd (omega (arith, whole.status, is))
 told_as_two held failures err err_after status Write (inl whole) is = absurd (omega (arith, whole.status, is))
+
+-- a failed write has status 3
+pub write_told_as_three : {E : Type 0} (held : E → Option (List ℕ)) (failures : E → ℕ) (err err_after : E) (status : ℕ) (fault : Fault)
+    → fault ≡ Write → TellsFault held failures err err_after fault status → status ≡ 3
+write_told_as_three held failures err err_after status fault is (inr front) = front.status
+write_told_as_three held failures err err_after status fault is (inl whole) = whole.status ∙ ap status_of is

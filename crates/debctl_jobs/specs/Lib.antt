@@ -1,3 +1,4 @@
+pub mod AuditJob
 pub mod DocumentJobs
 pub mod QueryJob
 pub mod Running

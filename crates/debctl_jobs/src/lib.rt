@@ -7,8 +7,10 @@
 //!   files and the standard streams, and flushes what was written.
 #![tactic(auto)]
 
+mod audit_job;
 mod command;
 mod document_jobs;
+mod opens;
 mod query_job;
 mod same_job;
 mod sort_job;
@@ -16,5 +18,7 @@ mod streams;
 mod tell;
 mod version_jobs;
 
+pub use audit_job::run_audit;
 pub use command::run;
+pub use opens::Opens;
 pub use streams::run_program;

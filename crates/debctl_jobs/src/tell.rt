@@ -60,7 +60,7 @@ fn word_before(told: SideFault) -> &'static [u8]
 }
 
 /// The status of a fault: 2 where a text is refused, else 3.
-fn status_of(fault: &Fault) -> u8
+pub(crate) fn status_of(fault: &Fault) -> u8
     ensures { result ≡ status_of fault.now }
 {
     match fault {

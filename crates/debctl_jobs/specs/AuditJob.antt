@@ -1,0 +1,119 @@
+-- What the job of `audit` answers and writes: a line for each file, and the worst status. The lines
+-- and statuses are this project's own; acceptance and refusals are those of documents of a kind
+-- (Debian Policy 5.1 and 5.3 to 5.6).
+use Rattle.std.specs.Prelude.{◌≡◌, ℕ, max, List, [], ◌∷◌, ◌++◌, map, Option, Some, Result, Ok, Err, IfOk, IfErr, MatchResult, codes, refl}
+use Rattle.std.specs.Fmt.{digits}
+use Rattle.std.specs.List.{All, flat_map, fold}
+use Rattle.deb_base.specs.Devices.{failures_after, read_failures_after, write_failures_after, Puts}
+use Rattle.deb_base.specs.Faults.{IsReadersFault}
+use Rattle.deb_base.specs.Lines.{fault_line}
+use Rattle.deb_base.specs.declared.code.Code.TheVariants.{NoColon}
+use Rattle.deb_base.specs.declared.device.Failed.{Failed}
+use Rattle.deb_base.specs.declared.fault.Fault.{Fault}
+use Rattle.deb_base.specs.declared.fault.Fault.TheVariants.{Refused, Memory, Read, Write}
+use Rattle.deb_field.specs.declared.kind.Doc.{Doc}
+use Rattle.deb_control.specs.Calls.{HasParagraphs, IfRefused}
+use Rattle.deb_control.specs.Checking.{IsRefusalOfDocument}
+use Rattle.deb_control.specs.Documents.{refusal_of}
+use Rattle.debctl_jobs.specs.DocumentJobs.{ok_line}
+use Rattle.debctl_jobs.specs.Telling.{status_of}
+
+-- ---- lines and statuses
+
+-- the line of what `check` answers of a file
+abbrev pub answer_line : Result ℕ Fault → List ℕ
+answer_line (Ok n) = ok_line n
+answer_line (Err fault) = fault_line fault
+
+-- that line behind the file's path
+abbrev pub audit_line : List ℕ → Result ℕ Fault → List ℕ
+audit_line path answer = path ++ codes ": " ++ answer_line answer
+
+-- the status of a file: 0 where it is accepted, 2 where it is refused, else 3
+abbrev pub answer_status : Result ℕ Fault → ℕ
+answer_status (Ok n) = 0
+answer_status (Err fault) = status_of fault
+
+-- the worst of some statuses, and 0 where there is none
+abbrev pub worst : List ℕ → ℕ
+worst statuses = fold max 0 statuses
+
+-- ---- files
+
+-- What became of the file of a path: what opening it gave, and what was answered.
+pub record Audited (R : Type 0) : Type 0 where
+  pub path : List ℕ
+  pub opened : Result R Failed
+  pub answer : Result ℕ Fault
+
+-- What `check` answers of a file: by the text that its reader tells, and the reader's count of
+-- failed calls before and after.
+pub record AnswersFile (doc : Doc) (left : Option (List ℕ)) (count count_after : ℕ)
+    (answer : Result ℕ Fault) : Type 0 where
+  pub ok : (text : List ℕ) → left ≡ Some text → IfOk answer (HasParagraphs doc text)
+  pub refused : (text : List ℕ) → left ≡ Some text →
+      IfRefused answer (λ refusal. refusal_of doc text ≡ Some refusal)
+  pub fault : IfErr answer (λ fault. IsReadersFault fault IsRefusalOfDocument)
+  pub reads : count_after ≡ read_failures_after count answer
+
+-- A file that was opened has the text that is told of it, and is answered by what its reader came
+-- to be. One that couldn't be opened is answered as one that couldn't be read.
+abbrev pub AnswersOpened : {R : Type 0} → (R → Option (List ℕ)) → (R → ℕ) → Doc → Option (List ℕ)
+    → Result R Failed → Result ℕ Fault → Type 0
+AnswersOpened {R} left failures doc told (Ok reader) answer =
+    (left reader ≡ told)
+    × ((after : R) × AnswersFile doc told (failures reader) (failures after) answer)
+AnswersOpened left failures doc told (Err _) answer = answer ≡ Err Read
+
+-- the same of a file by its path
+abbrev pub IsAnswered : {R : Type 0} → (R → Option (List ℕ)) → (R → ℕ) → Doc
+    → (List ℕ → Option (List ℕ)) → Audited R → Type 0
+IsAnswered left failures doc text file =
+    AnswersOpened left failures doc (text file.path) file.opened file.answer
+
+-- The files of some paths are answered, and told one by one in the order of the paths. The status
+-- is the worst of theirs; or a write failed, and no path behind that one was opened. (n and n_after
+-- are the counts of failed openings before and after, m and m_after those of failed writes.)
+pub record Audits {R : Type 0} (left : R → Option (List ℕ)) (failures : R → ℕ) (doc : Doc)
+    (text : List ℕ → Option (List ℕ)) (n n_after : ℕ) (out out_after : Option (List ℕ))
+    (m m_after : ℕ) (paths : List (List ℕ)) (status : Result ℕ Fault) : Type 0 where
+  pub files : List (Audited R)
+  pub behind : List (List ℕ)
+  pub whole : paths ≡ map (λ file. file.path) files ++ behind
+  pub each : All (IsAnswered left failures doc text) files
+  pub told : Puts out out_after status (flat_map (λ file. audit_line file.path file.answer) files)
+  pub ends : MatchResult status
+      (λ status. (behind ≡ []) × (status ≡ worst (map (λ file. answer_status file.answer) files)))
+      (λ fault. fault ≡ Write)
+  pub opens : n_after ≡ fold failures_after n (map (λ file. file.opened) files)
+  pub writes : m_after ≡ write_failures_after m status
+
+line_of_accepted : audit_line (codes "a/b") (Ok 2) ≡ codes "a/b: ok 2\n"
+unfolding digits
+line_of_accepted = refl
+
+line_of_refused :
+    audit_line (codes "b") (Err (Refused (record { code = NoColon; line = 1 })))
+    ≡ codes "b: line 1: 6 NoColon\n"
+unfolding digits
+line_of_refused = refl
+
+line_of_unread : audit_line (codes "no such file") (Err Read) ≡ codes "no such file: fault: read\n"
+line_of_unread = refl
+
+line_of_memory : audit_line (codes "c") (Err Memory) ≡ codes "c: fault: memory\n"
+line_of_memory = refl
+
+-- a path stands as it is given, with a newline or without any byte
+line_of_odd_paths : (audit_line (codes "a\nb") (Err Read) ≡ codes "a\nb: fault: read\n")
+    × (audit_line [] (Err Read) ≡ codes ": fault: read\n")
+line_of_odd_paths = (refl, refl)
+
+worst_of_none : worst [] ≡ 0
+worst_of_none = refl
+
+worst_of_refused : worst (0 ∷ 2 ∷ 0 ∷ []) ≡ 2
+worst_of_refused = refl
+
+worst_of_faults : worst (0 ∷ 3 ∷ 2 ∷ 0 ∷ []) ≡ 3
+worst_of_faults = refl
