@@ -1,6 +1,7 @@
 pub mod AuditTelling
 pub mod DocumentTelling
 pub mod JobRefusals
+pub mod LastPaths
 pub mod QueryTelling
 pub mod SameTelling
 pub mod SortTelling

@@ -10,6 +10,7 @@
 mod audit_job;
 mod command;
 mod document_jobs;
+mod listed;
 mod opens;
 mod query_job;
 mod same_job;
