@@ -13,6 +13,7 @@ mod document_jobs;
 mod listed;
 mod opens;
 mod query_job;
+mod reader;
 mod same_job;
 mod sort_job;
 mod streams;

@@ -7,10 +7,7 @@ use std::alloc::{AllocError, Global};
 
 /// The paths of a list, of which each has the byte 0 behind it; it may be missing behind the last
 /// one.
-pub(crate) fn listed_paths<'a>(
-    alloc: Global,
-    list: &'a [u8],
-) -> Result<Vec<&'a [u8]>, AllocError>
+pub(crate) fn listed_paths<'a>(alloc: Global, list: &'a [u8]) -> Result<Vec<&'a [u8]>, AllocError>
     ensures { IfOk result (λ paths. map (λ path. path.now) paths.items ≡ paths_of list.now) }
 {
     let mut paths: Vec<&'a [u8]> = list.split(|byte| *byte == 0).collect(alloc)?;

@@ -1,42 +1,27 @@
 //! The program's words, files and standard streams, as the system has them.
 
+use crate::audit_job::run_audit;
 use crate::command::run;
+use crate::listed::listed_paths;
+use crate::reader::{Reader, SystemFiles, opened};
 use crate::tell::{FAULT_STATUS, tell, tell_words};
 use deb_base::{Fault, Input, Output};
-use debctl_words::{Call, Job, UsageFault, job_of};
+use deb_field::Doc;
+use debctl_words::{Audit, Call, Files, Job, Task, UsageFault, job_of};
 use std::alloc::Global;
 use std::env;
-use std::fs::File;
-use std::io::{self, BufWriter, ErrorKind, Read, Stdin, Write};
-
-/// What a job reads.
-#[derive(Drop)]
-enum Reader {
-    Opened(File),
-    Standard(Stdin),
-    Nothing,
-}
-
-impl Read for Reader {
-    fn read(&mut self, buffer: &mut [u8]) -> io::Result<usize> {
-        match self {
-            Reader::Opened(file) => file.read(buffer),
-            Reader::Standard(stdin) => stdin.read(buffer),
-            Reader::Nothing => Ok(0),
-        }
-    }
-}
+use std::io::{BufWriter, ErrorKind, Read, Write};
 
 /// Does what the program's words ask for, and answers the status.
 pub fn run_program(rt: &HostRuntime) -> u8 {
-    match call_of(rt) {
-        Ok(call) => answer(rt, &call),
+    match task_of(rt) {
+        Ok(task) => answer(rt, &task),
         Err(fault) => tell_fault(rt, &fault),
     }
 }
 
 /// What the program's words ask for.
-fn call_of(rt: &HostRuntime) -> Result<Call, UsageFault> {
+fn task_of(rt: &HostRuntime) -> Result<Task, UsageFault> {
     let mut words = Vec::new(rt.alloc());
     match env::args(rt) {
         Ok(args) => {
@@ -52,7 +37,7 @@ fn call_of(rt: &HostRuntime) -> Result<Call, UsageFault> {
             return Err(UsageFault::Usage(text));
         }
     }
-    job_of(rt.alloc(), words.as_slice())
+    Ok(Task::Run(job_of(rt.alloc(), words.as_slice())?))
 }
 
 /// Tells why the words ask for no job, or the help that they ask for, and answers the status.
@@ -64,18 +49,19 @@ fn tell_fault(rt: &HostRuntime, fault: &UsageFault) -> u8 {
     )
 }
 
-/// Does the job that a call asks for, and answers the status.
-fn answer(rt: &HostRuntime, call: &Call) -> u8 {
-    match run_on_streams(rt, call) {
+/// Does the task, and answers the status.
+fn answer(rt: &HostRuntime, task: &Task) -> u8 {
+    let answered = match task {
+        Task::Run(call) => run_on_streams(rt, call),
+        Task::Audit(audit) => audit_on_streams(rt, audit),
+    };
+    match answered {
         Ok(status) => status,
         Err(fault) => tell(&fault, &mut Output::new(rt.stderr())),
     }
 }
 
-/// Opens the files, does the job and writes out what it has written.
-///
-/// The line that the job tells is kept back until its output is written out: where that fails,
-/// `Fault::Write` is to be told in its place, so that there is one line in every case.
+/// Opens the files of a call, does its job and writes out what it has written.
 fn run_on_streams(rt: &HostRuntime, call: &Call) -> Result<u8, Fault> {
     let mut first = Input::new(first_reader(rt, call)?);
     let mut second = Input::new(reader_of(rt, &call.second)?);
@@ -89,6 +75,61 @@ fn run_on_streams(rt: &HostRuntime, call: &Call) -> Result<u8, Fault> {
         &mut Output::new(&mut out),
         &mut Output::new(&mut err),
     );
+    write_out(out, err, status)
+}
+
+/// Audits the files of the paths that the words or a list have.
+fn audit_on_streams(rt: &HostRuntime, audit: &Audit) -> Result<u8, Fault> {
+    match &audit.files {
+        Files::Paths(words) => {
+            let mut paths = Vec::new(rt.alloc());
+            for word in words {
+                paths.push(word.as_bytes())?;
+            }
+            audit_paths(rt, audit.doc, paths.as_slice())
+        }
+        Files::Listed(path) => {
+            let list = read_list(rt, path.as_str())?;
+            let paths = listed_paths(rt.alloc(), list.as_slice())?;
+            audit_paths(rt, audit.doc, paths.as_slice())
+        }
+    }
+}
+
+/// Audits the files of some paths, and writes out what is told of them.
+fn audit_paths(rt: &HostRuntime, doc: Doc, paths: &[&[u8]]) -> Result<u8, Fault> {
+    let mut out = buffered(rt.alloc(), rt.stdout())?;
+    let mut err = buffered(rt.alloc(), rt.stderr())?;
+    let status = run_audit(
+        rt.alloc(),
+        doc,
+        paths,
+        &mut SystemFiles::new(rt),
+        &mut Output::new(&mut out),
+        &mut Output::new(&mut err),
+    );
+    write_out(out, err, status)
+}
+
+/// The bytes of a list of paths, of the file of a path or of standard input for `-`.
+fn read_list(rt: &HostRuntime, path: &str) -> Result<Vec<u8>, Fault> {
+    let mut list = Vec::new(rt.alloc());
+    match opened(rt, path)?.read_to_end(&mut list) {
+        Ok(_) => Ok(list),
+        Err(error) if error.kind() == ErrorKind::OutOfMemory => Err(Fault::Memory),
+        Err(_) => Err(Fault::Read),
+    }
+}
+
+/// Writes out what a job has written, and answers the status.
+///
+/// The line that the job tells is kept back until its output is written out: where that fails,
+/// `Fault::Write` is to be told in its place, so that there is one line in every case.
+fn write_out<W: Write + Drop, E: Write + Drop>(
+    mut out: BufWriter<W>,
+    mut err: BufWriter<E>,
+    status: u8,
+) -> Result<u8, Fault> {
     let is_written = out.flush().is_ok();
     // What couldn't be written is dropped, and not tried again.
     let _ = out.into_parts();
@@ -121,25 +162,6 @@ fn reader_of(rt: &HostRuntime, path: &Option<String>) -> Result<Reader, Fault> {
         Some(path) => opened(rt, path.as_str()),
         None => Ok(Reader::Nothing),
     }
-}
-
-/// The file of a path, or standard input for `-`. A directory can be opened, but not read.
-fn opened(rt: &HostRuntime, path: &str) -> Result<Reader, Fault> {
-    if path == "-" {
-        return Ok(Reader::Standard(rt.stdin()));
-    }
-    match open_file(rt, path) {
-        Ok(file) => Ok(Reader::Opened(file)),
-        Err(_) => Err(Fault::Read),
-    }
-}
-
-fn open_file(rt: &HostRuntime, path: &str) -> io::Result<File> {
-    let file = File::open(rt, path)?;
-    if file.metadata()?.is_dir() {
-        return Err(io::Error::from(ErrorKind::IsADirectory));
-    }
-    Ok(file)
 }
 
 fn buffered<W: Write + Drop>(alloc: Global, writer: W) -> Result<BufWriter<W>, Fault> {

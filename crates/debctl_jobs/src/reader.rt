@@ -1,0 +1,87 @@
+//! What the program reads: files by their paths, and standard input.
+
+ghost use Rattle.std.specs.Prelude.{None};
+
+use crate::opens::Opens;
+use deb_base::{Failed, Fault, Input};
+use std::fs::File;
+use std::io::{self, ErrorKind, Read, Stdin};
+
+/// What a job reads.
+#[derive(Drop)]
+pub(crate) enum Reader {
+    Opened(File),
+    Standard(Stdin),
+    Nothing,
+}
+
+impl Read for Reader {
+    fn read(&mut self, buffer: &mut [u8]) -> io::Result<usize> {
+        match self {
+            Reader::Opened(file) => file.read(buffer),
+            Reader::Standard(stdin) => stdin.read(buffer),
+            Reader::Nothing => Ok(0),
+        }
+    }
+}
+
+/// The file of a path, or standard input for `-`. A directory can be opened, but not read.
+pub(crate) fn opened(rt: &HostRuntime, path: &str) -> Result<Reader, Fault> {
+    if path == "-" {
+        return Ok(Reader::Standard(rt.stdin()));
+    }
+    match open_file(rt, path) {
+        Ok(file) => Ok(Reader::Opened(file)),
+        Err(_) => Err(Fault::Read),
+    }
+}
+
+fn open_file(rt: &HostRuntime, path: &str) -> io::Result<File> {
+    let file = File::open(rt, path)?;
+    if file.metadata()?.is_dir() {
+        return Err(io::Error::from(ErrorKind::IsADirectory));
+    }
+    Ok(file)
+}
+
+/// The files of the system. A path that isn't UTF-8 can't be opened.
+#[derive(Drop)]
+pub(crate) struct SystemFiles<'a> {
+    rt: &'a HostRuntime,
+    failures: u64,
+}
+
+impl<'a> SystemFiles<'a> {
+    /// The files of the system, of which no opening has failed yet.
+    pub(crate) fn new(rt: &'a HostRuntime) -> SystemFiles<'a> {
+        SystemFiles { rt, failures: 0 }
+    }
+}
+
+impl Opens for SystemFiles<'_> {
+    type Reader = Input<Reader>;
+
+    ghost text = { λ files path. None };
+
+    ghost failures = { λ files. files.failures };
+
+    fn open(&mut self, path: &[u8]) -> Result<Input<Reader>, Failed> {
+        if self.failures == u64::MAX {
+            return Err(Failed);
+        }
+        match opened_by_bytes(self.rt, path) {
+            Ok(reader) => Ok(Input::new(reader)),
+            Err(_) => {
+                self.failures += 1;
+                Err(Failed)
+            }
+        }
+    }
+}
+
+fn opened_by_bytes(rt: &HostRuntime, path: &[u8]) -> Result<Reader, Fault> {
+    match str::from_utf8(path) {
+        Ok(path) => opened(rt, path),
+        Err(_) => Err(Fault::Read),
+    }
+}
