@@ -1,7 +1,6 @@
-use Rattle.std.proofs.Common.{◌≡◌, ◌+◌, ℕ, ◌<◌, List, [], ◌∷◌, ◌++◌, Bor, map, take, drop, length, slice_index_or, refl, sym, ap, subst, ◌∙◌, take-append-drop}
+use Rattle.std.proofs.Common.{◌≡◌, ◌+◌, ℕ, ◌<◌, List, [], ◌∷◌, ◌++◌, Bor, map, take, drop, length, slice_index_or, refl, sym, ap, ◌∙◌, take-append-drop}
 use Rattle.std.proofs.lemmas.List.{map-append, take_more}
 use Rattle.std.proofs.lemmas.Result.{err_from_is_err_and}
-use Rattle.debctl_jobs.specs.AuditJob.{Audits}
 use Rattle.debctl_jobs.proofs.AuditTelling.{audits_none, audits_more, audits_stopped}
 use Rattle.debctl_jobs.proofs.audit_job.audit.Goals as goal
 
