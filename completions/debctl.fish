@@ -1,5 +1,7 @@
 complete -c debctl -f
 complete -c debctl -n __fish_use_subcommand -a check -d 'Say whether a file is accepted'
+complete -c debctl -n __fish_use_subcommand -a explain -d 'Say why a file is refused, or what a code means'
+complete -c debctl -n __fish_use_subcommand -a audit -d 'Say of each of many files whether it is accepted'
 complete -c debctl -n __fish_use_subcommand -a normalise -d 'Write the canonical text of a file'
 complete -c debctl -n __fish_use_subcommand -a same -d 'Say whether two files mean the same'
 complete -c debctl -n __fish_use_subcommand -a compare -d 'Say how two versions stand to each other'
@@ -9,9 +11,11 @@ complete -c debctl -n __fish_use_subcommand -a query -d 'Say which packages meet
 complete -c debctl -n __fish_use_subcommand -a help -d 'Print the help'
 complete -c debctl -n __fish_use_subcommand -s V -l version -d 'Print the version'
 complete -c debctl -s h -l help -d 'Print the help'
-complete -c debctl -n '__fish_seen_subcommand_from help' -a 'check normalise same compare canon-version sort query help'
-complete -c debctl -n '__fish_seen_subcommand_from check normalise same' -s k -l kind -x -a 'packages binary source sources any' -d 'Kind of file'
-complete -c debctl -n '__fish_seen_subcommand_from check normalise same sort query' -F
+complete -c debctl -n '__fish_seen_subcommand_from help' -a 'check explain audit normalise same compare canon-version sort query help'
+complete -c debctl -n '__fish_seen_subcommand_from check explain audit normalise same' -s k -l kind -x -a 'packages binary source sources any' -d 'Kind of file'
+complete -c debctl -n '__fish_seen_subcommand_from check explain audit normalise same sort query' -F
+complete -c debctl -n '__fish_seen_subcommand_from explain' -l code -x -d 'Number of a code'
+complete -c debctl -n '__fish_seen_subcommand_from audit' -l files0-from -r -F -d 'File that lists the paths'
 complete -c debctl -n '__fish_seen_subcommand_from sort' -l reverse -d 'The latest version first'
 complete -c debctl -n '__fish_seen_subcommand_from compare' -a 'lt le eq ne ge gt'
 complete -c debctl -n '__fish_seen_subcommand_from query' -l arch -x -d 'Target architecture'

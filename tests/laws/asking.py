@@ -6,11 +6,13 @@ import signal
 from dataclasses import dataclass
 from typing import Iterator, NamedTuple
 
-from laws.documents import REQUIRED, alternative, made, mistaken, read, text_of
+from laws.documents import OPERATORS, REQUIRED, VERSIONS
+from laws.documents import alternative, made, mistaken, read, text_of
 from laws.spelling import respelled, spoiled
 
 SECONDS = 10
 REFUSAL = re.compile(rb"line [1-9][0-9]*: (?:[1-9]|1[0-9]|2[01]) [A-Z][A-Za-z0-9]*\n")
+GROUP_LINE = re.compile(rb"^(?:met|unmet|ignored) (.+)$", re.M)
 KINDS = tuple(REQUIRED)
 
 
@@ -112,6 +114,7 @@ class Asked:
         yield from self.of_pairs(normal)
         if normal.status == 0 and case.kind == "packages":
             yield from self.of_query(normal)
+        yield from self.of_bound()
 
     def of_check(self, normal):
         """`check` and `normalise` agree, and the number of paragraphs is that of the text."""
@@ -177,7 +180,7 @@ class Asked:
 
     def of_query(self, normal):
         """A relation has one answer, in any order of its groups and with some of them twice, over
-        the file and its normal text."""
+        the file and its normal text; and its groups are told as Depends has them."""
         random = self.case.random
         groups = [alternative(random) for _ in range(random.randint(1, 4))]
         words = ["query", "--arch", "amd64", "--profiles", "nocheck"]
@@ -187,6 +190,28 @@ class Asked:
         again = self.program.run([*words, b" ,, ".join(groups)], [normal.out])
         if answer.status not in (0, 1) or answer != again:
             yield f"query of {groups!r}: {shown(answer)}; of normal text {shown(again)}"
+        told = b", ".join(GROUP_LINE.findall(answer.out))
+        if told != self.as_depends(groups):
+            yield f"query of {groups!r}: {shown(answer)}; Depends is {self.as_depends(groups)!r}"
+
+    def of_bound(self):
+        """A package meets a bound where `compare` says so of its version."""
+        random = self.case.random
+        version = random.choice(VERSIONS)
+        bound = random.choice((version, random.choice(VERSIONS)))
+        operator = random.choice(OPERATORS[:5])
+        paragraph = b"Package: aa\nVersion: %s\nArchitecture: all\n" % version
+        relation = b"aa (%s %s)" % (operator, bound)
+        met = self.program.run(["query", "--arch", "amd64", relation], [paragraph])
+        holds = self.program.run(["compare", version, operator, bound], [])
+        if met.status not in (0, 1) or met.status != holds.status:
+            yield f"{version!r} and {relation!r}: {shown(met)}; compare {shown(holds)}"
+
+    def as_depends(self, groups) -> bytes:
+        """The canonical text of a relation, as the field Depends of a paragraph has it."""
+        paragraph = b"Package: aa\nVersion: 1\nArchitecture: all\nDepends: %s\n"
+        answer = self.program.run(["normalise"], [paragraph % b", ".join(groups)])
+        return answer.out.partition(b"\nDepends: ")[2].partition(b"\n")[0]
 
 
 def paragraphs_of(text: bytes):

@@ -62,7 +62,7 @@ pub enum Code {
 
 impl Code {
     /// The code's name, as it is told.
-    pub(crate) fn name(self) -> &'static [u8]
+    pub fn name(self) -> &'static [u8]
         ensures { result.now ≡ name_of self }
     {
         match self {

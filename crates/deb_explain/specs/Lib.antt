@@ -1,5 +1,6 @@
 pub mod Causes
 pub mod Subjects
+pub mod Telling
 pub mod Explanations
 pub mod Reading
 pub mod Sentences

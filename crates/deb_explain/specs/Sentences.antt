@@ -63,9 +63,9 @@ usually_of BadNumber = Some (codes "a unit behind the number")
 usually_of BadWord = Some (codes "upper case, or a misspelled word")
 usually_of BadArchitecture = Some (codes "a `Sources` read as `packages`, or upper case")
 usually_of BadVersion =
-    Some (codes "an underscore, an empty revision, CR at the line's end, or a substitution variable")
+    Some (codes "an underscore, an empty revision, CR at the line's end, a substitution variable")
 usually_of BadRelation =
-    Some (codes "a substitution variable, a bound without an operator, or upper case in a name")
+    Some (codes "a substitution variable, a bound without an operator, upper case in a name")
 usually_of AlternativesNotAllowed = Some (codes "`|` in Provides, Conflicts, Breaks or Replaces")
 usually_of ProvidesBound = Some (codes "a bound copied from Depends")
 usually_of Wildcard = Some (codes "`[linux-any]` of Build-Depends: name the architecture")

@@ -3,7 +3,9 @@
 //!
 //! - [`explain`] judges a text that lies in memory as `deb_control::check` judges a file, and tells
 //!   of the same refusal more than its code and its line.
-//! - [`rule`] says in a sentence what a code means, and [`usually`] what it usually is.
+//! - [`Explanation::write`] writes that in lines `key: value`.
+//! - [`rule`] says in a sentence what a code means, and [`usually`] what its refusal usually is;
+//!   [`write_rule_of`] writes both.
 //!
 //! ```text
 //! let told = explain(alloc, Doc::Packages, b"Package: aa\nVersion: 1_2\n")?;
@@ -16,9 +18,11 @@ mod explained;
 mod explaining;
 mod sentences;
 mod subject;
+mod telling;
 mod topic;
 
 pub use cause::Cause;
 pub use explained::{Explained, Explanation, RefusedField, Subject};
 pub use explaining::explain;
 pub use sentences::{rule, usually};
+pub use telling::write_rule_of;

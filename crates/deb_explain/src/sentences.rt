@@ -89,11 +89,11 @@ pub fn usually(code: Code) -> Option<&'static str>
         Code::BadArchitecture => Some("a `Sources` read as `packages`, or upper case"),
         Code::BadVersion => {
             Some(
-                "an underscore, an empty revision, CR at the line's end, or a substitution variable",
+                "an underscore, an empty revision, CR at the line's end, a substitution variable",
             )
         }
         Code::BadRelation => {
-            Some("a substitution variable, a bound without an operator, or upper case in a name")
+            Some("a substitution variable, a bound without an operator, upper case in a name")
         }
         Code::AlternativesNotAllowed => Some("`|` in Provides, Conflicts, Breaks or Replaces"),
         Code::ProvidesBound => Some("a bound copied from Depends"),

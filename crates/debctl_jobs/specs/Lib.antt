@@ -1,5 +1,6 @@
 pub mod AuditJob
 pub mod DocumentJobs
+pub mod ExplainJob
 pub mod ListedPaths
 pub mod QueryJob
 pub mod Running

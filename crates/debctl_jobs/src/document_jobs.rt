@@ -106,7 +106,8 @@ fn write_verdict<R: Source, W: Sink>(
     put_all(out, line.as_bytes())
 }
 
-fn ok_line(alloc: Global, paragraphs: u64) -> Result<String, AllocError>
+/// The line that a file of so many paragraphs is accepted.
+pub(crate) fn ok_line(alloc: Global, paragraphs: u64) -> Result<String, AllocError>
     ensures { IfOk result (λ line. string_bytes line ≡ ok_line paragraphs) }
 {
     format!(in alloc; "ok {paragraphs}\n")

@@ -3,13 +3,16 @@
 //!
 //! - [`run`] does a job over readers and writers, tells on one of them why it wasn't done, and
 //!   answers the status. It reads no path and knows no stream of the system.
-//! - [`run_program`] does what the program's words ask for: it opens the paths, hands `run` the
-//!   files and the standard streams, and flushes what was written.
+//! - [`run_explain`] tells why a text is refused, [`run_rule`] what a code means, and [`run_audit`] of
+//!   each of many files whether it is accepted.
+//! - [`run_program`] does what the program's words ask for: it opens the paths, hands these
+//!   the files and the standard streams, and flushes what was written.
 #![tactic(auto)]
 
 mod audit_job;
 mod command;
 mod document_jobs;
+mod explain_job;
 mod listed;
 mod opens;
 mod query_job;
@@ -22,5 +25,6 @@ mod version_jobs;
 
 pub use audit_job::run_audit;
 pub use command::run;
+pub use explain_job::{run_explain, run_rule};
 pub use opens::Opens;
 pub use streams::run_program;

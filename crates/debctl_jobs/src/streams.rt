@@ -2,12 +2,13 @@
 
 use crate::audit_job::run_audit;
 use crate::command::run;
+use crate::explain_job::{run_explain, run_rule};
 use crate::listed::listed_paths;
 use crate::reader::{Reader, SystemFiles, opened};
 use crate::tell::{FAULT_STATUS, tell, tell_words};
 use deb_base::{Fault, Input, Output};
 use deb_field::Doc;
-use debctl_words::{Audit, Call, Files, Job, Task, UsageFault, job_of};
+use debctl_words::{Audit, Call, Explain, Files, Job, Task, UsageFault, job_of};
 use std::alloc::Global;
 use std::env;
 use std::io::{BufWriter, ErrorKind, Read, Write};
@@ -37,7 +38,7 @@ fn task_of(rt: &HostRuntime) -> Result<Task, UsageFault> {
             return Err(UsageFault::Usage(text));
         }
     }
-    Ok(Task::Run(job_of(rt.alloc(), words.as_slice())?))
+    job_of(rt.alloc(), words.as_slice())
 }
 
 /// Tells why the words ask for no job, or the help that they ask for, and answers the status.
@@ -53,6 +54,7 @@ fn tell_fault(rt: &HostRuntime, fault: &UsageFault) -> u8 {
 fn answer(rt: &HostRuntime, task: &Task) -> u8 {
     let answered = match task {
         Task::Run(call) => run_on_streams(rt, call),
+        Task::Explain(wanted) => explain_on_streams(rt, wanted),
         Task::Audit(audit) => audit_on_streams(rt, audit),
     };
     match answered {
@@ -78,6 +80,35 @@ fn run_on_streams(rt: &HostRuntime, call: &Call) -> Result<u8, Fault> {
     write_out(out, err, status)
 }
 
+/// Tells why a file is refused, or what a code means.
+fn explain_on_streams(rt: &HostRuntime, wanted: &Explain) -> Result<u8, Fault> {
+    let mut out = buffered(rt.alloc(), rt.stdout())?;
+    let mut err = buffered(rt.alloc(), rt.stderr())?;
+    let status = match wanted {
+        Explain::File { doc, path } => {
+            let path = match path {
+                Some(path) => path.as_str(),
+                None => "-",
+            };
+            let text = read_whole(rt, path)?;
+            run_explain(
+                rt.alloc(),
+                *doc,
+                path.as_bytes(),
+                text.as_slice(),
+                &mut Output::new(&mut out),
+                &mut Output::new(&mut err),
+            )
+        }
+        Explain::Rule(code) => run_rule(
+            *code,
+            &mut Output::new(&mut out),
+            &mut Output::new(&mut err),
+        ),
+    };
+    write_out(out, err, status)
+}
+
 /// Audits the files of the paths that the words or a list have.
 fn audit_on_streams(rt: &HostRuntime, audit: &Audit) -> Result<u8, Fault> {
     match &audit.files {
@@ -89,7 +120,7 @@ fn audit_on_streams(rt: &HostRuntime, audit: &Audit) -> Result<u8, Fault> {
             audit_paths(rt, audit.doc, paths.as_slice())
         }
         Files::Listed(path) => {
-            let list = read_list(rt, path.as_str())?;
+            let list = read_whole(rt, path.as_str())?;
             let paths = listed_paths(rt.alloc(), list.as_slice())?;
             audit_paths(rt, audit.doc, paths.as_slice())
         }
@@ -111,11 +142,11 @@ fn audit_paths(rt: &HostRuntime, doc: Doc, paths: &[&[u8]]) -> Result<u8, Fault>
     write_out(out, err, status)
 }
 
-/// The bytes of a list of paths, of the file of a path or of standard input for `-`.
-fn read_list(rt: &HostRuntime, path: &str) -> Result<Vec<u8>, Fault> {
-    let mut list = Vec::new(rt.alloc());
-    match opened(rt, path)?.read_to_end(&mut list) {
-        Ok(_) => Ok(list),
+/// The bytes of the file of a path, or of standard input for `-`.
+fn read_whole(rt: &HostRuntime, path: &str) -> Result<Vec<u8>, Fault> {
+    let mut text = Vec::new(rt.alloc());
+    match opened(rt, path)?.read_to_end(&mut text) {
+        Ok(_) => Ok(text),
         Err(error) if error.kind() == ErrorKind::OutOfMemory => Err(Fault::Memory),
         Err(_) => Err(Fault::Read),
     }

@@ -40,7 +40,7 @@ printed in lines `KEY: VALUE`, with those of these keys that it has:
   code     the number of the code
   name     the name of the code
   field    the name of the field
-  place    where in the value of the field the fault is
+  place    where in the value of the field the fault is, in bytes from 0
   reason   what is wrong there
   value    the value of the field
   rule     the rule that is broken, with its section of Debian Policy
@@ -53,12 +53,18 @@ Statuses:
   3  a word is wrong, memory is wanting, or a read or a write failed
 
 Example:
-  $ printf 'Package: aa\\nVersion: 1_\\nArchitecture: all\\n' > index
-  $ debctl explain index | grep -E '^(line|code|name|field): '
+  $ printf 'Package: aa\\nDepends: bb cc\\n' | debctl explain; echo $?
+  file: -
   line: 2
-  code: 18
-  name: BadVersion
-  field: Version";
+  code: 19
+  name: BadRelation
+  field: Depends
+  place: 3
+  reason: Trailing
+  value: bb cc
+  rule: The value is a list of packages, with versions in parentheses (Debian Policy 7.1).
+  usually: a substitution variable, a bound without an operator, upper case in a name
+  2";
 
 pub(crate) const AUDIT_HELP: &str = "\
 Each file is read as by `check`, and has one line, in the order of the paths, which

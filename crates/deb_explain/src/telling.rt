@@ -1,0 +1,326 @@
+//! The text of an explanation.
+
+ghost use Rattle.std.specs.Prelude.{◌≡◌, ◌+◌, ◌<◌, IfErr, option_map};
+ghost use Rattle.std.specs.List.{flat_map};
+ghost use Rattle.deb_base.specs.Devices.{write_failures_after, Puts, TellsWrites};
+ghost use Rattle.deb_explain.specs.Sentences.{usually_of};
+ghost use Rattle.deb_explain.specs.Shown.{about_of, shown_by};
+ghost use Rattle.deb_explain.specs.Telling.{cause_text, code_lines, escaped_byte, explanation_text, field_text, front_of, hex_digit, line_number, place_of, place_within, reason_of, rule_line, rule_lines, rule_text, shortened, shown_line, subject_text, usually_line, version_reason};
+
+use crate::cause::Cause;
+use crate::explained::{Explanation, RefusedField, Subject};
+use crate::sentences::{rule, usually};
+use deb_base::{Code, Fault, Sink, put_all, put_pieces};
+use deb_relation::Reason;
+use deb_version::BadVersion;
+use itoa::Buffer;
+
+/// The most bytes of a text that are shown.
+const MOST_SHOWN: usize = 200;
+
+impl Explanation {
+    /// Writes what is told of a refused file of this name, without memory, in lines `key: value`.
+    ///
+    /// The keys are, in this order and as far as there is something to tell: `file`, `line`,
+    /// `code`, `name`, `field`, `place` (the offset in the value of the first byte that is wrong, or
+    /// of the version that is, where its fault has no place), `reason`, `value`, `rule` and
+    /// `usually`. Bytes that aren't printable ASCII stand there as `\n`, `\t` or `\xNN`, a backslash
+    /// as `\\`, and of texts of more than 200 bytes the first 200, with `...` behind them.
+    ///
+    /// # Errors
+    ///
+    /// `Fault::Write` alone: a write failed in this call, and a front of the text was written before
+    /// it.
+    #[tactic(auto, using(deb_base::proofs::Writes::put_steps))]
+    pub fn write<W: Sink>(&self, file: &[u8], out: &mut W) -> Result<(), Fault>
+        ensures written { Puts (W.held out.old) (W.held out.new) result
+            (explanation_text file.now (shown_by self.now)) }
+        ensures fault { IfErr result (λ fault. fault ≡ Fault.Write) }
+        ensures counted { W.failures out.new ≡ write_failures_after (W.failures out.old) result }
+        ensures told { TellsWrites (W.failures out.old) (W.failures out.new) result }
+    {
+        write_shown(b"file: ", file, out)?;
+        write_line_number(self.refusal.line, out)?;
+        write_code(self.refusal.code, out)?;
+        write_subject(&self.subject, out)?;
+        write_rule(self.refusal.code, out)
+    }
+}
+
+/// Writes what a code means, without memory, in lines `key: value`: `code`, `name`, `rule` and
+/// `usually`, if something is usual.
+///
+/// # Errors
+///
+/// `Fault::Write` alone: a write failed in this call, and a front of the text was written before it.
+#[tactic(auto, using(deb_base::proofs::Writes::put_steps))]
+pub fn write_rule_of<W: Sink>(code: Code, out: &mut W) -> Result<(), Fault>
+    ensures written { Puts (W.held out.old) (W.held out.new) result (rule_text code) }
+    ensures fault { IfErr result (λ fault. fault ≡ Fault.Write) }
+    ensures counted { W.failures out.new ≡ write_failures_after (W.failures out.old) result }
+    ensures told { TellsWrites (W.failures out.old) (W.failures out.new) result }
+{
+    write_code(code, out)?;
+    write_rule(code, out)
+}
+
+#[tactic(auto, unfolding(crate::specs::Telling::line_number))]
+fn write_line_number<W: Sink>(line: u64, out: &mut W) -> Result<(), Fault>
+    ensures written { Puts (W.held out.old) (W.held out.new) result (line_number line) }
+    ensures fault { IfErr result (λ fault. fault ≡ Fault.Write) }
+    ensures counted { W.failures out.new ≡ write_failures_after (W.failures out.old) result }
+{
+    put_pieces(out, &[b"line: ", Buffer::new().format(line).as_bytes(), b"\n"])
+}
+
+/// Writes the number and the name of a code.
+#[tactic(auto, unfolding(crate::specs::Telling::code_lines))]
+fn write_code<W: Sink>(code: Code, out: &mut W) -> Result<(), Fault>
+    ensures written { Puts (W.held out.old) (W.held out.new) result (code_lines code) }
+    ensures fault { IfErr result (λ fault. fault ≡ Fault.Write) }
+    ensures counted { W.failures out.new ≡ write_failures_after (W.failures out.old) result }
+{
+    put_pieces(
+        out,
+        &[
+            b"code: ",
+            Buffer::new().format(code as u8).as_bytes(),
+            b"\nname: ",
+            code.name(),
+            b"\n",
+        ],
+    )
+}
+
+/// Writes the rule that a code stands for, and what its refusal usually is.
+#[tactic(auto, using(deb_base::proofs::Writes::put_steps), unfolding(crate::specs::Telling::rule_lines))]
+fn write_rule<W: Sink>(code: Code, out: &mut W) -> Result<(), Fault>
+    ensures written { Puts (W.held out.old) (W.held out.new) result (rule_lines code) }
+    ensures fault { IfErr result (λ fault. fault ≡ Fault.Write) }
+    ensures counted { W.failures out.new ≡ write_failures_after (W.failures out.old) result }
+{
+    write_rule_line(code, out)?;
+    write_usually(code, out)
+}
+
+#[tactic(auto, unfolding(crate::specs::Telling::rule_line))]
+fn write_rule_line<W: Sink>(code: Code, out: &mut W) -> Result<(), Fault>
+    ensures written { Puts (W.held out.old) (W.held out.new) result (rule_line code) }
+    ensures fault { IfErr result (λ fault. fault ≡ Fault.Write) }
+    ensures counted { W.failures out.new ≡ write_failures_after (W.failures out.old) result }
+{
+    put_pieces(out, &[b"rule: ", rule(code).as_bytes(), b"\n"])
+}
+
+#[tactic(auto, unfolding(crate::specs::Telling::usually_line))]
+fn write_usually<W: Sink>(code: Code, out: &mut W) -> Result<(), Fault>
+    ensures written { Puts (W.held out.old) (W.held out.new) result
+        (usually_line (usually_of code)) }
+    ensures fault { IfErr result (λ fault. fault ≡ Fault.Write) }
+    ensures counted { W.failures out.new ≡ write_failures_after (W.failures out.old) result }
+{
+    match usually(code) {
+        Some(words) => put_pieces(out, &[b"usually: ", words.as_bytes(), b"\n"]),
+        None => Ok(()),
+    }
+}
+
+/// Writes what a refusal is about.
+#[tactic(auto, unfolding(crate::specs::Telling::subject_text))]
+fn write_subject<W: Sink>(subject: &Subject, out: &mut W) -> Result<(), Fault>
+    ensures written { Puts (W.held out.old) (W.held out.new) result
+        (subject_text (about_of subject.now)) }
+    ensures fault { IfErr result (λ fault. fault ≡ Fault.Write) }
+    ensures counted { W.failures out.new ≡ write_failures_after (W.failures out.old) result }
+{
+    match subject {
+        Subject::Whole => Ok(()),
+        Subject::Line(line) => write_shown(b"value: ", line, out),
+        Subject::Name(name) => write_shown(b"field: ", name, out),
+        Subject::Missing(name) => write_shown(b"field: ", name, out),
+        Subject::Field(field) => write_field(field, out),
+    }
+}
+
+/// Writes the field of which the value is refused.
+#[tactic(auto, using(deb_base::proofs::Writes::put_steps), unfolding(crate::specs::Telling::field_text))]
+fn write_field<W: Sink>(field: &RefusedField, out: &mut W) -> Result<(), Fault>
+    ensures written { Puts (W.held out.old) (W.held out.new) result
+        (field_text field.now.name.items field.now.body.items field.now.cause) }
+    ensures fault { IfErr result (λ fault. fault ≡ Fault.Write) }
+    ensures counted { W.failures out.new ≡ write_failures_after (W.failures out.old) result }
+{
+    write_shown(b"field: ", &field.name, out)?;
+    write_cause(&field.cause, out)?;
+    write_shown(b"value: ", &field.body, out)
+}
+
+/// Writes where a value is wrong, and why, if that is known.
+#[tactic(auto, unfolding(crate::specs::Telling::cause_text))]
+fn write_cause<W: Sink>(cause: &Option<Cause>, out: &mut W) -> Result<(), Fault>
+    ensures written { Puts (W.held out.old) (W.held out.new) result (cause_text cause.now) }
+    ensures fault { IfErr result (λ fault. fault ≡ Fault.Write) }
+    ensures counted { W.failures out.new ≡ write_failures_after (W.failures out.old) result }
+{
+    match cause {
+        None => Ok(()),
+        Some(cause) => put_pieces(
+            out,
+            &[
+                b"place: ",
+                Buffer::new().format(place_of(cause)).as_bytes(),
+                b"\nreason: ",
+                reason_of(cause),
+                b"\n",
+            ],
+        ),
+    }
+}
+
+/// The offset of what is wrong in a body.
+#[tactic(auto, unfolding(crate::specs::Telling::place_of, crate::specs::Telling::place_in_relation))]
+fn place_of(cause: &Cause) -> u128
+    ensures { result ≡ place_of cause.now }
+{
+    match cause {
+        Cause::Version { fault, start } => *start as u128 + place_within(fault) as u128,
+        Cause::Relation { reason: Reason::Version(fault), at } => {
+            *at as u128 + place_within(fault) as u128
+        }
+        Cause::Relation { at, .. } => *at as u128,
+    }
+}
+
+/// The offset of what is wrong in a version; 0 where the fault has no place.
+#[tactic(auto, unfolding(crate::specs::Telling::place_within))]
+fn place_within(fault: &BadVersion) -> usize
+    ensures { result ≡ place_within fault.now }
+{
+    match fault {
+        BadVersion::UpstreamByte { at } | BadVersion::RevisionByte { at } => *at,
+        BadVersion::Empty
+        | BadVersion::EpochEmpty
+        | BadVersion::EpochNotNumber
+        | BadVersion::EpochTooBig
+        | BadVersion::RevisionEmpty
+        | BadVersion::UpstreamEmpty => 0,
+    }
+}
+
+/// Why a value is wrong, in a word: of a version in a relation, why that is none.
+#[tactic(auto, unfolding(crate::specs::Telling::reason_of, crate::specs::Telling::relation_reason))]
+fn reason_of(cause: &Cause) -> &'static [u8]
+    ensures { result.now ≡ reason_of cause.now }
+{
+    match cause {
+        Cause::Version { fault, .. } => version_reason(fault),
+        Cause::Relation { reason, .. } => match reason {
+            Reason::NameExpected => b"NameExpected",
+            Reason::NameBad => b"NameBad",
+            Reason::QualifierBad => b"QualifierBad",
+            Reason::OperatorBad => b"OperatorBad",
+            Reason::Version(fault) => version_reason(fault),
+            Reason::Unclosed => b"Unclosed",
+            Reason::ItemBad => b"ItemBad",
+            Reason::MixedSigns => b"MixedSigns",
+            Reason::ListEmpty => b"ListEmpty",
+            Reason::Trailing => b"Trailing",
+        },
+    }
+}
+
+#[tactic(auto, unfolding(crate::specs::Telling::version_reason))]
+fn version_reason(fault: &BadVersion) -> &'static [u8]
+    ensures { result.now ≡ version_reason fault.now }
+{
+    match fault {
+        BadVersion::Empty => b"Empty",
+        BadVersion::EpochEmpty => b"EpochEmpty",
+        BadVersion::EpochNotNumber => b"EpochNotNumber",
+        BadVersion::EpochTooBig => b"EpochTooBig",
+        BadVersion::RevisionEmpty => b"RevisionEmpty",
+        BadVersion::UpstreamEmpty => b"UpstreamEmpty",
+        BadVersion::UpstreamByte { .. } => b"UpstreamByte",
+        BadVersion::RevisionByte { .. } => b"RevisionByte",
+    }
+}
+
+/// Writes a line of a text behind its key, shortened and with its bytes made printable.
+#[tactic(auto, using(deb_base::proofs::Writes::put_steps), unfolding(crate::specs::Telling::shown_line))]
+fn write_shown<W: Sink>(key: &[u8], text: &[u8], out: &mut W) -> Result<(), Fault>
+    ensures written { Puts (W.held out.old) (W.held out.new) result (shown_line key.now text.now) }
+    ensures fault { IfErr result (λ fault. fault ≡ Fault.Write) }
+    ensures counted { W.failures out.new ≡ write_failures_after (W.failures out.old) result }
+{
+    put_all(out, key)?;
+    write_shortened(text, out)
+}
+
+/// Writes a text, or what is shown of it, so that each byte is printable, and the end of its line.
+#[tactic(auto, using(deb_base::proofs::Writes::put_steps), unfolding(crate::specs::Telling::shortened))]
+fn write_shortened<W: Sink>(text: &[u8], out: &mut W) -> Result<(), Fault>
+    ensures written { Puts (W.held out.old) (W.held out.new) result
+        (shortened text.now (front_of text.now)) }
+    ensures fault { IfErr result (λ fault. fault ≡ Fault.Write) }
+    ensures counted { W.failures out.new ≡ write_failures_after (W.failures out.old) result }
+{
+    match front_of(text) {
+        Some(front) => {
+            write_escaped(front, out)?;
+            put_all(out, b"...\n")
+        }
+        None => {
+            write_escaped(text, out)?;
+            put_all(out, b"\n")
+        }
+    }
+}
+
+/// What is shown of a text that is too long to be shown whole.
+#[tactic(auto, unfolding(crate::specs::Telling::front_of))]
+fn front_of(text: &[u8]) -> Option<&[u8]>
+    ensures { option_map (λ front. front.now) result ≡ front_of text.now }
+{
+    if text.len() <= MOST_SHOWN {
+        None
+    } else {
+        Some(&text[..MOST_SHOWN])
+    }
+}
+
+/// Writes bytes so that each is printable.
+fn write_escaped<W: Sink>(text: &[u8], out: &mut W) -> Result<(), Fault>
+    ensures written { Puts (W.held out.old) (W.held out.new) result
+        (flat_map escaped_byte text.now) }
+    ensures fault { IfErr result (λ fault. fault ≡ Fault.Write) }
+    ensures counted { W.failures out.new ≡ write_failures_after (W.failures out.old) result }
+{
+    for byte in text {
+        write_byte(*byte, out)?;
+    }
+    Ok(())
+}
+
+#[tactic(auto, unfolding(crate::specs::Telling::escaped_byte))]
+fn write_byte<W: Sink>(byte: u8, out: &mut W) -> Result<(), Fault>
+    ensures written { Puts (W.held out.old) (W.held out.new) result (escaped_byte byte) }
+    ensures fault { IfErr result (λ fault. fault ≡ Fault.Write) }
+    ensures counted { W.failures out.new ≡ write_failures_after (W.failures out.old) result }
+{
+    match byte {
+        b'\t' => put_all(out, b"\\t"),
+        b'\n' => put_all(out, b"\\n"),
+        b'\\' => put_all(out, b"\\\\"),
+        b' '..=b'~' => put_all(out, &[byte]),
+        _ => put_all(out, &[b'\\', b'x', hex_digit(byte / 16), hex_digit(byte % 16)]),
+    }
+}
+
+/// The hexadecimal digit of a number.
+#[tactic(auto, unfolding(crate::specs::Telling::hex_digit))]
+fn hex_digit(n: u8) -> u8
+    requires { n < 16 }
+    ensures { result ≡ hex_digit n }
+{
+    if n < 10 { b'0' + n } else { b'a' + (n - 10) }
+}

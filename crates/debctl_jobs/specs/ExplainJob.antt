@@ -1,0 +1,58 @@
+-- What the jobs of `explain` answer. The form of what is told is this project's own.
+use Rattle.std.specs.Prelude.{◌≡◌, ◌⊎◌, ℕ, Bool, true, false, List, Option, Some, Result, ⊤, IfOk, IfErr}
+use Rattle.std.specs.Io.KnownBytes.{Appends}
+use Rattle.deb_base.specs.Devices.{AppendsFront, Puts, write_failures_after}
+use Rattle.deb_base.specs.Faults.{MatchFault}
+use Rattle.deb_base.specs.declared.code.Code.{Code}
+use Rattle.deb_base.specs.declared.fault.Fault.{Fault}
+use Rattle.deb_explain.specs.Explanations.{Told, explanation_of}
+use Rattle.deb_explain.specs.Telling.{explanation_text, rule_text}
+use Rattle.deb_field.specs.declared.kind.Doc.{Doc}
+use Rattle.debctl_jobs.specs.DocumentJobs.{WritesOk, WritesFrontOfOk}
+
+-- the status of an answer that is there: 0 where the text is accepted, 2 where it is refused
+abbrev pub explain_status : Bool → ℕ
+explain_status true = 0
+explain_status false = 2
+
+-- The text is refused, and exactly its explanation was written.
+pub record WritesExplanation (doc : Doc) (path text : List ℕ) (old new : Option (List ℕ))
+    : Type 0 where
+  pub told : Told
+  pub explained : explanation_of doc text ≡ Some told
+  pub written : Appends old new (explanation_text path told)
+
+-- A text was judged and told: that it is accepted, or its explanation.
+abbrev pub WritesAnswer : Doc → List ℕ → List ℕ → Option (List ℕ) → Option (List ℕ) → Bool → Type 0
+WritesAnswer doc path text old new true = WritesOk doc text old new
+WritesAnswer doc path text old new false = WritesExplanation doc path text old new
+
+-- A prefix of that was written, before a write failed.
+pub record WritesFrontOfExplanation (doc : Doc) (path text : List ℕ) (old new : Option (List ℕ))
+    : Type 0 where
+  pub told : Told
+  pub explained : explanation_of doc text ≡ Some told
+  pub written : AppendsFront old new (explanation_text path told)
+
+abbrev pub WritesFront : Doc → List ℕ → List ℕ → Option (List ℕ) → Option (List ℕ) → Type 0
+WritesFront doc path text old new =
+    WritesFrontOfOk doc text old new ⊎ WritesFrontOfExplanation doc path text old new
+
+-- there is no other fault than want of memory, before which the one fact holds, and a write that
+-- failed, behind which the other one does
+abbrev pub IsMemoryOrWrite : Type 0 → Type 0 → Fault → Type 0
+IsMemoryOrWrite memory write fault = MatchFault fault (λ _. ⊥) memory ⊥ write
+
+-- The answer to a text, and what it wrote.
+pub record Explains {W : Type 0} (doc : Doc) (path text : List ℕ) (held : W → Option (List ℕ))
+    (failures : W → ℕ) (old new : W) (answer : Result Bool Fault) : Type 0 where
+  pub ok : IfOk answer (WritesAnswer doc path text (held old) (held new))
+  pub fault : IfErr answer
+      (IsMemoryOrWrite (new ≡ old) (WritesFront doc path text (held old) (held new)))
+  pub writes : failures new ≡ write_failures_after (failures old) answer
+
+-- The answer to a code, and what it wrote.
+pub record WritesRule {W : Type 0} (code : Code) (held : W → Option (List ℕ)) (failures : W → ℕ)
+    (old new : W) (answer : Result ⊤ Fault) : Type 0 where
+  pub written : Puts (held old) (held new) answer (rule_text code)
+  pub writes : failures new ≡ write_failures_after (failures old) answer

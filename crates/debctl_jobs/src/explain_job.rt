@@ -1,0 +1,92 @@
+//! The jobs of `explain`.
+
+ghost use Rattle.std.specs.Prelude.{◌≡◌, ◌<◌, Bool, ⊤, Result};
+ghost use Rattle.deb_base.specs.Devices.{write_failures_after, Puts};
+ghost use Rattle.deb_base.specs.declared.fault.Fault.{Fault};
+ghost use Rattle.deb_explain.specs.Telling.{rule_text};
+ghost use Rattle.debctl_jobs.specs.DocumentJobs.{WritesOk};
+ghost use Rattle.debctl_jobs.specs.ExplainJob.{explain_status, Explains, WritesExplanation, WritesRule};
+ghost use Rattle.debctl_jobs.specs.Telling.{done_status, Tells};
+
+use crate::document_jobs::ok_line;
+use crate::tell::tell;
+use deb_base::{Code, Fault, Sink, put_all};
+use deb_explain::{Explained, explain, write_rule_of};
+use deb_field::Doc;
+use std::alloc::Global;
+
+/// Writes on `out` that a text is accepted as a document of a kind, or why it is refused, under the
+/// path of its file, and answers the status.
+///
+/// - 0: the text is accepted. `ok N` with a newline was written, for its N paragraphs.
+/// - 2: the text is refused. Its explanation was written, in lines `key: value`.
+/// - 3: memory was wanting, or a write failed. `err` has the fault's line; where a write on `err`
+///   failed, a prefix of its line.
+///
+/// But for status 3 nothing was written on `err`.
+pub fn run_explain<W: Sink, E: Sink>(
+    alloc: Global,
+    doc: Doc,
+    path: &[u8],
+    text: &[u8],
+    out: &mut W,
+    err: &mut E,
+) -> u8
+    ensures done { result ≡ 0 → (err.new ≡ err.old)
+        × WritesOk doc text.now (W.held out.old) (W.held out.new) }
+    ensures refused { result ≡ 2 → (err.new ≡ err.old)
+        × WritesExplanation doc path.now text.now (W.held out.old) (W.held out.new) }
+
+    // Where a call of a device failed, the status is 3.
+    ensures write_failed { W.failures out.old < W.failures out.new → result ≡ 3 }
+    ensures telling_failed { E.failures err.old < E.failures err.new → result ≡ 3 }
+
+    // Whatever the status: there is an answer, and that is told.
+    ensures told { (answer : Result Bool Fault)
+        × Explains doc path.now text.now W.held W.failures out.old out.new answer
+        × Tells explain_status E.held E.failures err.old err.new answer result }
+{
+    match write_explanation(alloc, doc, path, text, out) {
+        Ok(true) => 0,
+        Ok(false) => 2,
+        Err(fault) => tell(&fault, err),
+    }
+}
+
+/// Writes that a text is accepted, or why it is refused, and answers which of these.
+fn write_explanation<W: Sink>(
+    alloc: Global,
+    doc: Doc,
+    path: &[u8],
+    text: &[u8],
+    out: &mut W,
+) -> Result<bool, Fault>
+    ensures { Explains doc path.now text.now W.held W.failures out.old out.new result }
+{
+    match explain(alloc, doc, text)? {
+        Explained::Accepted(paragraphs) => {
+            let line = ok_line(alloc, paragraphs)?;
+            put_all(out, line.as_bytes())?;
+            Ok(true)
+        }
+        Explained::Refused(explanation) => {
+            explanation.write(path, out)?;
+            Ok(false)
+        }
+    }
+}
+
+/// Writes on `out` what a code means, and answers the status.
+///
+/// - 0: the rule was written, and nothing on `err`.
+/// - 3: a write failed. `err` has the fault's line; where a write on `err` failed, a prefix of it.
+pub fn run_rule<W: Sink, E: Sink>(code: Code, out: &mut W, err: &mut E) -> u8
+    ensures told { (answer : Result ⊤ Fault)
+        × WritesRule code W.held W.failures out.old out.new answer
+        × Tells done_status E.held E.failures err.old err.new answer result }
+{
+    match write_rule_of(code, out) {
+        Ok(()) => 0,
+        Err(fault) => tell(&fault, err),
+    }
+}
