@@ -19,6 +19,7 @@ pub mod FieldsRead
 pub mod Building
 pub mod Lengths
 pub mod Measured
+pub mod KeptValues
 pub mod ValueLookups
 pub mod FollowedParagraphs
 pub mod CheckedSoFar

@@ -1,5 +1,5 @@
 -- What is known of a paragraph's fields whose lengths have been added so far.
-use Rattle.std.proofs.Common.{◌≡◌, ℕ, ◌+◌, ◌-◌, ◌^◌, ◌<◌, ◌≤◌, min, true, false, List, [], length, drop, slice_get, option_map, None, Some, Err, sym, ap, ◌∙◌, subst, arith}
+use Rattle.std.proofs.Common.{◌≡◌, ℕ, ◌+◌, ◌-◌, ◌^◌, ◌<◌, ◌≤◌, min, true, false, List, [], length, drop, slice_get, option_map, None, Some, Err, refl, sym, ap, ◌∙◌, subst, arith}
 use Rattle.std.proofs.Math.Nat.{min-le_left, min-le_right}
 use Rattle.std.proofs.lemmas.Bool.{false≢true}
 use Rattle.std.proofs.lemmas.List.{drop_all}
@@ -30,6 +30,13 @@ pub record HasMeasured (doc : Doc) (fields : List Field) (n i : ℕ) : Type 0 wh
   pub refusal : value_refusal_of (rules_of doc) fields ≡ value_refusal_of (rules_of doc) (drop i fields)
   pub within : n ≤ most
   pub added : min (n + fields_length (rules_of doc) (drop i fields)) most ≡ min (fields_length (rules_of doc) fields) most
+
+none_more : (n : ℕ) → 0 + n ≡ n
+none_more n = omega arith
+
+-- none of them
+pub HasMeasured-begin : (doc : Doc) (fields : List Field) → HasMeasured doc fields 0 0
+HasMeasured-begin doc fields = record { refusal = refl; within = omega arith; added = ap (λ n. min n most) (none_more (fields_length (rules_of doc) fields)) }
 
 one_more : (n own rest m : ℕ) → min (min (n + min own m) m + rest) m ≡ min (n + (own + rest)) m
 one_more n own rest m = grind arith

@@ -17,6 +17,7 @@ pub mod Tallies
 pub mod Lengths
 pub mod Finding
 pub mod PassingValues
+pub mod Keeping
 pub mod CheckedStates
 pub mod Sorting
 pub mod Paragraphs

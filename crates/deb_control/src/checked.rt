@@ -1,13 +1,15 @@
 //! Paragraphs of a document, checked one after another.
 
-ghost use Rattle.std.specs.Prelude.{◌≡◌, ◌+◌, ◌≤◌, ◌&&◌, ℕ, List, [], Some, None, IfOk, IfSome, IsTrue};
+ghost use Rattle.std.specs.Prelude.{◌≡◌, ◌+◌, ◌≤◌, ◌&&◌, ℕ, List, [], Some, None, Ok, IfOk, IfSome, IsTrue, false, true};
 ghost use Rattle.deb_syntax.specs.Paragraphs.{state_of};
 ghost use Rattle.deb_control.specs.Checking.{passes_if, is_sound, found_answer, judged_answer, judged_found, judged_if};
 ghost use Rattle.deb_control.specs.Finding.{PassesOver, given_answer, passing_of_found};
+ghost use Rattle.deb_control.specs.Keeping.{KeepsFound, PassesKeeping};
 
 use crate::accepted::Accepted;
 use crate::find::find;
 use crate::judged::Judged;
+use crate::keep::{Keep, Nothing};
 use crate::tally::Tally;
 use deb_base::{Fault, Source};
 use deb_field::Doc;
@@ -126,6 +128,26 @@ impl Checked {
         }
     }
 
+    /// Goes on behind the next paragraph of the file, and says whether there is one: where `next`
+    /// gives a paragraph. Its values are shown to the keeper, and its canonical text isn't built.
+    ///
+    /// # Errors
+    ///
+    /// Those of `next`; `Fault::Memory` also where the keeper was refused memory. After an error
+    /// every later call answers the same error, and reads nothing.
+    pub fn next_kept<R: Source, K: Keep>(
+        &mut self,
+        keeper: &mut K,
+        reader: &mut R,
+    ) -> Result<bool, Fault>
+        ensures passes { PassesKeeping K.Keeps keeper.new (doc_read self.old)
+            (checked_moment self.old (R.left reader.old) (R.failures reader.old)) result
+            (checked_moment self.new (R.left reader.new) (R.failures reader.new)) }
+        ensures doc { doc_read self.new ≡ doc_read self.old }
+    {
+        self.go_on(false, keeper, reader)
+    }
+
     /// Goes on to the next paragraph, which `current` then gives, and says whether there is one.
     fn step<R: Source>(&mut self, reader: &mut R) -> Result<bool, Fault>
         ensures checks { ChecksOn self.old.doc
@@ -135,7 +157,7 @@ impl Checked {
         ensures gives { IfOk result (λ gives. self.new.gives ≡ gives) }
         ensures doc { self.new.doc ≡ self.old.doc }
     {
-        self.go_on(true, reader)
+        self.go_on(true, &mut Nothing, reader)
     }
 
     /// Goes on to the next paragraph, which `current_judged` then gives, and says whether there is
@@ -148,7 +170,7 @@ impl Checked {
         ensures judged { IfOk result (λ gives. self.new.judged ≡ gives) }
         ensures doc { self.new.doc ≡ self.old.doc }
     {
-        self.go_on(false, reader)
+        self.go_on(false, &mut Nothing, reader)
     }
 
     /// Goes on behind the next paragraph, and says whether there is one: what `next` answers, for a
@@ -163,11 +185,17 @@ impl Checked {
             (checked_moment self.new (R.left reader.new) (R.failures reader.new)) }
         ensures doc { self.new.doc ≡ self.old.doc }
     {
-        self.go_on(false, reader)
+        self.go_on(false, &mut Nothing, reader)
     }
 
-    /// Goes on behind the next paragraph, whose canonical text is kept or not.
-    fn go_on<R: Source>(&mut self, keeps_text: bool, reader: &mut R) -> Result<bool, Fault>
+    /// Goes on behind the next paragraph, whose canonical text is kept or not. Where it isn't, the
+    /// values are shown to the keeper.
+    fn go_on<R: Source, K: Keep>(
+        &mut self,
+        keeps_text: bool,
+        keeper: &mut K,
+        reader: &mut R,
+    ) -> Result<bool, Fault>
         ensures checks { ChecksOn self.old.doc
             (checked_moment self.old (R.left reader.old) (R.failures reader.old))
             (given_answer
@@ -175,6 +203,8 @@ impl Checked {
             (checked_moment self.new (R.left reader.new) (R.failures reader.new)) }
         ensures gives { IfOk result (λ gives. self.new.gives ≡ (keeps_text && gives)) }
         ensures judged { IfOk result (λ gives. self.new.judged ≡ gives) }
+        ensures kept { keeps_text ≡ false → result ≡ Ok true
+            → KeepsFound K.Keeps keeper.new self.old.doc (state_of self.new.paragraphs).current }
         ensures doc { self.new.doc ≡ self.old.doc }
     {
         if let Some(fault) = self.fault {
@@ -187,6 +217,7 @@ impl Checked {
             &mut self.paragraphs,
             &mut self.given,
             &mut self.canonical,
+            keeper,
             reader,
         ) {
             Ok(found) => {

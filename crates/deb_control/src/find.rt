@@ -7,9 +7,11 @@ ghost use Rattle.deb_field.specs.Kinds.{is_single as is_one};
 ghost use Rattle.deb_control.specs.Checking.{passes_if, judged_if, found_answer, Checks};
 ghost use Rattle.deb_control.specs.Documents.{rules_of};
 ghost use Rattle.deb_control.specs.Finding.{moment_from, AddsPassing, RefusesSeen, end_answer, given_answer, passing_of_found};
+ghost use Rattle.deb_control.specs.Keeping.{KeepsFound, KeepsValues};
 ghost use Rattle.deb_control.specs.Lengths.{Measures};
 ghost use Rattle.deb_control.specs.Refusals.{built};
 
+use crate::keep::Keep;
 use crate::measure::measure;
 use crate::paragraph::{read_fields, refused};
 use crate::tally::Tally;
@@ -19,14 +21,15 @@ use deb_syntax::{Paragraphs, Raw};
 use std::alloc::Global;
 
 /// Finds the next paragraph and checks it: where it passes and text is kept, its canonical text
-/// stands in `canonical`.
-pub(crate) fn find<R: Source>(
+/// stands in `canonical`; where none is kept, its values are shown to the keeper.
+pub(crate) fn find<R: Source, K: Keep>(
     alloc: Global,
     doc: Doc,
     keeps_text: bool,
     paragraphs: &mut Paragraphs,
     given: &mut Tally,
     canonical: &mut Vec<u8>,
+    keeper: &mut K,
     reader: &mut R,
 ) -> Result<bool, Fault>
     requires sound { (state_of paragraphs.old).fault ≡ None }
@@ -40,6 +43,8 @@ pub(crate) fn find<R: Source>(
         (state_of paragraphs.new).current canonical.new.items)) }
     ensures found { IfOk result
         (λ gives. IsTrue (judged_if gives doc (state_of paragraphs.new).current)) }
+    ensures kept { keeps_text ≡ false → result ≡ Ok true
+        → KeepsFound K.Keeps keeper.new doc (state_of paragraphs.new).current }
 {
     if is_single(doc) && given.paragraphs > 0 {
         return none_follows(paragraphs, reader);
@@ -47,7 +52,7 @@ pub(crate) fn find<R: Source>(
     paragraphs.advance(reader)?;
     match paragraphs.current() {
         None => end(doc, given, paragraphs.lines()),
-        Some(raw) => pass(alloc, doc, keeps_text, &raw, given, canonical),
+        Some(raw) => pass(alloc, doc, keeps_text, &raw, given, canonical, keeper),
     }
 }
 
@@ -80,13 +85,14 @@ fn end(doc: Doc, given: &Tally, lines: u64) -> Result<bool, Fault>
 }
 
 /// Checks a paragraph, and counts it where it passes.
-fn pass(
+fn pass<K: Keep>(
     alloc: Global,
     doc: Doc,
     keeps_text: bool,
     raw: &Raw<'_>,
     given: &mut Tally,
     canonical: &mut Vec<u8>,
+    keeper: &mut K,
 ) -> Result<bool, Fault>
     ensures ok { IfOk result
         (λ gives. (gives ≡ true)
@@ -94,8 +100,10 @@ fn pass(
     ensures fault { IfErr result
         (λ fault. RefusedOrMemory fault (RefusesSeen doc (seen_of raw.now) given.old)) }
     ensures unchanged { IfErr result (λ fault. given.new ≡ given.old) }
+    ensures kept { keeps_text ≡ false
+        → IfOk result (λ _. KeepsValues K.Keeps keeper.new doc (seen_of raw.now)) }
 {
-    let length = judge(alloc, doc, keeps_text, raw, canonical)?;
+    let length = judge(alloc, doc, keeps_text, raw, canonical, keeper)?;
     let Some(more) = given.with(length) else {
         return Err(refused(Code::FileTooLong, raw.first_line()));
     };
@@ -103,23 +111,26 @@ fn pass(
     Ok(true)
 }
 
-/// The length of a paragraph's canonical text, which stands in `canonical` where text is kept. The
-/// errors are those of `Paragraph::build`.
-fn judge(
+/// The length of a paragraph's canonical text, which stands in `canonical` where text is kept;
+/// where none is, the values are shown to the keeper. The errors are those of `Paragraph::build`.
+fn judge<K: Keep>(
     alloc: Global,
     doc: Doc,
     keeps_text: bool,
     raw: &Raw<'_>,
     canonical: &mut Vec<u8>,
+    keeper: &mut K,
 ) -> Result<u64, Fault>
     ensures ok { IfOk result (Measures doc (seen_of raw.now) keeps_text canonical.new.items) }
     ensures short { IfOk result (λ n. n ≤ PARAGRAPH_LIMIT) }
     ensures fault { IfErr result
         (λ fault. RefusedOrMemory fault
         (λ refusal. built (rules_of doc) (seen_of raw.now) ≡ Err refusal)) }
+    ensures kept { keeps_text ≡ false
+        → IfOk result (λ _. KeepsValues K.Keeps keeper.new doc (seen_of raw.now)) }
 {
     if !keeps_text {
-        return measure(alloc, doc, raw);
+        return measure(alloc, doc, raw, keeper);
     }
     read_fields(alloc, doc, raw, canonical)?;
     Ok(canonical.len() as u64)

@@ -10,25 +10,33 @@ ghost use Rattle.deb_field.specs.Values.{value_refusal, value_text};
 ghost use Rattle.deb_field.specs.ValueMeanings.{value_meaning};
 ghost use Rattle.deb_control.specs.Canonical.{behind_colon, field_text};
 ghost use Rattle.deb_control.specs.Documents.{rules_of};
+ghost use Rattle.deb_control.specs.Keeping.{KeepsField, KeepsFields, KeepsValues, ShownValues};
 ghost use Rattle.deb_control.specs.Lengths.{field_length, fields_length, Measures};
 ghost use Rattle.deb_control.specs.Refusals.{built, value_refusal_of};
 
+use crate::keep::Keep;
 use crate::paragraph::{has_required, refused, value_of};
 use deb_base::{Code, Fault, PARAGRAPH_LIMIT};
 use deb_field::{Canon, Doc, Value};
 use deb_syntax::{Raw, RawField};
 use std::alloc::Global;
 
-/// The length of the canonical text of a paragraph. Each value is dropped when its length is
-/// known. The errors are those of `Paragraph::build`.
-pub(crate) fn measure(alloc: Global, doc: Doc, paragraph: &Raw<'_>) -> Result<u64, Fault>
+/// The length of the canonical text of a paragraph. Each value is dropped when it was shown and its
+/// length is known. The errors are those of `Paragraph::build`.
+pub(crate) fn measure<K: Keep>(
+    alloc: Global,
+    doc: Doc,
+    paragraph: &Raw<'_>,
+    keeper: &mut K,
+) -> Result<u64, Fault>
     ensures ok { IfOk result (Measures doc (seen_of paragraph.now) false []) }
     ensures short { IfOk result (λ n. n ≤ PARAGRAPH_LIMIT) }
+    ensures kept { IfOk result (λ n. KeepsValues K.Keeps keeper.new doc (seen_of paragraph.now)) }
     ensures fault { IfErr result
         (λ fault. RefusedOrMemory fault
         (λ refusal. built (rules_of doc) (seen_of paragraph.now) ≡ Err refusal)) }
 {
-    let length = fields_len(alloc, doc, paragraph)?;
+    let length = fields_len(alloc, doc, paragraph, keeper)?;
     if !has_required(doc, paragraph) {
         return Err(refused(Code::MissingField, paragraph.first_line()));
     }
@@ -39,7 +47,12 @@ pub(crate) fn measure(alloc: Global, doc: Doc, paragraph: &Raw<'_>) -> Result<u6
 }
 
 /// The length of the canonical texts of a paragraph's fields, or `u64::MAX` where it is longer.
-fn fields_len(alloc: Global, doc: Doc, paragraph: &Raw<'_>) -> Result<u64, Fault>
+fn fields_len<K: Keep>(
+    alloc: Global,
+    doc: Doc,
+    paragraph: &Raw<'_>,
+    keeper: &mut K,
+) -> Result<u64, Fault>
     ensures length { IfOk result
         (λ n. n ≡ min (fields_length (rules_of doc) (fields_of paragraph.now)) (2 ^ 64 - 1)) }
     ensures good { IfOk result
@@ -47,11 +60,14 @@ fn fields_len(alloc: Global, doc: Doc, paragraph: &Raw<'_>) -> Result<u64, Fault
     ensures fault { IfErr result
         (λ fault. RefusedOrMemory fault
         (λ refusal. value_refusal_of (rules_of doc) (fields_of paragraph.now) ≡ Some refusal)) }
+    ensures kept { IfOk result
+        (λ n. KeepsFields K.Keeps keeper.new doc (fields_of paragraph.now)) }
 {
+    keeper.begin();
     let mut length: u64 = 0;
     for index in 0..paragraph.len() {
         if let Some(raw) = paragraph.field(index) {
-            length = length.saturating_add(field_len(alloc, doc, &raw)?);
+            length = length.saturating_add(field_len(alloc, doc, &raw, keeper)?);
         }
     }
     Ok(length)
@@ -59,7 +75,12 @@ fn fields_len(alloc: Global, doc: Doc, paragraph: &Raw<'_>) -> Result<u64, Fault
 
 /// The length of a field's canonical text, or `u64::MAX` where it is longer. The errors are those
 /// of reading its value.
-fn field_len(alloc: Global, doc: Doc, field: &RawField<'_>) -> Result<u64, Fault>
+fn field_len<K: Keep>(
+    alloc: Global,
+    doc: Doc,
+    field: &RawField<'_>,
+    keeper: &mut K,
+) -> Result<u64, Fault>
     requires { IsBody field.now.body.now }
     ensures length { IfOk result
         (λ n. n ≡ min (field_length (rules_of doc) (field_of field.now)) (2 ^ 64 - 1)) }
@@ -70,8 +91,11 @@ fn field_len(alloc: Global, doc: Doc, field: &RawField<'_>) -> Result<u64, Fault
         (λ refusal. (refusal.line ≡ field.now.line)
         × (value_refusal doc (canonical_name field.now.name.now) field.now.body.now
         ≡ Some refusal.code))) }
+    ensures kept { (shown : ShownValues) → K.Keeps keeper.old shown
+        → IfOk result (λ n. KeepsField K.Keeps keeper.new doc (field_of field.now) shown) }
 {
     let value = value_of(alloc, doc, field)?;
+    keeper.keep(field.name, &value)?;
     Ok(canonical_len(field.name, &value))
 }
 

@@ -8,7 +8,7 @@ use Rattle.deb_control.proofs.Checks.{file_limit_is}
 use Rattle.deb_control.proofs.find.pass.Goals as goal
 
 pub returns-in_default-clause-fault : goal.returns-in_default-clause-fault
-returns-in_default-clause-fault c =
+returns-in_default-clause-fault g c =
     let given = c.args.given.now in
     let measures = c.in_ok-length.ensures.ok in
     let long = subst (λ n. file_limit < bytes_with given.paragraphs given.bytes n) measures.measured (subst (λ n. n < bytes_with given.paragraphs given.bytes c.in_ok-length.length) (sym file_limit_is) c.in_default.ensures.none) in
@@ -21,7 +21,7 @@ returns-in_default-clause-fault c =
     }))
 
 pub returns-clause-ok : goal.returns-clause-ok
-returns-clause-ok c =
+returns-clause-ok g c =
     let given = c.args.given.now in
     let measures = c.in_ok-length.ensures.ok in (
       refl,
