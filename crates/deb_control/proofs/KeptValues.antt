@@ -77,7 +77,7 @@ KeepsFields-end Keeps keeper doc fields i past all = record { shown = all.shown;
 
 -- and where the paragraph passes these are its values
 pub KeepsValues-passing : {K : Type 0} (Keeps : K → ShownValues → Type 0) (keeper : K) (doc : Doc) (seen : Seen) → are_fields seen.fields ≡ true → IsTrue (is_judged doc seen) → KeepsFields Keeps keeper doc seen.fields → KeepsValues Keeps keeper doc seen
-KeepsValues-passing Keeps keeper doc seen are passes keeps = record { shown = keeps.shown; are = λ name. go name (keeps.shown name) (keeps.are name); kept = keeps.kept }
+KeepsValues-passing Keeps keeper doc seen are passes keeps = record { shown = keeps.shown; fields = are; are = λ name. go name (keeps.shown name) (keeps.are name); kept = keeps.kept }
   where
     go : (name : List ℕ) (o : Option ValueMeaning) → IsShown doc seen.fields name o → HasValue doc seen name o
     go name None is = none-passing doc seen passes are name is

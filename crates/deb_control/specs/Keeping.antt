@@ -1,10 +1,10 @@
 -- What is kept of the values of a paragraph while it is judged. Debian Policy 5.1.
-use Rattle.std.specs.Prelude.{◌≡◌, ℕ, List, Option, None, Some, Bool, true, Result, Ok, cond, codes, refl}
+use Rattle.std.specs.Prelude.{◌≡◌, ℕ, List, Option, None, Some, IsTrue, Bool, true, Result, Ok, cond, codes, refl}
 use Rattle.std.specs.Str.{bytes_eq}
 use Rattle.deb_base.specs.Names.{folded, canonical_name}
 use Rattle.deb_base.specs.declared.fault.Fault.{Fault}
 use Rattle.deb_syntax.specs.Answers.{Seen}
-use Rattle.deb_syntax.specs.Fields.{Field}
+use Rattle.deb_syntax.specs.Fields.{Field, are_fields}
 use Rattle.deb_syntax.specs.Raw.{field_named}
 use Rattle.deb_field.specs.declared.kind.Doc.{Doc}
 use Rattle.deb_field.specs.Values.{ValueMeaning, NameMeans, TextMeans, SpellsValue}
@@ -46,10 +46,11 @@ pub record KeepsFields {K : Type 0} (Keeps : K → ShownValues → Type 0) (keep
   pub are : (name : List ℕ) → IsShown doc fields name (shown name)
   pub kept : Keeps keeper shown
 
--- What is kept is of the values of a paragraph that passes.
+-- What is kept is of the values of a paragraph that passes, of which no two fields have one name.
 pub record KeepsValues {K : Type 0} (Keeps : K → ShownValues → Type 0) (keeper : K) (doc : Doc)
     (seen : Seen) : Type 0 where
   pub shown : ShownValues
+  pub fields : IsTrue (are_fields seen.fields)
   pub are : (name : List ℕ) → HasValue doc seen name (shown name)
   pub kept : Keeps keeper shown
 
