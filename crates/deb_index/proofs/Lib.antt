@@ -1,3 +1,4 @@
+pub mod KeptFields
 pub mod ListedValues
 pub mod Copies
 pub mod Indexed

@@ -1,28 +1,25 @@
 -- The values of a paragraph of an index of packages: which are there, and what the bodies of the fields mean.
-use Rattle.std.proofs.Common.{◌≡◌, ℕ, ◌&&◌, Bool, true, false, is_some, List, Option, None, Some, IsTrue, codes, refl, sym, ap, subst, ◌∙◌}
+use Rattle.std.proofs.Common.{◌≡◌, ◌⊎◌, inl, inr, ℕ, ◌&&◌, Bool, true, false, is_ok, is_some, List, map, Option, None, Some, IsTrue, codes, refl, sym, ap, subst, ◌∙◌}
 use Rattle.std.proofs.lemmas.Bool.{false≢true}
 use Rattle.std.specs.FinMap.{find}
 use Rattle.std.specs.Option.{option_map}
 use Rattle.deb_base.specs.Names.{canonical_name}
-use Rattle.deb_version.specs.Grammar.{SpellsVersion}
 use Rattle.deb_version.specs.Parts.{Meaning as Version}
 use Rattle.deb_relation.specs.Meaning.{Relation}
-use Rattle.deb_relation.specs.Grammar.{SpellsRelation}
 use Rattle.deb_syntax.specs.Answers.{Seen}
 use Rattle.deb_syntax.specs.Fields.{Field, are_fields}
 use Rattle.deb_syntax.specs.Meaning.{byte_order, entries_of}
 use Rattle.deb_syntax.specs.Raw.{field_named}
 use Rattle.deb_syntax.proofs.JudgingLawsMeaning.{body_at-entries_of}
-use Rattle.deb_field.specs.Flags.{SpellsMultiArch}
 use Rattle.deb_field.specs.Kinds.{kind_of, required}
 use Rattle.deb_field.specs.ValueLaws.{value_law}
 use Rattle.deb_field.specs.Values.{ValueMeaning, NameMeans, VersionMeans, ArchitectureMeans, MultiArchMeans, RelationMeans, value_text, SpellsValue}
 use Rattle.deb_field.specs.declared.flag.MultiArch.{MultiArch}
-use Rattle.deb_field.specs.declared.kind.Doc.{Doc}
 use Rattle.deb_field.specs.declared.kind.Doc.TheVariants.{Packages}
 use Rattle.deb_control.specs.Acceptance.{has_values}
 use Rattle.deb_control.specs.Checking.{is_judged}
 use Rattle.deb_control.specs.Documents.{rules_of}
+use Rattle.deb_control.specs.Keeping.{KeepsValues}
 use Rattle.deb_control.specs.Paragraphs.{AreValuesOf}
 use Rattle.deb_control.specs.PassingValues.{HasValue}
 use Rattle.deb_control.specs.Refusals.{value_refusal_of}
@@ -32,6 +29,10 @@ use Rattle.deb_control.proofs.FieldValues.{has_values-have_names}
 use Rattle.deb_control.proofs.Passing.{built-parts}
 use Rattle.deb_control.proofs.PassingParagraphs.{field-body, none-passing, values-passing}
 use Rattle.deb_control.proofs.ValueBodies.{one_paragraph, value_at}
+use Rattle.deb_version.specs.Kept.{kept_version}
+use Rattle.deb_index.specs.Kept.{provision_of}
+use Rattle.deb_index.specs.KeptFields.{KeepsFields, bytes_in}
+use Rattle.deb_index.specs.declared.paragraph.KeptFields.{KeptFields}
 use Rattle.deb_index.specs.Listed.{Provision}
 use Rattle.deb_index.specs.Listing.{HasProvisions, SeenLists}
 
@@ -52,70 +53,69 @@ all_there seen fields values are =
 not_none : (name : List ℕ) (values : ValueEntries ValueMeaning) → is_some (find byte_order name values) ≡ true → None ≡ find byte_order name values → ⊥
 not_none name values some none = false≢true (ap is_some none ∙ some)
 
-module _ (doc : Doc) (seen : Seen) (kind : doc ≡ Packages) (passing : IsTrue (is_judged doc seen)) (fields : are_fields seen.fields ≡ true) where
-  passes : IsTrue (is_judged Packages seen)
-  passes = subst (λ d. IsTrue (is_judged d seen)) kind passing
+module _ (seen : Seen) (passes : IsTrue (is_judged Packages seen)) (fields : are_fields seen.fields ≡ true) where
+  -- so there is a value under these names
+  name-there : HasValue Packages seen (codes "Package") None → ⊥
+  name-there has = not_none (codes "Package") has.values (and-parts _ _ (all_there seen fields has.values has.are)).0 has.found
 
-  -- where no field has a name no value has it
-  pub none-read : (name : List ℕ) → field_named name seen.fields ≡ None → HasValue Packages seen name None
-  none-read name none = none-passing Packages seen passes fields name none
+  version-there : HasValue Packages seen (codes "Version") None → ⊥
+  version-there has = not_none (codes "Version") has.values (and-parts _ _ (and-parts _ _ (all_there seen fields has.values has.are)).1).0 has.found
 
-  -- so their fields are
-  pub name-there : field_named (codes "Package") seen.fields ≡ None → ⊥
-  name-there none =
-      let has = none-read (codes "Package") none in
-      not_none (codes "Package") has.values (and-parts _ _ (all_there seen fields has.values has.are)).0 has.found
-
-  pub version-there : field_named (codes "Version") seen.fields ≡ None → ⊥
-  version-there none =
-      let has = none-read (codes "Version") none in
-      not_none (codes "Version") has.values (and-parts _ _ (and-parts _ _ (all_there seen fields has.values has.are)).1).0 has.found
-
-  pub architecture-there : field_named (codes "Architecture") seen.fields ≡ None → ⊥
-  architecture-there none =
-      let has = none-read (codes "Architecture") none in
+  architecture-there : HasValue Packages seen (codes "Architecture") None → ⊥
+  architecture-there has =
       not_none (codes "Architecture") has.values (and-parts _ _ (and-parts _ _ (and-parts _ _ (all_there seen fields has.values has.are)).1).1).0 has.found
 
-  -- the body of a field spells the value under its name
-  spelled-under : (name : List ℕ) (field : Field) → field_named name seen.fields ≡ Some field → (v : ValueMeaning) × SpellsValue Packages (canonical_name name) field.body v × HasValue Packages seen name (Some v)
-  spelled-under name field is =
-      let values = values-passing Packages seen passes in
-      let entry : find byte_order (canonical_name name) (entries_of seen.fields) ≡ Some field.body = body_at-entries_of seen.fields (distinct-from seen.fields fields) name ∙ (field-body name seen.fields field is).0 in
-      let at = value_at ValueMeaning (SpellsValue Packages) value_text (value_law Packages) (canonical_name name) field.body (entries_of seen.fields) values.0 values.1.spelled entry in
-      (at.0, at.1, record { values = values.0; are = values.1; found = sym at.2 })
+  -- under a name there is one value, or none
+  one-under : (name : List ℕ) (o p : Option ValueMeaning) → HasValue Packages seen name o → HasValue Packages seen name p → o ≡ p
+  one-under name o p has other = has.found ∙ ap (find byte_order (canonical_name name)) (one_list_of_values seen has.values other.values has.are other.are) ∙ sym other.found
 
-  has-same : (name : List ℕ) (v w : ValueMeaning) → v ≡ w → HasValue Packages seen name (Some v) → HasValue Packages seen name (Some w)
-  has-same name v w same has = record { values = has.values; are = has.are; found = ap Some (sym same) ∙ has.found }
+  -- a value is one that a body of a field of the name spells
+  under : (name : List ℕ) (o : Option ValueMeaning) → HasValue Packages seen name o → (o ≡ None) ⊎ ((v : ValueMeaning) × (body : List ℕ) × SpellsValue Packages (canonical_name name) body v × (o ≡ Some v))
+  under name o has = go (field_named name seen.fields) refl
+    where
+      go : (f : Option Field) → field_named name seen.fields ≡ f → (o ≡ None) ⊎ ((v : ValueMeaning) × (body : List ℕ) × SpellsValue Packages (canonical_name name) body v × (o ≡ Some v))
+      go None is = inl (one-under name o None has (none-passing Packages seen passes fields name is))
+      go (Some field) is =
+          let values = values-passing Packages seen passes in
+          let entry : find byte_order (canonical_name name) (entries_of seen.fields) ≡ Some field.body = body_at-entries_of seen.fields (distinct-from seen.fields fields) name ∙ (field-body name seen.fields field is).0 in
+          let at = value_at ValueMeaning (SpellsValue Packages) value_text (value_law Packages) (canonical_name name) field.body (entries_of seen.fields) values.0 values.1.spelled entry in
+          inr (at.0, field.body, at.1, one-under name o (Some at.0) has (record { values = values.0; are = values.1; found = sym at.2 }))
 
-  pub name-read : (field : Field) → field_named (codes "Package") seen.fields ≡ Some field → HasValue Packages seen (codes "Package") (Some (NameMeans field.body))
+  -- so it is of the kind of the field
+  name-said : (o : Option ValueMeaning) → HasValue Packages seen (codes "Package") o → (name : List ℕ) × (o ≡ Some (NameMeans name))
   unfolding kind_of
-  name-read field is =
-      let s = spelled-under (codes "Package") field is in
-      has-same (codes "Package") s.0 (NameMeans field.body) (s.1.1 ∙ ap NameMeans (sym s.1.2.0)) s.2
+  name-said o has = elim (under (codes "Package") o has) [
+    | inl none ↦ absurd (name-there (subst (HasValue Packages seen (codes "Package")) none has))
+    | inr s ↦ (s.2.0, s.3 ∙ ap Some s.2.1)
+  ]
 
-  pub architecture-read : (field : Field) → field_named (codes "Architecture") seen.fields ≡ Some field → HasValue Packages seen (codes "Architecture") (Some (ArchitectureMeans field.body))
+  architecture-said : (o : Option ValueMeaning) → HasValue Packages seen (codes "Architecture") o → (name : List ℕ) × (o ≡ Some (ArchitectureMeans name))
   unfolding kind_of
-  architecture-read field is =
-      let s = spelled-under (codes "Architecture") field is in
-      has-same (codes "Architecture") s.0 (ArchitectureMeans field.body) (s.1.1 ∙ ap ArchitectureMeans (sym s.1.2.0)) s.2
+  architecture-said o has = elim (under (codes "Architecture") o has) [
+    | inl none ↦ absurd (architecture-there (subst (HasValue Packages seen (codes "Architecture")) none has))
+    | inr s ↦ (s.2.0, s.3 ∙ ap Some s.2.1)
+  ]
 
-  pub version-read : (field : Field) → field_named (codes "Version") seen.fields ≡ Some field → (version : Version) × SpellsVersion field.body version × HasValue Packages seen (codes "Version") (Some (VersionMeans version))
+  version-said : (o : Option ValueMeaning) → HasValue Packages seen (codes "Version") o → (version : Version) × (o ≡ Some (VersionMeans version))
   unfolding kind_of
-  version-read field is =
-      let s = spelled-under (codes "Version") field is in
-      (s.1.0, s.1.2, has-same (codes "Version") s.0 (VersionMeans s.1.0) s.1.1 s.2)
+  version-said o has = elim (under (codes "Version") o has) [
+    | inl none ↦ absurd (version-there (subst (HasValue Packages seen (codes "Version")) none has))
+    | inr s ↦ (s.2.0, s.3 ∙ ap Some s.2.1)
+  ]
 
-  pub multi_arch-read : (field : Field) → field_named (codes "Multi-Arch") seen.fields ≡ Some field → (word : MultiArch) × SpellsMultiArch field.body word × HasValue Packages seen (codes "Multi-Arch") (Some (MultiArchMeans word))
+  multi_arch-said : (o : Option ValueMeaning) → HasValue Packages seen (codes "Multi-Arch") o → (word : Option MultiArch) × (o ≡ option_map MultiArchMeans word)
   unfolding kind_of
-  multi_arch-read field is =
-      let s = spelled-under (codes "Multi-Arch") field is in
-      (s.1.0, s.1.2, has-same (codes "Multi-Arch") s.0 (MultiArchMeans s.1.0) s.1.1 s.2)
+  multi_arch-said o has = elim (under (codes "Multi-Arch") o has) [
+    | inl none ↦ (None, none)
+    | inr s ↦ (Some s.2.0, s.3 ∙ ap Some s.2.1)
+  ]
 
-  pub provides-read : (field : Field) → field_named (codes "Provides") seen.fields ≡ Some field → (relation : Relation) × SpellsRelation field.body relation × HasValue Packages seen (codes "Provides") (Some (RelationMeans relation))
+  provides-said : (o : Option ValueMeaning) → HasValue Packages seen (codes "Provides") o → (relation : Option Relation) × (o ≡ option_map RelationMeans relation)
   unfolding kind_of
-  provides-read field is =
-      let s = spelled-under (codes "Provides") field is in
-      (s.1.0, s.1.2.spells, has-same (codes "Provides") s.0 (RelationMeans s.1.0) s.1.1 s.2)
+  provides-said o has = elim (under (codes "Provides") o has) [
+    | inl none ↦ (None, none)
+    | inr s ↦ (Some s.2.0, s.3 ∙ ap Some s.2.1)
+  ]
 
 -- what was read of a paragraph is the package that it lists
 pub lists-read : (seen : Seen) (name : List ℕ) (version : Version) (architecture : List ℕ) (multi_arch : Option MultiArch) (provisions : List Provision)
@@ -140,3 +140,47 @@ lists-read seen name version architecture multi_arch provisions named versioned 
   where
     under : (name : List ℕ) (o : Option ValueMeaning) → (has : HasValue Packages seen name o) → find byte_order (canonical_name name) named.values ≡ o
     under name o has = ap (find byte_order (canonical_name name)) (one_list_of_values seen named.values has.values named.are has.are) ∙ sym has.found
+
+pub lists-same : (seen : Seen) (n m : List ℕ) (v w : Version) (a b : List ℕ) (word : Option MultiArch) (ps qs : List Provision) → n ≡ m → v ≡ w → a ≡ b → ps ≡ qs
+    → SeenLists seen (record { name = n; version = v; architecture = a; multi_arch = word; provisions = ps })
+    → SeenLists seen (record { name = m; version = w; architecture = b; multi_arch = word; provisions = qs })
+lists-same seen n m v w a b word ps qs names versions architectures provisions lists =
+    subst (λ x. SeenLists seen (record { name = m; version = w; architecture = b; multi_arch = word; provisions = x })) provisions
+    (subst (λ x. SeenLists seen (record { name = m; version = w; architecture = x; multi_arch = word; provisions = ps })) architectures
+    (subst (λ x. SeenLists seen (record { name = m; version = x; architecture = a; multi_arch = word; provisions = ps })) versions
+    (subst (λ x. SeenLists seen (record { name = x; version = v; architecture = a; multi_arch = word; provisions = ps })) names lists)))
+
+-- what was kept of its fields is that package
+pub record ListsKept (kept : KeptFields) (seen : Seen) : Type 0 where
+  pub name : List ℕ
+  pub version : Version
+  pub architecture : List ℕ
+  pub name_is : option_map bytes_in kept.name ≡ Some name
+  pub version_is : option_map kept_version kept.version ≡ Some version
+  pub architecture_is : option_map bytes_in kept.architecture ≡ Some architecture
+  pub lists : SeenLists seen (record { name = name; version = version; architecture = architecture; multi_arch = kept.multi_arch; provisions = map provision_of kept.provisions.items })
+
+pub lists-kept : (kept : KeptFields) (seen : Seen) → KeepsValues KeepsFields kept Packages seen → ListsKept kept seen
+lists-kept kept seen keeps =
+    let shown = keeps.shown in
+    let passes : IsTrue (is_judged Packages seen) = ap is_ok (keeps.are (codes "Package")).are.passes in
+    let name = name-said seen passes keeps.fields (shown (codes "Package")) (keeps.are (codes "Package")) in
+    let version = version-said seen passes keeps.fields (shown (codes "Version")) (keeps.are (codes "Version")) in
+    let architecture = architecture-said seen passes keeps.fields (shown (codes "Architecture")) (keeps.are (codes "Architecture")) in
+    let word = multi_arch-said seen passes keeps.fields (shown (codes "Multi-Arch")) (keeps.are (codes "Multi-Arch")) in
+    let provides = provides-said seen passes keeps.fields (shown (codes "Provides")) (keeps.are (codes "Provides")) in
+    record {
+      name = name.0;
+      version = version.0;
+      architecture = architecture.0;
+      name_is = keeps.kept.name.tells (Some name.0) name.1;
+      version_is = keeps.kept.version.tells (Some version.0) version.1;
+      architecture_is = keeps.kept.architecture.tells (Some architecture.0) architecture.1;
+      lists =
+          lists-read seen name.0 version.0 architecture.0 kept.multi_arch (map provision_of kept.provisions.items)
+          (subst (HasValue Packages seen (codes "Package")) name.1 (keeps.are (codes "Package")))
+          (subst (HasValue Packages seen (codes "Version")) version.1 (keeps.are (codes "Version")))
+          (subst (HasValue Packages seen (codes "Architecture")) architecture.1 (keeps.are (codes "Architecture")))
+          (subst (HasValue Packages seen (codes "Multi-Arch")) (word.1 ∙ ap (option_map MultiArchMeans) (sym (keeps.kept.multi_arch.tells word.0 word.1))) (keeps.are (codes "Multi-Arch")))
+          (record { provides = provides.0; has = subst (HasValue Packages seen (codes "Provides")) provides.1 (keeps.are (codes "Provides")); are = keeps.kept.provisions.tells provides.0 provides.1 });
+    }

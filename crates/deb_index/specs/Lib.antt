@@ -4,6 +4,7 @@ pub mod Meeting
 pub mod Reports
 pub mod ReportText
 pub mod Kept
+pub mod KeptFields
 pub mod Named
 pub mod Maps
 pub mod Listing

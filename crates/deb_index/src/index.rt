@@ -22,7 +22,7 @@ ghost use Rattle.deb_index.specs.Told.{report_of};
 use crate::fault::QueryFault;
 use crate::names::Names;
 use crate::package::Package;
-use crate::paragraph::package_of;
+use crate::paragraph::KeptFields;
 use crate::report::Report;
 use deb_base::{Fault, Source};
 use deb_control::Checked;
@@ -75,12 +75,16 @@ impl Index {
         ensures tells_reads { TellsReads (R.failures reader.old) (R.failures reader.new) result }
     {
         let mut checked = Checked::new(alloc, Doc::Packages);
+        let mut kept = KeptFields::new(alloc);
         let mut packages = Vec::new(alloc);
         for count in 0..u64::MAX {
-            let Some(paragraph) = checked.next_judged(reader)? else {
+            if !checked.next_kept(&mut kept, reader)? {
                 return Ok(Index::of(alloc, packages)?);
+            }
+            let Some(package) = kept.package() else {
+                unreachable!()
             };
-            packages.push(package_of(alloc, &paragraph)?)?;
+            packages.push(package)?;
         }
         // No file has so many paragraphs.
         unreachable!()

@@ -1,107 +1,151 @@
 //! What is kept of a paragraph.
 
-ghost use Rattle.std.specs.Prelude.{◌≡◌, Some, IfOk, codes, map};
-ghost use Rattle.std.specs.Option.{option_map};
-ghost use Rattle.deb_field.specs.Values.{NameMeans, VersionMeans, ArchitectureMeans, MultiArchMeans};
-ghost use Rattle.deb_control.specs.CheckedStates.{passing_judged};
-ghost use Rattle.deb_control.specs.PassingValues.{HasValue};
-ghost use Rattle.deb_version.specs.Kept.{kept_version};
-ghost use Rattle.deb_index.specs.Kept.{listed_of, provision_of};
-ghost use Rattle.deb_index.specs.Listing.{HasProvisions, SeenLists};
+ghost use Rattle.std.specs.Prelude.{IsSomeAnd};
+ghost use Rattle.deb_control.specs.Keeping.{KeepsValues};
+ghost use Rattle.deb_syntax.specs.Answers.{Seen};
+ghost use Rattle.deb_field.specs.RelationSpelled.{relation_meaning};
+ghost use Rattle.deb_field.specs.Shown.{architecture_name, package_name};
+ghost use Rattle.deb_field.specs.Values.{NameMeans, VersionMeans, ArchitectureMeans, MultiArchMeans, RelationMeans};
+ghost use Rattle.deb_version.specs.Version.{meaning_of};
+ghost use Rattle.deb_index.specs.Kept.{listed_of};
+ghost use Rattle.deb_index.specs.KeptFields.{KeepsFields, KeepsMore};
+ghost use Rattle.deb_index.specs.Listing.{SeenLists};
 
 use crate::package::Package;
 use crate::provision::{Provision, provisions_of};
-use deb_control::Judged;
-use deb_field::{Doc, MultiArch};
-use deb_relation::{Relation, RelationFault};
+use deb_base::same_name;
+use deb_control::Keep;
+use deb_field::{ArchitectureName, Doc, MultiArch, PackageName, RelationField, Value};
+use deb_relation::RelationFault;
 use deb_version::{CanonicalVersion, Version};
 use std::alloc::{AllocError, Global};
+use std::mem;
 
-/// The package that a paragraph of an index lists.
-pub(crate) fn package_of(alloc: Global, paragraph: &Judged<'_>) -> Result<Package, AllocError>
-    requires { paragraph.now.doc ≡ Doc.Packages }
-    ensures { IfOk result
-        (λ kept. SeenLists (passing_judged paragraph.now).seen (listed_of kept)) }
-{
-    Ok(Package {
-        name: name_of(alloc, paragraph)?,
-        version: version_of(alloc, paragraph)?,
-        architecture: architecture_of(alloc, paragraph)?,
-        multi_arch: multi_arch_of(paragraph),
-        provisions: provided_by(alloc, paragraph)?,
-    })
+/// What is kept of the fields of a paragraph while it is judged.
+#[derive(Drop)]
+pub(crate) struct KeptFields {
+    alloc: Global,
+    name: Option<Vec<u8>>,
+    version: Option<CanonicalVersion>,
+    architecture: Option<Vec<u8>>,
+    multi_arch: Option<MultiArch>,
+    provisions: Vec<Provision>,
 }
 
-/// A copy of the name.
-fn name_of(alloc: Global, paragraph: &Judged<'_>) -> Result<Vec<u8>, AllocError>
-    requires { paragraph.now.doc ≡ Doc.Packages }
-    ensures { IfOk result
-        (λ name. HasValue Doc.Packages (passing_judged paragraph.now).seen (codes "Package")
-        (Some (NameMeans name.items))) }
-{
-    let Some(field) = paragraph.get(b"Package") else {
-        unreachable!()
-    };
-    Vec::from_slice(alloc, field.body)
-}
+impl KeptFields {
+    /// Nothing is kept.
+    pub(crate) fn new(alloc: Global) -> KeptFields {
+        KeptFields {
+            alloc,
+            name: None,
+            version: None,
+            architecture: None,
+            multi_arch: None,
+            provisions: Vec::new(alloc),
+        }
+    }
 
-/// A copy of the architecture.
-fn architecture_of(alloc: Global, paragraph: &Judged<'_>) -> Result<Vec<u8>, AllocError>
-    requires { paragraph.now.doc ≡ Doc.Packages }
-    ensures { IfOk result
-        (λ name. HasValue Doc.Packages (passing_judged paragraph.now).seen (codes "Architecture")
-        (Some (ArchitectureMeans name.items))) }
-{
-    let Some(field) = paragraph.get(b"Architecture") else {
-        unreachable!()
-    };
-    Vec::from_slice(alloc, field.body)
-}
+    /// The package that the paragraph lists, which isn't kept any more; or `None` where the name,
+    /// the version or the architecture wasn't shown.
+    pub(crate) fn package(&mut self) -> Option<Package>
+        ensures { (seen : Seen) → KeepsValues KeepsFields self.old Doc.Packages seen
+            → IsSomeAnd result (λ listed. SeenLists seen (listed_of listed)) }
+    {
+        Some(Package {
+            name: self.name.take()?,
+            version: self.version.take()?,
+            architecture: self.architecture.take()?,
+            multi_arch: self.multi_arch,
+            provisions: mem::replace(&mut self.provisions, Vec::new(self.alloc)),
+        })
+    }
 
-/// The version.
-fn version_of(alloc: Global, paragraph: &Judged<'_>) -> Result<CanonicalVersion, AllocError>
-    requires { paragraph.now.doc ≡ Doc.Packages }
-    ensures { IfOk result
-        (λ version. HasValue Doc.Packages (passing_judged paragraph.now).seen (codes "Version")
-        (Some (VersionMeans (kept_version version)))) }
-{
-    let Some(field) = paragraph.get(b"Version") else {
-        unreachable!()
-    };
-    match Version::parse(field.body) {
-        Ok(version) => CanonicalVersion::of(alloc, &version),
-        Err(_) => unreachable!(),
+    /// Keeps a name, if it is that of the package.
+    fn keep_name(&mut self, name: &[u8], value: &PackageName<'_>) -> Result<(), AllocError>
+        ensures { KeepsMore self.old self.new result name.now (NameMeans (package_name value.now)) }
+    {
+        if !same_name(name, b"Package") {
+            return Ok(());
+        }
+        self.name = Some(Vec::from_slice(self.alloc, value.bytes())?);
+        Ok(())
+    }
+
+    /// Keeps a version, if it is that of the package.
+    fn keep_version(&mut self, name: &[u8], value: &Version<'_>) -> Result<(), AllocError>
+        ensures { KeepsMore self.old self.new result name.now (VersionMeans (meaning_of value.now)) }
+    {
+        if !same_name(name, b"Version") {
+            return Ok(());
+        }
+        self.version = Some(CanonicalVersion::of(self.alloc, value)?);
+        Ok(())
+    }
+
+    /// Keeps the name of an architecture, if it is that of the package.
+    fn keep_architecture(
+        &mut self,
+        name: &[u8],
+        value: &ArchitectureName<'_>,
+    ) -> Result<(), AllocError>
+        ensures { KeepsMore self.old self.new result name.now
+            (ArchitectureMeans (architecture_name value.now)) }
+    {
+        if !same_name(name, b"Architecture") {
+            return Ok(());
+        }
+        self.architecture = Some(Vec::from_slice(self.alloc, value.bytes())?);
+        Ok(())
+    }
+
+    /// Keeps a word, if Multi-Arch says it.
+    fn keep_multi_arch(&mut self, name: &[u8], value: MultiArch) -> Result<(), AllocError>
+        ensures { KeepsMore self.old self.new result name.now (MultiArchMeans value) }
+    {
+        if same_name(name, b"Multi-Arch") {
+            self.multi_arch = Some(value);
+        }
+        Ok(())
+    }
+
+    /// Keeps what is provided, if the relation is that of Provides.
+    fn keep_provisions(&mut self, name: &[u8], value: &RelationField<'_>) -> Result<(), AllocError>
+        ensures { KeepsMore self.old self.new result name.now
+            (RelationMeans (relation_meaning value.now)) }
+    {
+        if !same_name(name, b"Provides") {
+            return Ok(());
+        }
+        match value.relation(self.alloc) {
+            Ok(relation) => {
+                self.provisions = provisions_of(self.alloc, &relation)?;
+                Ok(())
+            }
+            Err(RelationFault::Memory) => Err(AllocError),
+            Err(RelationFault::Bad { .. }) => unreachable!(),
+        }
     }
 }
 
-/// What Multi-Arch says, if it is there.
-fn multi_arch_of(paragraph: &Judged<'_>) -> Option<MultiArch>
-    requires { paragraph.now.doc ≡ Doc.Packages }
-    ensures { HasValue Doc.Packages (passing_judged paragraph.now).seen (codes "Multi-Arch")
-        (option_map MultiArchMeans result) }
-{
-    let Some(field) = paragraph.get(b"Multi-Arch") else {
-        return None;
-    };
-    match MultiArch::parse(field.body) {
-        Ok(word) => Some(word),
-        Err(_) => unreachable!(),
-    }
-}
+impl Keep for KeptFields {
+    ghost Keeps = { KeepsFields };
 
-/// What Provides provides.
-fn provided_by(alloc: Global, paragraph: &Judged<'_>) -> Result<Vec<Provision>, AllocError>
-    requires { paragraph.now.doc ≡ Doc.Packages }
-    ensures { IfOk result
-        (λ provisions. HasProvisions (passing_judged paragraph.now).seen
-        (map provision_of provisions.items)) }
-{
-    let Some(field) = paragraph.get(b"Provides") else {
-        return Ok(Vec::new(alloc));
-    };
-    match Relation::parse(alloc, field.body) {
-        Ok(relation) => provisions_of(alloc, &relation),
-        Err(RelationFault::Memory) => Err(AllocError),
-        Err(RelationFault::Bad { .. }) => unreachable!(),
+    fn begin(&mut self) {
+        self.name = None;
+        self.version = None;
+        self.architecture = None;
+        self.multi_arch = None;
+        self.provisions = Vec::new(self.alloc);
+    }
+
+    fn keep(&mut self, name: &[u8], value: &Value<'_>) -> Result<(), AllocError> {
+        match value {
+            Value::Name(package) => self.keep_name(name, package),
+            Value::Version(version) => self.keep_version(name, version),
+            Value::Architecture(architecture) => self.keep_architecture(name, architecture),
+            Value::MultiArch(word) => self.keep_multi_arch(name, *word),
+            Value::Relation(relation) => self.keep_provisions(name, relation),
+            _ => Ok(()),
+        }
     }
 }
