@@ -1,6 +1,5 @@
 pub mod KeptFields
 pub mod ListedValues
-pub mod Copies
 pub mod Indexed
 pub mod Numbers
 pub mod ListedOnce

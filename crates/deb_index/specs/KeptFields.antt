@@ -10,7 +10,7 @@ use Rattle.deb_index.specs.Kept.{provision_of}
 use Rattle.deb_index.specs.Listed.{provisions_in}
 use Rattle.deb_index.specs.declared.paragraph.KeptFields.{KeptFields}
 
--- Of a value that was shown, or of none, this is kept: where the value is of the kind, what it says.
+-- Of a value that was shown, or of none, this is kept: where it is of the kind, what it says.
 pub record Tells {A B : Type 0} (means : A → ValueMeaning) (of : Option A → B) (kept : B)
     (shown : Option ValueMeaning) : Type 0 where
   pub tells : (said : Option A) → shown ≡ option_map means said → kept ≡ of said

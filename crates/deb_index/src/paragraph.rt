@@ -73,7 +73,8 @@ impl KeptFields {
 
     /// Keeps a version, if it is that of the package.
     fn keep_version(&mut self, name: &[u8], value: &Version<'_>) -> Result<(), AllocError>
-        ensures { KeepsMore self.old self.new result name.now (VersionMeans (meaning_of value.now)) }
+        ensures { KeepsMore self.old self.new result name.now
+            (VersionMeans (meaning_of value.now)) }
     {
         if !same_name(name, b"Version") {
             return Ok(());
