@@ -1,5 +1,5 @@
--- What a reader of paragraphs shows once it has gone on: the next paragraph of a text, and, if there
--- is one, that it has passed.
+-- What a reader of paragraphs shows once it has gone on: the next paragraph of a text, and, if
+-- there is one, that it has passed.
 use Rattle.std.specs.Prelude.{◌≡◌, ℕ, ◌+◌, List, Option, None, IfSome}
 use Rattle.deb_syntax.specs.Answers.{next_answer}
 use Rattle.deb_syntax.specs.Reading.{State, Fits, passed_count}

@@ -1,5 +1,5 @@
--- What a refusal is about, and what is wrong there. Debian Policy 5.1 (fields), 5.3 and 5.4 (required
--- fields), 5.6 and 7 (values); which of it is told is this project's own.
+-- What a refusal is about, and what is wrong there. Debian Policy 5.1 (fields), 5.3 and 5.4
+-- (required fields), 5.6 and 7 (values); which of it is told is this project's own.
 use Rattle.std.specs.Prelude.{ℕ, ◌-◌, ◌==◌, not, List, find, slice_get, Option, Some, None}
 use Rattle.std.specs.List.{before_first}
 use Rattle.deb_base.specs.Bodies.{Line, pieces_of}

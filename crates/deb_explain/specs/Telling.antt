@@ -148,7 +148,8 @@ unfolding escaped_byte hex_digit
 escapes = (refl, refl)
 
 -- of the 201st byte on, three dots stand for it
-long_texts : (front_of (replicate 200 97) ≡ None) × (front_of (replicate 201 97) ≡ Some (replicate 200 97))
+long_texts : (front_of (replicate 200 97) ≡ None)
+    × (front_of (replicate 201 97) ≡ Some (replicate 200 97))
     × (shortened (codes "abc") (Some (codes "ab")) ≡ codes "ab...\n")
 unfolding front_of shortened escaped_byte
 long_texts = (refl, refl, refl)
@@ -164,12 +165,13 @@ places = (refl, refl, refl, refl)
 
 -- a field
 worked_field : explanation_text (codes "a\tb") (record {
-      refusal = record { code = code.BadVersion; line = 12 };
-      about = AboutField (codes "vERSION") (codes "1_2") (Some (cause.Version (UpstreamByte 1) 0));
-    })
-    ≡ codes "file: a\\tb\nline: 12\ncode: 18\nname: BadVersion\nfield: vERSION\nplace: 1\nreason: UpstreamByte\nvalue: 1_2\n"
-    ++ rule_lines code.BadVersion
-unfolding digits shown_line shortened front_of escaped_byte line_number code_lines subject_text field_text cause_text place_of place_within reason_of version_reason
+  refusal = record { code = code.BadVersion; line = 12 };
+  about = AboutField (codes "vERSION") (codes "1_2") (Some (cause.Version (UpstreamByte 1) 0));
+})
+    ≡ codes "file: a\\tb\nline: 12\ncode: 18\nname: BadVersion\nfield: vERSION\nplace: 1\n"
+    ++ (codes "reason: UpstreamByte\nvalue: 1_2\n" ++ rule_lines code.BadVersion)
+unfolding digits shown_line shortened front_of escaped_byte line_number code_lines subject_text
+    field_text cause_text place_of place_within reason_of version_reason
 worked_field = refl
 
 -- a line, a name that is missing, and a file as a whole
@@ -181,7 +183,8 @@ worked_others = (refl, refl, refl, refl)
 
 -- a rule alone, with what is usual and without
 worked_rules : (rule_text code.BadNumber
-    ≡ codes "code: 15\nname: BadNumber\n" ++ (concat (codes "rule: " ∷ rule_of code.BadNumber ∷ codes "\n" ∷ [])
+    ≡ codes "code: 15\nname: BadNumber\n"
+    ++ (concat (codes "rule: " ∷ rule_of code.BadNumber ∷ codes "\n" ∷ [])
     ++ codes "usually: a unit behind the number\n"))
     × (usually_line (usually_of code.FileTooLong) ≡ [])
 unfolding digits code_lines rule_lines rule_line usually_line

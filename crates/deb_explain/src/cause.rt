@@ -19,8 +19,8 @@ pub enum Cause {
     /// at the offset `start` of the body, which isn't 0 in the field Source alone (Debian Policy
     /// 5.6.1 and 5.6.12).
     Version { fault: BadVersion, start: usize },
-    /// The reading of a relation stops for this reason at the offset `at` of the body (Debian Policy
-    /// 7.1).
+    /// The reading of a relation stops for this reason at the offset `at` of the body (Debian
+    /// Policy 7.1).
     Relation { reason: Reason, at: usize },
 }
 

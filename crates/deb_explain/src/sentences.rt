@@ -88,9 +88,7 @@ pub fn usually(code: Code) -> Option<&'static str>
         Code::BadWord => Some("upper case, or a misspelled word"),
         Code::BadArchitecture => Some("a `Sources` read as `packages`, or upper case"),
         Code::BadVersion => {
-            Some(
-                "an underscore, an empty revision, CR at the line's end, a substitution variable",
-            )
+            Some("an underscore, an empty revision, CR at the line's end, a substitution variable")
         }
         Code::BadRelation => {
             Some("a substitution variable, a bound without an operator, upper case in a name")

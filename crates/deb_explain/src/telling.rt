@@ -22,15 +22,16 @@ impl Explanation {
     /// Writes what is told of a refused file of this name, without memory, in lines `key: value`.
     ///
     /// The keys are, in this order and as far as there is something to tell: `file`, `line`,
-    /// `code`, `name`, `field`, `place` (the offset in the value of the first byte that is wrong, or
-    /// of the version that is, where its fault has no place), `reason`, `value`, `rule` and
-    /// `usually`. Bytes that aren't printable ASCII stand there as `\n`, `\t` or `\xNN`, a backslash
-    /// as `\\`, and of texts of more than 200 bytes the first 200, with `...` behind them.
+    /// `code`, `name`, `field`, `place` (the offset in the value of the first byte that is wrong,
+    /// or of the version that is, where its fault has no place), `reason`, `value`, `rule` and
+    /// `usually`. Bytes that aren't printable ASCII stand there as `\n`, `\t` or `\xNN`, a
+    /// backslash as `\\`, and of texts of more than 200 bytes the first 200, with `...` behind
+    /// them.
     ///
     /// # Errors
     ///
-    /// `Fault::Write` alone: a write failed in this call, and a front of the text was written before
-    /// it.
+    /// `Fault::Write` alone: a write failed in this call, and a front of the text was written
+    /// before it.
     #[tactic(auto, using(deb_base::proofs::Writes::put_steps))]
     pub fn write<W: Sink>(&self, file: &[u8], out: &mut W) -> Result<(), Fault>
         ensures written { Puts (W.held out.old) (W.held out.new) result
@@ -52,7 +53,8 @@ impl Explanation {
 ///
 /// # Errors
 ///
-/// `Fault::Write` alone: a write failed in this call, and a front of the text was written before it.
+/// `Fault::Write` alone: a write failed in this call, and a front of the text was written before
+/// it.
 #[tactic(auto, using(deb_base::proofs::Writes::put_steps))]
 pub fn write_rule_of<W: Sink>(code: Code, out: &mut W) -> Result<(), Fault>
     ensures written { Puts (W.held out.old) (W.held out.new) result (rule_text code) }
@@ -70,7 +72,10 @@ fn write_line_number<W: Sink>(line: u64, out: &mut W) -> Result<(), Fault>
     ensures fault { IfErr result (λ fault. fault ≡ Fault.Write) }
     ensures counted { W.failures out.new ≡ write_failures_after (W.failures out.old) result }
 {
-    put_pieces(out, &[b"line: ", Buffer::new().format(line).as_bytes(), b"\n"])
+    put_pieces(
+        out,
+        &[b"line: ", Buffer::new().format(line).as_bytes(), b"\n"],
+    )
 }
 
 /// Writes the number and the name of a code.
@@ -184,9 +189,10 @@ fn place_of(cause: &Cause) -> u128
 {
     match cause {
         Cause::Version { fault, start } => *start as u128 + place_within(fault) as u128,
-        Cause::Relation { reason: Reason::Version(fault), at } => {
-            *at as u128 + place_within(fault) as u128
-        }
+        Cause::Relation {
+            reason: Reason::Version(fault),
+            at,
+        } => { *at as u128 + place_within(fault) as u128 }
         Cause::Relation { at, .. } => *at as u128,
     }
 }
@@ -312,7 +318,10 @@ fn write_byte<W: Sink>(byte: u8, out: &mut W) -> Result<(), Fault>
         b'\n' => put_all(out, b"\\n"),
         b'\\' => put_all(out, b"\\\\"),
         b' '..=b'~' => put_all(out, &[byte]),
-        _ => put_all(out, &[b'\\', b'x', hex_digit(byte / 16), hex_digit(byte % 16)]),
+        _ => put_all(
+            out,
+            &[b'\\', b'x', hex_digit(byte / 16), hex_digit(byte % 16)],
+        ),
     }
 }
 

@@ -18,4 +18,5 @@ mod reading;
 mod sorting;
 mod version_line;
 
+pub use reading::read_text;
 pub use sorting::sort;

@@ -15,7 +15,11 @@ const PIECE: usize = 65_536;
 
 /// Reads a file to its end, or until it has more bytes than a file may have. Beyond these at most
 /// one piece is taken.
-pub(crate) fn read_text<R: Source>(alloc: Global, source: &mut R) -> Result<Vec<u8>, Fault>
+///
+/// # Errors
+///
+/// Want of memory, and a failed read; no more is read then.
+pub fn read_text<R: Source>(alloc: Global, source: &mut R) -> Result<Vec<u8>, Fault>
     ensures ok { IfOk result (λ text. ReadsEnough (R.left source.old) text.items) }
     ensures taken { (text : List ℕ) → R.left source.old ≡ Some text
         → TakesNoMore text file_limit (R.left source.new) }

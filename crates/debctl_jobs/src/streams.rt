@@ -8,10 +8,11 @@ use crate::reader::{Reader, SystemFiles, opened};
 use crate::tell::{FAULT_STATUS, tell, tell_words};
 use deb_base::{Fault, Input, Output};
 use deb_field::Doc;
+use deb_sort::read_text;
 use debctl_words::{Audit, Call, Explain, Files, Job, Task, UsageFault, job_of};
 use std::alloc::Global;
 use std::env;
-use std::io::{BufWriter, ErrorKind, Read, Write};
+use std::io::{BufWriter, ErrorKind, Write};
 
 /// Does what the program's words ask for, and answers the status.
 pub fn run_program(rt: &HostRuntime) -> u8 {
@@ -142,14 +143,10 @@ fn audit_paths(rt: &HostRuntime, doc: Doc, paths: &[&[u8]]) -> Result<u8, Fault>
     write_out(out, err, status)
 }
 
-/// The bytes of the file of a path, or of standard input for `-`.
+/// The bytes of the file of a path, or of standard input for `-`; of one that is longer than a file
+/// may be, more than it may have.
 fn read_whole(rt: &HostRuntime, path: &str) -> Result<Vec<u8>, Fault> {
-    let mut text = Vec::new(rt.alloc());
-    match opened(rt, path)?.read_to_end(&mut text) {
-        Ok(_) => Ok(text),
-        Err(error) if error.kind() == ErrorKind::OutOfMemory => Err(Fault::Memory),
-        Err(_) => Err(Fault::Read),
-    }
+    read_text(rt.alloc(), &mut Input::new(opened(rt, path)?))
 }
 
 /// Writes out what a job has written, and answers the status.
