@@ -257,7 +257,8 @@ source_fields =
     (codes "hello,\n hello-doc") [] refl refl refl refl refl
     ∷ on_line 5 (codes "Architecture") (codes " ") (codes "any all") [] refl refl refl refl
     ∷ on_line 6 (codes "Version") (codes " ") (codes "2.10-3") [] refl refl refl refl
-    ∷ over_lines 7 (codes "Build-Depends: debhelper-compat (= 13)," ∷ codes " texinfo <!nodoc>" ∷ [])
+    ∷ over_lines 7
+    (codes "Build-Depends: debhelper-compat (= 13)," ∷ codes " texinfo <!nodoc>" ∷ [])
     (codes "Build-Depends") (codes " ") needs [] refl refl refl refl refl
     ∷ over_lines 9 (codes "Files:" ∷ listed ∷ []) (codes "Files") [] (newline ∷ listed) [] refl refl
     refl refl refl ∷ []

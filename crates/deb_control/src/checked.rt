@@ -47,7 +47,8 @@ impl Checked {
     ghost use Rattle.deb_control.specs.contracts.checked.Checked.{the_row};
     ghost use Rattle.deb_control.specs.Checking.{FitsChecked, ChecksOn};
     ghost use Rattle.deb_control.specs.CheckedStates.{checked_state, checked_moment};
-    ghost use Rattle.deb_control.specs.CheckedStates.{answer_judged, checked_answer, doc_judged, doc_of, doc_read, passing_judged, passing_of};
+    ghost use Rattle.deb_control.specs.CheckedStates.{answer_judged, checked_answer, doc_judged};
+    ghost use Rattle.deb_control.specs.CheckedStates.{doc_of, doc_read, passing_judged, passing_of};
 
     /// A reader of checked paragraphs that has read nothing: whatever its source has left is the
     /// file. Takes no memory.

@@ -97,23 +97,111 @@ fn long_values(rt: HostRuntime) -> Result<(), Fail> {
     Ok(())
 }
 
-/// Appends the canonical text to a list with room for its first word alone, which is written by
-/// then. Whether the list then has the text, or where memory is wanting what it had before.
-fn has_all_or_none(alloc: Global, value: &Value<'_>) -> Option<bool> {
-    let mut out = Vec::with_capacity(alloc, 8).ok()?;
-    out.extend_from_slice(b"====").ok()?;
-    let wanted: &[u8] = match value.canon_into(&mut out) {
-        Ok(()) => b"====aa bbbbbbbbbbbbbbbb",
-        Err(_) => b"====",
-    };
-    Some(out.as_slice() == wanted)
+/// What stands behind a text where it is there, else all bytes; None where it should be there and
+/// isn't.
+fn behind<'a>(bytes: &'a [u8], text: &[u8], is_there: bool) -> Option<&'a [u8]> {
+    if !is_there {
+        return Some(bytes);
+    }
+    if bytes.get(..text.len())? != text {
+        return None;
+    }
+    bytes.get(text.len()..)
 }
 
-/// Each second growth is one of `canon_into`.
-#[test]
-fn want_of_memory_leaves_what_stands_before_a_value(rt: HostRuntime) {
-    let value = Value::Folded(Folded::new(b"aa  bbbbbbbbbbbbbbbb"));
-    for _ in 0..150 {
-        assert!(rt; has_all_or_none(rt.alloc(), &value) == Some(true));
+/// Appends the canonical text twice to a list without room. Whether the list then has what each
+/// call appended, and nothing of a call that had no memory.
+fn has_each_or_none(alloc: Global, value: &Value<'_>, canonical: &[u8]) -> Option<bool> {
+    let mut out = Vec::new(alloc);
+    let first = value.canon_into(&mut out).is_ok();
+    let second = value.canon_into(&mut out).is_ok();
+    let rest = behind(out.as_slice(), canonical, first)?;
+    Some(behind(rest, canonical, second)?.is_empty())
+}
+
+/// Asks this of a row's value so often that a growth refused late is one of `canon_into`.
+fn each_or_none(alloc: Global, row: Row) -> Option<bool> {
+    let Row(doc, name, body, canonical) = row;
+    if !is_body(body.as_bytes()) {
+        return None;
     }
+    let value = Value::parse(alloc, doc, name.as_bytes(), body.as_bytes()).ok()?;
+    for _ in 0..150 {
+        if !has_each_or_none(alloc, &value, canonical.as_bytes())? {
+            return Some(false);
+        }
+    }
+    Some(true)
+}
+
+#[test]
+fn want_of_memory_in_a_name(rt: HostRuntime) {
+    let row = Row(Doc::Packages, "Package", "libstdc++6-dev", "libstdc++6-dev");
+    assert!(rt; each_or_none(rt.alloc(), row) == Some(true));
+}
+
+#[test]
+fn want_of_memory_in_a_source_name(rt: HostRuntime) {
+    let row = Row(Doc::Packages, "Source", "aa(1.1.1.1.1)", "aa (1.1.1.1.1)");
+    assert!(rt; each_or_none(rt.alloc(), row) == Some(true));
+}
+
+#[test]
+fn want_of_memory_in_a_version(rt: HostRuntime) {
+    let row = Row(Doc::Packages, "Version", "1:1.0.0.0.00", "1:1.0.0.0.0");
+    assert!(rt; each_or_none(rt.alloc(), row) == Some(true));
+}
+
+#[test]
+fn want_of_memory_in_an_architecture(rt: HostRuntime) {
+    let row = Row(Doc::Binary, "Architecture", "linux-any", "linux-any");
+    assert!(rt; each_or_none(rt.alloc(), row) == Some(true));
+}
+
+#[test]
+fn want_of_memory_in_a_list_of_architectures(rt: HostRuntime) {
+    let row = Row(Doc::Source, "Architecture", "any \t all\n\ti386", "any all i386");
+    assert!(rt; each_or_none(rt.alloc(), row) == Some(true));
+}
+
+#[test]
+fn want_of_memory_in_a_flag(rt: HostRuntime) {
+    let row = Row(Doc::Binary, "Essential", "yes", "yes");
+    assert!(rt; each_or_none(rt.alloc(), row) == Some(true));
+}
+
+#[test]
+fn want_of_memory_in_a_multi_arch(rt: HostRuntime) {
+    let row = Row(Doc::Packages, "Multi-Arch", "foreign", "foreign");
+    assert!(rt; each_or_none(rt.alloc(), row) == Some(true));
+}
+
+#[test]
+fn want_of_memory_in_a_number(rt: HostRuntime) {
+    let row = Row(Doc::Packages, "Size", "0012345678901", "12345678901");
+    assert!(rt; each_or_none(rt.alloc(), row) == Some(true));
+}
+
+#[test]
+fn want_of_memory_in_a_line(rt: HostRuntime) {
+    let row = Row(Doc::Packages, "Maintainer", "Aa  <a@b>", "Aa  <a@b>");
+    assert!(rt; each_or_none(rt.alloc(), row) == Some(true));
+}
+
+#[test]
+fn want_of_memory_in_a_folded_list(rt: HostRuntime) {
+    let row = Row(Doc::Source, "Binary", "\n aa,\n\tbbbbbbbbb", "aa, bbbbbbbbb");
+    assert!(rt; each_or_none(rt.alloc(), row) == Some(true));
+}
+
+#[test]
+fn want_of_memory_in_a_relation(rt: HostRuntime) {
+    let row = Row(Doc::Packages, "Depends", "bb|aa, aa,bb|aa", "aa, bb | aa");
+    assert!(rt; each_or_none(rt.alloc(), row) == Some(true));
+}
+
+#[test]
+fn want_of_memory_in_a_text(rt: HostRuntime) {
+    let row = Row(Doc::Packages, "Description", "short  \n .", "short  \n .");
+    assert!(rt; each_or_none(rt.alloc(), row) == Some(true));
 }
