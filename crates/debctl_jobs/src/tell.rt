@@ -12,7 +12,7 @@ use deb_base::{Fault, Sink, put_all};
 use deb_control::{Side, SideFault};
 use debctl_words::UsageFault;
 
-/// The status where a word is wrong, memory is wanting, or a read or a write fails.
+/// The status of a bad argument, of want of memory, and of a read or a write that fails.
 pub(crate) const FAULT_STATUS: u8 = 3;
 
 /// Writes the line of a fault, and answers the status.

@@ -164,7 +164,7 @@ pub(crate) fn compare_command<'a>(alloc: Global) -> Result<Command<'a>, AllocErr
     ensures { IfOk result (IsShaped compare_app) }
 {
     Command::new(alloc, "compare")
-        .about("Says whether two versions compare so in Debian's order")
+        .about("Compares two versions in Debian's order")
         .after_help(COMPARE_HELP)
         .arg(required_word(alloc, "left", "V", "A version"))?
         .arg(required_word(alloc, "operator", "OP", OPERATORS_HELP))?

@@ -8,7 +8,7 @@ Statuses:
      standard error has `line N: CODE NAME`, with line 0 for a word of the
      command line, and by `same` with `first: ` or `second: ` before it;
      `explain` and `audit` say so on standard output
-  3  a word is wrong, memory is wanting, or a read or a write failed
+  3  a bad argument, out of memory, or a read or a write failed
 
 A version or a path that begins with a hyphen comes after `--`:
   $ debctl canon-version -- -1-1
@@ -25,7 +25,7 @@ file, wants `--kind any`, under which no value is judged.
 Statuses:
   0  accepted: `ok N` is printed, for a file of N paragraphs
   2  refused: standard error has `line N: CODE NAME`, for the first fault
-  3  a word is wrong, memory is wanting, or a read or a write failed
+  3  a bad argument, out of memory, or a read or a write failed
 
 Example:
   $ printf 'Package: aa\\nVersion: 1\\nArchitecture: all\\n' | debctl check
@@ -50,7 +50,7 @@ With `--code N`, what is known of the code alone is printed, and no file is read
 Statuses:
   0  accepted, or `--code` is given
   2  refused
-  3  a word is wrong, memory is wanting, or a read or a write failed
+  3  a bad argument, out of memory, or a read or a write failed
 
 Example:
   $ printf 'Package: aa\\nDepends: bb cc\\n' | debctl explain; echo $?
@@ -77,7 +77,7 @@ A file that is refused, or can't be read, doesn't end the audit.
 Statuses, of which the greatest is answered:
   0  each file is accepted
   2  a file is refused
-  3  a word is wrong, memory is wanting, or a read or a write failed
+  3  a bad argument, out of memory, or a read or a write failed
 
 Example:
   $ printf 'Package: aa\\nVersion: 1\\nArchitecture: all\\n' > good
@@ -98,7 +98,7 @@ Statuses:
   0  accepted: the canonical text is printed
   2  refused: standard error has `line N: CODE NAME`, for the first fault, and
      the paragraphs before the one with the fault are printed
-  3  a word is wrong, memory is wanting, or a read or a write failed
+  3  a bad argument, out of memory, or a read or a write failed
 
 Example:
   $ printf 'package:aa\\nVERSION: 1.0-0\\narchitecture: all\\n' | debctl normalise
@@ -116,7 +116,7 @@ Statuses:
   2  a file is refused: standard error has `first: line N: CODE NAME` or
      `second: line N: CODE NAME`, for its first fault; a refusal of the first
      file goes before one of the second
-  3  a word is wrong, memory is wanting, or a read or a write failed
+  3  a bad argument, out of memory, or a read or a write failed
 
 Example:
   $ printf 'Package: aa\\nVersion: 1.0-0\\nArchitecture: all\\n' > one
@@ -129,10 +129,10 @@ pub(crate) const COMPARE_HELP: &str = "\
 Nothing is printed: the status is the answer.
 
 Statuses:
-  0  the versions compare so
-  1  they don't
+  0  what the operator says of them is so
+  1  it isn't
   2  one of them is no version: standard error has `line 0: 18 BadVersion`
-  3  a word is wrong, memory is wanting, or a write failed
+  3  a bad argument, out of memory, or a write failed
 
 Example:
   $ debctl compare 1.0~rc1 lt 1.0; echo $?
@@ -153,7 +153,7 @@ Versions are equal exactly if their canonical texts are the same.
 Statuses:
   0  the canonical text is printed
   2  this is no version: standard error has `line 0: 18 BadVersion`
-  3  a word is wrong, memory is wanting, or a write failed
+  3  a bad argument, out of memory, or a write failed
 
 Example:
   $ debctl canon-version 00:1.02-0
@@ -172,7 +172,7 @@ Statuses:
   0  the lines are printed in order
   2  a line is no version, or the file is too long: standard error has
      `line N: CODE NAME`, for the first such line; an empty line is no version
-  3  a word is wrong, memory is wanting, or a read or a write failed
+  3  a bad argument, out of memory, or a read or a write failed
 
 Example:
   $ printf '1.10\\n1.9\\n1.10~rc1\\n' | debctl sort
@@ -196,7 +196,7 @@ Statuses:
   2  a word or the index is refused, or the relation has a wildcard in an
      architecture list: standard error has `line N: CODE NAME`, with line 0 for
      what isn't of the index, and nothing is printed
-  3  a word is wrong, memory is wanting, or a read or a write failed
+  3  a bad argument, out of memory, or a read or a write failed
 
 Example: is this build dependency met by this index?
   $ printf 'Package: gcc\\nVersion: 12.2\\nArchitecture: amd64\\n' > index

@@ -40,7 +40,7 @@ pub enum Job {
     Normalise(Doc),
     /// `same`: say whether two files of this kind mean the same.
     Same(Doc),
-    /// `compare`: say whether two versions compare so.
+    /// `compare`: say whether an operator holds between two versions.
     Compare(String, Cmp, String),
     /// `canon-version`: write the canonical text of a version.
     CanonVersion(String),

@@ -64,8 +64,8 @@ impl From<AllocError> for UsageFault {
 /// `-k` stands for `--kind`. Where a path is `-`, it is answered as it is: the program reads
 /// standard input there. N is the number of a code, from 1 to 23, in decimal.
 ///
-/// - `UsageFault::Usage`: a word is wrong, or one is missing. Of a K, an OP, a COMMAND or an N that
-///   isn't known the text is `usage: unknown kind`, `usage: unknown operator`,
+/// - `UsageFault::Usage`: an argument is bad, or one is missing. Of a K, an OP, a COMMAND or an N
+///   that isn't known the text is `usage: unknown kind`, `usage: unknown operator`,
 ///   `usage: unknown command` or `usage: unknown code`; of `same - -`, and of an audit with two
 ///   paths `-`, `usage: standard input twice`; of a kind or a path beside a code
 ///   `usage: explain takes a code or a file`; of an audit with neither paths nor a list, or with
