@@ -63,6 +63,11 @@ class Case:
         told = (b"usage: ", b"error: ", b"fault: ")
         return self.words[0] != "help" and not self.err.startswith(told)
 
+    @property
+    def opens_before_files(self):
+        """How many files an audit opens before those that it audits: the list of their paths."""
+        return int("--files0-from" in self.words and self.words[-1] != "-")
+
     def completed(self, answer):
         """The case with the whole texts that its first run wrote, where only their beginnings are
         known."""

@@ -61,6 +61,7 @@ static int is_counting;
 static long calls[KINDS];
 static long met;
 static long met_on_stderr;
+static long opens_at_met;
 static long bytes_read;
 static long asked_after_failure;
 static long asked_after_end;
@@ -111,10 +112,11 @@ __attribute__((destructor)) static void write_record(void)
         return;
     length = snprintf(line, sizeof line,
                       "growths=%ld reads=%ld writes=%ld opens=%ld stats=%ld met=%ld "
-                      "met_on_stderr=%ld bytes_read=%ld asked_after_failure=%ld "
-                      "asked_after_end=%ld\n",
+                      "met_on_stderr=%ld opens_at_met=%ld bytes_read=%ld "
+                      "asked_after_failure=%ld asked_after_end=%ld\n",
                       calls[GROWTH], calls[READ], calls[WRITE], calls[OPEN], calls[STAT], met,
-                      met_on_stderr, bytes_read, asked_after_failure, asked_after_end);
+                      met_on_stderr, opens_at_met, bytes_read, asked_after_failure,
+                      asked_after_end);
     syscall(SYS_write, descriptor, line, (size_t)length);
 }
 
@@ -128,6 +130,8 @@ static enum fate fate_of(int kind)
     calls[kind]++;
     if (kind != touched || calls[kind] < first || calls[kind] > last)
         return usual;
+    if (met == 0)
+        opens_at_met = calls[OPEN];
     met++;
     return is_failing ? FAILS : MOVES_FEW_BYTES;
 }

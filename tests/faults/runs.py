@@ -151,9 +151,9 @@ def is_asked_again(case: Case, fault: Fault, record):
 
 def is_asked_for_less(case: Case, fault: Fault, record):
     """Whether std asked once more for memory, for less of it. It does so in `collect`, by which
-    `sort` gathers its lines: where the room for all that may come is refused, it asks for that of
-    one line. Then there are more growths than where nothing fails."""
-    if fault.calls != "growth" or fault.is_lasting or case.words[0] != "sort":
+    `sort` gathers its lines and `audit` the paths of a list: where the room for all that may come
+    is refused, it asks for that of one. Then there are more growths than where nothing fails."""
+    if fault.calls != "growth" or fault.is_lasting or case.words[0] not in ("sort", "audit"):
         return False
     return record.get("growths", 0) > case.growths.get(fault.pace, 0)
 
@@ -170,10 +170,27 @@ def wanted_of(case: Case, fault: Fault, record):
         if on_stderr == record["met"]:
             return Wanted(case.out, case.err, FAULT_STATUS, err_rule="part")
         return Wanted(case.out, line, FAULT_STATUS, "part", "part" if on_stderr else "all")
+    if case.words[0] == "audit":
+        return wanted_of_audit(case, fault, record)
     if case.words[0] != "normalise":
         return Wanted(b"", line, FAULT_STATUS)
     most = paragraphs_read(case, record) if fault.calls == "read" else None
     return Wanted(case.out, line, FAULT_STATUS, "whole paragraphs", most_paragraphs=most)
+
+
+def wanted_of_audit(case: Case, fault: Fault, record):
+    """The answer of an audit: the file that was opened last tells the fault, and so does each later
+    one where the fault lasts; but before the first one was opened the audit ends with it."""
+    line = FAULT_LINES[fault.calls]
+    number = record["opens_at_met"] - case.opens_before_files
+    if number < 1:
+        return Wanted(b"", line, FAULT_STATUS)
+    told = case.out.splitlines(keepends=True)
+    for at in range(number - 1, len(told) if fault.is_lasting else number):
+        path, _, answer = told[at].partition(b": ")
+        if not answer.startswith(b"fault: "):
+            told[at] = path + b": " + line
+    return Wanted(b"".join(told), b"", FAULT_STATUS)
 
 
 def paragraphs_read(case: Case, record):
