@@ -177,7 +177,7 @@ def read_cases(folder):
         cases += Reading(path).read()
     if not cases:
         raise Malformed(f"{folder}: there is no file of cases")
-    return [*cases, *many_fields(), *long_paragraph(), *many_groups()]
+    return [*cases, *many_fields(), *long_paragraph(), *many_groups(), *several_writes()]
 
 
 P3 = b"Package: aa\nVersion: 1\nArchitecture: all\n"
@@ -207,6 +207,25 @@ def long_paragraph():
     return [
         Case("70,000 bytes", ["check"], files, "long", b"ok 2\n"),
         Case("70,000 bytes", ["normalise", "long"], files, None, written),
+    ]
+
+
+def several_writes():
+    """Outputs that fill the buffer of 8 KiB before standard output more than once."""
+    long = b"X: " + b"x" * 1000 + b"\n"
+    canonical = b"Architecture: all\nPackage: aa\nVersion: 1\n" + long
+    versions = [b"%d\n" % number for number in range(1001, 5001)]
+    name = "long" * 62
+    files = {
+        "twenty": b"\n".join([P3 + long] * 20),
+        "versions": b"".join(reversed(versions)),
+        name: P3,
+    }
+    audited = name.encode() + b": ok 1\n"
+    return [
+        Case("20,000 bytes", ["normalise", "twenty"], files, None, b"\n".join([canonical] * 20)),
+        Case("20,000 bytes", ["sort", "versions"], files, None, b"".join(versions)),
+        Case("20,000 bytes", ["audit", *[name] * 66], files, None, audited * 66),
     ]
 
 

@@ -22,6 +22,7 @@ mod sort_job;
 mod streams;
 mod tell;
 mod version_jobs;
+mod writer;
 
 pub use audit_job::run_audit;
 pub use command::run;

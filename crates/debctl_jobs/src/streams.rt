@@ -6,6 +6,7 @@ use crate::explain_job::{run_explain, run_rule};
 use crate::listed::listed_paths;
 use crate::reader::{Reader, SystemFiles, opened};
 use crate::tell::{FAULT_STATUS, tell, tell_words};
+use crate::writer::UntilFailure;
 use deb_base::{Fault, Input, Output};
 use deb_field::Doc;
 use deb_sort::read_text;
@@ -192,6 +193,11 @@ fn reader_of(rt: &HostRuntime, path: &Option<String>) -> Result<Reader, Fault> {
     }
 }
 
-fn buffered<W: Write + Drop>(alloc: Global, writer: W) -> Result<BufWriter<W>, Fault> {
-    BufWriter::new(alloc, writer).map_err(|_| Fault::Memory)
+/// A buffer before a stream, which isn't asked again once a write has failed: not by the flush of
+/// what was kept back then, either.
+fn buffered<W: Write + Drop>(
+    alloc: Global,
+    stream: W,
+) -> Result<BufWriter<UntilFailure<W>>, Fault> {
+    BufWriter::new(alloc, UntilFailure::new(stream)).map_err(|_| Fault::Memory)
 }
