@@ -12,13 +12,16 @@ pub fn rule(code: Code) -> &'static str
 {
     match code {
         Code::NotUtf8 => "The file is text in UTF-8 (Debian Policy 5.1).",
-        Code::Armour => "A signed message isn't read: hand in the text inside it.",
+        Code::Armour => {
+            "No line begins with `-----BEGIN PGP`: of a signed message hand in the text inside."
+        }
         Code::Comment => "No line begins with `#`: comments belong to debian/control (deb822(5)).",
         Code::StrayContinuation => {
             "A paragraph doesn't begin with a space or a tab (Debian Policy 5.1)."
         }
         Code::BadFieldName => {
-            "A name is printable ASCII, without spaces, up to the colon (Debian Policy 5.1)."
+            "A field's name isn't empty, is printable ASCII without spaces up to the colon, \
+             and begins with neither `#` nor `-` (Debian Policy 5.1)."
         }
         Code::NoColon => {
             "A line that begins a field has a colon behind the name (Debian Policy 5.1)."
@@ -39,26 +42,38 @@ pub fn rule(code: Code) -> &'static str
         }
         Code::NotOneLine => "The value of this field is one line (Debian Policy 5.1).",
         Code::BadName => {
-            "A name of a package is a-z, 0-9, `+`, `-` and `.`, two or more (Debian Policy 5.6.7)."
+            "A package's name is two or more of a-z, 0-9, `+`, `-` and `.`, the first a letter \
+             or digit; Source is a name, or `name (version)` (Debian Policy 5.6.1)."
         }
-        Code::BadNumber => "The value is one or more decimal digits (Debian Policy 5.6.20).",
+        Code::BadNumber => {
+            "Installed-Size (Debian Policy 5.6.20) and Size are one or more decimal digits."
+        }
         Code::BadWord => {
-            "The value is one of the words that the field may hold (Debian Policy 5.6.9)."
+            "Essential is `yes` or `no` (Debian Policy 5.6.9), and Multi-Arch `no`, `same`, \
+             `foreign` or `allowed` (deb-control(5))."
         }
-        Code::BadArchitecture => "The value is the name of an architecture (Debian Policy 5.6.8).",
-        Code::BadVersion => "A version is [epoch:]upstream[-revision] (Debian Policy 5.6.12).",
+        Code::BadArchitecture => {
+            "A binary package names one architecture, a source any number (Debian Policy \
+             5.6.8); a name is a-z, 0-9 and `-`, the first a letter or digit."
+        }
+        Code::BadVersion => {
+            "A version is [epoch:]upstream[-revision] (Debian Policy 5.6.12), of letters, \
+             digits, `.`, `+` and `~`, in upstream also `-` and `:`; the epoch is digits, \
+             and no part is empty."
+        }
         Code::BadRelation => {
             "The value is a list of packages, with versions in parentheses (Debian Policy 7.1)."
         }
         Code::AlternativesNotAllowed => {
             "This field takes no alternatives with `|` (Debian Policy 7.1)."
         }
-        Code::ProvidesBound => "The versions of Provides stand behind `=` (Debian Policy 7.5).",
+        Code::ProvidesBound => "A version in Provides stands behind `=` (Debian Policy 7.1).",
         Code::Wildcard => {
-            "The architecture list of a query names architectures (Debian Policy 7.1, 11.1)."
+            "No architecture list of a query holds a wildcard, such as `any` or `linux-any`."
         }
         Code::BadEnvironment => {
-            "A query is for one architecture and names of profiles (Debian Policy 5.6.8, 7.1)."
+            "A query is for one architecture, neither a wildcard nor `all`, and for names \
+             of profiles."
         }
     }
 }
@@ -72,7 +87,9 @@ pub fn usually(code: Code) -> Option<&'static str>
         Code::Armour => Some("an `InRelease`, or a signed `.dsc` or `.changes`"),
         Code::Comment => Some("`debian/control`, or a file of settings"),
         Code::StrayContinuation => Some("a blank line within a field: it wants ` .`"),
-        Code::BadFieldName => Some("a space before the colon, or a byte order mark"),
+        Code::BadFieldName => {
+            Some("a space before the colon, a byte order mark, or UTF-16 without one")
+        }
         Code::NoColon => {
             Some("no control data at all, a blank line within a field, or lines that end in CR LF")
         }
@@ -83,7 +100,7 @@ pub fn usually(code: Code) -> Option<&'static str>
         }
         Code::MissingField => Some("a file of another kind than `--kind` says"),
         Code::NotOneLine => Some("a value that was folded, where it mustn't be"),
-        Code::BadName => Some("upper case, or an underscore"),
+        Code::BadName => Some("upper case, an underscore, or CR at the line's end"),
         Code::BadNumber => Some("a unit behind the number"),
         Code::BadWord => Some("upper case, or a misspelled word"),
         Code::BadArchitecture => Some("a `Sources` read as `packages`, or upper case"),
