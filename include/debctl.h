@@ -1,6 +1,6 @@
-/* Debian control data for programs in C and C++: versions, files of control data, and which
- * packages of an index meet a relation. The functions are those of the program debctl, and are
- * proved to give these answers.
+/* Debian control data for programs in C and C++: versions, files of control data, why they are
+ * refused, and which packages of an index meet a relation. The functions are those of the program
+ * debctl, and are proved to give these answers.
  *
  * Texts. A text is a pointer to bytes and their number, which are not ended by a NUL. They are read
  * during the call alone, and stay the caller's. A pointer may be NULL where its length is 0, and
@@ -87,7 +87,8 @@ struct deb_answer {
     uint8_t status; /* one of deb_status */
     uint8_t code;   /* one of deb_code, where a text is refused */
     uint64_t line;  /* the line of the refusal in its file; 0 for a text that is no file */
-    uint64_t count; /* how many paragraphs the file has: DEB_YES by deb_check and deb_normalise */
+    uint64_t count; /* how many paragraphs the file has: DEB_YES by deb_check, deb_normalise and
+                     * deb_explain */
 };
 
 /* What the comparison of two versions answers. */
@@ -117,6 +118,18 @@ struct deb_answer deb_check(uint8_t kind, const uint8_t *text, size_t text_lengt
  * DEB_NO_KIND. */
 struct deb_answer deb_normalise(uint8_t kind, const uint8_t *text, size_t text_length,
                                 uint8_t *out, size_t out_size, size_t *length);
+
+/* Writes why a file is refused as a document of a kind, in lines `key: value`: those that the
+ * program `debctl explain` writes, but for its first, `file`, since a text has no path. The keys
+ * are, in this order and as far as there is something to tell: line, code, name, field, place (the
+ * offset in the value of what is wrong there), reason, value, rule and usually. Bytes of the file
+ * that aren't printable ASCII are escaped, and of a long value the first 200 are shown. Of a file
+ * that is accepted the one line `ok N` is written, for its N paragraphs. Each line ends in a
+ * newline.
+ * DEB_REFUSED, with the code and the line that deb_check answers; DEB_YES, with the number of
+ * paragraphs: the file is accepted; DEB_NO_ROOM; DEB_NO_MEMORY; DEB_NO_KIND. */
+struct deb_answer deb_explain(uint8_t kind, const uint8_t *text, size_t text_length,
+                              uint8_t *out, size_t out_size, size_t *length);
 
 /* Whether two files mean the same as documents of a kind.
  * DEB_YES; DEB_NO; DEB_REFUSED: the first is refused; DEB_SECOND_REFUSED; DEB_NO_MEMORY;

@@ -1,2 +1,3 @@
 mod SideFaults
 mod Refusals
+mod Explained

@@ -4,9 +4,11 @@ ghost use Rattle.std.specs.Prelude.{◌≡◌, true, false, [], ◌∷◌};
 ghost use Rattle.deb_c.specs.Answers.{HasStatus, plain};
 ghost use Rattle.deb_c.specs.Buffers.{GivesNothing};
 ghost use Rattle.deb_c.specs.Documents.{IsAccepted, IsKind, IsNoKind, IsRefused, IsSame, LacksRoomForFile, Normalises, RefusesOther};
+ghost use Rattle.deb_c.specs.Explaining.{ExplainsAccepted, ExplainsRefused, LacksRoomForLines};
 
 use crate::answer::{Answer, no, no_kind, no_memory, no_room, refused, second_refused, yes};
 use crate::buffer::give;
+use crate::explanation::tell_text;
 use crate::files::{check_text, normalise_text, same_texts};
 use crate::kind::kind_of;
 use deb_base::Fault;
@@ -71,6 +73,49 @@ pub extern "C" fn deb_normalise(
             }
         }
         Err(Fault::Refused(refusal)) => refused(&refusal),
+        Err(_) => no_memory(),
+    }
+}
+
+/// Writes why a file is refused as a document of a kind at the front of `out`, and tells the length
+/// of that: 2, with the first refusal. The lines are those that the program `debctl explain` writes
+/// behind the line of the file's path. It is accepted: 0, with the number of its paragraphs; then
+/// `ok N` and a newline is written. `out` has no room: 4, and `len` says how much it needs. A
+/// growth of memory was refused: 5. There is no such kind: 6.
+///
+/// But for status 0 and 2 `out` is as it was.
+#[unsafe(no_mangle)]
+pub extern "C" fn deb_explain(
+    alloc: Global,
+    kind: u8,
+    text: &[u8],
+    out: &mut [u8],
+    len: &mut usize,
+) -> Answer
+    ensures accepted { result.status ≡ 0
+        → ExplainsAccepted kind text.now out.old out.new len.new result }
+    ensures refused { result.status ≡ 2
+        → ExplainsRefused kind text.now out.old out.new len.new result }
+    ensures no_room { result.status ≡ 4 → (result ≡ plain 4)
+        × LacksRoomForLines kind text.now out.old out.new len.new }
+    ensures no_memory { result.status ≡ 5 → (result ≡ plain 5) × IsKind kind
+        × GivesNothing out.old out.new len.new }
+    ensures no_kind { result.status ≡ 6 → (result ≡ plain 6) × IsNoKind kind
+        × GivesNothing out.old out.new len.new }
+    ensures status { HasStatus result.status (0 ∷ 2 ∷ 4 ∷ 5 ∷ 6 ∷ []) }
+{
+    *len = 0;
+    let Some(doc) = kind_of(kind) else {
+        return no_kind();
+    };
+    match tell_text(alloc, doc, text) {
+        Ok((answer, lines)) => {
+            if give(&lines, out, len) {
+                answer
+            } else {
+                no_room()
+            }
+        }
         Err(_) => no_memory(),
     }
 }

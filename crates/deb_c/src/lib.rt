@@ -15,6 +15,7 @@
 mod answer;
 mod buffer;
 mod documents;
+mod explanation;
 mod files;
 mod kind;
 mod query;
