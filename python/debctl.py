@@ -1,4 +1,5 @@
-"""Debian control data: versions, files of control data, and queries of an index of packages.
+"""Debian control data: versions, files of control data, why they are refused, and queries of an
+index of packages.
 
 Each function calls one of the library libdebctl and has no rule of its own; what the library
 answers is proved. It is looked for at DEBCTL_LIBRARY, else beside this file, else where the system
@@ -14,6 +15,9 @@ keeps its libraries. Texts are `bytes`, or `str`, which stands for its UTF-8.
     >>> debctl.check("Package: hello\\nVersion: 1-\\n")
     Traceback (most recent call last):
     debctl.Refused: line 2: 18 BadVersion
+    >>> told = debctl.explain("Package: hello\\nVersion: 1-\\n")
+    >>> told.text.splitlines()[3:7]
+    [b'field: Version', b'place: 0', b'reason: RevisionEmpty', b'value: 1-']
 """
 
 import ctypes
@@ -21,11 +25,11 @@ import enum
 import functools
 import os
 from pathlib import Path
-from typing import Callable, Iterable, NamedTuple, Tuple, Union
+from typing import Callable, Iterable, NamedTuple, Optional, Tuple, Union
 
 __all__ = [
-    "Code", "Refused", "Report", "Version", "canonical", "check", "compare", "normalise", "query",
-    "same",
+    "Code", "Explanation", "Refused", "Report", "Version", "canonical", "check", "compare",
+    "explain", "normalise", "query", "same",
 ]
 
 Text = Union[bytes, str]
@@ -77,6 +81,13 @@ class Refused(ValueError):
         return Refused, (int(self.code), self.line, self.second)
 
 
+class Explanation(NamedTuple):
+    """What is told of a file: its refusal, or None if it is accepted, and the text of that."""
+
+    refusal: Optional[Refused]
+    text: bytes
+
+
 class Report(NamedTuple):
     """What an index tells of a relation: whether no group is unmet, and the report's text."""
 
@@ -115,6 +126,7 @@ def _library() -> ctypes.CDLL:
         ("deb_version_canonical", _Answer, _TEXT + _BUFFER),
         ("deb_check", _Answer, [ctypes.c_uint8] + _TEXT),
         ("deb_normalise", _Answer, [ctypes.c_uint8] + _TEXT + _BUFFER),
+        ("deb_explain", _Answer, [ctypes.c_uint8] + _TEXT + _BUFFER),
         ("deb_same", _Answer, [ctypes.c_uint8] + _TEXT + _TEXT),
         ("deb_query", _Answer, _TEXT + profiles + _TEXT + _TEXT + _BUFFER),
     ]:
@@ -138,24 +150,38 @@ def _kind(kind: str) -> int:
     return _KINDS[kind]
 
 
-def _answered(answer: Union[_Answer, _Comparison]) -> Union[_Answer, _Comparison]:
-    """The answer of a call, or the exception that it stands for."""
-    if answer.status in (_REFUSED, _SECOND_REFUSED):
-        raise Refused(answer.code, getattr(answer, "line", 0), answer.status == _SECOND_REFUSED)
+def _refusal(answer: Union[_Answer, _Comparison]) -> Optional[Refused]:
+    """The refusal that an answer tells, if it tells one."""
     if answer.status == _NO_MEMORY:
         raise MemoryError
+    if answer.status in (_REFUSED, _SECOND_REFUSED):
+        return Refused(answer.code, getattr(answer, "line", 0), answer.status == _SECOND_REFUSED)
+    return None
+
+
+def _answered(answer: Union[_Answer, _Comparison]) -> Union[_Answer, _Comparison]:
+    """The answer of a call, or the exception that it stands for."""
+    refusal = _refusal(answer)
+    if refusal is not None:
+        raise refusal
     return answer
 
 
-def _given(room: int, call: Callable) -> Tuple[_Answer, bytes]:
+def _written(room: int, call: Callable) -> Tuple[_Answer, bytes]:
     """The answer of a call that writes to a buffer, and what it wrote: if this room is too little,
     it is called again with as much as it needs."""
     length = ctypes.c_size_t(room)
     while True:
         out = ctypes.create_string_buffer(length.value)
-        answer = _answered(call(out, len(out), ctypes.byref(length)))
+        answer = call(out, len(out), ctypes.byref(length))
         if answer.status != _NO_ROOM:
             return answer, ctypes.string_at(out, length.value)
+
+
+def _given(room: int, call: Callable) -> Tuple[_Answer, bytes]:
+    """The same, or the exception that the answer stands for."""
+    answer, text = _written(room, call)
+    return _answered(answer), text
 
 
 def compare(left: Text, right: Text) -> int:
@@ -225,6 +251,16 @@ def normalise(text: Text, kind: str = "packages") -> bytes:
     data, length = _text(text)
     call = functools.partial(_lib.deb_normalise, _kind(kind), data, length)
     return _given(length + 64, call)[1]
+
+
+def explain(text: Text, kind: str = "packages") -> Explanation:
+    """Why a file is refused as a document of this kind, in lines `key: value`: those that the
+    program `debctl explain` writes, but for its first, `file`. Of a file that is accepted the text
+    is the line `ok N`, for its N paragraphs.
+    """
+    data, length = _text(text)
+    answer, told = _written(2048, functools.partial(_lib.deb_explain, _kind(kind), data, length))
+    return Explanation(_refusal(answer), told)
 
 
 def same(text: Text, other: Text, kind: str = "packages") -> bool:

@@ -1,6 +1,6 @@
 //! Calls one function on files, and writes what it answers, as `tests/languages/driver.c` does.
 
-use debctl::{canonical, check, compare, normalise, query, same, Error, Kind};
+use debctl::{canonical, check, compare, explain, normalise, query, same, Error, Kind};
 use std::env::args_os;
 use std::fs::read;
 use std::io::{stdout, Write};
@@ -37,6 +37,14 @@ fn answer(call: &str, number: usize, files: &[Vec<u8>]) -> Result<Vec<u8>, Error
                 &format!("0 0 0 {count}\n"),
                 normalise(KINDS[number], &files[0])?,
             )
+        }
+        "explain" => {
+            let explained = explain(KINDS[number], &files[0])?;
+            let head = match explained.refusal {
+                Some(refusal) => told(Error::Refused(refusal)),
+                None => format!("0 0 0 {}\n", check(KINDS[number], &files[0])?),
+            };
+            text(&head, explained.text)
         }
         "same" => match same(KINDS[number], &files[0], &files[1])? {
             true => b"0 0 0 0\n".to_vec(),

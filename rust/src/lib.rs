@@ -1,10 +1,11 @@
-//! Debian control data: versions, files of control data, and queries of an index of packages.
+//! Debian control data: versions, files of control data, why they are refused, and queries of an
+//! index of packages.
 //!
 //! Each function calls one of the library `libdebctl` and has no rule of its own; what the library
 //! answers is proved. Texts are slices of bytes.
 //!
 //! ```
-//! use debctl::{check, compare, normalise, Code, Error, Kind, Refusal};
+//! use debctl::{check, compare, explain, normalise, Code, Error, Kind, Refusal};
 //! use std::cmp::Ordering;
 //!
 //! assert_eq!(compare(b"1.0~rc1", b"1.0"), Ok(Ordering::Less));
@@ -12,7 +13,12 @@
 //! let canonical = b"Architecture: amd64\nPackage: hello\nVersion: 1.0\n";
 //! assert_eq!(normalise(Kind::Packages, text), Ok(canonical.to_vec()));
 //! let refusal = Refusal { code: Code::BadVersion, line: 2 };
-//! assert_eq!(check(Kind::Packages, b"Package: hello\nVersion: 1-\n"), Err(Error::Refused(refusal)));
+//! let refused = b"Package: hello\nVersion: 1-\n";
+//! assert_eq!(check(Kind::Packages, refused), Err(Error::Refused(refusal)));
+//! let told = explain(Kind::Packages, refused)?;
+//! assert_eq!(told.refusal, Some(refusal));
+//! assert!(told.text.starts_with(b"line: 2\ncode: 18\nname: BadVersion\nfield: Version\n"));
+//! # Ok::<(), Error>(())
 //! ```
 
 mod library;
@@ -129,6 +135,15 @@ impl fmt::Display for Error {
 
 impl std::error::Error for Error {}
 
+/// What is told of a file.
+#[derive(Clone, Debug, PartialEq, Eq)]
+pub struct Explanation {
+    /// Its refusal; none where it is accepted.
+    pub refusal: Option<Refusal>,
+    /// The text that tells it.
+    pub text: Vec<u8>,
+}
+
 /// What an index tells of a relation.
 #[derive(Clone, Debug, PartialEq, Eq)]
 pub struct Report {
@@ -162,19 +177,25 @@ fn answered(answer: Answer) -> Result<Answer, Error> {
 
 /// The answer of a call that writes to a buffer, and what it wrote: if this room is too little, it
 /// is called again with as much as it needs.
+fn written(room: usize, call: impl Fn(&mut [u8], &mut usize) -> Answer) -> (Answer, Vec<u8>) {
+    let mut length = room;
+    loop {
+        let mut out = vec![0; length];
+        let answer = call(&mut out, &mut length);
+        if answer.status != library::NO_ROOM {
+            out.truncate(length);
+            return (answer, out);
+        }
+    }
+}
+
+/// The same, or the error that the answer stands for.
 fn given(
     room: usize,
     call: impl Fn(&mut [u8], &mut usize) -> Answer,
 ) -> Result<(Answer, Vec<u8>), Error> {
-    let mut length = room;
-    loop {
-        let mut out = vec![0; length];
-        let answer = answered(call(&mut out, &mut length))?;
-        if answer.status != library::NO_ROOM {
-            out.truncate(length);
-            return Ok((answer, out));
-        }
-    }
+    let (answer, text) = written(room, call);
+    Ok((answered(answer)?, text))
 }
 
 /// Debian's order of two versions.
@@ -203,6 +224,20 @@ pub fn normalise(kind: Kind, text: &[u8]) -> Result<Vec<u8>, Error> {
     let call =
         |out: &mut [u8], length: &mut usize| library::normalise(kind as u8, text, out, length);
     Ok(given(text.len() + 64, call)?.1)
+}
+
+/// Why a file is refused as a document of a kind, in lines `key: value`: those that the program
+/// `debctl explain` writes, but for its first, `file`. Of a file that is accepted the text is the
+/// line `ok N`, for its N paragraphs. The only error is [`Error::Memory`].
+pub fn explain(kind: Kind, text: &[u8]) -> Result<Explanation, Error> {
+    let call = |out: &mut [u8], length: &mut usize| library::explain(kind as u8, text, out, length);
+    let (answer, text) = written(2048, call);
+    let refusal = match answered(answer) {
+        Ok(_) => None,
+        Err(Error::Refused(refusal)) => Some(refusal),
+        Err(error) => return Err(error),
+    };
+    Ok(Explanation { refusal, text })
 }
 
 /// Whether two files mean the same.

@@ -64,6 +64,14 @@ extern "C" {
         out_size: usize,
         length: *mut usize,
     ) -> Answer;
+    fn deb_explain(
+        kind: u8,
+        text: *const u8,
+        text_length: usize,
+        out: *mut u8,
+        out_size: usize,
+        length: *mut usize,
+    ) -> Answer;
     fn deb_same(
         kind: u8,
         text: *const u8,
@@ -112,6 +120,19 @@ pub fn check(kind: u8, text: &[u8]) -> Answer {
 pub fn normalise(kind: u8, text: &[u8], out: &mut [u8], length: &mut usize) -> Answer {
     unsafe {
         deb_normalise(
+            kind,
+            text.as_ptr(),
+            text.len(),
+            out.as_mut_ptr(),
+            out.len(),
+            length,
+        )
+    }
+}
+
+pub fn explain(kind: u8, text: &[u8], out: &mut [u8], length: &mut usize) -> Answer {
+    unsafe {
+        deb_explain(
             kind,
             text.as_ptr(),
             text.len(),

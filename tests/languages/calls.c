@@ -139,6 +139,56 @@ static void try_files(void) {
     IS(is(deb_same(DEB_PACKAGES, NULL, 0, NULL, 0), DEB_YES, 0, 0, 0));
 }
 
+struct explained {
+    uint8_t kind;
+    const char *text;
+    int status, code;
+    uint64_t line, count;
+    const char *lines;
+};
+
+static void try_explanations(void) {
+    const struct explained all[] = {
+        {DEB_PACKAGES, hello, DEB_YES, 0, 0, 1, "ok 1\n"},
+        {DEB_PACKAGES, NULL, DEB_YES, 0, 0, 0, "ok 0\n"},
+        {DEB_ANY, bad, DEB_YES, 0, 0, 1, "ok 1\n"},
+        {DEB_PACKAGES, bad, DEB_REFUSED, DEB_BAD_NUMBER, 4, 0,
+         "line: 4\ncode: 15\nname: BadNumber\nfield: Size\nvalue: 1k\n"
+         "rule: The value is one or more decimal digits (Debian Policy 5.6.20).\n"
+         "usually: a unit behind the number\n"},
+        {DEB_BINARY, NULL, DEB_REFUSED, DEB_NO_PARAGRAPH, 1, 0,
+         "line: 1\ncode: 10\nname: NoParagraph\n"
+         "rule: A file of this kind has one paragraph (Debian Policy 5.3, 5.4).\n"
+         "usually: an empty file, as a command that failed leaves it\n"},
+        {DEB_SOURCES, "Package: aa\nVersion: 1_2\n\\\t", DEB_REFUSED, DEB_NO_COLON, 3, 0,
+         "line: 3\ncode: 6\nname: NoColon\nvalue: \\\\\\t\n"
+         "rule: A line that begins a field has a colon behind the name (Debian Policy 5.1).\n"
+         "usually: no control data at all, a blank line within a field, or lines that end in CR LF"
+         "\n"},
+        {5, hello, DEB_NO_KIND, 0, 0, 0, NULL},
+        {255, NULL, DEB_NO_KIND, 0, 0, 0, NULL},
+    };
+    size_t at, turn;
+    for (at = 0; at < sizeof all / sizeof *all; at++) {
+        const struct explained *it = &all[at];
+        size_t whole = it->lines ? strlen(it->lines) : 1;
+        size_t rooms[] = {0, whole - 1, whole, whole + 1, 4096};
+        for (turn = 0; turn < sizeof rooms / sizeof *rooms; turn++) {
+            struct buffer out = buffer_of(rooms[turn]);
+            struct deb_answer answer = deb_explain(it->kind, bytes(it->text),
+                                                   it->text ? strlen(it->text) : 0, out.bytes,
+                                                   out.room, &out.length);
+            if (!it->lines)
+                IS(is(answer, it->status, 0, 0, 0) && untouched(out, 0));
+            else if (out.room < whole)
+                IS(is(answer, DEB_NO_ROOM, 0, 0, 0) && untouched(out, whole));
+            else
+                IS(is(answer, it->status, it->code, it->line, it->count) && holds(out, it->lines));
+            free(out.bytes);
+        }
+    }
+}
+
 /* A query of an index of hello and of a package for the profiles, whose report is as told. */
 static struct deb_answer query(const char *target, const char *profile, const char *relation,
                                const char *index, struct buffer *it) {
@@ -195,6 +245,7 @@ static void try_queries(void) {
 int main(void) {
     try_versions();
     try_files();
+    try_explanations();
     try_queries();
     printf("calls: %d passed, %d failed\n", passed, failed);
     return failed != 0;

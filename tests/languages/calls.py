@@ -31,6 +31,13 @@ def error(call, *words, **more):
         return type(raised)
 
 
+def explained(*words, **more):
+    """The code and the line of an explained refusal, or none, and the lines of the text."""
+    told = debctl.explain(*words, **more)
+    head = told.refusal and (told.refusal.code, told.refusal.line, told.refusal.second)
+    return head, told.text.decode().split("\n")
+
+
 def from_threads():
     """Whether calls from four threads at once are answered as one alone is."""
     answers = []
@@ -77,6 +84,18 @@ TESTS = {
     "normalise refused": refusal(debctl.normalise, BAD) == (Code.BadNumber, 4, "BadNumber", False),
     "longer canonical text": debctl.normalise("\n".join(f"a{at}:b" for at in range(200)), "any")
     .count(b": b\n") == 200,
+    "explain accepted": explained(HELLO) == (None, ["ok 1", ""]),
+    "explain nothing": explained(b"") == (None, ["ok 0", ""]),
+    "explain a kind": explained(BAD, kind="any") == (None, ["ok 1", ""]),
+    "explain refused": explained(BAD) == ((Code.BadNumber, 4, False), [
+        "line: 4", "code: 15", "name: BadNumber", "field: Size", "value: 1k",
+        "rule: The value is one or more decimal digits (Debian Policy 5.6.20).",
+        "usually: a unit behind the number", "",
+    ]),
+    "explain refused kind": explained("", "binary")[0] == (Code.NoParagraph, 1, False),
+    "explain unknown kind": error(debctl.explain, HELLO, "foo") is ValueError,
+    "explain a long value": explained("Size: " + "\0" * 5000)[1][4]
+    == "value: " + "\\x00" * 200 + "...",
     "same": debctl.same(HELLO, CANONICAL) is True,
     "different": debctl.same(HELLO, "") is False,
     "first refused": refusal(debctl.same, BAD, "x") == (Code.BadNumber, 4, "BadNumber", False),

@@ -58,6 +58,9 @@ int main(int count, char **words) {
         else if (strcmp(call, "normalise") == 0)
             answer = deb_normalise((uint8_t)kind, files[0].bytes, files[0].length, out, room,
                                    &length);
+        else if (strcmp(call, "explain") == 0)
+            answer = deb_explain((uint8_t)kind, files[0].bytes, files[0].length, out, room,
+                                 &length);
         else if (strcmp(call, "same") == 0)
             answer = deb_same((uint8_t)kind, files[0].bytes, files[0].length, files[1].bytes,
                               files[1].length);

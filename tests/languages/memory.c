@@ -1,5 +1,5 @@
 /* Each growth of memory of each call is refused in turn: the answer is DEB_NO_MEMORY, and the
- * buffer is as it was; then, with none refused, it is the right one. Linked with
+ * buffer is as it was; then, with none refused, its status is the right one. Linked with
  * -Wl,--wrap=malloc,--wrap=realloc. */
 #include "debctl.h"
 
@@ -26,6 +26,9 @@ static const char *index_of_two =
     "Package: hello\nVersion: 1.0-0\nArchitecture: amd64\nDepends: libc6 (>= 2.36), aa | bb\n\n"
     "Package: mailer\nVersion: 2\nArchitecture: all\nProvides: mta (= 2), other\n";
 
+static const char *refused = "Package: hello\nVersion: 1\nArchitecture: all\n\n"
+                             "Package: mailer\nDepends: aa (>= 1), bb cc\n";
+
 static uint8_t out[512];
 static size_t length;
 
@@ -41,6 +44,10 @@ static struct deb_answer call(int which) {
     case 2:
         return deb_normalise(DEB_PACKAGES, text, size, out, sizeof out, &length);
     case 3:
+        return deb_explain(DEB_PACKAGES, text, size, out, sizeof out, &length);
+    case 4:
+        return deb_explain(DEB_PACKAGES, bytes(refused), strlen(refused), out, sizeof out, &length);
+    case 5:
         return deb_same(DEB_PACKAGES, text, size, text, size);
     default:
         return deb_query(bytes("amd64"), 5, &profile, 1, bytes("hello (>= 1) | xx, mta"), 22, text,
@@ -49,9 +56,10 @@ static struct deb_answer call(int which) {
 }
 
 int main(void) {
-    static const char *names[] = {"version_canonical", "check", "normalise", "same", "query"};
+    static const char *names[] = {"version_canonical", "check",   "normalise", "explain",
+                                  "explain, refused",  "same", "query"};
     int which, passed = 0, failed = 0;
-    for (which = 0; which < 5; which++) {
+    for (which = 0; which < 7; which++) {
         long growth = 0;
         struct deb_answer answer;
         do {
@@ -73,7 +81,7 @@ int main(void) {
             }
         } while (growth++ < 10000);
         until_refused = -1;
-        if (answer.status == DEB_YES && growth > 0)
+        if (answer.status == (which == 4 ? DEB_REFUSED : DEB_YES) && growth > 0)
             passed++;
         else {
             printf("deb_%s: status %d after %ld growths\n", names[which], answer.status, growth);

@@ -9,10 +9,12 @@ static const uint8_t *bytes(const char *text) { return (const uint8_t *)text; }
 
 static const char *hello = "Package: hello\nVersion: 1.0-0\nArchitecture: amd64\n";
 
+static const char *bad = "Package: hello\nVersion: 1-\n";
+
 static void *run(void *wrong) {
     int turn;
     for (turn = 0; turn < 2000; turn++) {
-        uint8_t out[128];
+        uint8_t out[512];
         size_t length;
         const uint8_t *text = bytes(hello);
         size_t size = strlen(hello);
@@ -23,6 +25,10 @@ static void *run(void *wrong) {
         *(int *)wrong +=
             deb_normalise(DEB_PACKAGES, text, size, out, sizeof out, &length).status != DEB_YES ||
             length != 48 || memcmp(out, "Architecture: amd64\nPackage: hello\nVersion: 1.0\n", 48);
+        *(int *)wrong += deb_explain(DEB_PACKAGES, bytes(bad), strlen(bad), out, sizeof out,
+                                     &length)
+                                 .line != 2 ||
+                         memcmp(out, "line: 2\ncode: 18\nname: BadVersion\n", 35);
         *(int *)wrong += deb_query(bytes("amd64"), 5, NULL, 0, bytes("hello"), 5, text, size, out,
                                    sizeof out, &length)
                                  .status != DEB_YES ||
