@@ -1,15 +1,6 @@
 -- Components without fault, as facts of their bytes.
-use Rattle.std.proofs.Common.{option_and_then, ◌≡◌, ◌≢◌, ℕ, ◌==◌, ◌||◌, not, true, false, Bool, List, [], ◌∷◌, ◌++◌, Option, Some, None, is_some, unwrap_or, Bor, option_copied, IfSome, IfNone, IsTrue, refl, ap}
-use Rattle.std.specs.List.{AllByRecursion, list_all, list_any, position}
-use Rattle.std.specs.Option.{is_none, option_map, option_or}
-use Rattle.std.specs.Char.{is_ascii_digit}
-use Rattle.std.proofs.lemmas.Bool.{and_parts, and_from, not-true, not_from_false}
-use Rattle.deb_version.specs.declared.fault.BadVersion.{BadVersion}
-use Rattle.deb_version.specs.declared.fault.BadVersion.TheVariants.{Empty, EpochEmpty, EpochNotNumber, RevisionEmpty, UpstreamEmpty}
-use Rattle.deb_version.specs.declared.version.Version.{Version}
-use Rattle.deb_version.specs.Parts.{IsDigits}
-use Rattle.deb_version.specs.Grammar.{Components, epoch_text, revision_text, spelling, is_empty, is_no_digit, is_upstream_byte, is_revision_byte, is_bad_in_revision, some_passes, fault_if, first_of, fault_of, is_cut_at_hyphen, are_components}
-use Rattle.deb_version.specs.Version.{components_of}
+use Rattle.deb_version.proofs.Common.{option_and_then, ◌≡◌, ◌≢◌, ℕ, ◌==◌, ◌||◌, not, true, false, Bool, List, [], ◌∷◌, ◌++◌, Option, Some, None, is_some, unwrap_or, Bor, option_copied, IfSome, IfNone, IsTrue, refl, ap, AllByRecursion, list_all, list_any, is_none, option_map, option_or, is_ascii_digit, and_parts, and_from, not-true, not_from_false, BadVersion, Empty, EpochEmpty, EpochNotNumber, RevisionEmpty, UpstreamEmpty, Version, IsDigits, Components, epoch_text, revision_text, spelling, is_empty, is_no_digit, is_upstream_byte, is_revision_byte, is_bad_in_revision, some_passes, fault_if, first_of, fault_of, is_cut_at_hyphen, are_components, components_of}
+use Rattle.std.specs.List.{position}
 use Rattle.deb_version.proofs.Emptiness.{append_some, append_some_front}
 use Rattle.deb_version.proofs.ByteLemmas.{all_pass-test, empty-test, empty-fact, none_fails-test, none_fails-fact, none_equal-test, none_equal-fact, position_none-test, position_none-fact}
 

@@ -1,10 +1,7 @@
 -- Tests of each byte of a text, as facts, and the bytes that separate components.
-use Rattle.std.proofs.Common.{◌≡◌, ◌≢◌, ℕ, ◌+◌, All, Bool, true, false, cond, not, ◌==◌, ◌||◌, List, [], ◌∷◌, Some, None, length, refl, sym, ap, ◌∙◌, IsTrue, arith}
-use Rattle.std.specs.List.{AllByRecursion, list_any, list_all, position, position_from}
-use Rattle.std.proofs.lemmas.Bool.{true≢false, eqb-false, ne_eqb, and_parts, and_from, not-false, not_from_true}
+use Rattle.deb_version.proofs.Common.{◌≡◌, ◌≢◌, ℕ, ◌+◌, All, Bool, true, false, cond, not, ◌==◌, ◌||◌, List, [], ◌∷◌, Some, None, length, refl, sym, ap, ◌∙◌, IsTrue, arith, AllByRecursion, list_any, list_all, position_from, true≢false, eqb-false, ne_eqb, and_parts, and_from, not-false, not_from_true, All-weaker, list_any_none}
+use Rattle.std.specs.List.{position}
 use Rattle.std.proofs.lemmas.Iterator.Adapters.{position_from-zero}
-use Rattle.std.proofs.lemmas.List.Elements.{All-weaker}
-use Rattle.std.proofs.lemmas.List.Folds.{list_any_none}
 use Rattle.deb_version.proofs.CutLemmas.{or_sides}
 
 -- a byte that passes a test isn't one that fails it

@@ -1,12 +1,5 @@
 -- The canonical text of parts has those parts, and holds only what their texts hold, and digits.
-use Rattle.std.proofs.Common.{◌≡◌, ◌≢◌, ℕ, ◌+◌, ◌≤◌, ◌==◌, ◌&&◌, true, false, cond, List, [], ◌∷◌, ◌++◌, length, refl, sym, ap, ◌∙◌, subst, arith, IsTrue, ◌⊎◌, inl, inr}
-use Rattle.std.specs.Char.{is_ascii_digit}
-use Rattle.std.specs.List.{AllByRecursion}
-use Rattle.std.proofs.lemmas.List.{append-nil, length-append}
-use Rattle.std.proofs.lemmas.Bool.{false≢true, eqb-true}
-use Rattle.deb_version.specs.Parts.{value_of, Cut, Part, joined, IsDigits, AreCuts, part_of, parts_of_cuts, HasParts}
-use Rattle.deb_version.specs.Canonical.{digits_of, ends_in_letter, last_digits_of, component_text}
-use Rattle.deb_version.specs.PartsLemmas.{cons_not_nil}
+use Rattle.deb_version.proofs.Common.{◌≡◌, ◌≢◌, ℕ, ◌+◌, ◌≤◌, ◌==◌, ◌&&◌, true, false, cond, List, [], ◌∷◌, ◌++◌, length, refl, sym, ap, ◌∙◌, subst, arith, IsTrue, ◌⊎◌, inl, inr, is_ascii_digit, AllByRecursion, append-nil, length-append, false≢true, eqb-true, value_of, Cut, Part, joined, IsDigits, AreCuts, part_of, parts_of_cuts, HasParts, digits_of, ends_in_letter, last_digits_of, component_text, cons_not_nil}
 use Rattle.deb_version.proofs.Emptiness.{append_some, append_some_front}
 use Rattle.deb_version.proofs.Choices.{left_or_written}
 use Rattle.deb_version.proofs.CanonicalDigits.{value_of-digits_of, IsDigits-digits_of, digits_of-some, length-digits_of-value_of}

@@ -1,17 +1,7 @@
 -- The canonical text of a component, cut by cut.
-use Rattle.std.proofs.Common.{◌≡◌, ◌≢◌, ℕ, ◌+◌, ◌-◌, ◌*◌, ◌<◌, ◌==◌, ◌&&◌, ◌||◌, Bool, true, false, cond, List, [], ◌∷◌, ◌++◌, length, refl, sym, ap, ◌∙◌, arith, IsTrue, ◌⊎◌, inl, inr}
-use Rattle.std.specs.Char.{is_ascii_digit}
-use Rattle.std.specs.List.{list_any}
-use Rattle.std.proofs.lemmas.List.{append-nil}
-use Rattle.std.proofs.lemmas.List.Folds.{list_any-append}
-use Rattle.std.proofs.lemmas.Bool.{false≢true, true≢false, ne_eqb}
-use Rattle.std.proofs.lemmas.Bool.Decides.{nat_tests}
-use Rattle.deb_version.specs.Parts.{value_of, Cut, Part, joined, IsDigits, AreCuts, part_of, parts_of_cuts, with_digit, with_byte, cuts_of, parts_of}
-use Rattle.deb_version.specs.Cuts.{cuts_after}
-use Rattle.deb_version.specs.Canonical.{digits_of, ends_in_letter, last_digits_of, component_text, is_no_revision}
+use Rattle.deb_version.proofs.Common.{◌≡◌, ◌≢◌, ℕ, ◌+◌, ◌-◌, ◌*◌, ◌<◌, ◌==◌, ◌&&◌, ◌||◌, Bool, true, false, cond, List, [], ◌∷◌, ◌++◌, length, refl, sym, ap, ◌∙◌, arith, IsTrue, ◌⊎◌, inl, inr, is_ascii_digit, list_any, append-nil, list_any-append, false≢true, true≢false, ne_eqb, nat_tests, value_of, Cut, Part, joined, IsDigits, AreCuts, part_of, parts_of_cuts, with_digit, with_byte, cuts_of, parts_of, cuts_after, digits_of, ends_in_letter, last_digits_of, component_text, is_no_revision, cons_not_nil, joined-cuts_of, AreCuts-cuts_of}
 use Rattle.deb_version.proofs.Emptiness.{nil_of_length}
 use Rattle.deb_version.proofs.ByteLemmas.{empty-fact, none_equal}
-use Rattle.deb_version.specs.PartsLemmas.{cons_not_nil, joined-cuts_of, AreCuts-cuts_of}
 use Rattle.deb_version.proofs.ValueLemmas.{value_after-le}
 use Rattle.deb_version.proofs.LeadingZeros.{by_zero, is_nonzero, without_zeros, without_zeros-zero, without_zeros-other, without_zeros-starts, value_of-zero, value_of-without_zeros}
 use Rattle.deb_version.proofs.FirstPlace.{StartsWith}

@@ -1,12 +1,8 @@
 -- The decimal digits of a number, and the run of digits without its leading zeros.
-use Rattle.std.proofs.Common.{◌≡◌, ◌≢◌, ℕ, zero, suc, ◌+◌, ◌-◌, ◌*◌, ◌/◌, ◌%◌, ◌^◌, ◌<◌, ◌≤◌, List, [], ◌∷◌, ◌++◌, map, length, refl, sym, ap, ◌∙◌, subst, arith, IsTrue, rules, tests}
-use Rattle.std.specs.Char.{is_ascii_digit}
+use Rattle.deb_version.proofs.Common.{◌≡◌, ◌≢◌, ℕ, zero, suc, ◌+◌, ◌-◌, ◌*◌, ◌/◌, ◌%◌, ◌^◌, ◌<◌, ◌≤◌, List, [], ◌∷◌, ◌++◌, map, length, refl, sym, ap, ◌∙◌, subst, arith, IsTrue, rules, tests, is_ascii_digit, append-nil, length-map, value_after, value_of, IsDigits, digits_of, cons_not_nil}
 use Rattle.std.specs.Int.Digits.{digits_of as digits_in_base, number_from_digits, number_from_digits_after, AllBelowBase}
 use Rattle.std.proofs.lemmas.Int.Digits.{number_lt, digits_of_step, length-digits_of-le, all_below_base_digits_of, number_digits_of, number_after_ge}
-use Rattle.std.proofs.lemmas.List.{append-nil, append_assoc, length-map}
-use Rattle.deb_version.specs.Parts.{value_after, value_of, IsDigits}
-use Rattle.deb_version.specs.Canonical.{digits_of}
-use Rattle.deb_version.specs.PartsLemmas.{cons_not_nil}
+use Rattle.std.proofs.lemmas.List.{append_assoc}
 
 -- the digits of numbers below ten
 abbrev written : List ℕ → List ℕ

@@ -1,9 +1,5 @@
 -- The canonical text of a version whose spelling is short is short.
-use Rattle.std.proofs.Common.{◌≡◌, ◌+◌, ◌*◌, ◌^◌, ◌<◌, ◌≤◌, true, length, refl, ◌++◌, arith}
-use Rattle.std.proofs.lemmas.List.{length-append}
-use Rattle.deb_version.specs.Parts.{Meaning}
-use Rattle.deb_version.specs.Grammar.{Components, spelling, epoch_text, revision_text, meaning_of_components, are_components}
-use Rattle.deb_version.specs.Canonical.{component_text, canonical_epoch, canonical_revision, version_text}
+use Rattle.deb_version.proofs.Common.{◌≡◌, ◌+◌, ◌*◌, ◌^◌, ◌<◌, ◌≤◌, true, length, refl, ◌++◌, arith, length-append, Meaning, Components, spelling, epoch_text, revision_text, meaning_of_components, are_components, component_text, canonical_epoch, canonical_revision, version_text}
 use Rattle.deb_version.proofs.CanonicalTexts.{canonical_text_is_short}
 
 pub length-version_text : (m : Meaning) → length (version_text m) ≡ length (epoch_text (canonical_epoch m)) + (length (component_text m.upstream) + length (revision_text (canonical_revision m)))

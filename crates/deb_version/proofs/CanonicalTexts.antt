@@ -1,20 +1,10 @@
 -- The laws of canonical text.
-use Rattle.std.proofs.Common.{◌≡◌, ◌≢◌, ℕ, ◌*◌, ◌≤◌, ◌==◌, ◌&&◌, ◌||◌, Bool, true, false, not, cond, List, [], ◌∷◌, ◌++◌, length, Option, Some, None, is_some, IfSome, IfNone, refl, sym, ap, ◌∙◌, subst, arith, IsTrue, ◌⊎◌, inl, inr}
-use Rattle.std.specs.Char.{is_ascii_digit}
+use Rattle.deb_version.proofs.Common.{◌≡◌, ◌≢◌, ℕ, ◌*◌, ◌≤◌, ◌==◌, ◌&&◌, ◌||◌, Bool, true, false, not, cond, List, [], ◌∷◌, ◌++◌, length, Option, Some, None, is_some, IfSome, IfNone, refl, sym, ap, ◌∙◌, subst, arith, IsTrue, ◌⊎◌, inl, inr, is_ascii_digit, AllByRecursion, list_any, length-append, Decides-eqb, false≢true, eqb-true, not-true, Part, HasParts, Meaning, no_revision, is_revision_byte, is_upstream_byte, epoch_text, revision_text, epoch_value, revision_parts, meaning_of_components, SpellsVersion, digits_of, component_text, is_no_revision, holds_colon, holds_hyphen, canonical_epoch, canonical_revision, canonical_components, version_text, CanonicalTextSpells, CanonicalTextDecides, CanonicalTextStays, CanonicalTextIsShort, has_parts, one_parts}
 use Rattle.std.specs.Int.{is_in_range}
-use Rattle.std.specs.List.{AllByRecursion, list_any}
-use Rattle.std.proofs.lemmas.List.{length-append}
-use Rattle.std.proofs.lemmas.Bool.Decides.{Decides-eqb}
-use Rattle.std.proofs.lemmas.Bool.{false≢true, eqb-true, not-true}
-use Rattle.deb_version.specs.Parts.{Part, HasParts, Meaning, no_revision}
-use Rattle.deb_version.specs.Grammar.{is_revision_byte, is_upstream_byte, epoch_text, revision_text, epoch_value, revision_parts, meaning_of_components, SpellsVersion}
-use Rattle.deb_version.specs.Canonical.{digits_of, component_text, is_no_revision, holds_colon, holds_hyphen, canonical_epoch, canonical_revision, canonical_components, version_text}
-use Rattle.deb_version.specs.CanonicalLaws.{CanonicalTextSpells, CanonicalTextDecides, CanonicalTextStays, CanonicalTextIsShort}
 use Rattle.deb_version.proofs.AllowedLemmas.{AreComponents, IsEpoch, IsRevision, are_components-fact, are_components-test}
 use Rattle.deb_version.proofs.Choices.{left_or_written}
 use Rattle.deb_version.proofs.Emptiness.{nil_of_length, some_length}
 use Rattle.deb_version.proofs.ByteLemmas.{differs, none_equal-test, none_equal-fact}
-use Rattle.deb_version.specs.PartsLemmas.{has_parts, one_parts}
 use Rattle.deb_version.proofs.CanonicalDigits.{value_of-digits_of, IsDigits-digits_of, digits_of-some, length-digits_of-value_of}
 use Rattle.deb_version.proofs.CanonicalComponent.{HasParts-component_text, All-weaker, All-component_text, component_text-some, length-component_text}
 use Rattle.deb_version.proofs.MeaningLemmas.{one_version}

@@ -1,10 +1,6 @@
 -- Where canonical text has an epoch and a revision, by the texts of the components.
-use Rattle.std.proofs.Common.{◌≡◌, ℕ, ◌==◌, ◌&&◌, Bool, true, false, not, cond, List, [], ◌∷◌, length, Option, Some, None, IfSome, Bor, refl, sym, ap, ◌∙◌, unwrap_or}
-use Rattle.std.specs.List.{list_any}
+use Rattle.deb_version.proofs.Common.{◌≡◌, ℕ, ◌==◌, ◌&&◌, Bool, true, false, not, cond, List, [], ◌∷◌, length, Option, Some, None, IfSome, Bor, refl, sym, ap, ◌∙◌, unwrap_or, list_any, value_of, IsDigits, parts_of, Components, epoch_value, revision_parts, meaning_of_components, are_components, digits_of, component_text, is_no_revision, holds_colon, holds_hyphen, canonical_epoch, canonical_revision}
 use Rattle.std.specs.Option.{option_copied}
-use Rattle.deb_version.specs.Parts.{value_of, IsDigits, parts_of}
-use Rattle.deb_version.specs.Grammar.{Components, epoch_value, revision_parts, meaning_of_components, are_components}
-use Rattle.deb_version.specs.Canonical.{digits_of, component_text, is_no_revision, holds_colon, holds_hyphen, canonical_epoch, canonical_revision}
 use Rattle.deb_version.proofs.AllowedLemmas.{IsEpoch, are_components-fact}
 use Rattle.deb_version.proofs.ByteLemmas.{empty-fact}
 use Rattle.deb_version.proofs.Emptiness.{nil_of_length}

@@ -1,15 +1,7 @@
 -- What two components begin with alike, up to a byte that is no digit, doesn't decide.
-use Rattle.std.proofs.Common.{◌≡◌, ◌≢◌, ℕ, zero, suc, ◌-◌, ◌≤◌, List, [], ◌∷◌, ◌++◌, length, take, drop, get_or, refl, sym, ap, ◌∙◌, inl, inr, append_assoc, cond, Equal, IsTrue, IsFalse, false, arith}
+use Rattle.deb_version.proofs.Common.{◌≡◌, ◌≢◌, ℕ, zero, suc, ◌-◌, ◌≤◌, List, [], ◌∷◌, ◌++◌, length, take, drop, get_or, refl, sym, ap, ◌∙◌, inl, inr, append_assoc, cond, IsTrue, IsFalse, false, arith, cases_Bool, get_or-take, take-append-drop, is_ascii_digit, nat_cmp_total, tied_itself, nat_cmp, ordering_then, component_cmp, rank_of, text_cmp, component_total, part_total, AreCuts, Cut, IsDigits, cuts_of, parts_of, parts_of_cuts, value_of, with_byte, with_digit, AreCuts-cuts_of}
+use Rattle.std.proofs.Common.{Equal}
 use Rattle.std.proofs.Math.Seq.{take-suc, take-take}
-use Rattle.std.proofs.lemmas.Bool.{cases_Bool}
-use Rattle.std.proofs.lemmas.List.{get_or-take, take-append-drop}
-use Rattle.std.specs.Char.{is_ascii_digit}
-use Rattle.std.specs.Cmp.{nat_cmp_total, tied_itself}
-use Rattle.std.specs.Ordering.{nat_cmp, ordering_then}
-use Rattle.deb_version.specs.Order.{component_cmp, rank_of, text_cmp}
-use Rattle.deb_version.specs.OrderLemmas.{component_total, part_total}
-use Rattle.deb_version.specs.Parts.{AreCuts, Cut, IsDigits, cuts_of, parts_of, parts_of_cuts, value_of, with_byte, with_digit}
-use Rattle.deb_version.specs.PartsLemmas.{AreCuts-cuts_of}
 use Rattle.deb_version.proofs.FirstCut.{cuts_of-run}
 use Rattle.deb_version.proofs.Walks.{component_cmp-step}
 

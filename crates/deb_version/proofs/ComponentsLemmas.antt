@@ -1,14 +1,6 @@
 -- The components of a text: every text is spelled by them, and allowed components are those of their spelling.
-use Rattle.std.proofs.Common.{◌≡◌, ◌≢◌, ℕ, ◌+◌, ◌-◌, ◌<◌, ◌≤◌, arith, All, length, get_or, take, drop, Bool, true, false, not, cond, ◌==◌, ◌||◌, List, [], ◌∷◌, ◌++◌, Option, Some, None, is_some, IfSome, IfNone, refl, sym, ap, ◌∙◌, subst, IsTrue, append_assoc, append-nil}
-use Rattle.std.specs.List.{AllByRecursion, list_any, before_first, after_first, before_last, after_last, suffix_len}
-use Rattle.std.specs.Char.{is_ascii_digit}
-use Rattle.std.proofs.lemmas.Bool.{eqb-true, ne_eqb}
-use Rattle.std.proofs.lemmas.Bool.Decides.{Decides-eqb}
-use Rattle.std.proofs.lemmas.List.Elements.{All-weaker}
-use Rattle.std.proofs.lemmas.List.Folds.{list_any-append, list_any_none, list_any_at}
-use Rattle.std.proofs.lemmas.List.Sums.{position_or_len_is, suffix_len_is}
-use Rattle.deb_version.specs.Grammar.{Components, are_components, epoch_text, revision_text, spelling, is_upstream_byte, is_revision_byte}
-use Rattle.deb_version.specs.Places.{is_colon, is_hyphen, epoch_in, rest_in, revision_in, upstream_in, components_in}
+use Rattle.deb_version.proofs.Common.{◌≡◌, ◌≢◌, ℕ, ◌+◌, ◌-◌, ◌<◌, ◌≤◌, arith, All, length, get_or, take, drop, Bool, true, false, not, cond, ◌==◌, ◌||◌, List, [], ◌∷◌, ◌++◌, Option, Some, None, is_some, IfSome, IfNone, refl, sym, ap, ◌∙◌, subst, IsTrue, append_assoc, AllByRecursion, list_any, before_first, after_first, before_last, after_last, suffix_len, is_ascii_digit, eqb-true, ne_eqb, Decides-eqb, All-weaker, list_any-append, list_any_none, list_any_at, position_or_len_is, suffix_len_is, Components, are_components, epoch_text, revision_text, spelling, is_upstream_byte, is_revision_byte, is_colon, is_hyphen, epoch_in, rest_in, revision_in, upstream_in, components_in}
+use Rattle.std.proofs.Common.{append-nil}
 use Rattle.deb_version.proofs.AllowedLemmas.{IsEpoch, IsRevision, are_components-fact}
 use Rattle.deb_version.proofs.CutLemmas.{join_first, join_last, before_first-at, after_first-at, list_any-at, before_last-at, after_last-at}
 use Rattle.deb_version.proofs.ByteLemmas.{none_equal, none_equal-test}

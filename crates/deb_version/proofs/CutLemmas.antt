@@ -1,8 +1,5 @@
 -- A list cut at the first or at the last element that passes a test.
-use Rattle.std.proofs.Common.{◌≡◌, ℕ, suc, ◌+◌, ◌-◌, Bool, true, false, not, cond, ◌||◌, List, [], ◌∷◌, ◌++◌, length, take, drop, refl, sym, ap, ◌∙◌, reverse, arith, append_assoc}
-use Rattle.std.specs.List.{list_any, before_first, after_first, before_last, after_last, position_or_len, prefix_len, suffix_len}
-use Rattle.std.proofs.lemmas.List.{take_at, drop_at, reverse-append, length-append, length-reverse, length_push}
-use Rattle.std.proofs.lemmas.List.Folds.{list_any-append}
+use Rattle.deb_version.proofs.Common.{◌≡◌, ℕ, suc, ◌+◌, ◌-◌, Bool, true, false, not, cond, ◌||◌, List, [], ◌∷◌, ◌++◌, length, take, drop, refl, sym, ap, ◌∙◌, reverse, arith, append_assoc, list_any, before_first, after_first, before_last, after_last, position_or_len, prefix_len, suffix_len, take_at, drop_at, reverse-append, length-append, length-reverse, length_push, list_any-append}
 
 -- where an `or` is false, so are its sides
 pub or_sides : (x y : Bool) → (x || y) ≡ false → (x ≡ false) × (y ≡ false)

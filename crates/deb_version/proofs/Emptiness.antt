@@ -1,7 +1,5 @@
 -- Whether a text is empty.
-use Rattle.std.proofs.Common.{◌≡◌, ◌≢◌, ℕ, ◌<◌, ◌==◌, true, List, [], ◌∷◌, ◌++◌, length, refl, arith}
-use Rattle.std.proofs.lemmas.Bool.{eqb-true}
-use Rattle.deb_version.specs.PartsLemmas.{cons_not_nil}
+use Rattle.deb_version.proofs.Common.{◌≡◌, ◌≢◌, ℕ, ◌<◌, ◌==◌, true, List, [], ◌∷◌, ◌++◌, length, refl, arith, eqb-true, cons_not_nil}
 
 pub nil_of_length : (text : List ℕ) → (length text == 0) ≡ true → text ≡ []
 nil_of_length [] e = refl

@@ -1,14 +1,6 @@
 -- Versions are equal in Debian's order exactly if they have one canonical text.
-use Rattle.std.proofs.Common.{◌≡◌, ◌↔◌, sym, ◌∙◌}
-use Rattle.std.specs.declared.cmp.Ordering.{Ordering}
-use Rattle.std.specs.declared.cmp.Ordering.TheVariants.{Equal}
-use Rattle.deb_version.specs.declared.version.Version.{Version}
-use Rattle.deb_version.specs.Order.{version_cmp}
-use Rattle.deb_version.specs.Canonical.{version_text}
-use Rattle.deb_version.specs.CanonicalLaws.{EqualVersionsHaveOneText}
-use Rattle.deb_version.specs.Version.{meaning_of}
+use Rattle.deb_version.proofs.Common.{◌≡◌, ◌↔◌, sym, ◌∙◌, Ordering, Equal, Version, version_cmp, version_text, EqualVersionsHaveOneText, meaning_of, HasTexts-from_spelled, version_same}
 use Rattle.deb_version.proofs.MeaningLemmas.{version_spelled}
-use Rattle.deb_version.specs.OrderLemmas.{HasTexts-from_spelled, version_same}
 use Rattle.deb_version.proofs.CanonicalTexts.{canonical_text_decides}
 
 pub equal_versions_have_one_text : EqualVersionsHaveOneText

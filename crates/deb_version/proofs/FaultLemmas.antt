@@ -1,14 +1,7 @@
 -- A text has no fault exactly where it spells a version, and which is its first.
-use Rattle.std.proofs.Common.{◌≡◌, ◌≢◌, ℕ, Bool, true, false, List, Option, Some, None, refl, sym, ap}
-use Rattle.std.specs.Option.{is_none, option_map}
-use Rattle.std.specs.List.{list_any}
-use Rattle.std.proofs.lemmas.Bool.{and_parts, and_from}
-use Rattle.deb_version.specs.declared.fault.BadVersion.TheVariants.{UpstreamByte, RevisionByte, EpochTooBig}
-use Rattle.deb_version.specs.Parts.{Meaning}
-use Rattle.deb_version.specs.Grammar.{SpellsVersion, is_empty, is_no_digit, first_of, epoch_faults, fault_of, is_cut_at_hyphen, meaning_of_components}
-use Rattle.deb_version.specs.GrammarLaws.{EpochHasAnySize}
-use Rattle.deb_version.specs.Places.{rest_in, components_in}
+use Rattle.deb_version.proofs.Common.{◌≡◌, ◌≢◌, ℕ, Bool, true, false, List, Option, Some, None, refl, sym, ap, is_none, option_map, list_any, and_parts, and_from, UpstreamByte, RevisionByte, EpochTooBig, Meaning, SpellsVersion, is_empty, is_no_digit, first_of, epoch_faults, fault_of, is_cut_at_hyphen, meaning_of_components, rest_in, components_in}
 use Rattle.deb_version.specs.Faults.{first_fault}
+use Rattle.deb_version.specs.GrammarLaws.{EpochHasAnySize}
 use Rattle.deb_version.proofs.AllowedLemmas.{by_tests, is_none-none}
 use Rattle.deb_version.proofs.ComponentsLemmas.{cut_at_hyphen, spelling-components_in}
 use Rattle.deb_version.proofs.MeaningLemmas.{spelled_components}

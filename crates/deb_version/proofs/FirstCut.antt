@@ -1,14 +1,8 @@
 -- The cuts of a component, from the left: a text without digits, a run of digits, and the cuts of what follows.
-use Rattle.std.proofs.Common.{◌≡◌, ◌≢◌, ℕ, ◌-◌, ◌≤◌, Bool, true, false, cond, not, List, [], ◌∷◌, ◌++◌, length, take, drop, position, unwrap_or, refl, sym, ap, ◌∙◌, inl, inr, IsTrue, IsFalse, arith}
-use Rattle.std.specs.Char.{is_ascii_digit}
-use Rattle.std.specs.List.{list_all, position_or_len}
-use Rattle.std.proofs.lemmas.Bool.{cases_Bool, true≢false}
-use Rattle.std.proofs.lemmas.List.{take-append-drop, length-drop}
-use Rattle.deb_version.specs.Parts.{Cut, AreCuts, HasNoDigit, IsDigits, with_digit, with_byte, cuts_of}
-use Rattle.deb_version.specs.Cuts.{cuts_after}
+use Rattle.deb_version.proofs.Common.{◌≡◌, ◌≢◌, ℕ, ◌-◌, ◌≤◌, Bool, true, false, cond, not, List, [], ◌∷◌, ◌++◌, length, take, drop, position, unwrap_or, refl, sym, ap, ◌∙◌, inl, inr, IsTrue, IsFalse, arith, is_ascii_digit, list_all, position_or_len, cases_Bool, true≢false, take-append-drop, Cut, AreCuts, HasNoDigit, IsDigits, with_digit, with_byte, cuts_of, cuts_after, AreCuts-cuts_of, cons_not_nil}
+use Rattle.std.proofs.lemmas.List.{length-drop}
 use Rattle.deb_version.proofs.FirstPlace.{StartsWith, before_place, first_place, from_place, place_here, place_later}
 use Rattle.deb_version.proofs.ByteLemmas.{all_pass-test}
-use Rattle.deb_version.specs.PartsLemmas.{AreCuts-cuts_of, cons_not_nil}
 
 -- a byte that isn't a digit
 abbrev pub is_other : ℕ → Bool

@@ -1,9 +1,5 @@
 -- What stands before the first element that passes a test, and at it.
-use Rattle.std.proofs.Common.{◌≡◌, suc, ◌+◌, Bool, true, false, cond, not, Some, None, List, [], ◌∷◌, length, take, drop, position, unwrap_or, nat_lt, ap, ◌∙◌, inl, inr, arith}
-use Rattle.std.specs.List.{AllByRecursion, position_or_len}
-use Rattle.std.proofs.lemmas.Bool.{cases_Bool}
-use Rattle.std.proofs.lemmas.Bool.Decides.{nat_tests}
-use Rattle.std.proofs.lemmas.List.Sums.{prefix_len-le-length}
+use Rattle.deb_version.proofs.Common.{◌≡◌, suc, ◌+◌, Bool, true, false, cond, not, Some, None, List, [], ◌∷◌, length, take, drop, position, unwrap_or, nat_lt, ap, ◌∙◌, inl, inr, arith, AllByRecursion, position_or_len, cases_Bool, nat_tests, prefix_len-le-length}
 
 -- the first place that passes, or the length: both readings of it
 pub first_place : {X : Type 0} (p : X → Bool) (xs : List X) → unwrap_or (position p xs) (length xs) ≡ position_or_len p xs

@@ -1,15 +1,8 @@
 -- Versions that are kept as their canonical text.
-use Rattle.std.proofs.Common.{◌≡◌, ℕ, List, None, sym, ap}
-use Rattle.deb_version.specs.Canonical.{version_text}
-use Rattle.deb_version.specs.Faults.{first_fault}
-use Rattle.deb_version.specs.Grammar.{SpellsVersion, spelling}
-use Rattle.deb_version.specs.Parts.{Meaning}
-use Rattle.deb_version.specs.Version.{components_of, meaning_of}
-use Rattle.deb_version.specs.declared.version.Version.{Version}
+use Rattle.deb_version.proofs.Common.{◌≡◌, ℕ, List, None, sym, ap, version_text, first_fault, SpellsVersion, spelling, Meaning, components_of, meaning_of, Version, version_in}
 use Rattle.deb_version.proofs.CanonicalTexts.{canonical_text_spells}
 use Rattle.deb_version.proofs.FaultLemmas.{no_fault-from_spells}
 use Rattle.deb_version.proofs.MeaningLemmas.{spelled_components, version_spelled}
-use Rattle.deb_version.specs.Places.{version_in}
 
 -- the version that a text spells is the one that stands in it
 pub version_in-spelled : (text : List ℕ) (m : Meaning) → SpellsVersion text m → version_in text ≡ m

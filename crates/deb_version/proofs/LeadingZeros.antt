@@ -1,9 +1,5 @@
 -- A run of digits without its leading zeros.
-use Rattle.std.proofs.Common.{◌≡◌, ◌≢◌, ℕ, ◌+◌, ◌-◌, ◌*◌, ◌==◌, Bool, true, false, cond, not, List, [], ◌∷◌, drop, refl, sym, ap, ◌∙◌, one-add}
-use Rattle.std.specs.List.{prefix_len}
-use Rattle.std.proofs.lemmas.Bool.{eqb-true, eqb-false, ne_eqb}
-use Rattle.std.proofs.lemmas.Bool.Decides.{Decides-eqb}
-use Rattle.deb_version.specs.Parts.{value_after, value_of}
+use Rattle.deb_version.proofs.Common.{◌≡◌, ◌≢◌, ℕ, ◌+◌, ◌-◌, ◌*◌, ◌==◌, Bool, true, false, cond, not, List, [], ◌∷◌, drop, refl, sym, ap, ◌∙◌, one-add, prefix_len, eqb-true, eqb-false, ne_eqb, Decides-eqb, value_after, value_of}
 use Rattle.deb_version.proofs.FirstPlace.{StartsWith}
 
 abbrev pub is_nonzero : ℕ → Bool

@@ -1,3 +1,4 @@
+mod Common
 pub mod CutLemmas
 pub mod ByteLemmas
 pub mod ComponentsLemmas

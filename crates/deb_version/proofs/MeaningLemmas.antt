@@ -1,10 +1,5 @@
 -- A text spells at most one version.
-use Rattle.std.proofs.Common.{◌≡◌, ℕ, List, IsTrue, refl, sym, ap, ◌∙◌, subst}
-use Rattle.deb_version.specs.declared.version.Version.{Version}
-use Rattle.deb_version.specs.Parts.{Meaning}
-use Rattle.deb_version.specs.Grammar.{SpellsVersion, spelling, are_components, meaning_of_components}
-use Rattle.deb_version.specs.Places.{components_in}
-use Rattle.deb_version.specs.Version.{components_of, meaning_of}
+use Rattle.deb_version.proofs.Common.{◌≡◌, ℕ, List, IsTrue, refl, sym, ap, ◌∙◌, subst, Version, Meaning, SpellsVersion, spelling, are_components, meaning_of_components, components_in, components_of, meaning_of}
 use Rattle.deb_version.proofs.ComponentsLemmas.{components_in-spelling}
 
 -- what a text spells, it spells by the components that stand in it

@@ -1,19 +1,8 @@
 -- The order of the values of runs of digits, read off the runs.
-use Rattle.std.proofs.Common.{◌≡◌, ◌≢◌, ℕ, zero, suc, ◌+◌, ◌-◌, ◌*◌, ◌<◌, ◌≤◌, List, [], ◌∷◌, ◌++◌, length, replicate, drop, inl, inr, refl, sym, ap, ◌∙◌, IsTrue, arith}
-use Rattle.std.specs.Char.{is_ascii_digit}
-use Rattle.std.specs.List.{list_all}
-use Rattle.std.specs.Ordering.{nat_cmp, ordering_reverse, ordering_then, MatchOrdering}
-use Rattle.std.specs.Cmp.{ranks, nat_cmp_is, nat_cmp_total}
-use Rattle.std.specs.Cmp.Lexicographic.{slice_cmp}
-use Rattle.std.specs.declared.cmp.Ordering.{Ordering}
-use Rattle.std.specs.declared.cmp.Ordering.TheVariants.{Less, Equal, Greater}
-use Rattle.std.proofs.lemmas.List.{length-append, length-replicate}
-use Rattle.std.proofs.lemmas.Bool.{cases_lt, true≢false}
-use Rattle.std.proofs.lemmas.Bool.Decides.{nat_tests}
+use Rattle.deb_version.proofs.Common.{◌≡◌, ◌≢◌, ℕ, zero, suc, ◌+◌, ◌-◌, ◌*◌, ◌<◌, ◌≤◌, List, [], ◌∷◌, ◌++◌, length, replicate, drop, inl, inr, refl, sym, ap, ◌∙◌, IsTrue, arith, is_ascii_digit, list_all, nat_cmp, ordering_reverse, ordering_then, MatchOrdering, ranks, nat_cmp_is, nat_cmp_total, slice_cmp, Ordering, Less, Equal, Greater, length-append, length-replicate, cases_lt, true≢false, nat_tests, IsDigits, value_after, value_of}
 use Rattle.deb_version.proofs.ByteLemmas.{all_pass-fact}
 use Rattle.deb_version.proofs.FirstPlace.{StartsWith}
 use Rattle.deb_version.proofs.LeadingZeros.{is_nonzero, without_zeros, value_of-without_zeros, without_zeros-starts}
-use Rattle.deb_version.specs.Parts.{IsDigits, value_after, value_of}
 
 -- two numbers with one more digit each
 nat_cmp-digit : (n m a b : ℕ) → a < 10 → b < 10 → nat_cmp (10 * n + a) (10 * m + b) ≡ ordering_then (nat_cmp n m) (nat_cmp a b)

@@ -1,9 +1,5 @@
 -- What the components that stand in a text without fault are: allowed, and those that spell it.
-use Rattle.std.proofs.Common.{◌≡◌, ◌<◌, ◌^◌, ℕ, List, Option, None, length, sym, ap, ◌∙◌, subst, true}
-use Rattle.deb_version.specs.declared.fault.BadVersion.{BadVersion}
-use Rattle.deb_version.specs.Parts.{Meaning}
-use Rattle.deb_version.specs.Grammar.{Components, SpellsVersion, spelling, meaning_of_components, are_components, fault_of}
-use Rattle.deb_version.specs.Places.{components_in}
+use Rattle.deb_version.proofs.Common.{◌≡◌, ◌<◌, ◌^◌, ℕ, List, Option, None, length, sym, ap, ◌∙◌, subst, true, BadVersion, Meaning, Components, SpellsVersion, spelling, meaning_of_components, are_components, fault_of, components_in}
 use Rattle.deb_version.specs.Faults.{first_fault}
 use Rattle.deb_version.proofs.ComponentsLemmas.{spelling-components_in}
 use Rattle.deb_version.proofs.FaultLemmas.{spells-from_no_fault}

@@ -1,6 +1,5 @@
 -- The value of a run of digits, as a loop computes it.
-use Rattle.std.proofs.Common.{ℕ, ◌+◌, ◌-◌, ◌*◌, ◌≤◌, List, [], ◌∷◌, arith}
-use Rattle.deb_version.specs.Parts.{value_after}
+use Rattle.deb_version.proofs.Common.{ℕ, ◌+◌, ◌-◌, ◌*◌, ◌≤◌, List, [], ◌∷◌, arith, value_after}
 
 -- more digits make no smaller value
 pub value_after-le : (n : ℕ) (digits : List ℕ) → n ≤ value_after n digits

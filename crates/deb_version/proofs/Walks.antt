@@ -1,14 +1,6 @@
 -- One step of a walk over the cuts of a component, or of two components at once.
-use Rattle.std.proofs.Common.{◌≡◌, ◌≢◌, ℕ, List, [], ◌∷◌, true, false, refl, ap, ◌∙◌}
+use Rattle.deb_version.proofs.Common.{◌≡◌, ◌≢◌, ℕ, List, [], ◌∷◌, true, false, refl, ap, ◌∙◌, is_ne, ordering_then, Ordering, Less, Equal, Greater, digits_of, cuts_after, component_writes, component_cmp, empty_part, part_cmp, Cut, Part, cuts_of, part_of, parts_of, parts_of_cuts, value_of}
 use Rattle.std.specs.Hash as fed
-use Rattle.std.specs.Ordering.{is_ne, ordering_then}
-use Rattle.std.specs.declared.cmp.Ordering.{Ordering}
-use Rattle.std.specs.declared.cmp.Ordering.TheVariants.{Less, Equal, Greater}
-use Rattle.deb_version.specs.Canonical.{digits_of}
-use Rattle.deb_version.specs.Cuts.{cuts_after}
-use Rattle.deb_version.specs.Hashes.{component_writes}
-use Rattle.deb_version.specs.Order.{component_cmp, empty_part, part_cmp}
-use Rattle.deb_version.specs.Parts.{Cut, Part, cuts_of, part_of, parts_of, parts_of_cuts, value_of}
 
 -- no parts compare as one empty part
 left_end : (ps : List Part) → component_cmp [] ps ≡ component_cmp (empty_part ∷ []) ps

@@ -1,6 +1,4 @@
-use Rattle.std.proofs.Common.{◌≡◌, ◌++◌, length}
-use Rattle.deb_version.specs.Parts.{parts_of}
-use Rattle.deb_version.specs.Canonical.{component_text, Extends}
+use Rattle.deb_version.proofs.Common.{◌≡◌, ◌++◌, length, parts_of, component_text, Extends}
 use Rattle.deb_version.proofs.canonical.append_component.Given as goal
 
 abbrev pub invariant-loop-out : goal.invariant-loop-out

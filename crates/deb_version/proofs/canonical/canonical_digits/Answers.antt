@@ -1,7 +1,5 @@
 -- The digits that are left are written, and else nothing or one zero.
-use Rattle.std.proofs.Common.{sym, ◌∙◌, inl, inr}
-use Rattle.std.specs.Char.{is_ascii_digit}
-use Rattle.deb_version.specs.Cuts.{cut_of}
+use Rattle.deb_version.proofs.Common.{sym, ◌∙◌, inl, inr, is_ascii_digit, cut_of}
 use Rattle.deb_version.proofs.ByteLemmas.{all_pass-fact}
 use Rattle.deb_version.proofs.CanonicalCuts.{number_written, number_left_out, number_zero}
 use Rattle.deb_version.proofs.canonical.canonical_digits.Goals as goal

@@ -1,8 +1,4 @@
-use Rattle.std.proofs.Common.{◌+◌, ◌≤◌, ◌==◌, ◌++◌, ◌∙◌, length, ap, arith}
-use Rattle.std.proofs.lemmas.List.{length-append}
-use Rattle.deb_version.specs.Cuts.{cut_of}
-use Rattle.deb_version.specs.Parts.{parts_of}
-use Rattle.deb_version.specs.PartsLemmas.{has_parts}
+use Rattle.deb_version.proofs.Common.{◌+◌, ◌≤◌, ◌==◌, ◌++◌, ◌∙◌, length, ap, arith, length-append, cut_of, parts_of, has_parts}
 use Rattle.deb_version.proofs.CanonicalComponent.{length-component_text}
 use Rattle.deb_version.proofs.CanonicalCuts.{number_text, rest_text, component_text-first}
 use Rattle.deb_version.proofs.canonical.component_len.Goals as goal

@@ -1,8 +1,5 @@
 -- Where the number of each cut is spelled as in canonical text, the component is.
-use Rattle.std.proofs.Common.{◌≡◌, ◌∙◌, ap, sym}
-use Rattle.deb_version.specs.Cuts.{cut_of}
-use Rattle.deb_version.specs.Parts.{parts_of}
-use Rattle.deb_version.specs.Canonical.{component_text}
+use Rattle.deb_version.proofs.Common.{◌≡◌, ◌∙◌, ap, sym, cut_of, parts_of, component_text}
 use Rattle.deb_version.proofs.CanonicalCuts.{number_text, rest_text, rest_text-none, rest_text-some, component_text-itself}
 use Rattle.deb_version.proofs.canonical.is_canonical.Goals as goal
 use Rattle.deb_version.proofs.canonical.is_canonical.Goals.{Else-not-has_canonical_digits}

@@ -1,6 +1,4 @@
-use Rattle.std.proofs.Common.{◌≡◌, length}
-use Rattle.deb_version.specs.Parts.{parts_of}
-use Rattle.deb_version.specs.Canonical.{component_text}
+use Rattle.deb_version.proofs.Common.{◌≡◌, length, parts_of, component_text}
 use Rattle.deb_version.proofs.canonical.is_canonical.Given as goal
 
 -- the component is its own canonical text if what is left of it is

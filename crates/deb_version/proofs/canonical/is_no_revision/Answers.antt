@@ -1,4 +1,4 @@
-use Rattle.std.proofs.Common.{◌==◌, ◌∙◌, ap, length, sym}
+use Rattle.deb_version.proofs.Common.{◌==◌, ◌∙◌, ap, length, sym}
 use Rattle.deb_version.proofs.CanonicalCuts.{is_no_revision-parts_of}
 use Rattle.deb_version.proofs.canonical.is_no_revision.Goals as goal
 

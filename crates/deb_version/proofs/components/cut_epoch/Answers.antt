@@ -1,5 +1,4 @@
-use Rattle.std.proofs.Common.{rules, sym, ◌∙◌, ◌+◌}
-use Rattle.std.proofs.lemmas.List.{take_rest}
+use Rattle.deb_version.proofs.Common.{rules, sym, ◌∙◌, ◌+◌, take_rest}
 use Rattle.deb_version.proofs.ComponentsLemmas.{epoch_at_colon, epoch_at_none}
 use Rattle.deb_version.proofs.components.cut_epoch.Goals as goal
 

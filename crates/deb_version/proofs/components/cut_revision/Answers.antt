@@ -1,5 +1,4 @@
-use Rattle.std.proofs.Common.{rules, sym, ◌∙◌, ap, ◌+◌, Some}
-use Rattle.std.proofs.lemmas.List.{take_rest}
+use Rattle.deb_version.proofs.Common.{rules, sym, ◌∙◌, ap, ◌+◌, Some, take_rest}
 use Rattle.deb_version.proofs.ComponentsLemmas.{revision_at_hyphen, revision_at_none}
 use Rattle.deb_version.proofs.components.cut_revision.Goals as goal
 

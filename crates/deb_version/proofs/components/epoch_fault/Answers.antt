@@ -1,5 +1,4 @@
-use Rattle.std.proofs.Common.{rules, option_copied, ap}
-use Rattle.std.specs.Char.{is_ascii_digit}
+use Rattle.deb_version.proofs.Common.{rules, option_copied, ap, is_ascii_digit}
 use Rattle.deb_version.proofs.ByteLemmas.{none_fails-all}
 use Rattle.deb_version.proofs.FaultLemmas.{epoch_allowed}
 use Rattle.deb_version.proofs.components.epoch_fault.Goals as goal

@@ -1,7 +1,5 @@
 -- What is fed so far, and then what is left, is what the component feeds.
-use Rattle.std.proofs.Common.{◌≡◌, fold, length}
-use Rattle.deb_version.specs.Hashes.{component_writes}
-use Rattle.deb_version.specs.Parts.{parts_of}
+use Rattle.deb_version.proofs.Common.{◌≡◌, fold, length, component_writes, parts_of}
 use Rattle.deb_version.proofs.hash.hash_component.Given as goal
 
 abbrev pub invariant-loop-after : goal.invariant-loop-after

@@ -1,6 +1,5 @@
 -- What holds of each total order.
-use Rattle.std.specs.Cmp.{alike_right}
-use Rattle.deb_version.specs.OrderLemmas.{version_total}
+use Rattle.deb_version.proofs.Common.{alike_right, version_total}
 use Rattle.deb_version.proofs.laws.equal_versions_compare_alike.Goals as goal
 
 pub returns : goal.returns

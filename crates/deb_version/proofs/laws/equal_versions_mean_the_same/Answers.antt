@@ -1,5 +1,5 @@
 -- The parts of a text are told by their order.
-use Rattle.deb_version.specs.OrderLemmas.{HasTexts-from_spelled, version_same}
+use Rattle.deb_version.proofs.Common.{HasTexts-from_spelled, version_same}
 use Rattle.deb_version.proofs.laws.equal_versions_mean_the_same.Goals as goal
 
 pub returns : goal.returns

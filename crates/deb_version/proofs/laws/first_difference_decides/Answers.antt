@@ -1,5 +1,5 @@
 -- The ranks decide at the first difference.
-use Rattle.deb_version.specs.OrderLemmas.{first_difference}
+use Rattle.deb_version.proofs.Common.{first_difference}
 use Rattle.deb_version.proofs.laws.first_difference_decides.Goals as goal
 
 pub returns : goal.returns

@@ -1,6 +1,4 @@
-use Rattle.std.proofs.Common.{subst, sym}
-use Rattle.deb_version.specs.Parts.{HasParts}
-use Rattle.deb_version.specs.PartsLemmas.{has_parts, one_parts}
+use Rattle.deb_version.proofs.Common.{subst, sym, HasParts, has_parts, one_parts}
 use Rattle.deb_version.proofs.laws.has_one_list_of_parts.Goals as goal
 
 pub returns : goal.returns

@@ -1,5 +1,5 @@
 -- What holds of each total order.
-use Rattle.deb_version.specs.OrderLemmas.{le_total, version_total}
+use Rattle.deb_version.proofs.Common.{le_total, version_total}
 use Rattle.deb_version.proofs.laws.order_is_total.Goals as goal
 
 pub returns : goal.returns

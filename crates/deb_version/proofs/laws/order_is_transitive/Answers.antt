@@ -1,5 +1,5 @@
 -- What holds of each total order.
-use Rattle.deb_version.specs.OrderLemmas.{equal_trans, ge_trans, le_trans, version_total}
+use Rattle.deb_version.proofs.Common.{equal_trans, ge_trans, le_trans, version_total}
 use Rattle.deb_version.proofs.laws.order_is_transitive.Goals as goal
 
 pub returns : goal.returns

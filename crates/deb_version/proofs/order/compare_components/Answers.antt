@@ -1,8 +1,5 @@
 -- One text compares with itself as equal; of two, what both begin with doesn't decide.
-use Rattle.std.proofs.Common.{◌≡◌, ◌-◌, sym, ◌∙◌, length, take, drop, arith, length-drop, length-take}
-use Rattle.std.proofs.lemmas.List.{take_all}
-use Rattle.deb_version.specs.Order.{component_cmp}
-use Rattle.deb_version.specs.Parts.{parts_of}
+use Rattle.deb_version.proofs.Common.{◌≡◌, ◌-◌, sym, ◌∙◌, length, take, drop, arith, length-drop, length-take, take_all, component_cmp, parts_of}
 use Rattle.deb_version.proofs.CommonFront.{component_itself, front_passes}
 use Rattle.deb_version.proofs.order.compare_components.Goals as goal
 

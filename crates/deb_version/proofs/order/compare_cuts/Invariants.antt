@@ -1,7 +1,5 @@
 -- The components compare as what is left of them.
-use Rattle.std.proofs.Common.{◌≡◌, ◌+◌, length}
-use Rattle.deb_version.specs.Order.{component_cmp}
-use Rattle.deb_version.specs.Parts.{parts_of}
+use Rattle.deb_version.proofs.Common.{◌≡◌, ◌+◌, length, component_cmp, parts_of}
 use Rattle.deb_version.proofs.order.compare_cuts.Given as goal
 
 abbrev pub invariant-loop-after_a : goal.invariant-loop-after_a

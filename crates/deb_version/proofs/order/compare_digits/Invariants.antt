@@ -1,7 +1,5 @@
 -- The runs compare as what is left of them from the place on.
-use Rattle.std.proofs.Common.{◌≡◌, drop}
-use Rattle.std.specs.Ordering.{nat_cmp}
-use Rattle.std.specs.Cmp.Lexicographic.{slice_cmp}
+use Rattle.deb_version.proofs.Common.{◌≡◌, drop, nat_cmp, slice_cmp}
 use Rattle.deb_version.proofs.order.compare_digits.Given as goal
 
 abbrev pub invariant-loop-place : goal.invariant-loop-place

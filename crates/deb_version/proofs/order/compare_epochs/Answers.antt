@@ -1,12 +1,7 @@
 -- One epoch compares with itself as equal.
-use Rattle.std.proofs.Common.{◌≡◌, ℕ, Option, Some, None, List, Bor, Equal, nat_cmp, nat_eq, true, refl, sym, ap, ◌∙◌}
-use Rattle.std.specs.Cmp.{nat_cmp_total, tied_itself}
-use Rattle.std.specs.Cmp.Lexicographic.{pointwise, same_text}
-use Rattle.std.specs.Option.{option_copied, option_eq}
-use Rattle.std.specs.Char.{is_ascii_digit}
-use Rattle.std.specs.List.{list_all}
-use Rattle.deb_version.specs.Grammar.{epoch_value}
-use Rattle.deb_version.specs.Parts.{value_of}
+use Rattle.deb_version.proofs.Common.{◌≡◌, ℕ, Option, Some, None, List, Bor, nat_eq, true, refl, sym, ap, ◌∙◌, nat_cmp_total, tied_itself, pointwise, same_text, option_eq, is_ascii_digit, list_all, epoch_value, value_of}
+use Rattle.std.proofs.Common.{Equal, nat_cmp}
+use Rattle.std.specs.Option.{option_copied}
 use Rattle.deb_version.proofs.AllowedLemmas.{epoch_digits}
 use Rattle.deb_version.proofs.order.compare_epochs.Goals as goal
 

@@ -1,8 +1,6 @@
 -- Without leading zeros the longer run is greater, and at one length the digits decide.
-use Rattle.std.proofs.Common.{◌≡◌, ◌∙◌, length, sym, rules}
+use Rattle.deb_version.proofs.Common.{◌≡◌, ◌∙◌, length, sym, rules, nat_cmp, slice_cmp}
 use Rattle.std.specs.FinMap.{nat_cmp-IsAntisymmetric}
-use Rattle.std.specs.Ordering.{nat_cmp}
-use Rattle.std.specs.Cmp.Lexicographic.{slice_cmp}
 use Rattle.deb_version.proofs.NumberOrder.{value_of-order-at}
 use Rattle.deb_version.proofs.Walks.{not_ne, then-ne, then-eq}
 use Rattle.deb_version.proofs.order.compare_runs.Goals as goal

@@ -1,7 +1,5 @@
 -- The texts compare as what is left of them from the place on.
-use Rattle.std.proofs.Common.{◌≡◌, drop, map}
-use Rattle.std.specs.Ordering.{nat_cmp}
-use Rattle.deb_version.specs.Order.{continued_cmp, end_rank, rank_of, text_cmp}
+use Rattle.deb_version.proofs.Common.{◌≡◌, drop, map, nat_cmp, continued_cmp, end_rank, rank_of, text_cmp}
 use Rattle.deb_version.proofs.order.compare_texts.Given as goal
 
 abbrev pub invariant-loop-place : goal.invariant-loop-place

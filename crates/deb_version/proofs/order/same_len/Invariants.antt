@@ -1,5 +1,5 @@
 -- What stands before the place is the same.
-use Rattle.std.proofs.Common.{◌≡◌, take}
+use Rattle.deb_version.proofs.Common.{◌≡◌, take}
 use Rattle.deb_version.proofs.order.same_len.Given as goal
 
 abbrev pub invariant-loop-place : goal.invariant-loop-place

@@ -1,6 +1,4 @@
-use Rattle.std.proofs.Common.{◌≡◌}
-use Rattle.deb_version.specs.Canonical.{version_text}
-use Rattle.deb_version.specs.Version.{meaning_of}
+use Rattle.deb_version.proofs.Common.{◌≡◌, version_text, meaning_of}
 use Rattle.deb_version.proofs.KeptVersions.{kept-faultless, kept-version, kept-canonical}
 use Rattle.deb_version.proofs.canonical_version.CanonicalVersion.of.Goals as goal
 

@@ -1,5 +1,5 @@
 -- The first cut is a text up to the first digit, and a run up to the next byte that is no digit.
-use Rattle.std.proofs.Common.{◌∙◌, ap, length, unwrap_or}
+use Rattle.deb_version.proofs.Common.{◌∙◌, ap, length, unwrap_or}
 use Rattle.deb_version.proofs.FirstCut.{IsFirstCut, first_cut}
 use Rattle.deb_version.proofs.cut.Cut.first.Goals as goal
 

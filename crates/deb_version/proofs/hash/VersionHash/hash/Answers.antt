@@ -1,7 +1,5 @@
 -- The epoch is a run of digits.
-use Rattle.std.proofs.Common.{ap, ◌∙◌, refl}
-use Rattle.std.specs.Char.{is_ascii_digit}
-use Rattle.std.specs.List.{list_all}
+use Rattle.deb_version.proofs.Common.{ap, ◌∙◌, refl, is_ascii_digit, list_all}
 use Rattle.deb_version.proofs.AllowedLemmas.{epoch_digits}
 use Rattle.deb_version.proofs.hash.VersionHash.hash.Goals as goal
 

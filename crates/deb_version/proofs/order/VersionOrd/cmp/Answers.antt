@@ -1,5 +1,5 @@
 -- Each answer is the order of the versions, and so tells whether their canonical texts are one.
-use Rattle.std.proofs.Common.{rules}
+use Rattle.deb_version.proofs.Common.{rules}
 use Rattle.deb_version.proofs.EqualTexts.{equal_where_one_text}
 use Rattle.deb_version.proofs.order.VersionOrd.cmp.Goals as goal
 

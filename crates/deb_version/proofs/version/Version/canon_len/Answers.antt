@@ -1,8 +1,4 @@
-use Rattle.std.proofs.Common.{◌≡◌, ◌+◌, [], ◌∷◌, length, ap, arith}
-use Rattle.std.proofs.lemmas.List.{length-append}
-use Rattle.deb_version.specs.Grammar.{epoch_text, revision_text}
-use Rattle.deb_version.specs.Canonical.{canonical_epoch}
-use Rattle.deb_version.specs.Version.{components_of, meaning_of}
+use Rattle.deb_version.proofs.Common.{◌≡◌, ◌+◌, [], ◌∷◌, length, ap, arith, length-append, epoch_text, revision_text, canonical_epoch, components_of, meaning_of}
 use Rattle.deb_version.proofs.CanonicalFits.{canonical_fits, length-canonical, length-version_text}
 use Rattle.deb_version.proofs.version.Version.canon_len.Goals as goal
 use Rattle.deb_version.proofs.version.Version.canon_len.Goals.{After-written_revision, in-Some, in_default}

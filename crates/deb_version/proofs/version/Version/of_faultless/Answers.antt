@@ -1,4 +1,4 @@
-use Rattle.std.proofs.Common.{arith}
+use Rattle.deb_version.proofs.Common.{arith}
 use Rattle.deb_version.proofs.ParseLemmas.{allowed, short_spelling}
 use Rattle.deb_version.proofs.version.Version.of_faultless.Goals as goal
 

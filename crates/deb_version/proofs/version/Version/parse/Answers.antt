@@ -1,4 +1,4 @@
-use Rattle.std.proofs.Common.{sym, ◌∙◌, Some, None, arith, refl}
+use Rattle.deb_version.proofs.Common.{sym, ◌∙◌, Some, None, arith, refl}
 use Rattle.deb_version.proofs.FaultLemmas.{no_fault-from_spells}
 use Rattle.deb_version.proofs.ParseLemmas.{fault_is, allowed, short_spelling, spelling_is, spells, meaning_is}
 use Rattle.deb_version.proofs.version.Version.parse.Goals as goal

@@ -1,5 +1,4 @@
-use Rattle.std.proofs.Common.{◌≡◌, ap, refl, sym, ◌∙◌}
-use Rattle.deb_version.specs.Version.{components_of}
+use Rattle.deb_version.proofs.Common.{◌≡◌, ap, refl, sym, ◌∙◌, components_of}
 use Rattle.deb_version.proofs.LeadingZeros.{without_zeros}
 use Rattle.deb_version.proofs.CanonicalWritten.{or_zero, or_zero-now, epoch_written, epoch_for_colon, epoch_left_out}
 use Rattle.deb_version.proofs.version.Version.written_epoch.Goals as goal

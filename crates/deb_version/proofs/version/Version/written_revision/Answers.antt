@@ -1,5 +1,4 @@
-use Rattle.std.proofs.Common.{◌≡◌, ap, refl, sym, ◌∙◌}
-use Rattle.deb_version.specs.Version.{components_of}
+use Rattle.deb_version.proofs.Common.{◌≡◌, ap, refl, sym, ◌∙◌, components_of}
 use Rattle.deb_version.proofs.CanonicalWritten.{or_zero, or_zero-now, revision_left_out, revision_for_hyphen, revision_written}
 use Rattle.deb_version.proofs.version.Version.written_revision.Goals as goal
 use Rattle.deb_version.proofs.version.Version.written_revision.Goals.{After-is_no_revision, else-is_no_revision-via-then-is_no_revision+else-not-contains, else-is_no_revision-via-else-is_no_revision}
