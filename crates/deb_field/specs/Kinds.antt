@@ -21,7 +21,7 @@ takes_alternatives Depends = true
 takes_alternatives Conflicts = false
 takes_alternatives Provides = false
 
--- where a bound may have an operator other than `=` (7.1, 7.5)
+-- where a bound may have an operator other than `=` (7.1)
 abbrev pub takes_all_operators : Relationship → Bool
 takes_all_operators Depends = true
 takes_all_operators Conflicts = true

@@ -1,5 +1,5 @@
 -- Relationship fields: which relations their bodies spell, and why a body is refused. Debian Policy
--- 7.1 (alternatives), 7.5 (operators in Provides); the order of the refusals is this project's own.
+-- 7.1 (alternatives, operators in Provides); the order of the refusals is this project's own.
 use Rattle.std.specs.Prelude.{ℕ, ◌||◌, not, Bool, cond, List, Option, Some, Result, Ok, Err, IsTrue}
 use Rattle.deb_base.specs.declared.code.Code.{Code}
 use Rattle.deb_base.specs.declared.code.Code.TheVariants.{BadRelation, AlternativesNotAllowed, ProvidesBound}
