@@ -145,7 +145,7 @@ def is_asked_again(case: Case, fault: Fault, record):
     but not with one that goes past the buffer, or where there is none."""
     if fault.error != errno.EINTR or not record.get("met"):
         return False
-    is_again = case.is_job and record["asked_after_failure"] == 1
+    is_again = case.is_job and record["asked_after_failure"] >= 1
     return fault.calls == "open" or (fault.calls == "write" and is_again)
 
 
