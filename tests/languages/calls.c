@@ -154,7 +154,7 @@ static void try_explanations(void) {
         {DEB_ANY, bad, DEB_YES, 0, 0, 1, "ok 1\n"},
         {DEB_PACKAGES, bad, DEB_REFUSED, DEB_BAD_NUMBER, 4, 0,
          "line: 4\ncode: 15\nname: BadNumber\nfield: Size\nvalue: 1k\n"
-         "rule: The value is one or more decimal digits (Debian Policy 5.6.20).\n"
+         "rule: Installed-Size (Debian Policy 5.6.20) and Size are one or more decimal digits.\n"
          "usually: a unit behind the number\n"},
         {DEB_BINARY, NULL, DEB_REFUSED, DEB_NO_PARAGRAPH, 1, 0,
          "line: 1\ncode: 10\nname: NoParagraph\n"
