@@ -28,7 +28,7 @@ static void *run(void *wrong) {
         *(int *)wrong += deb_explain(DEB_PACKAGES, bytes(bad), strlen(bad), out, sizeof out,
                                      &length)
                                  .line != 2 ||
-                         memcmp(out, "line: 2\ncode: 18\nname: BadVersion\n", 35);
+                         memcmp(out, "line: 2\ncode: 18\nname: BadVersion\n", 34);
         *(int *)wrong += deb_query(bytes("amd64"), 5, NULL, 0, bytes("hello"), 5, text, size, out,
                                    sizeof out, &length)
                                  .status != DEB_YES ||
