@@ -160,7 +160,12 @@ fn want_of_memory_in_an_architecture(rt: HostRuntime) {
 
 #[test]
 fn want_of_memory_in_a_list_of_architectures(rt: HostRuntime) {
-    let row = Row(Doc::Source, "Architecture", "any \t all\n\ti386", "any all i386");
+    let row = Row(
+        Doc::Source,
+        "Architecture",
+        "any \t all\n\ti386",
+        "any all i386",
+    );
     assert!(rt; each_or_none(rt.alloc(), row) == Some(true));
 }
 
@@ -190,7 +195,12 @@ fn want_of_memory_in_a_line(rt: HostRuntime) {
 
 #[test]
 fn want_of_memory_in_a_folded_list(rt: HostRuntime) {
-    let row = Row(Doc::Source, "Binary", "\n aa,\n\tbbbbbbbbb", "aa, bbbbbbbbb");
+    let row = Row(
+        Doc::Source,
+        "Binary",
+        "\n aa,\n\tbbbbbbbbb",
+        "aa, bbbbbbbbb",
+    );
     assert!(rt; each_or_none(rt.alloc(), row) == Some(true));
 }
 
