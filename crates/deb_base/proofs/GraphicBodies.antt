@@ -6,6 +6,7 @@ use Rattle.std.specs.List.{AllByRecursion}
 use Rattle.std.specs.Str.{IsUtf8}
 use Rattle.deb_base.specs.Bodies.{newline, pieces_of, is_blank_byte, HasNoNewline}
 use Rattle.deb_base.specs.Bodies.{begins_with_blank, ends_with_blank}
+use Rattle.deb_base.proofs.AllElements.{All-weaker}
 use Rattle.deb_base.proofs.LaterPieces.{later_pieces-append}
 use Rattle.deb_base.proofs.FieldBytes.{IsUtf8-with_all_ascii}
 use Rattle.deb_base.specs.Bodies.{IsBody}
@@ -16,14 +17,17 @@ IsGraphic b = (33 ≤ b) × (b < 127)
 pub not_blank : (b : ℕ) → IsGraphic b → is_blank_byte b ≡ false
 not_blank b h = grind (arith, nat_tests)
 
-not_newline : (b : ℕ) → IsGraphic b → (b == newline) ≡ false
-not_newline b h = grind (arith, nat_tests)
+-- graphic, or a space
+abbrev pub IsPlain : ℕ → Type 0
+IsPlain b = (32 ≤ b) × (b < 127)
 
-pub each : {X : Type 0} (P Q : X → Type 0) → ((x : X) → P x → Q x) → (xs : List X) → AllByRecursion P xs → AllByRecursion Q xs
-each P Q f [] h = tt
-each P Q f (x ∷ xs) h = (f x h.0, each P Q f xs h.1)
+pub graphic_plain : (b : ℕ) → IsGraphic b → IsPlain b
+graphic_plain b h = (omega (arith, h.0), h.1)
 
-begins : (text : List ℕ) → AllByRecursion IsGraphic text → begins_with_blank text ≡ false
+plain_newline : (b : ℕ) → IsPlain b → (b == newline) ≡ false
+plain_newline b h = grind (arith, nat_tests)
+
+pub begins : (text : List ℕ) → AllByRecursion IsGraphic text → begins_with_blank text ≡ false
 begins [] h = refl
 begins (b ∷ bs) h = not_blank b h.0
 
@@ -39,7 +43,11 @@ one_piece text h = ap (λ t. drop 1 (pieces_of t)) (sym (append-nil text)) ∙ l
 pub IsBody-line : (text : List ℕ) → HasNoNewline text → begins_with_blank text ≡ false → ends_with_blank text ≡ false → IsUtf8 text → IsBody text
 IsBody-line text line begins_not ends_not utf8 = record { shape = rw (begins_not, ends_not, one_piece text line) refl; text = utf8 }
 
+-- a text of plain bytes that neither begins nor ends with a blank
+pub IsBody-plain : (text : List ℕ) → AllByRecursion IsPlain text → begins_with_blank text ≡ false → ends_with_blank text ≡ false → IsBody text
+IsBody-plain text plain begins_not ends_not =
+    IsBody-line text (All-weaker IsPlain (λ b. (b == newline) ≡ false) plain_newline text plain) begins_not ends_not
+    (subst IsUtf8 (append-nil text) (IsUtf8-with_all_ascii text [] (All-weaker IsPlain (λ b. b < 128) (λ b h. omega (arith, h.1)) text plain) IsUtf8-nil))
+
 pub IsBody-graphic : (text : List ℕ) → AllByRecursion IsGraphic text → IsBody text
-IsBody-graphic text h =
-    IsBody-line text (each IsGraphic (λ b. (b == newline) ≡ false) not_newline text h) (begins text h) (ends text h)
-    (subst IsUtf8 (append-nil text) (IsUtf8-with_all_ascii text [] (each IsGraphic (λ b. b < 128) (λ b g. omega (arith, g.1)) text h) IsUtf8-nil))
+IsBody-graphic text h = IsBody-plain text (All-weaker IsGraphic IsPlain graphic_plain text h) (begins text h) (ends text h)

@@ -1,7 +1,9 @@
+pub mod AllElements
 pub mod BodyLemmas
 pub mod CanonicalNames
 pub mod FieldBytes
 pub mod GraphicBodies
+pub mod GraphicNames
 pub mod LaterPieces
 pub mod TextLines
 pub mod Trims

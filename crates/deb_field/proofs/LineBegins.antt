@@ -19,7 +19,7 @@ use Rattle.deb_field.specs.LineBegins.{begins_with_newline}
 use Rattle.deb_field.specs.OneLine.{holds_newline, line_refusal, refusal_unless}
 use Rattle.deb_field.specs.OneLineLaws.{graphic_no_newline, line_refusal-parts}
 use Rattle.deb_field.specs.RelationSpelled.{relation_meaning, relation_spelled}
-use Rattle.deb_field.specs.TextLaws.{package_name_graphic}
+use Rattle.deb_base.proofs.GraphicNames.{package_name_graphic}
 use Rattle.deb_field.specs.ValueLaws.{kind_law, kind_refusals}
 use Rattle.deb_field.specs.ValueMeanings.{kind_of_value, value_meaning, value_spelled}
 use Rattle.deb_field.specs.Values.{value_text, kind_refusal}

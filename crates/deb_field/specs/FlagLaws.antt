@@ -1,6 +1,6 @@
 -- The laws for the words of Essential and of Multi-Arch.
-use Rattle.std.proofs.Common.{◌≡◌, ℕ, ◌*◌, ◌≤◌, ◌||◌, Bool, true, false, List, length, None, codes, refl, sym, ap, ◌∙◌, subst, arith, inl, inr, ◌⊎◌}
-use Rattle.std.proofs.lemmas.Bool.{false≢true, true≢false}
+use Rattle.std.proofs.Common.{◌≡◌, ℕ, ◌*◌, ◌≤◌, true, List, length, None, codes, refl, sym, ap, ◌∙◌, subst, arith, inl, inr}
+use Rattle.std.proofs.lemmas.Bool.{false≢true, true≢false, or_cases}
 use Rattle.std.proofs.lemmas.Slice.Eq.{bytes_eq-Decides}
 use Rattle.std.specs.Str.{bytes_eq}
 use Rattle.deb_base.specs.Bodies.{IsBody}
@@ -61,14 +61,9 @@ flag_law = word_law Flag flag_text one_flag
 pub multi_arch_law : CanonLaw MultiArch SpellsMultiArch multi_arch_text
 multi_arch_law = word_law MultiArch multi_arch_text one_multi_arch
 
--- of tests of which one passes
-either : (a b : Bool) → (a || b) ≡ true → (a ≡ true) ⊎ (b ≡ true)
-either true b h = inl refl
-either false b h = inr h
-
 spells_flag : (body : List ℕ) → is_flag body ≡ true → (m : Flag) × SpellsFlag body m
 spells_flag body h =
-    elim (either (bytes_eq body (codes "yes")) (bytes_eq body (codes "no")) h) [
+    elim (or_cases (bytes_eq body (codes "yes")) (bytes_eq body (codes "no")) h) [
       | inl e ↦ (flags.Yes, (bytes_eq-Decides body (codes "yes")).0 e)
       | inr e ↦ (flags.No, (bytes_eq-Decides body (codes "no")).0 e)
     ]
@@ -76,11 +71,11 @@ spells_flag body h =
 spells_multi_arch : (body : List ℕ) → is_multi_arch body ≡ true
     → (m : MultiArch) × SpellsMultiArch body m
 spells_multi_arch body h =
-    elim (either _ (bytes_eq body (codes "allowed")) h) [
+    elim (or_cases _ (bytes_eq body (codes "allowed")) h) [
       | inr e ↦ (multi_archs.Allowed, (bytes_eq-Decides body (codes "allowed")).0 e)
-      | inl f ↦ elim (either _ (bytes_eq body (codes "foreign")) f) [
+      | inl f ↦ elim (or_cases _ (bytes_eq body (codes "foreign")) f) [
         | inr e ↦ (multi_archs.Foreign, (bytes_eq-Decides body (codes "foreign")).0 e)
-        | inl g ↦ elim (either (bytes_eq body (codes "no")) (bytes_eq body (codes "same")) g) [
+        | inl g ↦ elim (or_cases (bytes_eq body (codes "no")) (bytes_eq body (codes "same")) g) [
           | inl e ↦ (multi_archs.No, (bytes_eq-Decides body (codes "no")).0 e)
           | inr e ↦ (multi_archs.Same, (bytes_eq-Decides body (codes "same")).0 e)
         ]

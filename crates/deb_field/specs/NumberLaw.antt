@@ -12,7 +12,8 @@ use Rattle.deb_field.specs.CanonLaw.{CanonLaw, RefusalLaw}
 use Rattle.deb_field.specs.OneLine.{refusal_unless}
 use Rattle.deb_field.specs.OneLineLaws.{one_line-graphic, passes-from_none, none-from_passes, line_refusal-parts, line_refusal-from}
 use Rattle.deb_field.specs.Numbers.{SpellsNumber, are_digits, number_refusal}
-use Rattle.deb_base.proofs.GraphicBodies.{IsGraphic, each, IsBody-graphic}
+use Rattle.deb_base.proofs.AllElements.{All-weaker}
+use Rattle.deb_base.proofs.GraphicBodies.{IsGraphic, IsBody-graphic}
 
 pub graphic_digit : (b : ℕ) → IsTrue (is_ascii_digit b) → IsGraphic b
 graphic_digit b h = search (rules, tests)
@@ -34,7 +35,7 @@ number_law = record {
         value = value_of-digits_of m;
       };
   is_body =
-      λ body m is s. IsBody-graphic (digits_of m) (each (λ b. IsTrue (is_ascii_digit b)) IsGraphic
+      λ body m is s. IsBody-graphic (digits_of m) (All-weaker (λ b. IsTrue (is_ascii_digit b)) IsGraphic
       graphic_digit (digits_of m) (IsDigits-digits_of m));
   is_short = short;
 }
@@ -57,7 +58,7 @@ are_digits-test body n s =
 
 digits_graphic : (body : List ℕ) (n : ℕ) → SpellsNumber body n → AllByRecursion IsGraphic body
 digits_graphic body n s =
-    each (λ b. IsTrue (is_ascii_digit b)) IsGraphic graphic_digit body s.digits
+    All-weaker (λ b. IsTrue (is_ascii_digit b)) IsGraphic graphic_digit body s.digits
 
 pub number_refusals : RefusalLaw ℕ SpellsNumber number_refusal
 number_refusals = record {

@@ -1,17 +1,16 @@
 -- The laws for the field Source.
-use Rattle.std.proofs.Common.{◌≡◌, ℕ, zero, suc, ◌-◌, ◌*◌, ◌==◌, ◌&&◌, ◌||◌, ◌<◌, ◌≤◌, Bool, true, false, cond, IsTrue, List, [], ◌∷◌, ◌++◌, length, length-append, append_assoc, append-nil, take, get_or, Option, Some, None, refl, sym, ap, ◌∙◌, subst, arith}
+use Rattle.std.proofs.Common.{◌≡◌, ℕ, zero, suc, ◌-◌, ◌*◌, ◌==◌, ◌&&◌, ◌||◌, ◌≤◌, Bool, true, false, cond, IsTrue, List, [], ◌∷◌, ◌++◌, length, length-append, append_assoc, append-nil, take, get_or, Option, Some, None, refl, sym, ap, ◌∙◌, subst, arith}
 use Rattle.std.proofs.lemmas.Bool.{and_parts, and_from, true≢false, false≢true, eqb-true}
 use Rattle.std.proofs.lemmas.List.Folds.{list_any-append}
 use Rattle.std.proofs.lemmas.Bool.Decides.{nat_tests}
-use Rattle.std.proofs.lemmas.Str.{IsUtf8-nil}
 use Rattle.std.proofs.lemmas.List.{take_at}
 use Rattle.std.specs.List.{AllByRecursion, list_any, list_all, before_first, after_first}
-use Rattle.std.specs.Str.{IsUtf8}
 use Rattle.deb_base.specs.Bodies.{IsBody, newline, is_blank_byte, is_all_blank, begins_with_blank, ends_with_blank, HasNoNewline}
 use Rattle.deb_base.specs.PackageNames.{is_package_name, is_package_byte}
 use Rattle.deb_base.specs.declared.code.Code.TheVariants.{BadName, BadVersion}
-use Rattle.deb_base.proofs.FieldBytes.{each_from_list_all, IsUtf8-with_all_ascii}
-use Rattle.deb_base.proofs.GraphicBodies.{not_blank, IsGraphic, each, IsBody-line, IsBody-graphic}
+use Rattle.deb_base.proofs.FieldBytes.{each_from_list_all}
+use Rattle.deb_base.proofs.GraphicBodies.{not_blank, IsGraphic, IsPlain, graphic_plain, IsBody-plain, IsBody-graphic}
+use Rattle.deb_base.proofs.AllElements.{All-append, All-weaker}
 use Rattle.deb_version.specs.Parts.{Meaning as VersionMeaning}
 use Rattle.deb_version.specs.Grammar.{SpellsVersion}
 use Rattle.deb_version.specs.Canonical.{version_text}
@@ -22,8 +21,9 @@ use Rattle.deb_version.proofs.MeaningLemmas.{one_version}
 use Rattle.deb_field.specs.CanonLaw.{CanonLaw, RefusalLaw}
 use Rattle.deb_field.specs.OneLine.{holds_newline, refusal_unless}
 use Rattle.deb_field.specs.OneLineLaws.{HasNoNewline-test, graphic_no_newline, one_line-graphic, passes-from_none, none-from_passes, line_refusal-parts, line_refusal-from}
-use Rattle.deb_field.specs.TextLaws.{package_name_graphic}
-use Rattle.deb_field.specs.VersionLaw.{version_graphic, version_from_test, test_from_version, join}
+use Rattle.deb_base.proofs.GraphicNames.{package_name_graphic}
+use Rattle.deb_relation.proofs.Bytes.{version_graphic}
+use Rattle.deb_field.specs.VersionLaw.{version_from_test, test_from_version}
 use Rattle.deb_field.specs.Versions.{is_version}
 use Rattle.deb_field.specs.WordLaws.{ends-behind}
 use Rattle.deb_base.specs.Trimming.{without_trailing_blanks, trimmed}
@@ -174,16 +174,6 @@ back body name (Some v) s = record {
   versioned = canonical_text_spells s.text v s.versioned;
 }
 
--- bytes from the space on
-abbrev IsPlain : ℕ → Type 0
-IsPlain b = (32 ≤ b) × (b < 127)
-
-plain_graphic : (b : ℕ) → IsGraphic b → IsPlain b
-plain_graphic b h = (omega (arith, h.0), h.1)
-
-plain_newline : (b : ℕ) → IsPlain b → (b == newline) ≡ false
-plain_newline b h = grind (arith, nat_tests)
-
 begins-name : (name text : List ℕ) → is_package_name name ≡ true → AllByRecursion IsGraphic name
     → begins_with_blank (name ++ text) ≡ false
 begins-name [] text h g = cc
@@ -192,11 +182,11 @@ begins-name (b ∷ name) text h g = not_blank b g.0
 plain_source : (name text : List ℕ) → AllByRecursion IsGraphic name → AllByRecursion IsGraphic text
     → AllByRecursion IsPlain (name ++ (32 ∷ 40 ∷ (text ++ 41 ∷ [])))
 plain_source name text g h =
-    join IsPlain name (32 ∷ 40 ∷ (text ++ 41 ∷ [])) (each IsGraphic IsPlain plain_graphic name g) (
+    All-append IsPlain name (32 ∷ 40 ∷ (text ++ 41 ∷ [])) (All-weaker IsGraphic IsPlain graphic_plain name g) (
       (omega arith, omega arith),
       (
         (omega arith, omega arith),
-        join IsPlain text (41 ∷ []) (each IsGraphic IsPlain plain_graphic text h)
+        All-append IsPlain text (41 ∷ []) (All-weaker IsGraphic IsPlain graphic_plain text h)
             ((omega arith, omega arith), tt),
       ),
     )
@@ -215,10 +205,7 @@ body_of body name (Some v) s =
     plain_source name (version_text v) graphic (version_graphic (version_text v) v
     (canonical_text_spells s.text v s.versioned)) in
     let text : List ℕ = name ++ (32 ∷ 40 ∷ (version_text v ++ 41 ∷ [])) in
-    IsBody-line text (each IsPlain (λ b. (b == newline) ≡ false) plain_newline text plain)
-    (begins-name name _ s.named graphic) (ends-source name (version_text v))
-    (subst IsUtf8 (append-nil text) (IsUtf8-with_all_ascii text []
-    (each IsPlain (λ b. b < 128) (λ b h. omega (arith, h.1)) text plain) IsUtf8-nil))
+    IsBody-plain text plain (begins-name name _ s.named graphic) (ends-source name (version_text v))
 
 short : (body name : List ℕ) (v : Option VersionMeaning) → SpellsSource body (source_of name v)
     → length (source_text (source_of name v)) ≤ 2 * length body
@@ -320,7 +307,7 @@ blanks_newline blanks h =
     each_from_list_all is_blank_byte (λ b. (b == newline) ≡ false) blank_newline blanks h
 
 graphic_newlines : (text : List ℕ) → AllByRecursion IsGraphic text → HasNoNewline text
-graphic_newlines text h = each IsGraphic (λ b. (b == newline) ≡ false) graphic_no_newline text h
+graphic_newlines text h = All-weaker IsGraphic (λ b. (b == newline) ≡ false) graphic_no_newline text h
 
 versioned_newline : (body name : List ℕ) (v : VersionMeaning) → SpellsVersioned body name v
     → HasNoNewline body
@@ -328,14 +315,14 @@ versioned_newline body name v s =
     let P : ℕ → Type 0 = λ b. (b == newline) ≡ false in
     let closing : AllByRecursion P (41 ∷ []) = (refl, tt) in
     let inner =
-    join P s.left _ (blanks_newline s.left s.left_blank)
-    (join P s.text _ (graphic_newlines s.text (version_graphic s.text v s.versioned))
-    (join P s.right (41 ∷ []) (blanks_newline s.right s.right_blank) closing)) in
+    All-append P s.left _ (blanks_newline s.left s.left_blank)
+    (All-append P s.text _ (graphic_newlines s.text (version_graphic s.text v s.versioned))
+    (All-append P s.right (41 ∷ []) (blanks_newline s.right s.right_blank) closing)) in
     let opening : AllByRecursion P (40 ∷ (s.left ++ (s.text ++ (s.right ++ (41 ∷ []))))) =
     (refl, inner) in
-    subst (AllByRecursion P) (sym s.spelt) (join P name _
+    subst (AllByRecursion P) (sym s.spelt) (All-append P name _
     (graphic_newlines name (package_name_graphic name s.named))
-    (join P s.gap _ (blanks_newline s.gap s.gap_blank) opening))
+    (All-append P s.gap _ (blanks_newline s.gap s.gap_blank) opening))
 
 unrefused_source : (body name : List ℕ) (v : Option VersionMeaning)
     → SpellsSource body (source_of name v) → source_refusal body ≡ None

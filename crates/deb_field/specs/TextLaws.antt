@@ -1,14 +1,13 @@
 -- The laws for values that are their own text.
 use Rattle.std.proofs.Common.{◌≡◌, ℕ, ◌*◌, ◌≤◌, Bool, true, IsTrue, List, length, None, refl, sym, ap, ◌∙◌, subst, arith}
-use Rattle.std.proofs.lemmas.Bool.{and_parts, not-true, not_from_false}
-use Rattle.std.proofs.lemmas.Bool.Decides.{nat_tests}
-use Rattle.std.specs.List.{AllByRecursion, list_all}
+use Rattle.std.proofs.lemmas.Bool.{not-true, not_from_false}
+use Rattle.std.specs.List.{AllByRecursion}
 use Rattle.deb_base.specs.Bodies.{IsBody}
 use Rattle.deb_base.specs.declared.code.Code.{Code}
 use Rattle.deb_base.specs.declared.code.Code.TheVariants.{BadName, BadArchitecture}
-use Rattle.deb_base.specs.PackageNames.{is_package_name, is_arch_name, is_package_byte, is_arch_byte, begins_small_or_digit}
-use Rattle.deb_base.proofs.FieldBytes.{each_from_list_all}
+use Rattle.deb_base.specs.PackageNames.{is_package_name, is_arch_name}
 use Rattle.deb_base.proofs.GraphicBodies.{IsGraphic}
+use Rattle.deb_base.proofs.GraphicNames.{package_name_graphic, arch_name_graphic}
 use Rattle.deb_field.specs.CanonLaw.{CanonLaw, RefusalLaw}
 use Rattle.deb_field.specs.OneLine.{holds_newline, refusal_unless, line_refusal}
 use Rattle.deb_field.specs.OneLineLaws.{one_line-graphic, passes-from_none, none-from_passes, line_refusal-parts, line_refusal-from}
@@ -70,24 +69,6 @@ module _ (test : List ℕ → Bool) (code : Code)
         λ body m s. line_refusal-from body (refusal_unless (test body) code)
         (one_line-graphic body (graphic body s.1)) (none-from_passes (test body) code s.1);
   }
-
-package_byte_graphic : (b : ℕ) → is_package_byte b ≡ true → IsGraphic b
-package_byte_graphic b h = grind (arith, nat_tests)
-
-arch_byte_graphic : (b : ℕ) → is_arch_byte b ≡ true → IsGraphic b
-arch_byte_graphic b h = grind (arith, nat_tests)
-
--- the bytes of names are graphic
-pub package_name_graphic : (name : List ℕ) → is_package_name name ≡ true
-    → AllByRecursion IsGraphic name
-package_name_graphic name h =
-    each_from_list_all is_package_byte IsGraphic package_byte_graphic name
-    (and_parts _ (list_all is_package_byte name) h).1
-
-pub arch_name_graphic : (name : List ℕ) → is_arch_name name ≡ true → AllByRecursion IsGraphic name
-arch_name_graphic name h =
-    each_from_list_all is_arch_byte IsGraphic arch_byte_graphic name
-    (and_parts (begins_small_or_digit name) (list_all is_arch_byte name) h).1
 
 pub name_refusals : RefusalLaw (List ℕ) SpellsName name_refusal
 name_refusals = tested_refusals is_package_name BadName package_name_graphic

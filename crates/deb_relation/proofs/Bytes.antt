@@ -1,15 +1,15 @@
 -- The bytes of names, items and versions: none of them ends a run that they stand in.
-use Rattle.std.proofs.Common.{◌≡◌, ◌≢◌, ℕ, ◌==◌, ◌||◌, ◌&&◌, Bool, true, false, not, List, [], ◌∷◌, ◌++◌, length, nat_le, IsTrue, Option, Some, None, IfSome, is_some, refl, sym, ap, subst, rules, tests}
-use Rattle.std.specs.List.{list_all}
-use Rattle.std.specs.Char.{is_ascii_digit}
+use Rattle.std.proofs.Common.{◌≡◌, ◌≢◌, ℕ, ◌==◌, ◌||◌, ◌&&◌, Bool, true, false, not, List, [], ◌∷◌, ◌++◌, length, nat_le, IsTrue, None, Some, refl, ap, subst, rules, tests}
+use Rattle.std.specs.List.{AllByRecursion, list_all}
 use Rattle.std.proofs.lemmas.Bool.Decides.{Decides-eqb}
 use Rattle.std.proofs.lemmas.Bool.{and_parts, ne_eqb, false≢true}
 use Rattle.deb_base.specs.PackageNames.{is_small_or_digit, is_package_byte, is_arch_byte, is_package_name, is_arch_name, is_profile_name}
 use Rattle.deb_version.specs.Parts.{Meaning as Version}
-use Rattle.deb_version.specs.Grammar.{SpellsVersion, Components, are_components, is_upstream_byte, is_revision_byte, spelling, epoch_text, revision_text}
-use Rattle.deb_version.proofs.AllowedLemmas.{IsEpoch, IsRevision, are_components-fact}
+use Rattle.deb_version.specs.Grammar.{SpellsVersion}
 use Rattle.deb_version.proofs.ByteLemmas.{differs, all_pass-fact, empty-test}
-use Rattle.deb_version.proofs.CanonicalComponent.{All-append, All-weaker}
+use Rattle.deb_base.proofs.AllElements.{All-weaker}
+use Rattle.deb_base.proofs.GraphicBodies.{IsGraphic}
+use Rattle.deb_version.proofs.VersionBytes.{is_version_byte, version_bytes}
 use Rattle.deb_version.specs.PartsLemmas.{cons_not_nil}
 use Rattle.deb_version.specs.Faults.{first_fault}
 use Rattle.deb_version.specs.declared.fault.BadVersion.TheVariants.{Empty}
@@ -92,41 +92,12 @@ profile_some name is e = let no : is_profile_name [] ≡ true = subst (λ n. is_
 pub package_some : (name : List ℕ) → IsTrue (is_package_name name) → name ≢ []
 package_some name is e = let no : is_package_name [] ≡ true = subst (λ n. is_package_name n ≡ true) e is in false≢true no
 
--- the bytes of a version
-abbrev pub is_version_byte : ℕ → Bool
-is_version_byte b = is_upstream_byte true b
+graphic_version : (b : ℕ) → IsTrue (is_version_byte b) → IsGraphic b
+graphic_version b h = search (rules, tests)
 
-revision_version : (b : ℕ) → IsTrue (is_revision_byte b) → IsTrue (is_version_byte b)
-revision_version b is = ap (λ v. v || (b == 45) || (true && (b == 58))) is
-
-upstream_version : (has_epoch : Bool) (b : ℕ) → IsTrue (is_upstream_byte has_epoch b) → IsTrue (is_version_byte b)
-upstream_version true b is = is
-upstream_version false b is = by_sides (is_revision_byte b) (b == 45) (b == 58) is
-  where
-    by_sides : (revision hyphen colon : Bool) → (revision || hyphen || (false && colon)) ≡ true → (revision || hyphen || (true && colon)) ≡ true
-    by_sides true hyphen colon e = refl
-    by_sides false true colon e = refl
-    by_sides false false colon e = cc
-
-digit_version : (b : ℕ) → IsTrue (is_ascii_digit b) → IsTrue (is_version_byte b)
-digit_version b is = search (rules, tests)
-
-of_epoch : (epoch : Option (List ℕ)) → IfSome epoch IsEpoch → Passes is_version_byte (epoch_text epoch)
-of_epoch None h = tt
-of_epoch (Some digits) h = All-append _ digits (58 ∷ []) (All-weaker _ _ digit_version digits h.1) (refl, tt)
-
-of_revision : (revision : Option (List ℕ)) → IfSome revision IsRevision → Passes is_version_byte (revision_text revision)
-of_revision None h = tt
-of_revision (Some bytes) h = (refl, All-weaker _ _ revision_version bytes h.1)
-
-of_components : (c : Components) → IsTrue (are_components c) → Passes is_version_byte (spelling c)
-of_components c allowed =
-    let are = are_components-fact c allowed in
-    All-append _ (epoch_text c.epoch) (c.upstream ++ revision_text c.revision) (of_epoch c.epoch are.epoch)
-    (All-append _ c.upstream (revision_text c.revision) (All-weaker _ _ (upstream_version (is_some c.epoch)) c.upstream are.upstream_bytes) (of_revision c.revision are.revision))
-
-pub version_bytes : (text : List ℕ) (m : Version) → SpellsVersion text m → Passes is_version_byte text
-version_bytes text m spells = subst (Passes is_version_byte) (sym spells.spelt) (of_components spells.components spells.allowed)
+-- the bytes of a version are graphic
+pub version_graphic : (text : List ℕ) (m : Version) → SpellsVersion text m → AllByRecursion IsGraphic text
+version_graphic text m spells = All-weaker _ IsGraphic graphic_version text (version_bytes text m spells)
 
 version_white : (b : ℕ) → IsTrue (is_version_byte b) → is_white b ≡ false
 version_white b p = not_white is_version_byte refl refl refl b p

@@ -1,13 +1,11 @@
 -- Canonical text can be the body of a field: one line of ASCII without blanks at its ends, or nothing.
-use Rattle.std.proofs.Common.{◌≡◌, ◌≢◌, ℕ, ◌<◌, ◌≤◌, ◌==◌, Bool, true, false, List, [], ◌∷◌, ◌++◌, map, IsTrue, Option, Some, None, IfSome, refl, sym, ◌∙◌, subst, append-nil, codes, arith, rules, tests}
+use Rattle.std.proofs.Common.{◌≡◌, ◌≢◌, ℕ, Bool, true, false, List, [], ◌∷◌, ◌++◌, map, IsTrue, Option, Some, None, IfSome, refl, sym, ◌∙◌, subst, append-nil, codes, arith}
 use Rattle.std.specs.List.{AllByRecursion}
-use Rattle.std.specs.Str.{IsUtf8}
-use Rattle.std.proofs.lemmas.Bool.{ne_eqb}
-use Rattle.std.proofs.lemmas.Str.{IsUtf8-nil}
-use Rattle.deb_base.specs.Bodies.{newline, is_blank_byte, begins_with_blank, ends_with_blank, IsBody}
+use Rattle.deb_base.specs.Bodies.{begins_with_blank, ends_with_blank, IsBody}
 use Rattle.deb_base.specs.PackageNames.{is_package_byte, is_arch_name, is_profile_name}
-use Rattle.deb_base.proofs.FieldBytes.{IsUtf8-with_all_ascii}
-use Rattle.deb_base.proofs.GraphicBodies.{IsGraphic, each, IsBody-line}
+use Rattle.deb_base.proofs.AllElements.{All-append, All-weaker}
+use Rattle.deb_base.proofs.GraphicBodies.{IsGraphic, IsPlain, graphic_plain, begins, ends, IsBody-plain}
+use Rattle.deb_base.proofs.GraphicNames.{package_byte_graphic, package_name_graphic, arch_name_graphic}
 use Rattle.deb_version.specs.Parts.{Meaning as Version}
 use Rattle.deb_version.specs.Grammar.{SpellsVersion}
 use Rattle.deb_version.specs.Canonical.{version_text}
@@ -17,32 +15,15 @@ use Rattle.deb_relation.specs.declared.operator.Op.TheVariants.{Earlier, Earlier
 use Rattle.deb_relation.specs.Grammar.{SpellsRelation}
 use Rattle.deb_relation.specs.Meaning.{Restrictions, Alternative, Group, Relation}
 use Rattle.deb_relation.specs.Texts.{joined, separated, operator_text, signed_text, item_text, restrictions_text, qualifier_text, bound_text, architectures_text, formula_text, alternative_text, group_text, relation_text}
-use Rattle.deb_relation.proofs.Bytes.{arch_bytes, profile_bytes, package_bytes, package_some, is_version_byte, version_bytes}
+use Rattle.deb_relation.proofs.Bytes.{arch_bytes, profile_bytes, package_some, version_graphic}
 use Rattle.deb_relation.proofs.Regular.{IsNames, IsItems, IsRegular, IsRegularGroup, relation_regular}
 use Rattle.deb_relation.proofs.Runs.{Passes}
-
--- graphic ASCII, or a space
-abbrev IsPlain : ℕ → Type 0
-IsPlain b = (32 ≤ b) × (b < 127)
 
 abbrev ArePlain : List ℕ → Type 0
 ArePlain text = AllByRecursion IsPlain text
 
-graphic_plain : (b : ℕ) → IsGraphic b → IsPlain b
-graphic_plain b h = (omega (arith, h.0), h.1)
-
-package_graphic : (b : ℕ) → IsTrue (is_package_byte b) → IsGraphic b
-package_graphic b h = search (rules, tests)
-
-version_graphic : (b : ℕ) → IsTrue (is_version_byte b) → IsGraphic b
-version_graphic b h = search (rules, tests)
-
 name_plain : (name : List ℕ) → Passes is_package_byte name → ArePlain name
-name_plain name all = each _ IsPlain (λ b h. graphic_plain b (package_graphic b h)) name all
-
-append-plain : (xs ys : List ℕ) → ArePlain xs → ArePlain ys → ArePlain (xs ++ ys)
-append-plain [] ys p q = q
-append-plain (x ∷ xs) ys p q = (p.0, append-plain xs ys p.1 q)
+name_plain name all = All-weaker _ IsPlain (λ b h. graphic_plain b (package_byte_graphic b h)) name all
 
 append-some : (xs ys : List ℕ) → xs ≢ [] → xs ++ ys ≢ []
 append-some [] ys some e = some refl
@@ -71,22 +52,14 @@ tidy-nil : IsTidy []
 tidy-nil = record { plain = tt; ends = refl }
 
 tidy-last : (xs ys : List ℕ) → ArePlain xs → IsTidy ys → ys ≢ [] → IsTidy (xs ++ ys)
-tidy-last xs ys p t some = record { plain = append-plain xs ys p t.plain; ends = ends-append xs ys some ∙ t.ends }
+tidy-last xs ys p t some = record { plain = All-append IsPlain xs ys p t.plain; ends = ends-append xs ys some ∙ t.ends }
 
 tidy-append : (xs ys : List ℕ) → IsTidy xs → IsTidy ys → IsTidy (xs ++ ys)
 tidy-append xs [] s t = subst IsTidy (sym (append-nil xs)) s
 tidy-append xs (y ∷ ys) s t = tidy-last xs (y ∷ ys) s.plain t (cons_not_nil y ys)
 
-not_blank : (b : ℕ) → IsGraphic b → is_blank_byte b ≡ false
-not_blank b h = rw (ne_eqb b 32 (λ e. omega (arith, e, h.0)), ne_eqb b 9 (λ e. omega (arith, e, h.0))) refl
-
 tidy-graphic : (text : List ℕ) → AllByRecursion IsGraphic text → IsTidy text
-tidy-graphic text all = record { plain = each IsGraphic IsPlain graphic_plain text all; ends = ends text all }
-  where
-    ends : (text : List ℕ) → AllByRecursion IsGraphic text → ends_with_blank text ≡ false
-    ends [] h = refl
-    ends (b ∷ []) h = not_blank b h.0
-    ends (b ∷ c ∷ bs) h = ends (c ∷ bs) h.1
+tidy-graphic text all = record { plain = All-weaker IsGraphic IsPlain graphic_plain text all; ends = ends text all }
 
 -- a text of one byte at least, with no blank at either end
 record IsWhole (text : List ℕ) : Type 0 where
@@ -97,11 +70,11 @@ record IsWhole (text : List ℕ) : Type 0 where
 module _ {A : Type 0} (separator : List ℕ) (sep : ArePlain separator) (text : A → List ℕ) where
   plain-separated : (xs : List A) → AllByRecursion (λ x. ArePlain (text x)) xs → ArePlain (separated separator (map text xs))
   plain-separated [] all = tt
-  plain-separated (x ∷ xs) all = append-plain separator (text x ++ separated separator (map text xs)) sep (append-plain (text x) (separated separator (map text xs)) all.0 (plain-separated xs all.1))
+  plain-separated (x ∷ xs) all = All-append IsPlain separator (text x ++ separated separator (map text xs)) sep (All-append IsPlain (text x) (separated separator (map text xs)) all.0 (plain-separated xs all.1))
 
   plain-joined : (xs : List A) → AllByRecursion (λ x. ArePlain (text x)) xs → ArePlain (joined separator (map text xs))
   plain-joined [] all = tt
-  plain-joined (x ∷ xs) all = append-plain (text x) (separated separator (map text xs)) all.0 (plain-separated xs all.1)
+  plain-joined (x ∷ xs) all = All-append IsPlain (text x) (separated separator (map text xs)) all.0 (plain-separated xs all.1)
 
   tidy-separated : (xs : List A) → AllByRecursion (λ x. IsWhole (text x)) xs → IsTidy (separated separator (map text xs))
   tidy-separated [] all = tidy-nil
@@ -132,7 +105,7 @@ closed_tidy text close g p = tidy-last text (close ∷ []) p (tidy-graphic (clos
 
 qualifier_tidy : (q : Option (List ℕ)) → IfSome q (λ q. IsTrue (is_arch_name q)) → IsTidy (qualifier_text q)
 qualifier_tidy None is = tidy-nil
-qualifier_tidy (Some q) is = tidy-graphic (58 ∷ q) ((omega arith, omega arith), each _ IsGraphic package_graphic q (arch_bytes q is))
+qualifier_tidy (Some q) is = tidy-graphic (58 ∷ q) ((omega arith, omega arith), arch_name_graphic q is)
 
 operator_plain : (operator : Op) → ArePlain (operator_text operator)
 operator_plain Earlier = ((omega arith, omega arith), ((omega arith, omega arith), tt))
@@ -145,7 +118,7 @@ bound_tidy : (bound : Option (Op × Version)) → IfSome bound (λ b. SpellsVers
 bound_tidy None is = tidy-nil
 bound_tidy (Some bound) is =
     let version = version_text bound.1 in
-    let plain = each _ IsPlain (λ b h. graphic_plain b (version_graphic b h)) version (version_bytes version bound.1 is) in
+    let plain = All-weaker IsGraphic IsPlain graphic_plain version (version_graphic version bound.1 is) in
     let closed = closed_tidy version 41 (omega arith, omega arith) plain in
     let some : version ++ 41 ∷ [] ≢ [] = append-some_last version (41 ∷ []) (cons_not_nil 41 []) in
     let spaced = tidy-last (codes " ") (version ++ 41 ∷ []) space_plain closed some in
@@ -154,7 +127,7 @@ bound_tidy (Some bound) is =
     (append-some_last (operator_text bound.0) (32 ∷ (version ++ 41 ∷ [])) (cons_not_nil 32 (version ++ 41 ∷ [])))
 
 names_plain : (negated : Bool) (names : List (List ℕ)) → AllByRecursion (λ name. IsTrue (is_arch_name name)) names → AllByRecursion (λ name. ArePlain (signed_text negated name)) names
-names_plain negated names all = each _ _ (λ name is. signed_plain negated name (arch_bytes name is)) names all
+names_plain negated names all = All-weaker _ _ (λ name is. signed_plain negated name (arch_bytes name is)) names all
 
 list_tidy : (list : Option (Bool × List (List ℕ))) → IfSome list (λ list. IsNames list.1) → IsTidy (architectures_text list)
 list_tidy None is = tidy-nil
@@ -164,7 +137,7 @@ list_tidy (Some list) is =
     tidy-last (codes " [") (items ++ 93 ∷ []) ((omega arith, omega arith), ((omega arith, omega arith), tt)) closed (append-some_last items (93 ∷ []) (cons_not_nil 93 []))
 
 items_plain : (items : Restrictions) → AllByRecursion (λ item. IsTrue (is_profile_name item.1)) items → AllByRecursion (λ item. ArePlain (item_text item)) items
-items_plain items all = each _ _ (λ item is. signed_plain item.0 item.1 (profile_bytes item.1 is)) items all
+items_plain items all = All-weaker _ _ (λ item is. signed_plain item.0 item.1 (profile_bytes item.1 is)) items all
 
 restrictions_whole : (list : Restrictions) → IsItems list → IsWhole (restrictions_text list)
 restrictions_whole list is =
@@ -178,41 +151,31 @@ restrictions_whole list is =
 
 alternative_whole : (a : Alternative) → IsRegular a → IsWhole (alternative_text a)
 alternative_whole a is =
-    let formula = tidy-separated (codes " ") space_plain restrictions_text a.formula (each IsItems _ restrictions_whole a.formula is.lists) in
+    let formula = tidy-separated (codes " ") space_plain restrictions_text a.formula (All-weaker IsItems _ restrictions_whole a.formula is.lists) in
     let list = tidy-append (architectures_text a.architectures) (formula_text a.formula) (list_tidy a.architectures is.architectures) formula in
     let bound = tidy-append (bound_text a.bound) (architectures_text a.architectures ++ formula_text a.formula) (bound_tidy a.bound is.bound) list in
     let more = qualifier_text a.qualifier ++ (bound_text a.bound ++ (architectures_text a.architectures ++ formula_text a.formula)) in
     let behind : IsTidy more = tidy-append (qualifier_text a.qualifier) (bound_text a.bound ++ (architectures_text a.architectures ++ formula_text a.formula)) (qualifier_tidy a.qualifier is.qualifier) bound in
-    let graphic = each _ IsGraphic package_graphic a.name (package_bytes a.name is.name) in
+    let graphic = package_name_graphic a.name is.name in
     let some = package_some a.name is.name in
     record {
       tidy = tidy-append a.name more (tidy-graphic a.name graphic) behind;
       some = append-some a.name more some;
-      begins = begins-append a.name more some ∙ first a.name some graphic;
+      begins = begins-append a.name more some ∙ begins a.name graphic;
     }
-  where
-    first : (name : List ℕ) → name ≢ [] → AllByRecursion IsGraphic name → begins_with_blank name ≡ false
-    first [] some all = absurd (some refl)
-    first (b ∷ bs) some all = not_blank b all.0
 
 group_whole : (group : Group) → IsRegularGroup group → IsWhole (group_text group)
 unfolding group_text
-group_whole group is = whole-joined (codes " | ") ((omega arith, omega arith), ((omega arith, omega arith), ((omega arith, omega arith), tt))) alternative_text group is.some (each IsRegular _ alternative_whole group is.each)
+group_whole group is = whole-joined (codes " | ") ((omega arith, omega arith), ((omega arith, omega arith), ((omega arith, omega arith), tt))) alternative_text group is.some (All-weaker IsRegular _ alternative_whole group is.each)
 
 comma_plain : ArePlain (codes ", ")
 comma_plain = ((omega arith, omega arith), ((omega arith, omega arith), tt))
 
--- a text without blanks at its ends that is plain is a body of one line
-tidy_body : (text : List ℕ) → begins_with_blank text ≡ false → IsTidy text → IsBody text
-tidy_body text begins t =
-    IsBody-line text (each IsPlain (λ b. (b == newline) ≡ false) (λ b h. ne_eqb b 10 (λ e. omega (arith, e, h.0))) text t.plain) begins t.ends
-    (subst IsUtf8 (append-nil text) (IsUtf8-with_all_ascii text [] (each IsPlain (λ b. b < 128) (λ b h. omega (arith, h.1)) text t.plain) IsUtf8-nil))
-
 relation_body : (m : Relation) → AllByRecursion IsRegularGroup m → IsBody (relation_text m)
-relation_body [] all = tidy_body [] refl tidy-nil
+relation_body [] all = IsBody-plain [] tt refl refl
 relation_body (group ∷ groups) all =
-    let whole = whole-joined (codes ", ") comma_plain group_text (group ∷ groups) (cons_not_nil group groups) (each IsRegularGroup _ group_whole (group ∷ groups) all) in
-    tidy_body (relation_text (group ∷ groups)) whole.begins whole.tidy
+    let whole = whole-joined (codes ", ") comma_plain group_text (group ∷ groups) (cons_not_nil group groups) (All-weaker IsRegularGroup _ group_whole (group ∷ groups) all) in
+    IsBody-plain (relation_text (group ∷ groups)) whole.tidy.plain whole.begins whole.tidy.ends
 
 pub canonical_text_is_body : (text : List ℕ) (m : Relation) → SpellsRelation text m → IsBody (relation_text m)
 canonical_text_is_body text m spells = relation_body m (relation_regular text m spells).groups

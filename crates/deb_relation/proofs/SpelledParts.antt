@@ -7,7 +7,8 @@ use Rattle.deb_relation.specs.declared.operator.Op.{Op}
 use Rattle.deb_relation.specs.declared.operator.Op.TheVariants.{Earlier, EarlierEqual, Equal, LaterEqual, Later}
 use Rattle.deb_relation.specs.Grammar.{IsWhite, SpellsQualifier, SpellsOperator, SpellsBound}
 use Rattle.deb_relation.specs.Reading.{begins, behind_white, is_before, is_in_name, is_in_operator, is_white, operator_of, read_name, read_qualifier, read_operator, read_version, read_bound_behind, read_bound}
-use Rattle.deb_relation.proofs.Bytes.{name_run, package_bytes, arch_bytes, package_some, at_end-some, version_bytes, version_run, version_some, version_first, white_stops_close, version_stops_operator, white_stops_operator}
+use Rattle.deb_version.proofs.VersionBytes.{version_bytes}
+use Rattle.deb_relation.proofs.Bytes.{name_run, package_bytes, arch_bytes, package_some, at_end-some, version_run, version_some, version_first, white_stops_close, version_stops_operator, white_stops_operator}
 use Rattle.deb_relation.proofs.Runs.{Passes, Stops, run_of-whole, behind_run-whole, white-past}
 use Rattle.deb_relation.proofs.Versions.{version_in}
 

@@ -2,7 +2,7 @@
 use Rattle.deb_version.proofs.Common.{◌≡◌, ◌≢◌, ℕ, ◌+◌, All, Bool, true, false, cond, not, ◌==◌, ◌||◌, List, [], ◌∷◌, Some, None, length, refl, sym, ap, ◌∙◌, IsTrue, arith, AllByRecursion, list_any, list_all, position_from, true≢false, eqb-false, ne_eqb, and_parts, and_from, not-false, not_from_true, All-weaker, list_any_none}
 use Rattle.std.specs.List.{position}
 use Rattle.std.proofs.lemmas.Iterator.Adapters.{position_from-zero}
-use Rattle.deb_version.proofs.CutLemmas.{or_sides}
+use Rattle.std.proofs.lemmas.Bool.{or_parts}
 
 -- a byte that passes a test isn't one that fails it
 pub differs : (test : ℕ → Bool) (n : ℕ) → test n ≡ false → (b : ℕ) → test b ≡ true → b ≢ n
@@ -21,7 +21,7 @@ none_equal-test n (b ∷ text) all = ap (λ v. v || list_any (λ x. x == n) text
 pub none_equal-fact : (n : ℕ) (text : List ℕ) → list_any (λ b. b == n) text ≡ false → AllByRecursion (λ b. b ≢ n) text
 none_equal-fact n [] none = tt
 none_equal-fact n (b ∷ text) none =
-    let sides = or_sides (b == n) (list_any (λ x. x == n) text) none in
+    let sides = or_parts (b == n) (list_any (λ x. x == n) text) none in
     (eqb-false b n sides.0, none_equal-fact n text sides.1)
 
 -- that each byte passes, as a test and as a fact
@@ -43,7 +43,7 @@ none_fails-test test (b ∷ text) all = ap (λ v. not v || list_any (λ x. not (
 pub none_fails-fact : (test : ℕ → Bool) (text : List ℕ) → list_any (λ b. not (test b)) text ≡ false → AllByRecursion (λ b. IsTrue (test b)) text
 none_fails-fact test [] none = tt
 none_fails-fact test (b ∷ text) none =
-    let sides = or_sides (not (test b)) (list_any (λ x. not (test x)) text) none in
+    let sides = or_parts (not (test b)) (list_any (λ x. not (test x)) text) none in
     (not-false (test b) sides.0, none_fails-fact test text sides.1)
 
 -- that a text isn't empty, as a test and as a fact

@@ -1,6 +1,5 @@
 -- The laws of canonical text.
 use Rattle.deb_version.proofs.Common.{◌≡◌, ◌≢◌, ℕ, ◌*◌, ◌≤◌, ◌==◌, ◌&&◌, ◌||◌, Bool, true, false, not, cond, List, [], ◌∷◌, ◌++◌, length, Option, Some, None, is_some, IfSome, IfNone, refl, sym, ap, ◌∙◌, subst, arith, IsTrue, ◌⊎◌, inl, inr, is_ascii_digit, AllByRecursion, list_any, length-append, Decides-eqb, false≢true, eqb-true, not-true, Part, HasParts, Meaning, no_revision, is_revision_byte, is_upstream_byte, epoch_text, revision_text, epoch_value, revision_parts, meaning_of_components, SpellsVersion, digits_of, component_text, is_no_revision, holds_colon, holds_hyphen, canonical_epoch, canonical_revision, canonical_components, version_text, CanonicalTextSpells, CanonicalTextDecides, CanonicalTextStays, CanonicalTextIsShort, has_parts, one_parts}
-use Rattle.std.specs.Int.{is_in_range}
 use Rattle.deb_version.proofs.AllowedLemmas.{AreComponents, IsEpoch, IsRevision, are_components-fact, are_components-test}
 use Rattle.deb_version.proofs.Choices.{left_or_written}
 use Rattle.deb_version.proofs.Emptiness.{nil_of_length, some_length}
@@ -8,22 +7,9 @@ use Rattle.deb_version.proofs.ByteLemmas.{differs, none_equal-test, none_equal-f
 use Rattle.deb_version.proofs.CanonicalDigits.{value_of-digits_of, IsDigits-digits_of, digits_of-some, length-digits_of-value_of}
 use Rattle.deb_version.proofs.CanonicalComponent.{HasParts-component_text, All-weaker, All-component_text, component_text-some, length-component_text}
 use Rattle.deb_version.proofs.MeaningLemmas.{one_version}
+use Rattle.deb_version.proofs.VersionBytes.{revision_digit, upstream_digit, or_more, upstream_with_epoch}
 
-revision_digit : (b : ℕ) → IsTrue (is_ascii_digit b) → IsTrue (is_revision_byte b)
-revision_digit b d = ap (λ v. ((v || is_in_range 65 90 b) || is_in_range 97 122 b) || (b == 43) || (b == 46) || (b == 126)) d
-
-upstream_digit : (has_epoch : Bool) (b : ℕ) → IsTrue (is_ascii_digit b) → IsTrue (is_upstream_byte has_epoch b)
-upstream_digit has_epoch b d = ap (λ v. v || (b == 45) || (has_epoch && (b == 58))) (revision_digit b d)
-
--- an upstream byte may stand where there is an epoch; without one if it isn't a colon
-or_more : (x y z : Bool) → (y ≡ true → z ≡ true) → (x || y) ≡ true → (x || z) ≡ true
-or_more true y z more h = refl
-or_more false y z more h = more h
-
-upstream_with_epoch : (has_epoch : Bool) (b : ℕ) → IsTrue (is_upstream_byte has_epoch b) → IsTrue (is_upstream_byte true b)
-upstream_with_epoch true b h = h
-upstream_with_epoch false b h = or_more (is_revision_byte b || (b == 45)) false (b == 58) (λ e. absurd (false≢true e)) h
-
+-- an upstream byte that is no colon may stand where there is no epoch
 upstream_without_epoch : (b : ℕ) → IsTrue (is_upstream_byte true b) × (b ≢ 58) → IsTrue (is_upstream_byte false b)
 upstream_without_epoch b h = or_more (is_revision_byte b || (b == 45)) (b == 58) false (λ e. absurd (h.1 ((Decides-eqb b 58).0 e))) h.0
 

@@ -1,17 +1,13 @@
 -- A list cut at the first or at the last element that passes a test.
 use Rattle.deb_version.proofs.Common.{◌≡◌, ℕ, suc, ◌+◌, ◌-◌, Bool, true, false, not, cond, ◌||◌, List, [], ◌∷◌, ◌++◌, length, take, drop, refl, sym, ap, ◌∙◌, reverse, arith, append_assoc, list_any, before_first, after_first, before_last, after_last, position_or_len, prefix_len, suffix_len, take_at, drop_at, reverse-append, length-append, length-reverse, length_push, list_any-append}
-
--- where an `or` is false, so are its sides
-pub or_sides : (x y : Bool) → (x || y) ≡ false → (x ≡ false) × (y ≡ false)
-or_sides true y e = absurd cc
-or_sides false y e = (refl, e)
+use Rattle.std.proofs.lemmas.Bool.{or_parts}
 
 module _ {X : Type 0} (p : X → Bool) where
   -- what stands behind an element that passes, and before one, where no element before it passes
   position_or_len-at : (a : List X) (y : X) (b : List X) → list_any p a ≡ false → p y ≡ true → position_or_len p (a ++ y ∷ b) ≡ length a
   position_or_len-at [] y b none passes = ap (λ v. cond (not v) (1 + position_or_len p b) 0) passes
   position_or_len-at (x ∷ a) y b none passes =
-      ap (λ v. cond (not v) (1 + position_or_len p (a ++ y ∷ b)) 0) (or_sides (p x) (list_any p a) none).0 ∙ ap (λ n. 1 + n) (position_or_len-at a y b (or_sides (p x) (list_any p a) none).1 passes) ∙ one_more (length a)
+      ap (λ v. cond (not v) (1 + position_or_len p (a ++ y ∷ b)) 0) (or_parts (p x) (list_any p a) none).0 ∙ ap (λ n. 1 + n) (position_or_len-at a y b (or_parts (p x) (list_any p a) none).1 passes) ∙ one_more (length a)
     where
       one_more : (n : ℕ) → 1 + n ≡ suc n
       one_more n = omega arith
@@ -36,8 +32,8 @@ module _ {X : Type 0} (p : X → Bool) where
   list_any-reverse : (b : List X) → list_any p b ≡ false → list_any p (reverse b) ≡ false
   list_any-reverse [] none = refl
   list_any-reverse (x ∷ b) none =
-      ap (list_any p) (reverse-append (x ∷ []) b) ∙ list_any-append p (reverse b) (x ∷ []) ∙ ap (λ v. v || (p x || false)) (list_any-reverse b (or_sides (p x) (list_any p b) none).1)
-      ∙ ap (λ v. v || false) (or_sides (p x) (list_any p b) none).0
+      ap (list_any p) (reverse-append (x ∷ []) b) ∙ list_any-append p (reverse b) (x ∷ []) ∙ ap (λ v. v || (p x || false)) (list_any-reverse b (or_parts (p x) (list_any p b) none).1)
+      ∙ ap (λ v. v || false) (or_parts (p x) (list_any p b) none).0
 
   suffix_len-at : (a : List X) (y : X) (b : List X) → list_any p b ≡ false → p y ≡ true → suffix_len (λ x. not (p x)) (a ++ y ∷ b) ≡ length b
   suffix_len-at a y b none passes = ap (prefix_len (λ x. not (p x))) turned ∙ position_or_len-at (reverse b) y (reverse a) (list_any-reverse b none) passes ∙ length-reverse b

@@ -16,6 +16,7 @@ pub mod Choices
 pub mod LeadingZeros
 pub mod CanonicalDigits
 pub mod CanonicalComponent
+pub mod VersionBytes
 pub mod CanonicalTexts
 pub mod CanonicalCuts
 pub mod CanonicalWritten
