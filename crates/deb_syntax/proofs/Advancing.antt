@@ -1,40 +1,15 @@
 -- What the calls of a reader of paragraphs say of a text that fits, from what its walk finds ahead.
-use Rattle.std.proofs.Common.{◌≡◌, ◌≢◌, ℕ, ◌+◌, ◌-◌, ◌<◌, ◌≤◌, ◌==◌, ◌&&◌, ◌⊎◌, inl, inr, Bool, true, false, List, [], ◌∷◌, ◌++◌, Option, Some, None, Result, Ok, Err, length, take, leb, refl, sym, ap, ◌∙◌, subst, append_assoc, arith, IsTrue, length-append}
-use Rattle.std.specs.Prelude.{◌||◌, IfNone, IfSome, IsSome}
-use Rattle.deb_base.specs.Devices.{Shown}
-use Rattle.std.proofs.lemmas.Bool.{lt-leb, le-leb, leb-true, and_parts, and_from, eqb-true}
-use Rattle.std.proofs.lemmas.Bool.Decides.{nat_tests}
-use Rattle.std.proofs.lemmas.List.{append_cancel_left}
-use Rattle.std.proofs.lemmas.List.{append-nil}
-use Rattle.deb_base.specs.Bodies.{Line, newline, pieces_of, HasNoNewline, is_blank, is_all_blank, line_length, paragraph_limit}
-use Rattle.deb_base.specs.declared.code.Code.TheVariants.{ParagraphTooLong}
-use Rattle.deb_base.specs.declared.fault.Fault.{Fault}
-use Rattle.deb_base.specs.declared.fault.Fault.TheVariants.{Refused, Memory, Read, Write}
-use Rattle.deb_base.specs.declared.refusal.Refusal.{Refusal}
-use Rattle.deb_syntax.specs.declared.begun.Begun.{Begun}
-use Rattle.deb_syntax.specs.declared.first.First.{First}
-use Rattle.deb_syntax.specs.declared.first.First.TheVariants.{End, Kept, Dropped}
-use Rattle.deb_syntax.specs.declared.ending.Extent.{Extent}
-use Rattle.deb_syntax.specs.Ahead.{left_answer, left_begin, room_ahead, IsAhead, IsFirst, IsNear, PassesBlanks, EndsInSight, KeepsLine, HidesLine, TakesNoMore, PassesAll, IsExtentOf, PassesParagraph, IsNextRun, SameCounts}
-use Rattle.deb_syntax.specs.Answers.{Seen, part_within, paragraphs_within, next_answer, next_begin, seen_from}
-use Rattle.deb_syntax.specs.Extents.{AreBlank, AreNotBlank}
-use Rattle.deb_syntax.specs.Feeding.{FeedState, PassesOn, feed_state, buffer_of, start_of, piece_limit}
-use Rattle.deb_syntax.specs.Fields.{are_fields, are_numbered}
-use Rattle.deb_syntax.specs.declared.feed.Feed.{Feed}
-use Rattle.deb_syntax.specs.declared.place.Place.{Place}
-use Rattle.std.specs.List.{list_all, slice_range}
-use Rattle.std.proofs.lemmas.List.{length-take-le}
+use Rattle.deb_syntax.proofs.Common.{◌≡◌, ◌≢◌, ℕ, ◌+◌, ◌-◌, ◌<◌, ◌≤◌, ◌&&◌, inl, inr, Bool, true, false, List, [], ◌∷◌, ◌++◌, Option, Some, None, Result, Ok, Err, length, take, refl, sym, ap, ◌∙◌, subst, append_assoc, arith, rules, IsTrue, length-append, get_or, IfNone, IfSome, IsSome, Shown, lt-leb, le-leb, leb-true, and_parts, and_from, eqb-true, append_cancel_left, append-nil, Line, newline, pieces_of, HasNoNewline, is_blank, is_all_blank, line_length, ParagraphTooLong, Fault, Refused, Memory, Read, Write, Refusal, Begun, Extent, left_answer, left_begin, room_ahead, IsAhead, IsFirst, IsNear, PassesBlanks, EndsInSight, KeepsLine, HidesLine, TakesNoMore, PassesAll, IsExtentOf, PassesParagraph, IsNextRun, SameCounts, Seen, part_within, paragraphs_within, next_answer, next_begin, seen_from, AreBlank, AreNotBlank, FeedState, PassesOn, feed_state, buffer_of, start_of, piece_limit, left_count, Takes, are_fields, are_numbered, Feed, Place, list_all, length-take-le, judged, lines_of, with_newlines, Paragraph, paragraphs_from, paragraphs_of, total_length, State, state_from, Fits, passed_count, GivesNext, GivesNone, GivesLine, BeginsHere, FindsFirst, Answers, IsRefusalOfText, Moment, Advances, Begins, Passes, tells_end, IsReadersFault, IsFaultOf, fields_at, lies_within, PassesNext, IsPassed, standing_of, stands_within, EndsHidden, HidesLong}
+use Rattle.deb_base.specs.Bodies.{paragraph_limit}
+use Rattle.std.specs.List.{slice_range}
 use Rattle.deb_syntax.proofs.Feeds.{front_of_unread, unread_within}
 use Rattle.deb_syntax.proofs.FieldTests.{are_fields-judged, are_numbered-judged}
 use Rattle.deb_syntax.proofs.PlacesWithin.{within_test}
-use Rattle.deb_syntax.specs.Judging.{judged}
-use Rattle.deb_syntax.specs.Lines.{lines_of, with_newlines, Paragraph, paragraphs_from, paragraphs_of, total_length, file_limit}
-use Rattle.deb_syntax.specs.Reading.{State, state_from, Fits, passed_count, GivesNext, GivesNone, GivesLine, BeginsHere, FindsFirst, Answers, AnswersBegin, IsRefusalOfText, Moment, Advances, Begins, Passes, tells_end}
-use Rattle.deb_base.specs.Faults.{IsReadersFault}
-use Rattle.deb_syntax.specs.Places.{IsFaultOf, fields_at, lies_within}
-use Rattle.deb_syntax.specs.Standing.{PassesNext, IsPassed, standing_of, stands_within, hides_line, begins_with_newline, is_nothing}
+use Rattle.deb_syntax.specs.Lines.{file_limit}
 use Rattle.deb_syntax.proofs.JudgingLawsRefusals.{judged-refusal}
 use Rattle.deb_syntax.proofs.Boundaries.{ends_line-append}
+use Rattle.deb_syntax.proofs.Endings.{not_empty}
+use Rattle.deb_syntax.proofs.Faults.{readers_fault}
 use Rattle.deb_syntax.proofs.LeftAnswers.{next_answer-left, next_begin-left, left-none, left-begins, left-long, left-paragraphs, left-empty}
 use Rattle.deb_syntax.proofs.Parts.{part_within-all, part_within-append}
 use Rattle.deb_syntax.proofs.Passing.{IsBehind, IsCut, cut_more, cut_blanks, cut_all, paragraphs-passed}
@@ -124,11 +99,6 @@ line_in_sight ahead hidden line feed left is (inr (bytes, ended, within)) no_new
     let whole : ahead ≡ line = is.whole ∙ ap (λ zs. hidden ++ (feed.unread ++ zs)) none ∙ ap (λ zs. hidden ++ zs) (append-nil feed.unread) ∙ bytes in
     ([], ap (λ t. lines_of (part_within (room_ahead feed) t)) whole ∙ ap lines_of (part_within-all (room_ahead feed) line within) ∙ lines_of-unended line some no_newline)
 
-not_empty : (line : List ℕ) → is_blank line ≡ false → line ≢ []
-unfolding paragraph_limit
-not_empty [] h e = absurd cc
-not_empty (b ∷ line) h e = cc
-
 -- a line as long as a paragraph may be isn't blank
 pub long_not_blank : (line : List ℕ) → paragraph_limit ≤ length line → is_blank line ≡ false
 long_not_blank line long = ap (λ t. ◌&&◌ t (is_all_blank line)) (lt-leb (line_length line) paragraph_limit (omega arith))
@@ -162,25 +132,13 @@ module _ (text passed : List ℕ) (feed : FeedState) (hidden : ℕ) (none_hidden
   pub plain_ahead : IsAhead (ahead_of text passed (state_from feed hidden finished current fault) left fits) [] feed left
   plain_ahead = subst (λ bytes. IsAhead (ahead_of text passed (state_from feed hidden finished current fault) left fits) bytes feed left) (no_bytes fits.hidden (fits.hidden_bytes ∙ none_hidden)) (fits_ahead text passed feed hidden finished current fault left fits)
 
-  pub tell_refusal : (refusal : Refusal) → left_answer (feed.lines + 1) (room_ahead feed) (ahead_of text passed (state_from feed hidden finished current fault) left fits) ≡ Err refusal → next_answer text (passed_count passed) ≡ Err refusal
-  tell_refusal refusal is = answer_ahead text passed _ feed.bytes feed.lines cut small ∙ is
-
-  pub tell_begin_refusal : (refusal : Refusal) → left_begin (feed.lines + 1) (room_ahead feed) (ahead_of text passed (state_from feed hidden finished current fault) left fits) ≡ Err refusal → next_begin text (passed_count passed) ≡ Err refusal
-  tell_begin_refusal refusal is = begin_ahead text passed _ feed.bytes feed.lines cut small ∙ is
-
   -- an error of the walk
-  pub tell_fault : (e : Fault) (new : FeedState) (after : State) (left_after other : Option (List ℕ)) → IsFirst (ahead_of text passed (state_from feed hidden finished current fault) left fits) feed (Err e) new left_after → FindsFirst text passed (Err e) after other
-  tell_fault (Refused refusal) new after left_after other is = (tell_refusal refusal is.0, tell_begin_refusal refusal is.1)
-  tell_fault Memory new after left_after other is = tt
-  tell_fault Read new after left_after other is = tt
-  tell_fault Write new after left_after other is = absurd is
+  pub tell_fault : (e : Fault) → IsFirst (ahead_of text passed (state_from feed hidden finished current fault) left fits) feed (Err e) feed left → FindsFirst text passed (Err e) (state_from feed hidden finished current fault) left
+  tell_fault e is = readers_fault e (λ refusal is. (answer_ahead text passed _ feed.bytes feed.lines cut small ∙ is.0, begin_ahead text passed _ feed.bytes feed.lines cut small ∙ is.1)) is
 
   -- an error of the end of a paragraph
-  pub tell_end_fault : (e : Fault) (new : FeedState) (after : State) (left_after other : Option (List ℕ)) → IsPassed (ahead_of text passed (state_from feed hidden finished current fault) left fits) feed (Err e) new left_after → Answers text passed (Err e) after other
-  tell_end_fault (Refused refusal) new after left_after other is = tell_refusal refusal is
-  tell_end_fault Memory new after left_after other is = tt
-  tell_end_fault Read new after left_after other is = tt
-  tell_end_fault Write new after left_after other is = absurd is
+  pub tell_end_fault : (e : Fault) → IsPassed (ahead_of text passed (state_from feed hidden finished current fault) left fits) feed (Err e) feed left → Answers text passed (Err e) (state_from feed hidden finished current fault) left
+  tell_end_fault e is = readers_fault e (λ refusal is. answer_ahead text passed _ feed.bytes feed.lines cut small ∙ is) is
 
   -- nothing but blank lines was left
   pub tell_none : (new : FeedState) (left_after : Option (List ℕ)) (current_after : Option Seen) (fault_after : Option Fault) → PassesAll (ahead_of text passed (state_from feed hidden finished current fault) left fits) feed new → IsAhead [] [] new left_after → GivesNone text passed (state_from new hidden true current_after fault_after) left_after
@@ -211,14 +169,39 @@ module _ (text passed : List ℕ) (feed : FeedState) (hidden : ℕ) (none_hidden
       unfinished_is : IsTrue finished_after → ⊥
       unfinished_is f = Rattle.std.proofs.lemmas.Bool.false≢true (sym unfinished ∙ f)
 
+  -- the paragraph that has passed is the answer
+  pub tell_next : (new : FeedState) (left_after : Option (List ℕ)) (seen : Seen) (finished_after : Bool) (current_after : Option Seen) (fault_after : Option Fault) → finished_after ≡ false → PassesNext (ahead_of text passed (state_from feed hidden finished current fault) left fits) feed seen new left_after → length new.unread ≤ piece_limit → GivesNext text passed seen (state_from new hidden finished_after current_after fault_after) left_after
+  tell_next new left_after seen finished_after current_after fault_after unfinished p near =
+      let c = cut_more text passed _ feed.bytes feed.lines cut p.passed p.ahead p.whole p.closed in
+      let ending : length (lines_of p.passed) ≡ length p.run + length p.ending = ap length p.lines ∙ length-append p.run p.ending in
+      let seen_is : record { first = feed.lines + 1; fields = seen.fields } ≡ seen = ap (λ n. record { first = n; fields = seen.fields }) (sym p.first) in
+      record {
+        answer = answer_ahead text passed _ feed.bytes feed.lines cut small ∙ p.next.answer ∙ ap (seen_from (feed.lines + 1)) p.fields ∙ ap (λ s. Ok (Some s)) seen_is;
+        paragraph = record { first = feed.lines + 1; lines = p.run };
+        more = p.next.more;
+        next = paragraphs_ahead text passed _ feed.bytes feed.lines cut small _ p.next.more p.next.next;
+        first = p.first;
+        fields = p.fields;
+        short = p.short;
+        passed_now = passed ++ p.passed;
+        again = ahead_fits text (passed ++ p.passed) new hidden finished_after current_after fault_after left_after p.ahead [] _ _ c p.again p.bytes p.counted (sym none_hidden) tt (λ f. absurd (Rattle.std.proofs.lemmas.Bool.false≢true (sym unfinished ∙ f)));
+        passes = passed_run p.run p.lines p.not_blank p.some;
+        ends = omega (arith, p.counted, ending, p.one);
+        near = near;
+      }
+    where
+      passed_run : (run : List Line) → lines_of p.passed ≡ run ++ p.ending → AreNotBlank run → run ≢ [] → paragraphs_of (passed ++ p.passed) ≡ paragraphs_of passed ++ record { first = feed.lines + 1; lines = run } ∷ []
+      passed_run [] is not_blank some = absurd (some refl)
+      passed_run (line ∷ run) is not_blank some = paragraphs-passed text passed _ feed.bytes feed.lines cut p.passed p.ahead line run p.ending p.whole is not_blank p.blank
+
 -- a paragraph that stands ahead and was judged has passed
-pub passes_next : (text : List ℕ) (before mid after : FeedState) (left : Option (List ℕ)) (e : Extent) (x : IsExtentOf e mid) (seen : Seen) → SameCounts before mid → PassesParagraph text e mid left (x.first ∷ x.run) → IsNextRun (before.lines + 1) (room_ahead before) text (x.first ∷ x.run) → seen.first ≡ before.lines + 1 → judged (before.lines + 1) (x.first ∷ x.run) ≡ Ok seen.fields → PassesOn mid e.skip e.bytes e.lines after → PassesNext text before seen after left
+pub passes_next : (text : List ℕ) (before mid after : FeedState) (left : Option (List ℕ)) (e : Extent) (x : IsExtentOf e mid) (seen : Seen) → SameCounts before mid → PassesParagraph text e mid left x.lines → IsNextRun (before.lines + 1) (room_ahead before) text x.lines → seen.first ≡ before.lines + 1 → judged (before.lines + 1) x.lines ≡ Ok seen.fields → PassesOn mid e.skip e.bytes e.lines after → PassesNext text before seen after left
 passes_next text before mid after left e x seen same passes next first fields on = record {
-  run = x.first ∷ x.run;
+  run = x.lines;
   passed = passes.passed;
   ahead = passes.ahead;
   ending = passes.ending;
-  some = λ none. cc;
+  some = x.some;
   not_blank = x.not_blank;
   short = x.short;
   first = first;
@@ -233,39 +216,6 @@ passes_next text before mid after left e x seen same passes next first fields on
   bytes = omega (arith, on.bytes, same.bytes, passes.bytes);
   counted = omega (arith, on.lines, same.lines, passes.counted);
 }
-
--- what is judged of it, if that is a refusal, is the answer
-pub judged_refusal : (text : List ℕ) (n room : ℕ) (run : List Line) (refusal : Refusal) → IsNextRun n room text run → judged n run ≡ Err refusal → left_answer n room text ≡ Err refusal
-judged_refusal text n room run refusal next is = next.answer ∙ ap (seen_from n) is
-
--- the paragraph that has passed is the answer
-module _ (text passed : List ℕ) (feed : FeedState) (hidden : ℕ) (none_hidden : hidden ≡ 0) (finished : Bool) (current : Option Seen) (fault : Option Fault) (left : Option (List ℕ)) (fits : Fits text passed (state_from feed hidden finished current fault) left) (small : feed.bytes ≤ file_limit) where
-  found_cut : IsCut text passed (ahead_of text passed (state_from feed hidden finished current fault) left fits) feed.bytes feed.lines
-  found_cut = fits_cut text passed (state_from feed hidden finished current fault) left fits
-
-  pub tell_next : (new : FeedState) (left_after : Option (List ℕ)) (seen : Seen) (finished_after : Bool) (current_after : Option Seen) (fault_after : Option Fault) → finished_after ≡ false → PassesNext (ahead_of text passed (state_from feed hidden finished current fault) left fits) feed seen new left_after → length new.unread ≤ piece_limit → GivesNext text passed seen (state_from new hidden finished_after current_after fault_after) left_after
-  tell_next new left_after seen finished_after current_after fault_after unfinished p near =
-      let c = cut_more text passed _ feed.bytes feed.lines found_cut p.passed p.ahead p.whole p.closed in
-      let ending : length (lines_of p.passed) ≡ length p.run + length p.ending = ap length p.lines ∙ length-append p.run p.ending in
-      let seen_is : record { first = feed.lines + 1; fields = seen.fields } ≡ seen = ap (λ n. record { first = n; fields = seen.fields }) (sym p.first) in
-      record {
-        answer = answer_ahead text passed _ feed.bytes feed.lines found_cut small ∙ p.next.answer ∙ ap (seen_from (feed.lines + 1)) p.fields ∙ ap (λ s. Ok (Some s)) seen_is;
-        paragraph = record { first = feed.lines + 1; lines = p.run };
-        more = p.next.more;
-        next = paragraphs_ahead text passed _ feed.bytes feed.lines found_cut small _ p.next.more p.next.next;
-        first = p.first;
-        fields = p.fields;
-        short = p.short;
-        passed_now = passed ++ p.passed;
-        again = ahead_fits text (passed ++ p.passed) new hidden finished_after current_after fault_after left_after p.ahead [] _ _ c p.again p.bytes p.counted (sym none_hidden) tt (λ f. absurd (Rattle.std.proofs.lemmas.Bool.false≢true (sym unfinished ∙ f)));
-        passes = passed_run p.run p.lines p.not_blank p.some;
-        ends = omega (arith, p.counted, ending, p.one);
-        near = near;
-      }
-    where
-      passed_run : (run : List Line) → lines_of p.passed ≡ run ++ p.ending → AreNotBlank run → run ≢ [] → paragraphs_of (passed ++ p.passed) ≡ paragraphs_of passed ++ record { first = feed.lines + 1; lines = run } ∷ []
-      passed_run [] is not_blank some = absurd (some refl)
-      passed_run (line ∷ run) is not_blank some = paragraphs-passed text passed _ feed.bytes feed.lines found_cut p.passed p.ahead line run p.ending p.whole is not_blank p.blank
 
 -- an answer behind blank lines that have passed is the answer before them
 pub answers_behind : (text passed passed_now : List ℕ) (answer : Result (Option Seen) Fault) (new : State) (left : Option (List ℕ)) → paragraphs_of passed_now ≡ paragraphs_of passed → Answers text passed_now answer new left → Answers text passed answer new left
@@ -284,10 +234,7 @@ answers_behind text passed passed_now (Ok (Some seen)) new left same a = record 
   ends = a.ends;
   near = a.near;
 }
-answers_behind text passed passed_now (Err (Refused refusal)) new left same a = sym (same_count text passed passed_now same).0 ∙ a
-answers_behind text passed passed_now (Err Memory) new left same a = tt
-answers_behind text passed passed_now (Err Read) new left same a = tt
-answers_behind text passed passed_now (Err Write) new left same a = a
+answers_behind text passed passed_now (Err fault) new left same a = readers_fault fault (λ refusal is. sym (same_count text passed passed_now same).0 ∙ is) a
 
 -- a refusal of a line of a paragraph is one of a text
 judged_refusal_is : (n : ℕ) (lines : List Line) (refusal : Refusal) → 1 ≤ n → judged n lines ≡ Err refusal → IsRefusalOfText refusal
@@ -302,11 +249,11 @@ judged_is_readers n lines Read some is = absurd is
 judged_is_readers n lines Write some is = absurd is
 
 -- a paragraph that stands ahead and whose lines are refused
-pub judged_fault : (text : List ℕ) (before after : FeedState) (left : Option (List ℕ)) (run : List Line) (n : ℕ) (fault : Fault) → n ≡ before.lines + 1 → IsNextRun (before.lines + 1) (room_ahead before) text run → IsFaultOf (judged n run) fault → IsPassed text before (Err fault) after left
-judged_fault text before after left run n (Refused refusal) is next judges = judged_refusal text (before.lines + 1) (room_ahead before) run refusal next (ap (λ k. judged k run) (sym is) ∙ judges)
-judged_fault text before after left run n Memory is next judges = tt
-judged_fault text before after left run n Read is next judges = absurd judges
-judged_fault text before after left run n Write is next judges = absurd judges
+pub judged_fault : (text : List ℕ) (before : FeedState) (run : List Line) (n : ℕ) (fault : Fault) → n ≡ before.lines + 1 → IsNextRun (before.lines + 1) (room_ahead before) text run → IsFaultOf (judged n run) fault → IsPassed text before (Err fault) before None
+judged_fault text before run n (Refused refusal) is next judges = next.answer ∙ ap (seen_from (before.lines + 1)) (ap (λ k. judged k run) (sym is) ∙ judges)
+judged_fault text before run n Memory is next judges = tt
+judged_fault text before run n Read is next judges = absurd judges
+judged_fault text before run n Write is next judges = absurd judges
 
 -- where a paragraph's bytes stand in the buffer, these are its bytes
 module _ (mid : Feed) (buffer : List ℕ) (e : Extent) (from : ℕ) (places : List Place) (same : buffer ≡ buffer_of mid) (at : from ≡ start_of mid) (x : IsExtentOf e (feed_state mid)) where
@@ -325,121 +272,47 @@ module _ (mid : Feed) (buffer : List ℕ) (e : Extent) (from : ℕ) (places : Li
       (ap (λ zs. are_fields (fields_at zs places) && are_numbered n (fields_at zs places)) standing_bytes ∙ and_from _ _ fields numbered)
 
   -- and these are its fields
-  pub standing_fields : (n m : ℕ) → n ≡ m → judged n (pieces_of (take e.end (feed_state mid).unread)) ≡ Ok (fields_at (take e.end (feed_state mid).unread) places) → judged m (x.first ∷ x.run) ≡ Ok (standing_of buffer places (record { from = from; to = from + e.end; first_line = n })).fields
+  pub standing_fields : (n m : ℕ) → n ≡ m → judged n (pieces_of (take e.end (feed_state mid).unread)) ≡ Ok (fields_at (take e.end (feed_state mid).unread) places) → judged m x.lines ≡ Ok (standing_of buffer places (record { from = from; to = from + e.end; first_line = n })).fields
   standing_fields n m is judges =
-      ap (λ k. judged k (x.first ∷ x.run)) (sym is) ∙ ap (judged n) (sym x.pieces) ∙ judges ∙ ap (λ zs. Ok (fields_at zs places)) (sym standing_bytes)
+      ap (λ k. judged k x.lines) (sym is) ∙ ap (judged n) (sym x.pieces) ∙ judges ∙ ap (λ zs. Ok (fields_at zs places)) (sym standing_bytes)
 
 -- what a reader that has answered that no paragraph follows goes on answering
 pub stays_none : (text passed : List ℕ) (feed : FeedState) (hidden : ℕ) (current current_after : Option Seen) (fault : Option Fault) (left : Option (List ℕ)) → Fits text passed (state_from feed hidden true current fault) left → feed.bytes ≤ file_limit → GivesNone text passed (state_from feed hidden true current_after fault) left
 stays_none text passed feed hidden current current_after fault left fits small =
-    let state = state_from feed hidden true current fault in
-    let nothing = fits.finished refl in
-    let cut = fits_cut text passed state left fits in
-    let same : text ≡ passed = fits.whole ∙ ap (λ zs. passed ++ zs) nothing ∙ append-nil passed in
-    let blank : AreBlank (lines_of (ahead_of text passed state left fits)) = subst (λ zs. AreBlank (lines_of zs)) (sym nothing) tt in
-    let few : length (ahead_of text passed state left fits) ≤ room_ahead feed = omega (arith, ap length nothing) in
-    let none = left-none (feed.lines + 1) (room_ahead feed) (ahead_of text passed state left fits) blank few in
-    record {
-      answer = answer_ahead text passed _ feed.bytes feed.lines cut small ∙ none.0;
-      begin = begin_ahead text passed _ feed.bytes feed.lines cut small ∙ none.1;
-      again = record {
-        hidden = fits.hidden;
-        rest = fits.rest;
-        told = fits.told;
-        whole = sym (append-nil text) ∙ ap (λ zs. text ++ zs) (sym nothing);
-        bytes = fits.bytes ∙ ap length (sym same);
-        lines = fits.lines ∙ ap (λ zs. length (lines_of zs)) (sym same);
-        hidden_bytes = fits.hidden_bytes;
-        hidden_line = fits.hidden_line;
-        closed = inr nothing;
-        ended = fits.ended;
-        finished = λ f. nothing;
-      };
-      passes = ap paragraphs_of same;
-      finished = refl;
-    }
+    let ahead = fits.hidden ++ (feed.unread ++ fits.rest) in
+    let nothing : ahead ≡ [] = fits.finished refl in
+    let size : length fits.hidden + (length feed.unread + length fits.rest) ≡ 0 = omega (arith, ap length nothing, length-append fits.hidden (feed.unread ++ fits.rest), length-append feed.unread fits.rest) in
+    let none : length (lines_of ahead) ≡ 0 = ap (λ zs. length (lines_of zs)) nothing in
+    tell_none text passed feed hidden (omega (arith, size, fits.hidden_bytes)) true current fault left fits small feed left current_after fault
+    (record { blank = subst (λ zs. AreBlank (lines_of zs)) (sym nothing) tt; within = omega (arith, ap length nothing); unread = no_bytes feed.unread (omega (arith, size)); bytes = omega (arith, ap length nothing); lines = omega (arith, none) })
+    (record { rest = fits.rest; told = fits.told; whole = sym (no_bytes (feed.unread ++ fits.rest) (omega (arith, size, length-append feed.unread fits.rest))); ended = fits.ended })
 
-either : (a b : Bool) → (a || b) ≡ true → (a ≡ true) ⊎ (b ≡ true)
-either true b h = inl refl
-either false b h = inr h
-
-left_true : (a b : Bool) → a ≡ true → (a || b) ≡ true
-left_true a b h = rw h refl
-
-right_true : (a b : Bool) → b ≡ true → (a || b) ≡ true
-right_true true b h = refl
-right_true false b h = h
-
-newline_first : (bytes : List ℕ) → begins_with_newline bytes ≡ true → (more : List ℕ) × (bytes ≡ newline ∷ more)
-newline_first [] h = absurd cc
-newline_first (b ∷ bs) h = (bs, ap (λ c. c ∷ bs) (eqb-true b newline h))
-
-none_first : (bytes : List ℕ) → is_nothing bytes ≡ true → bytes ≡ []
-none_first [] h = refl
-none_first (b ∷ bs) h = absurd cc
-
--- the parts of the test of a hidden line
-pub hides_from_test : (hidden : ℕ) (bytes : List ℕ) (feed : FeedState) → 0 < hidden → length bytes ≡ hidden → IsTrue (hides_line hidden feed) → (paragraph_limit ≤ length bytes) × EndsInSight (bytes ++ feed.unread) bytes feed
-hides_from_test hidden bytes feed some len test =
-    let long = leb paragraph_limit hidden in
-    let room = leb (feed.bytes + hidden) file_limit in
-    let here = begins_with_newline feed.unread && leb (feed.bytes + hidden + 1) file_limit in
-    let ended = is_nothing feed.unread && feed.ended in
-    let zero : (hidden == 0) ≡ false = grind (arith, nat_tests) in
-    let rest : ((long && room) && (here || ended)) ≡ true = ap (λ t. t || ((long && room) && (here || ended))) (sym zero) ∙ test in
-    let parts = and_parts (long && room) (here || ended) rest in
-    let limits = and_parts long room parts.0 in
-    let is_long : paragraph_limit ≤ hidden = leb-true paragraph_limit hidden limits.0 in
-    let is_within : feed.bytes + hidden ≤ file_limit = leb-true (feed.bytes + hidden) file_limit limits.1 in
-    (omega (arith, is_long, len), go is_within (either here ended parts.1))
+-- what is said of a hidden line
+pub hides_from : (hidden : ℕ) (bytes : List ℕ) (feed : FeedState) → 0 < hidden → length bytes ≡ hidden → HidesLong hidden feed → (paragraph_limit ≤ length bytes) × EndsInSight (bytes ++ feed.unread) bytes feed
+hides_from hidden bytes feed some len hides = (omega (arith, (hides some).0, len), go feed.unread refl (hides some).1)
   where
-    go : feed.bytes + hidden ≤ file_limit → ((begins_with_newline feed.unread && leb (feed.bytes + hidden + 1) file_limit) ≡ true) ⊎ ((is_nothing feed.unread && feed.ended) ≡ true) → EndsInSight (bytes ++ feed.unread) bytes feed
-    go within (inl h) =
-        let parts = and_parts (begins_with_newline feed.unread) (leb (feed.bytes + hidden + 1) file_limit) h in
-        let first = newline_first feed.unread parts.0 in
-        let room : feed.bytes + hidden + 1 ≤ file_limit = leb-true (feed.bytes + hidden + 1) file_limit parts.1 in
-        inl (first.0, ap (λ zs. bytes ++ zs) first.1, omega (arith, room, len))
-    go within (inr h) =
-        let parts = and_parts (is_nothing feed.unread) feed.ended h in
-        inr (ap (λ zs. bytes ++ zs) (none_first feed.unread parts.0) ∙ append-nil bytes, parts.1, omega (arith, within, len))
+    go : (unread : List ℕ) → feed.unread ≡ unread → EndsHidden hidden feed → EndsInSight (bytes ++ feed.unread) bytes feed
+    go [] is (within, ended, next) = inr (ap (λ zs. bytes ++ zs) is ∙ append-nil bytes, ended (ap length is), omega (arith, within, len))
+    go (b ∷ more) is (within, ended, next) =
+        let n = next (omega (arith, ap length is)) in
+        let first : b ≡ newline = ap (λ zs. get_or zs 0 newline) (sym is) ∙ n.0 in
+        inl (more, ap (λ zs. bytes ++ zs) (is ∙ ap (λ c. c ∷ more) first), omega (arith, n.1, len))
 
--- a line that is hidden passes the test
-pub test_from_hides : (hidden : List ℕ) (begun : Begun) (feed : FeedState) (n : ℕ) → n ≡ length hidden → HidesLine begun feed hidden → feed.bytes ≤ file_limit → IsTrue (hides_line n feed)
-test_from_hides hidden begun feed n is hides small =
-    let long : paragraph_limit ≤ n = omega (arith, is, hides.long) in
-    right_true (n == 0) _ (go (le-leb paragraph_limit n long) hides.ends)
+pub hides_long : (hidden : List ℕ) (begun : Begun) (feed : FeedState) (n : ℕ) → n ≡ length hidden → HidesLine begun feed hidden → feed.bytes ≤ file_limit → HidesLong n feed
+hides_long hidden begun feed n is hides small some = (omega (arith, is, hides.long), go hides.ends)
   where
-    go : leb paragraph_limit n ≡ true → EndsInSight (hidden ++ feed.unread) hidden feed → ((leb paragraph_limit n && leb (feed.bytes + n) file_limit) && ((begins_with_newline feed.unread && leb (feed.bytes + n + 1) file_limit) || (is_nothing feed.unread && feed.ended))) ≡ true
-    go long (inl (more, bytes, within)) =
-        let first : feed.unread ≡ newline ∷ more = append_cancel_left hidden feed.unread (newline ∷ more) bytes in
-        let fits : feed.bytes + n ≤ file_limit = omega (arith, within, is) in
-        let next : feed.bytes + n + 1 ≤ file_limit = omega (arith, within, is) in
-        and_from _ _ (and_from _ _ long (le-leb (feed.bytes + n) file_limit fits)) (left_true _ _ (and_from _ _ (ap begins_with_newline first) (le-leb (feed.bytes + n + 1) file_limit next)))
-    go long (inr (bytes, ended, within)) =
-        let none : feed.unread ≡ [] = append_cancel_left hidden feed.unread [] (bytes ∙ sym (append-nil hidden)) in
-        let fits : feed.bytes + n ≤ file_limit = omega (arith, within, is) in
-        and_from _ _ (and_from _ _ long (le-leb (feed.bytes + n) file_limit fits)) (right_true _ _ (and_from _ _ (ap is_nothing none) ended))
-
--- a text fits whatever paragraph was found last
-pub same_fits : (text passed : List ℕ) (feed : FeedState) (hidden : ℕ) (finished : Bool) (current current_after : Option Seen) (fault fault_after : Option Fault) (left : Option (List ℕ)) → Fits text passed (state_from feed hidden finished current fault) left → Fits text passed (state_from feed hidden finished current_after fault_after) left
-same_fits text passed feed hidden finished current current_after fault fault_after left fits = record {
-  hidden = fits.hidden;
-  rest = fits.rest;
-  told = fits.told;
-  whole = fits.whole;
-  bytes = fits.bytes;
-  lines = fits.lines;
-  hidden_bytes = fits.hidden_bytes;
-  hidden_line = fits.hidden_line;
-  closed = fits.closed;
-  ended = fits.ended;
-  finished = fits.finished;
-}
+    go : EndsInSight (hidden ++ feed.unread) hidden feed → EndsHidden n feed
+    go (inl (more, bytes, within)) =
+        let first = append_cancel_left hidden feed.unread (newline ∷ more) bytes in
+        (omega (arith, within, is), λ none. absurd (omega (arith, ap length first)), λ some. (ap (λ zs. get_or zs 0 newline) first, omega (arith, within, is)))
+    go (inr (bytes, ended, within)) =
+        let none = append_cancel_left hidden feed.unread [] (bytes ∙ sym (append-nil hidden)) in
+        (omega (arith, within, is, small), λ _. ended, λ some. absurd (omega (arith, ap length none)))
 
 -- a hidden line begins a paragraph
-module _ (text passed : List ℕ) (feed : FeedState) (hidden : ℕ) (finished : Bool) (current : Option Seen) (fault : Option Fault) (left : Option (List ℕ)) (fits : Fits text passed (state_from feed hidden finished current fault) left) (some : 0 < hidden) (test : IsTrue (hides_line hidden feed)) (small : feed.bytes ≤ file_limit) where
+module _ (text passed : List ℕ) (feed : FeedState) (hidden : ℕ) (finished : Bool) (current : Option Seen) (fault : Option Fault) (left : Option (List ℕ)) (fits : Fits text passed (state_from feed hidden finished current fault) left) (some : 0 < hidden) (test : HidesLong hidden feed) (small : feed.bytes ≤ file_limit) where
   hides_at : (paragraph_limit ≤ length fits.hidden) × EndsInSight (fits.hidden ++ feed.unread) fits.hidden feed
-  hides_at = hides_from_test hidden fits.hidden feed some fits.hidden_bytes test
+  hides_at = hides_from hidden fits.hidden feed some fits.hidden_bytes test
 
   hidden_ahead : IsAhead (ahead_of text passed (state_from feed hidden finished current fault) left fits) fits.hidden feed left
   hidden_ahead = fits_ahead text passed feed hidden finished current fault left fits
@@ -450,7 +323,7 @@ module _ (text passed : List ℕ) (feed : FeedState) (hidden : ℕ) (finished : 
   pub hidden_begins : (current_after : Option Seen) (fault_after : Option Fault) → BeginsHere text passed (state_from feed hidden finished current_after fault_after) left
   hidden_begins current_after fault_after = record {
     passed_now = passed;
-    again = same_fits text passed feed hidden finished current current_after fault fault_after left fits;
+    again = ahead_fits text passed feed hidden finished current_after fault_after left _ fits.hidden _ _ hidden_cut hidden_ahead refl refl fits.hidden_bytes fits.hidden_line fits.finished;
     passes = refl;
     begin = begin_ahead text passed _ feed.bytes feed.lines hidden_cut small ∙ begin_in_sight _ fits.hidden fits.hidden feed left hidden_ahead hides_at.1 fits.hidden_line (long_not_blank fits.hidden hides_at.0);
   }
@@ -468,38 +341,12 @@ near_nothing bytes none front more is = absurd (go front (sym none ∙ is))
     go (b ∷ bs) e = cc
 
 -- no hidden line passes the test
-pub hides_nothing : (hidden : ℕ) (feed : FeedState) → hidden ≡ 0 → IsTrue (hides_line hidden feed)
-hides_nothing hidden feed none = left_true (hidden == 0) _ (ap (λ n. n == 0) none)
+pub hides_nothing : (hidden : ℕ) (feed : FeedState) → hidden ≡ 0 → HidesLong hidden feed
+hides_nothing hidden feed none = λ some. absurd (omega arith)
 
 pub long_some : (n : ℕ) → paragraph_limit ≤ n → 0 < n
 unfolding paragraph_limit
 long_some n long = omega arith
-
--- an error says the same of any reader that it leaves
-answers_err : (text passed : List ℕ) (e : Fault) (new other : State) (left : Option (List ℕ)) → Answers text passed (Err e) new left → Answers text passed (Err e) other left
-answers_err text passed (Refused refusal) new other left a = a
-answers_err text passed Memory new other left a = a
-answers_err text passed Read new other left a = a
-answers_err text passed Write new other left a = a
-
-begin_err : (text passed : List ℕ) (e : Fault) (new other : State) (left : Option (List ℕ)) → AnswersBegin text passed (Err e) new left → AnswersBegin text passed (Err e) other left
-begin_err text passed (Refused refusal) new other left a = a
-begin_err text passed Memory new other left a = a
-begin_err text passed Read new other left a = a
-begin_err text passed Write new other left a = a
-
--- why the first line ahead wasn't found says why there is no answer
-pub first_err : (text passed : List ℕ) (e : Fault) (new other : State) (left : Option (List ℕ)) → FindsFirst text passed (Err e) new left → Answers text passed (Err e) other left
-first_err text passed (Refused refusal) new other left a = a.0
-first_err text passed Memory new other left a = a
-first_err text passed Read new other left a = a
-first_err text passed Write new other left a = a
-
-pub first_begin_err : (text passed : List ℕ) (e : Fault) (new other : State) (left : Option (List ℕ)) → FindsFirst text passed (Err e) new left → AnswersBegin text passed (Err e) other left
-first_begin_err text passed (Refused refusal) new other left a = a.1
-first_begin_err text passed Memory new other left a = a
-first_begin_err text passed Read new other left a = a
-first_begin_err text passed Write new other left a = a
 
 -- a paragraph begins behind the blank lines that have passed
 pub begins_line : (text passed : List ℕ) (new : State) (left : Option (List ℕ)) (line : ℕ) → line ≡ new.lines + 1 → IsNear new.unread → BeginsHere text passed new left → GivesLine text passed line new left
@@ -513,7 +360,7 @@ begins_line text passed new left line is near b = record {
 }
 
 -- a line that is hidden is refused, told of what had passed before
-pub dropped_answer : (text passed : List ℕ) (feed : FeedState) (hidden : ℕ) (finished : Bool) (current : Option Seen) (fault : Option Fault) (left : Option (List ℕ)) (line : ℕ) → BeginsHere text passed (state_from feed hidden finished current fault) left → 0 < hidden → IsTrue (hides_line hidden feed) → feed.bytes ≤ file_limit → line ≡ feed.lines + 1 → next_answer text (passed_count passed) ≡ Err (record { code = ParagraphTooLong; line = line })
+pub dropped_answer : (text passed : List ℕ) (feed : FeedState) (hidden : ℕ) (finished : Bool) (current : Option Seen) (fault : Option Fault) (left : Option (List ℕ)) (line : ℕ) → BeginsHere text passed (state_from feed hidden finished current fault) left → 0 < hidden → HidesLong hidden feed → feed.bytes ≤ file_limit → line ≡ feed.lines + 1 → next_answer text (passed_count passed) ≡ Err (record { code = ParagraphTooLong; line = line })
 dropped_answer text passed feed hidden finished current fault left line b some test small is =
     sym (same_count text passed b.passed_now b.passes).0 ∙ hidden_answer text b.passed_now feed hidden finished current fault left b.again some test small ∙ ap (λ n. Err (record { code = ParagraphTooLong; line = n })) (sym is)
 
@@ -524,16 +371,6 @@ if_none (Some f) P p = tt
 if_some : (o : Option Fault) (P : Fault → Type 0) → ((f : Fault) → o ≡ Some f → ⊥) → IfSome o P
 if_some None P none = tt
 if_some (Some f) P none = absurd (none f refl)
-
--- an end that is answered was not that of a first line or of an error
-pub kept_no_end : (begun : Begun) → ◌≡◌ {A = Result First Fault} (Ok (Kept begun)) (Ok End) → ⊥
-kept_no_end begun e = absurd cc
-
-pub dropped_no_end : (begun : Begun) → ◌≡◌ {A = Result First Fault} (Ok (Dropped begun)) (Ok End) → ⊥
-dropped_no_end begun e = absurd cc
-
-pub err_no_end : (fault : Fault) → ◌≡◌ {A = Result First Fault} (Err fault) (Ok End) → ⊥
-err_no_end fault e = absurd cc
 
 -- where there is a paragraph, the answer is no end
 pub some_no_end : (seen : Option Seen) → IsSome seen → tells_end {A = Seen} (Ok seen) ≡ false
@@ -547,14 +384,14 @@ if_seen (Some s) P p = p
 -- a call that fails keeps its error
 pub advance_err : (before : Moment) (after other : State) (source : Shown) (e : Fault) → ((f : Fault) → before.state.fault ≡ Some f → ⊥) → Advances before (Err e) (record { state = after; source = source }) → other.fault ≡ Some e → other.current ≡ after.current → other.finished ≡ after.finished → Passes Advances before (Err e) (record { state = other; source = source })
 advance_err before after other source e none a kept current finished = record {
-  goes = if_none before.state.fault _ (record { answers = λ text passed fits. answers_err text passed e after other source.bytes (a.answers text passed fits); taken = a.taken; counted = a.counted; fault = a.fault; current = current ∙ a.current; finished = finished ∙ a.finished; ended = a.ended; unhidden = tt });
+  goes = if_none before.state.fault _ (record { answers = a.answers; taken = a.taken; counted = a.counted; fault = a.fault; current = current ∙ a.current; finished = finished ∙ a.finished; ended = a.ended; unhidden = tt });
   keeps = if_none before.state.fault _ kept;
   repeats = if_some before.state.fault _ none;
 }
 
 pub begins_err : (before : Moment) (after other : State) (source : Shown) (e : Fault) → ((f : Fault) → before.state.fault ≡ Some f → ⊥) → Begins before (Err e) (record { state = after; source = source }) → other.fault ≡ Some e → other.current ≡ after.current → other.finished ≡ after.finished → Passes Begins before (Err e) (record { state = other; source = source })
 begins_err before after other source e none a kept current finished = record {
-  goes = if_none before.state.fault _ (record { answers = λ text passed fits. begin_err text passed e after other source.bytes (a.answers text passed fits); taken = a.taken; counted = a.counted; fault = a.fault; current = current ∙ a.current; finished = finished ∙ a.finished; ended = a.ended; line = tt });
+  goes = if_none before.state.fault _ (record { answers = a.answers; taken = a.taken; counted = a.counted; fault = a.fault; current = current ∙ a.current; finished = finished ∙ a.finished; ended = a.ended; line = tt });
   keeps = if_none before.state.fault _ kept;
   repeats = if_some before.state.fault _ none;
 }
@@ -563,12 +400,13 @@ begins_err before after other source e none a kept current finished = record {
 pub is_line_refusal : (n : ℕ) → IsRefusalOfText (record { code = ParagraphTooLong; line = n + 1 })
 is_line_refusal n = record { least = omega arith; most = omega arith; line = omega arith }
 
--- what was taken of the text ahead, told of the whole text
-pub taken_of : (text passed ahead : List ℕ) (count lines : ℕ) (left : Option (List ℕ)) → IsCut text passed ahead count lines → count ≤ file_limit → TakesNoMore ahead (file_limit - count) left → TakesNoMore text file_limit left
-taken_of text passed ahead count lines left cut small t = record {
-  rest = t.rest;
-  told = t.told;
-  few = omega (arith, t.few, cut.bytes, ap length cut.whole, length-append passed ahead);
+-- what was taken of a text that fits
+pub takes_text : (text passed : List ℕ) (state : State) (left left_after : Option (List ℕ)) → Fits text passed state left → Takes (state.bytes + length state.unread + state.hidden) left (file_limit + piece_limit) left_after → TakesNoMore text file_limit left_after
+takes_text text passed state left None fits t = let s = t.shown (subst IsSome (sym fits.told) (search rules)) in absurd cc
+takes_text text passed state left (Some rest) fits t = record {
+  rest = rest;
+  told = refl;
+  few = omega (arith, t.few, ap left_count fits.told, fits.bytes, fits.hidden_bytes, ap length fits.whole, length-append passed (fits.hidden ++ (state.unread ++ fits.rest)), length-append fits.hidden (state.unread ++ fits.rest), length-append state.unread fits.rest);
 }
 
 -- the same where nothing was read

@@ -1,7 +1,5 @@
 -- Cutting a text behind whole lines.
-use Rattle.std.proofs.Common.{◌≡◌, ℕ, ◌==◌, true, false, cond, List, [], ◌∷◌, ◌++◌, refl, ap, ◌∙◌, subst, append_assoc}
-use Rattle.deb_base.specs.Bodies.{Line, newline, with_byte}
-use Rattle.deb_syntax.specs.Lines.{lines_of, ends_line}
+use Rattle.deb_syntax.proofs.Common.{◌≡◌, ℕ, ◌==◌, true, false, cond, List, [], ◌∷◌, ◌++◌, refl, ap, ◌∙◌, subst, append_assoc, Line, newline, with_byte, lines_of, ends_line}
 
 -- a text that isn't empty has a line
 pub first_line : (b : ℕ) (bs : List ℕ) → (line : Line) × (lines : List Line) × (lines_of (b ∷ bs) ≡ line ∷ lines)

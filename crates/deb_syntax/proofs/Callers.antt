@@ -1,7 +1,5 @@
 -- What a caller's loop reads from the clauses of a reader of paragraphs, while no error has come.
-use Rattle.std.proofs.Common.{◌≡◌, None, Result, Ok, subst, IfNone}
-use Rattle.deb_base.specs.declared.fault.Fault.{Fault}
-use Rattle.deb_syntax.specs.Reading.{Moment, Passes}
+use Rattle.deb_syntax.proofs.Common.{◌≡◌, None, Result, Ok, subst, IfNone, Fault, Moment, Passes}
 
 -- a reader of paragraphs without an error goes on
 pub goes-from_passes : {A : Type 0} (Goes : Moment → Result A Fault → Moment → Type 0) (before after : Moment) (answer : Result A Fault) → before.state.fault ≡ None → Passes Goes before answer after → Goes before answer after

@@ -1,22 +1,9 @@
 -- A line that is read to its end, of whose bytes only those that came last are kept.
-use Rattle.std.proofs.Common.{◌≡◌, ℕ, ◌+◌, ◌-◌, ◌<◌, ◌≤◌, true, false, List, [], ◌∷◌, ◌++◌, Option, Some, None, Ok, Err, length, take, drop, IsTrue, IsFalse, refl, sym, ap, subst, ◌∙◌, append_assoc, arith, length-append, length-drop, length-take, append-nil}
-use Rattle.std.proofs.Math.Seq.{take-append-add, take-append_seam, drop-append-add, drop-append_seam}
-use Rattle.std.proofs.lemmas.List.{take-append-drop, take-append-le, take_all, take_rest, length-take-le}
-use Rattle.std.specs.Bool.{MatchBool}
-use Rattle.deb_base.specs.Bodies.{newline}
-use Rattle.deb_base.specs.declared.code.Code.TheVariants.{FileTooLong}
-use Rattle.deb_base.specs.declared.fault.Fault.TheVariants.{Refused}
-use Rattle.deb_base.specs.declared.refusal.Refusal.{Refusal}
+use Rattle.deb_syntax.proofs.Common.{◌≡◌, ℕ, ◌+◌, ◌-◌, ◌<◌, ◌≤◌, true, false, List, [], ◌∷◌, ◌++◌, Option, Some, None, Ok, Err, length, take, drop, IsTrue, IsFalse, refl, sym, ap, subst, ◌∙◌, append_assoc, arith, length-append, length-drop, length-take, take-append-add, take-append_seam, drop-append-add, drop-append_seam, take-append-drop, take-append-le, take_all, take_rest, length-take-le, MatchBool, newline, FileTooLong, Refused, Refusal, FeedState, piece_limit, Comes, Stays, KeepsFirst, Sees, room_of, had, Takes, Describes, EndsIn, GoesAlong, room_ahead, IsAhead, DropsLine, HasNewline, IsDropped, SameCounts, Begun, AlongLine, Run, Sight, DroppedLine}
+use Rattle.std.proofs.Common.{append-nil}
 use Rattle.deb_syntax.specs.Lines.{file_limit}
-use Rattle.deb_syntax.specs.Feeding.{FeedState, piece_limit, Comes, Stays, KeepsFirst, Sees, room_of}
-use Rattle.deb_syntax.specs.Walking.{Describes, EndsIn, GoesAlong}
-use Rattle.deb_syntax.specs.Ahead.{room_ahead, IsAhead, DropsLine, FindsDropped, HasNewline, IsDropped, SameCounts}
-use Rattle.deb_syntax.specs.declared.begun.Begun.{Begun}
-use Rattle.deb_syntax.specs.declared.begun.AlongLine.{AlongLine}
-use Rattle.deb_syntax.specs.declared.take.Run.{Run}
-use Rattle.deb_syntax.specs.declared.feed.Sight.{Sight}
-use Rattle.deb_syntax.specs.declared.dropped.DroppedLine.{DroppedLine}
 use Rattle.deb_syntax.proofs.Feeds.{comes_whole, comes_end}
+use Rattle.deb_syntax.proofs.Takings.{takes_none, takes_more, takes_then, consumes_takes}
 
 -- so much of the line was seen, and the file goes on
 pub record Dropping (before : FeedState) (left_before : Option (List ℕ)) (run : Run) (feed : FeedState) (left : Option (List ℕ)) (begun : Begun) : Type 0 where
@@ -31,6 +18,7 @@ pub record Dropping (before : FeedState) (left_before : Option (List ℕ)) (run 
   pub more : IsFalse feed.ended
   pub small : before.bytes ≤ file_limit
   pub room : run.bytes + length seen ≤ room_ahead before
+  pub takes : Takes (had before) left_before (before.bytes + (run.bytes + length seen)) left
   pub ahead : (text : List ℕ) → IsAhead text [] before left_before → (rest : List ℕ) × (left ≡ Some rest) × (text ≡ take run.bytes before.unread ++ (seen ++ rest))
 
 pub dropping-start : (before : FeedState) (left : Option (List ℕ)) (run : Run) → IsFalse before.ended → run.bytes ≤ length before.unread → length before.unread ≤ room_ahead before → Describes run.begun (drop run.bytes before.unread) → before.bytes ≤ file_limit → Dropping before left run before left run.begun
@@ -46,6 +34,7 @@ dropping-start before left run more within room described small = record {
   more = more;
   small = small;
   room = omega (arith, length-drop run.bytes before.unread);
+  takes = takes_none _ _ left (omega (arith, length-drop run.bytes before.unread, within));
   ahead = λ text a. (
     a.rest,
     a.told,
@@ -76,6 +65,7 @@ pub record Came (before : FeedState) (left_before : Option (List ℕ)) (run : Ru
   pub short : length piece ≤ piece_limit
   pub small : before.bytes ≤ file_limit
   pub room : run.bytes + length seen ≤ room_ahead before
+  pub takes : Takes (had before) left_before (before.bytes + (run.bytes + length seen) + length piece) left
   pub ended : IsTrue feed.ended → piece ≡ []
   pub more : IsFalse feed.ended → 0 < length piece
   pub ahead : (text : List ℕ) → IsAhead text [] before left_before → PieceAhead text (take run.bytes before.unread) seen piece feed left
@@ -94,6 +84,7 @@ came before left_before run feed mid after left left_after begun d keeps come = 
   short = come.short;
   small = d.small;
   room = d.room;
+  takes = takes_then _ _ _ _ _ _ _ _ d.takes (consumes_takes left left_after come.piece come.consumed) (omega arith);
   ended = come.ended;
   more = come.more;
   ahead = λ text a.
@@ -117,6 +108,9 @@ stays-counts before left_before run feed mid after left left_after begun d keeps
 module _ (before : FeedState) (left_before : Option (List ℕ)) (run : Run) (after : FeedState) (left : Option (List ℕ)) (begun : Begun) (c : Came before left_before run after left begun) where
   pub came-counts : SameCounts before after
   came-counts = record { bytes = c.bytes; lines = c.lines }
+
+  pub came-takes : Takes (had before) left_before (file_limit + piece_limit) left
+  came-takes = takes_more _ _ _ _ _ _ c.takes (omega arith) (omega (arith, c.room, c.small, c.short))
 
   pub came-small : after.bytes + begun.len ≤ file_limit
   came-small = omega (arith, c.bytes, c.small, c.room, c.describes.len)
@@ -230,15 +224,12 @@ module _ (before : FeedState) (left_before : Option (List ℕ)) (run : Run) (aft
       ended-room,
     )
 
-    pub ended-found : FindsDropped before run (Ok (record { line = next; newline = Some (run.bytes + (next.len - begun.len)) })) after
-    ended-found = (drops _ e.more e.describes, has-newline)
-
-    pub ended-ahead : (text : List ℕ) → IsAhead text [] before left_before → IsDropped text before run (Ok (record { line = next; newline = Some (run.bytes + (next.len - begun.len)) })) after left
-    ended-ahead text a =
-        let p = c.ahead text a in (
-          drops _ e.more e.describes,
-          has-newline,
-          (
+    pub ended-drops : IsDropped before left_before run (Ok (record { line = next; newline = Some (run.bytes + (next.len - begun.len)) })) after left
+    ended-drops = (
+      drops _ e.more e.describes,
+      has-newline,
+      λ text a.
+          let p = c.ahead text a in (
             p.rest,
             p.told,
             p.whole
@@ -248,7 +239,7 @@ module _ (before : FeedState) (left_before : Option (List ℕ)) (run : Run) (aft
                 ∙ ap (λ zs. take run.bytes before.unread ++ ((c.seen ++ e.more) ++ (zs ++ p.rest))) (sym drop-at),
             p.ended,
           ),
-        )
+    )
 
   -- the line goes on through all of them
   module _ (next : Begun) (d : Describes next (c.seen ++ take fresh_room c.piece)) where
@@ -272,6 +263,7 @@ module _ (before : FeedState) (left_before : Option (List ℕ)) (run : Run) (aft
       more = more;
       small = c.small;
       room = whole-room le;
+      takes = takes_more _ _ _ _ _ _ c.takes (omega arith) (omega (arith, length-append c.seen c.piece));
       ahead = λ text a.
           let p = c.ahead text a in
           (p.rest, p.told, p.whole ∙ ap (λ zs. take run.bytes before.unread ++ zs) (sym (append_assoc c.seen c.piece p.rest)));
@@ -284,25 +276,22 @@ module _ (before : FeedState) (left_before : Option (List ℕ)) (run : Run) (aft
     none-has : IsTrue after.ended → after.unread ≡ take run.bytes before.unread
     none-has ended = c.unread ∙ ap (λ zs. take run.bytes before.unread ++ zs) (c.ended ended) ∙ append-nil (take run.bytes before.unread)
 
-    pub none-found : length after.unread ≤ room_of after begun.len → IsTrue after.ended → FindsDropped before run (Ok (record { line = next; newline = None })) after
-    none-found le ended = (drops _ c.piece (whole-line le), (none-has ended, ended, whole-room le))
-
-    pub none-ahead : length after.unread ≤ room_of after begun.len → IsTrue after.ended → (text : List ℕ) → IsAhead text [] before left_before → IsDropped text before run (Ok (record { line = next; newline = None })) after left
-    none-ahead le ended text a =
-        let p = c.ahead text a in (
-          drops _ c.piece (whole-line le),
-          (none-has ended, ended, whole-room le),
-          (
+    pub none-drops : length after.unread ≤ room_of after begun.len → IsTrue after.ended → IsDropped before left_before run (Ok (record { line = next; newline = None })) after left
+    none-drops le ended = (
+      drops _ c.piece (whole-line le),
+      (none-has ended, ended, whole-room le),
+      λ text a.
+          let p = c.ahead text a in (
             p.whole
                 ∙ ap (λ zs. take run.bytes before.unread ++ (c.seen ++ (c.piece ++ zs))) (p.ended ended)
                 ∙ ap (λ zs. take run.bytes before.unread ++ (c.seen ++ zs)) (append-nil c.piece),
             p.told ∙ ap (λ zs. Some zs) (p.ended ended),
           ),
-        )
+    )
 
     -- and beyond what may be looked at
-    pub beyond-ahead : (refusal : Refusal) → room_of after begun.len < length after.unread → refusal ≡ record { code = FileTooLong; line = before.lines + run.lines + 1 } → (text : List ℕ) → IsAhead text [] before left_before → IsDropped text before run (Err (Refused refusal)) after left
-    beyond-ahead refusal long is text a =
+    pub beyond-drops : (refusal : Refusal) → room_of after begun.len < length after.unread → refusal ≡ record { code = FileTooLong; line = before.lines + run.lines + 1 } → IsDropped before left_before run (Err (Refused refusal)) after left
+    beyond-drops refusal long is = λ text a.
         let p = c.ahead text a in
         let room : room_ahead before ≡ length (take run.bytes before.unread) + (length c.seen + fresh_room) = omega (arith, c.front, c.room) in
         let few : fresh_room ≤ length c.piece = omega (arith, came-length, room-is, c.front, long) in (

@@ -1,22 +1,7 @@
 -- Where a paragraph ends, by why no line more was taken: at the file's end, or behind a line that was dropped.
-use Rattle.std.proofs.Common.{◌≡◌, ◌≢◌, ℕ, ◌+◌, ◌-◌, ◌<◌, ◌≤◌, true, false, List, [], ◌∷◌, ◌++◌, Option, Some, None, Result, Ok, Err, length, take, drop, IsTrue, refl, sym, ap, subst, ◌∙◌, arith, length-append, length-drop}
-use Rattle.std.proofs.lemmas.List.{append-nil, take-append-drop, drop-drop}
-use Rattle.deb_base.specs.Bodies.{Line, newline, paragraph_limit, is_blank}
-use Rattle.deb_base.specs.declared.code.Code.{Code}
-use Rattle.deb_base.specs.declared.code.Code.TheVariants.{ParagraphTooLong, FileTooLong}
-use Rattle.deb_base.specs.declared.fault.Fault.{Fault}
-use Rattle.deb_base.specs.declared.fault.Fault.TheVariants.{Refused, Memory, Read, Write}
-use Rattle.deb_base.specs.declared.refusal.Refusal.{Refusal}
-use Rattle.deb_syntax.specs.Ahead.{left_answer, room_ahead, IsAhead, IsExtentOf, PassesParagraph, IsNextRun, IsExtentAhead, DropsLine, HasNewline, TextAfterLine, IsDropped}
-use Rattle.deb_syntax.specs.Answers.{Seen}
-use Rattle.deb_syntax.specs.Feeding.{FeedState}
-use Rattle.deb_syntax.specs.Lines.{with_newlines}
-use Rattle.deb_syntax.specs.Walking.{StandInFront, Stops}
-use Rattle.deb_syntax.specs.declared.dropped.DroppedLine.{DroppedLine}
-use Rattle.deb_syntax.specs.declared.ending.Extent.{Extent}
-use Rattle.deb_syntax.specs.declared.take.Run.{Run}
-use Rattle.deb_syntax.specs.declared.take.Stop.TheVariants.{Open}
+use Rattle.deb_syntax.proofs.Common.{◌≡◌, ◌≢◌, ℕ, ◌+◌, ◌-◌, ◌<◌, ◌≤◌, true, false, List, [], ◌∷◌, ◌++◌, Option, Some, None, Result, Ok, Err, length, take, drop, IsTrue, refl, sym, ap, subst, ◌∙◌, arith, length-append, length-drop, append-nil, take-append-drop, drop-drop, Line, newline, paragraph_limit, is_blank, Code, ParagraphTooLong, FileTooLong, Fault, Refused, Refusal, left_answer, room_ahead, IsAhead, IsExtentOf, PassesParagraph, IsNextRun, IsExtentAhead, DropsLine, HasNewline, TextAfterLine, IsDropped, Seen, FeedState, with_newlines, StandInFront, Stops, DroppedLine, Extent, Run, Stop, Open}
 use Rattle.deb_syntax.proofs.Endings.{EndsBlank, EndsNone, EndsLast, blank-found, blank-ahead, none-found, none-ahead, last-found, last-ahead, some-lines, some-full, refused-long, refused-end, refused-beyond}
+use Rattle.deb_syntax.proofs.Faults.{readers_fault}
 use Rattle.deb_syntax.proofs.WalkingLines.{take-front, drop-front, length-front, few_lines-with_newlines}
 
 -- the line behind a run goes on through all bytes
@@ -31,8 +16,8 @@ open-length text run s =
     let whole = length-front text s.lines s.seen (open-front text run s) in
     omega (arith, s.stands.bytes, s.stands.describes.len)
 
-pub open-few : (text : List ℕ) (run : Run) → Stops text Open run → run.lines ≤ run.bytes
-open-few text run s = let few = few_lines-with_newlines s.lines in omega (arith, s.stands.bytes, s.stands.counted)
+pub stops-few : (text : List ℕ) (stop : Stop) (run : Run) → Stops text stop run → run.lines ≤ run.bytes
+stops-few text stop run s = let few = few_lines-with_newlines s.lines in omega (arith, s.stands.bytes, s.stands.counted)
 
 pub some-bytes : (lines : List Line) → lines ≢ [] → 0 < length (with_newlines lines)
 some-bytes [] some = absurd (some refl)
@@ -134,14 +119,12 @@ module _ (before after : FeedState) (run : Run) (s : Stops before.unread Open ru
   drop-run = ap (λ n. drop n before.unread) s.stands.bytes ∙ drop-front before.unread s.lines s.seen (open-front before.unread run s)
 
   -- a refused line that goes on beyond what may be looked at
-  pub dropped-refused : (text : List ℕ) (left : Option (List ℕ)) (fault : Fault) → IsDropped text before run (Err fault) after left → IsExtentAhead text before (Err fault) after left
-  dropped-refused text left (Refused refusal) (is, long, (line, seen, none)) =
-      refusal-ahead text before after left (Refused refusal) FileTooLong run.lines s.lines (ap (λ r. Refused r) is) s.stands.counted
+  pub dropped-refused : (left_before : Option (List ℕ)) (fault : Fault) → IsDropped before left_before run (Err fault) after None → (text : List ℕ) → IsAhead text [] before left_before → IsExtentAhead text before (Err fault) after None
+  dropped-refused left_before fault h text a =
+      readers_fault fault (λ refusal (is, long, (line, seen, none)).
+      refusal-ahead text before after None (Refused refusal) FileTooLong run.lines s.lines (ap (λ r. Refused r) is) s.stands.counted
       (refused-beyond (before.lines + 1) (room_ahead before) text s.lines line long (seen ∙ ap (λ zs. zs ++ line) take-run) s.stands.front.lines none s.stands.not_blank
-      (omega (arith, s.stands.short, s.stands.bytes)))
-  dropped-refused text left Memory h = tt
-  dropped-refused text left Read h = tt
-  dropped-refused text left Write h = h
+      (omega (arith, s.stands.short, s.stands.bytes)))) (h text a)
 
   module _ (dropped : DroppedLine) (d : DropsLine before run dropped after) where
     kept-front : StandInFront after.unread s.lines (drop run.bytes after.unread)
@@ -215,8 +198,8 @@ module _ (before after : FeedState) (run : Run) (s : Stops before.unread Open ru
           counted = omega (arith, s.stands.counted);
         }
 
-    same-answer : (n : ℕ) (text : List ℕ) (e : Extent) (left : Option (List ℕ)) → ((x : IsExtentOf e after) × PassesParagraph text e after left (x.first ∷ x.run) × IsNextRun n (room_ahead after) text (x.first ∷ x.run)) → ((x : IsExtentOf e after) × PassesParagraph text e after left (x.first ∷ x.run) × IsNextRun n (room_ahead before) text (x.first ∷ x.run))
-    same-answer n text e left (x, passes, next) = (x, passes, subst (λ r. IsNextRun n r text (x.first ∷ x.run)) same-room next)
+    same-answer : (n : ℕ) (text : List ℕ) (e : Extent) (left : Option (List ℕ)) → ((x : IsExtentOf e after) × PassesParagraph text e after left x.lines × IsNextRun n (room_ahead after) text x.lines) → ((x : IsExtentOf e after) × PassesParagraph text e after left x.lines × IsNextRun n (room_ahead before) text x.lines)
+    same-answer n text e left (x, passes, next) = (x, passes, subst (λ r. IsNextRun n r text x.lines) same-room next)
 
     pub dropped-blank-found : (e : Extent) (at : ℕ) → paragraph_limit ≤ length before.unread → is_blank d.line ≡ true → HasNewline before run d.line (Some at) after → e ≡ record { end = run.bytes - 1; skip = at + 1; bytes = run.bytes + dropped.line.len + 1; lines = run.lines + 1 } → IsExtentOf e after
     dropped-blank-found e at full blank h is = subst (λ x. IsExtentOf x after) (sym is) (blank-found _ after (dropped-blank at full blank h))

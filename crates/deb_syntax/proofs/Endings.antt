@@ -1,21 +1,10 @@
 -- Where a paragraph ends: lines that aren't blank at the front of a text, and a blank line or the end behind them.
-use Rattle.std.proofs.Common.{◌≡◌, ◌≢◌, ℕ, ◌+◌, ◌-◌, ◌<◌, ◌≤◌, ◌⊎◌, inl, inr, true, false, nat_le, List, [], ◌∷◌, ◌++◌, Option, Some, Err, length, take, drop, IsTrue, refl, sym, ap, subst, ◌∙◌, append_assoc, arith, length-append, length-drop}
-use Rattle.std.proofs.Math.Seq.{drop-length}
-use Rattle.std.proofs.lemmas.Bool.{and_parts, leb-true, false≢true}
-use Rattle.std.proofs.lemmas.List.{append-nil, take_all}
-use Rattle.std.specs.List.{AllByRecursion}
-use Rattle.deb_base.specs.declared.code.Code.TheVariants.{ParagraphTooLong, FileTooLong}
-use Rattle.deb_base.specs.Bodies.{Line, newline, paragraph_limit, is_blank, is_all_blank, pieces_of, HasNoNewline}
-use Rattle.deb_syntax.specs.Ahead.{left_answer, room_ahead, IsExtentOf, PassesParagraph, IsNextRun}
-use Rattle.deb_syntax.specs.Answers.{part_within, whole_lines}
-use Rattle.deb_syntax.specs.Extents.{AreBlank, AreNotBlank}
-use Rattle.deb_syntax.specs.Feeding.{FeedState, piece_limit}
-use Rattle.deb_syntax.specs.Lines.{lines_of, with_newlines, total_length, ends_line, begins_blank, paragraphs_from}
-use Rattle.deb_syntax.specs.Walking.{StandInFront, CannotBeBlank}
-use Rattle.deb_syntax.specs.declared.ending.Extent.{Extent}
-use Rattle.deb_syntax.proofs.JudgingLaws.{all_append}
+use Rattle.deb_syntax.proofs.Common.{◌≡◌, ◌≢◌, ℕ, ◌+◌, ◌-◌, ◌<◌, ◌≤◌, ◌⊎◌, inl, inr, true, false, nat_le, List, [], ◌∷◌, ◌++◌, Option, Some, Err, length, take, drop, IsTrue, refl, sym, ap, subst, ◌∙◌, append_assoc, arith, length-append, length-drop, drop-length, and_parts, leb-true, false≢true, append-nil, take_all, AllByRecursion, All-append, ParagraphTooLong, FileTooLong, Line, newline, is_blank, is_all_blank, pieces_of, HasNoNewline, left_answer, room_ahead, IsExtentOf, PassesParagraph, IsNextRun, part_within, whole_lines, AreBlank, AreNotBlank, FeedState, piece_limit, lines_of, with_newlines, total_length, ends_line, begins_blank, paragraphs_from, StandInFront, CannotBeBlank, Extent}
+use Rattle.deb_base.specs.Bodies.{paragraph_limit}
 use Rattle.deb_syntax.proofs.LeftAnswers.{left-run, left-long, left-beyond}
 use Rattle.deb_syntax.proofs.NextParagraph.{ends_blank-append}
+use Rattle.deb_syntax.proofs.LinesLawsTexts.{lines_of-with_newlines}
+use Rattle.deb_syntax.proofs.Passing.{ends_line-with_newlines}
 use Rattle.deb_syntax.proofs.Parts.{part_within-all, part_within-some, part_within-append, whole_lines-append, whole_lines-none}
 use Rattle.deb_syntax.proofs.Runs.{paragraphs_from-run}
 use Rattle.deb_syntax.proofs.WalkingLines.{lines_of-with_newlines_and, lines_of-front, length-with_newlines, few_lines-with_newlines, lines_of-unended, pieces_of-with_newlines_and, length-front, front-step, length-with_newlines-step, pieces_of-front}
@@ -23,16 +12,6 @@ use Rattle.deb_syntax.proofs.WalkingLines.{lines_of-with_newlines_and, lines_of-
 some_more : (lines : List Line) (line : Line) → lines ++ line ∷ [] ≢ []
 some_more [] line e = let l : length (line ∷ []) ≡ 0 = ap length e in absurd (omega arith)
 some_more (first ∷ lines) line e = let l : length (first ∷ (lines ++ line ∷ [])) ≡ 0 = ap length e in absurd (omega arith)
-
-ends_line-step : (line bytes : List ℕ) → ends_line bytes ≡ true → ends_line (line ++ newline ∷ bytes) ≡ true
-ends_line-step [] [] h = refl
-ends_line-step [] (c ∷ bytes) h = h
-ends_line-step (b ∷ []) bytes h = ends_line-step [] bytes h
-ends_line-step (b ∷ c ∷ line) bytes h = ends_line-step (c ∷ line) bytes h
-
-pub ends_line-with_newlines : (lines : List Line) → ends_line (with_newlines lines) ≡ true
-ends_line-with_newlines [] = refl
-ends_line-with_newlines (line ∷ lines) = ends_line-step line (with_newlines lines) (ends_line-with_newlines lines)
 
 -- what can't be blank isn't
 not_both : (seen : List ℕ) → CannotBeBlank seen → is_blank seen ≡ true → ⊥
@@ -69,8 +48,7 @@ part-beyond room text lines seen long is all line =
     (part_within-some room text long ∙ ap whole_lines is
     ∙ whole_lines-append (with_newlines lines) seen (ends_line-with_newlines lines)
     ∙ ap (λ t. with_newlines lines ++ t) (whole_lines-none seen line))
-    ∙ lines_of-with_newlines_and lines [] all
-    ∙ append-nil lines
+    ∙ lines_of-with_newlines_and lines [] all ∙ append-nil lines
 
 pub refused-beyond : (n room : ℕ) (text : List ℕ) (lines : List Line) (seen : List ℕ) → room < length text → take room text ≡ with_newlines lines ++ seen → AllByRecursion HasNoNewline lines → HasNoNewline seen → AreNotBlank lines → length (with_newlines lines) ≤ paragraph_limit → left_answer n room text ≡ Err (record { code = FileTooLong; line = n + length lines })
 refused-beyond n room text lines seen long is all line not_blank short =
@@ -87,7 +65,7 @@ refused-long n room text lines line rest h k within not_blank line_not short lon
     = part-lines room text (lines ++ line ∷ []) rest (front-step text lines line rest h k) (omega arith) ∙ append_assoc lines (line ∷ []) (lines_of behind) in
     left-long n room text lines line (lines_of behind) is not_blank line_not (omega arith) (omega arith)
 
-not_empty : (line : List ℕ) → is_blank line ≡ false → line ≢ []
+pub not_empty : (line : List ℕ) → is_blank line ≡ false → line ≢ []
 unfolding paragraph_limit
 not_empty [] h e = absurd (false≢true (sym h))
 not_empty (b ∷ line) h e = let l : length (b ∷ line) ≡ 0 = ap length e in absurd (omega arith)
@@ -111,47 +89,6 @@ next-run n room text (line ∷ run) rest some is not_blank begins short ends = r
   answer = left-run n room text line run rest is not_blank begins short ends;
 }
 
--- an extent in the unread bytes, by the paragraph's lines
-pub record FitsExtent (e : Extent) (state : FeedState) (lines : List Line) : Type 0 where
-  pub some : lines ≢ []
-  pub pieces : pieces_of (take e.end state.unread) ≡ lines
-  pub not_blank : AreNotBlank lines
-  pub short : total_length lines ≤ paragraph_limit
-  pub end_within : e.end ≤ length state.unread
-  pub skip_within : e.skip ≤ length state.unread
-  pub within : e.bytes ≤ room_ahead state
-  pub few : e.lines ≤ e.bytes
-  pub near : length (drop e.skip state.unread) ≤ piece_limit
-
-extent-of : (e : Extent) (state : FeedState) (lines : List Line) → FitsExtent e state lines → (x : IsExtentOf e state) × (lines ≡ x.first ∷ x.run)
-extent-of e state [] f = absurd (f.some refl)
-extent-of e state (line ∷ run) f = (
-  record {
-    first = line;
-    run = run;
-    pieces = f.pieces;
-    not_blank = f.not_blank;
-    short = f.short;
-    end_within = f.end_within;
-    skip_within = f.skip_within;
-    within = f.within;
-    few = f.few;
-    near = f.near;
-  },
-  refl,
-)
-
-pub extent-found : (e : Extent) (state : FeedState) (lines : List Line) → FitsExtent e state lines → IsExtentOf e state
-extent-found e state lines f = (extent-of e state lines f).0
-
-pub extent-ahead : (text : List ℕ) (e : Extent) (state : FeedState) (left : Option (List ℕ)) (n room : ℕ) (lines : List Line) → FitsExtent e state lines → PassesParagraph text e state left lines → IsNextRun n room text lines → (x : IsExtentOf e state) × PassesParagraph text e state left (x.first ∷ x.run) × IsNextRun n room text (x.first ∷ x.run)
-extent-ahead text e state left n room lines f passes next =
-    let x = extent-of e state lines f in (
-      x.0,
-      subst (λ ls. PassesParagraph text e state left ls) x.1 passes,
-      subst (λ ls. IsNextRun n room text ls) x.1 next,
-    )
-
 -- lines in front of a blank line with its newline
 pub record EndsBlank (e : Extent) (state : FeedState) : Type 0 where
   pub lines : List Line
@@ -172,12 +109,13 @@ pub record EndsBlank (e : Extent) (state : FeedState) : Type 0 where
   pub bytes : e.bytes ≡ length (with_newlines lines) + (length line + 1)
   pub counted : e.lines ≡ length lines + 1
 
-fits-blank : (e : Extent) (state : FeedState) (b : EndsBlank e state) → FitsExtent e state b.lines
-fits-blank e state b =
+pub blank-found : (e : Extent) (state : FeedState) → EndsBlank e state → IsExtentOf e state
+blank-found e state b =
     let whole = length-front state.unread b.lines b.behind b.front in
     let few = few_lines-with_newlines b.lines in
     let total = length-with_newlines b.lines in
     record {
+      lines = b.lines;
       some = b.some;
       pieces = ap (λ k. pieces_of (take k state.unread)) b.end ∙ pieces_of-front state.unread b.lines b.behind b.some b.front;
       not_blank = b.not_blank;
@@ -189,42 +127,40 @@ fits-blank e state b =
       near = omega (arith, ap length b.skip, b.near);
     }
 
-pub blank-found : (e : Extent) (state : FeedState) → EndsBlank e state → IsExtentOf e state
-blank-found e state b = extent-found e state b.lines (fits-blank e state b)
-
-pub blank-ahead : (text rest : List ℕ) (e : Extent) (state : FeedState) (left : Option (List ℕ)) (n : ℕ) (b : EndsBlank e state) → left ≡ Some rest → text ≡ with_newlines b.lines ++ (b.line ++ newline ∷ (b.more ++ rest)) → (IsTrue state.ended → rest ≡ []) → (x : IsExtentOf e state) × PassesParagraph text e state left (x.first ∷ x.run) × IsNextRun n (room_ahead state) text (x.first ∷ x.run)
+pub blank-ahead : (text rest : List ℕ) (e : Extent) (state : FeedState) (left : Option (List ℕ)) (n : ℕ) (b : EndsBlank e state) → left ≡ Some rest → text ≡ with_newlines b.lines ++ (b.line ++ newline ∷ (b.more ++ rest)) → (IsTrue state.ended → rest ≡ []) → (x : IsExtentOf e state) × PassesParagraph text e state left x.lines × IsNextRun n (room_ahead state) text x.lines
+unfolding blank-found
 blank-ahead text rest e state left n b told whole ended =
     let total = length-with_newlines b.lines in
     let step = length-with_newlines-step b.lines b.line in
     let all = b.lines ++ b.line ∷ [] in
     let stands : StandInFront text b.lines (b.line ++ newline ∷ (b.more ++ rest)) = record { text = whole; lines = b.front.lines } in
     let both : StandInFront text all (b.more ++ rest) = front-step text b.lines b.line (b.more ++ rest) stands b.is_line in
-    let passed_lines : lines_of (with_newlines all) ≡ all
-    = ap lines_of (sym (append-nil (with_newlines all))) ∙ lines_of-with_newlines_and all [] both.lines ∙ append-nil all in
+    let passed_lines : lines_of (with_newlines all) ≡ all = lines_of-with_newlines all both.lines in
     let behind = part_within (room_ahead state - length (with_newlines all)) (b.more ++ rest) in
     let is : lines_of (part_within (room_ahead state) text) ≡ b.lines ++ b.line ∷ lines_of behind
-    = part-lines (room_ahead state) text all (b.more ++ rest) both (omega (arith, b.within)) ∙ append_assoc b.lines (b.line ∷ []) (lines_of behind) in
-    extent-ahead text e state left n (room_ahead state) b.lines (fits-blank e state b)
-    (record {
-      passed = with_newlines all;
-      ahead = b.more ++ rest;
-      ending = b.line ∷ [];
-      whole = both.text;
-      lines = passed_lines;
-      blank = (b.blank, tt);
-      one = omega arith;
-      closed = inl (
-        ends_line-with_newlines all,
-        subst (λ ls. Rattle.deb_syntax.specs.Lines.ends_blank ls ≡ true) (sym passed_lines) (ends_blank-append b.lines (b.line ∷ []) (some_more [] b.line) b.blank),
-      );
-      rest = rest;
-      told = told;
-      left_ahead = ap (λ zs. zs ++ rest) (sym b.skip);
-      ended = ended;
-      bytes = omega (arith, b.bytes);
-      counted = omega (arith, b.counted, ap length passed_lines, length-append b.lines (b.line ∷ []));
-    })
-    (next-run n (room_ahead state) text b.lines (b.line ∷ lines_of behind) b.some is b.not_blank b.blank (omega (arith, b.short)) (inr (omega arith)))
+    = part-lines (room_ahead state) text all (b.more ++ rest) both (omega (arith, b.within)) ∙ append_assoc b.lines (b.line ∷ []) (lines_of behind) in (
+      blank-found e state b,
+      record {
+        passed = with_newlines all;
+        ahead = b.more ++ rest;
+        ending = b.line ∷ [];
+        whole = both.text;
+        lines = passed_lines;
+        blank = (b.blank, tt);
+        one = omega arith;
+        closed = inl (
+          ends_line-with_newlines all,
+          subst (λ ls. Rattle.deb_syntax.specs.Lines.ends_blank ls ≡ true) (sym passed_lines) (ends_blank-append b.lines (b.line ∷ []) (some_more [] b.line) b.blank),
+        );
+        rest = rest;
+        told = told;
+        left_ahead = ap (λ zs. zs ++ rest) (sym b.skip);
+        ended = ended;
+        bytes = omega (arith, b.bytes);
+        counted = omega (arith, b.counted, ap length passed_lines, length-append b.lines (b.line ∷ []));
+      },
+      next-run n (room_ahead state) text b.lines (b.line ∷ lines_of behind) b.some is b.not_blank b.blank (omega (arith, b.short)) (inr (omega arith)),
+    )
 
 -- lines in front of the end, or of a blank line without newline
 pub record EndsNone (e : Extent) (state : FeedState) : Type 0 where
@@ -273,14 +209,15 @@ none-lines e state b =
       | inr none ↦ let zero : length b.line ≡ 0 = omega arith in omega (arith, u.none zero, b.none zero)
     ]
 
-fits-none : (e : Extent) (state : FeedState) (b : EndsNone e state) → FitsExtent e state b.lines
-fits-none e state b =
+pub none-found : (e : Extent) (state : FeedState) → EndsNone e state → IsExtentOf e state
+none-found e state b =
     let whole = length-front state.unread b.lines b.behind b.front in
     let few = few_lines-with_newlines b.lines in
     let total = length-with_newlines b.lines in
     let u = unended b.line b.is_line b.blank in
     let left = length-drop e.skip state.unread in
     record {
+      lines = b.lines;
       some = b.some;
       pieces = ap (λ k. pieces_of (take k state.unread)) b.end ∙ pieces_of-front state.unread b.lines b.behind b.some b.front;
       not_blank = b.not_blank;
@@ -295,35 +232,34 @@ fits-none e state b =
       near = omega (arith, b.skip);
     }
 
-pub none-found : (e : Extent) (state : FeedState) → EndsNone e state → IsExtentOf e state
-none-found e state b = extent-found e state b.lines (fits-none e state b)
-
-pub none-ahead : (text : List ℕ) (e : Extent) (state : FeedState) (left : Option (List ℕ)) (n : ℕ) (b : EndsNone e state) → left ≡ Some [] → text ≡ with_newlines b.lines ++ b.line → (x : IsExtentOf e state) × PassesParagraph text e state left (x.first ∷ x.run) × IsNextRun n (room_ahead state) text (x.first ∷ x.run)
+pub none-ahead : (text : List ℕ) (e : Extent) (state : FeedState) (left : Option (List ℕ)) (n : ℕ) (b : EndsNone e state) → left ≡ Some [] → text ≡ with_newlines b.lines ++ b.line → (x : IsExtentOf e state) × PassesParagraph text e state left x.lines × IsNextRun n (room_ahead state) text x.lines
+unfolding none-found
 none-ahead text e state left n b told whole =
     let total = length-with_newlines b.lines in
     let u = unended b.line b.is_line b.blank in
     let stands : StandInFront text b.lines b.line = record { text = whole; lines = b.front.lines } in
     let size = length-front text b.lines b.line stands in
     let within : length text ≤ room_ahead state = omega (arith, b.within) in
-    let lines : lines_of text ≡ b.lines ++ lines_of b.line = lines_of-front text b.lines b.line stands in
-    extent-ahead text e state left n (room_ahead state) b.lines (fits-none e state b)
-    (record {
-      passed = text;
-      ahead = [];
-      ending = lines_of b.line;
-      whole = sym (append-nil text);
-      lines = lines;
-      blank = u.blank;
-      one = u.one;
-      closed = inr refl;
-      rest = [];
-      told = told;
-      left_ahead = sym (append-nil (drop e.skip state.unread) ∙ ap (λ k. drop k state.unread) b.skip ∙ drop-length state.unread);
-      ended = λ _. refl;
-      bytes = omega (arith, b.bytes);
-      counted = omega (arith, none-lines e state b, ap length lines, length-append b.lines (lines_of b.line));
-    })
-    (next-run n (room_ahead state) text b.lines (lines_of b.line) b.some (ap lines_of (part_within-all (room_ahead state) text within) ∙ lines) b.not_blank u.begins (omega (arith, b.short)) (inl within))
+    let lines : lines_of text ≡ b.lines ++ lines_of b.line = lines_of-front text b.lines b.line stands in (
+      none-found e state b,
+      record {
+        passed = text;
+        ahead = [];
+        ending = lines_of b.line;
+        whole = sym (append-nil text);
+        lines = lines;
+        blank = u.blank;
+        one = u.one;
+        closed = inr refl;
+        rest = [];
+        told = told;
+        left_ahead = sym (append-nil (drop e.skip state.unread) ∙ ap (λ k. drop k state.unread) b.skip ∙ drop-length state.unread);
+        ended = λ _. refl;
+        bytes = omega (arith, b.bytes);
+        counted = omega (arith, none-lines e state b, ap length lines, length-append b.lines (lines_of b.line));
+      },
+      next-run n (room_ahead state) text b.lines (lines_of b.line) b.some (ap lines_of (part_within-all (room_ahead state) text within) ∙ lines) b.not_blank u.begins (omega (arith, b.short)) (inl within),
+    )
 
 -- lines of which the last ends with the file
 pub record EndsLast (e : Extent) (state : FeedState) : Type 0 where
@@ -340,8 +276,8 @@ pub record EndsLast (e : Extent) (state : FeedState) : Type 0 where
   pub bytes : e.bytes ≡ length state.unread
   pub counted : e.lines ≡ length lines + 1
 
-fits-last : (e : Extent) (state : FeedState) (b : EndsLast e state) → FitsExtent e state (b.lines ++ b.line ∷ [])
-fits-last e state b =
+pub last-found : (e : Extent) (state : FeedState) → EndsLast e state → IsExtentOf e state
+last-found e state b =
     let whole = length-front state.unread b.lines b.line b.front in
     let few = few_lines-with_newlines b.lines in
     let total = length-with_newlines (b.lines ++ b.line ∷ []) in
@@ -349,10 +285,11 @@ fits-last e state b =
     let left = length-drop e.skip state.unread in
     let some : 0 < length b.line = not_zero b.line (not_empty b.line b.line_not) in
     record {
+      lines = b.lines ++ b.line ∷ [];
       some = some_more b.lines b.line;
       pieces = ap (λ k. pieces_of (take k state.unread)) b.end ∙ ap pieces_of (take_all (length state.unread) state.unread (omega arith) ∙ b.front.text)
           ∙ pieces_of-with_newlines_and b.lines b.line b.front.lines b.is_line;
-      not_blank = all_append _ _ _ b.not_blank (b.line_not, tt);
+      not_blank = All-append _ _ _ b.not_blank (b.line_not, tt);
       short = omega (arith, b.short);
       end_within = omega (arith, b.end);
       skip_within = omega (arith, b.skip);
@@ -365,10 +302,8 @@ fits-last e state b =
     not_zero [] some = absurd (some refl)
     not_zero (c ∷ line) some = omega arith
 
-pub last-found : (e : Extent) (state : FeedState) → EndsLast e state → IsExtentOf e state
-last-found e state b = extent-found e state (b.lines ++ b.line ∷ []) (fits-last e state b)
-
-pub last-ahead : (text : List ℕ) (e : Extent) (state : FeedState) (left : Option (List ℕ)) (n : ℕ) (b : EndsLast e state) → left ≡ Some [] → text ≡ state.unread → (x : IsExtentOf e state) × PassesParagraph text e state left (x.first ∷ x.run) × IsNextRun n (room_ahead state) text (x.first ∷ x.run)
+pub last-ahead : (text : List ℕ) (e : Extent) (state : FeedState) (left : Option (List ℕ)) (n : ℕ) (b : EndsLast e state) → left ≡ Some [] → text ≡ state.unread → (x : IsExtentOf e state) × PassesParagraph text e state left x.lines × IsNextRun n (room_ahead state) text x.lines
+unfolding last-found
 last-ahead text e state left n b told whole =
     let all = b.lines ++ b.line ∷ [] in
     let total = length-with_newlines all in
@@ -376,22 +311,23 @@ last-ahead text e state left n b told whole =
     let within : length text ≤ room_ahead state = omega (arith, ap length whole, b.within) in
     let lines : lines_of text ≡ all ++ []
     = ap lines_of whole ∙ lines_of-front state.unread b.lines b.line b.front
-    ∙ ap (λ ls. b.lines ++ ls) (lines_of-unended b.line (not_empty b.line b.line_not) b.is_line) ∙ sym (append-nil all) in
-    extent-ahead text e state left n (room_ahead state) all (fits-last e state b)
-    (record {
-      passed = text;
-      ahead = [];
-      ending = [];
-      whole = sym (append-nil text);
-      lines = lines;
-      blank = tt;
-      one = omega arith;
-      closed = inr refl;
-      rest = [];
-      told = told;
-      left_ahead = sym (append-nil (drop e.skip state.unread) ∙ ap (λ k. drop k state.unread) b.skip ∙ drop-length state.unread);
-      ended = λ _. refl;
-      bytes = omega (arith, b.bytes, ap length whole);
-      counted = omega (arith, b.counted, ap length (lines ∙ append-nil all), length-append b.lines (b.line ∷ []));
-    })
-    (next-run n (room_ahead state) text all [] (some_more b.lines b.line) (ap lines_of (part_within-all (room_ahead state) text within) ∙ lines) (fits-last e state b).not_blank refl (omega (arith, b.short)) (inl within))
+    ∙ ap (λ ls. b.lines ++ ls) (lines_of-unended b.line (not_empty b.line b.line_not) b.is_line) ∙ sym (append-nil all) in (
+      last-found e state b,
+      record {
+        passed = text;
+        ahead = [];
+        ending = [];
+        whole = sym (append-nil text);
+        lines = lines;
+        blank = tt;
+        one = omega arith;
+        closed = inr refl;
+        rest = [];
+        told = told;
+        left_ahead = sym (append-nil (drop e.skip state.unread) ∙ ap (λ k. drop k state.unread) b.skip ∙ drop-length state.unread);
+        ended = λ _. refl;
+        bytes = omega (arith, b.bytes, ap length whole);
+        counted = omega (arith, b.counted, ap length (lines ∙ append-nil all), length-append b.lines (b.line ∷ []));
+      },
+      next-run n (room_ahead state) text all [] (some_more b.lines b.line) (ap lines_of (part_within-all (room_ahead state) text within) ∙ lines) (last-found e state b).not_blank refl (omega (arith, b.short)) (inl within),
+    )

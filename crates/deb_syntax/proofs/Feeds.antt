@@ -1,11 +1,6 @@
 -- A file that is read by pieces: slices of its buffer, what a piece leaves of the text, and what is seen of it.
-use Rattle.std.proofs.Common.{◌≡◌, ℕ, ◌+◌, ◌-◌, ◌≤◌, List, [], ◌++◌, Option, Some, None, length, take, drop, slice_range, IsTrue, refl, sym, ap, ◌∙◌, append_assoc, arith, length-drop}
-use Rattle.std.proofs.Math.Seq.{take-add}
-use Rattle.std.proofs.lemmas.List.{drop-take, drop-drop, length-take-le}
-use Rattle.std.specs.Io.KnownBytes.{Consumes, IsAtEnd}
+use Rattle.deb_syntax.proofs.Common.{◌≡◌, ℕ, ◌+◌, ◌-◌, ◌≤◌, List, [], ◌++◌, Option, Some, None, length, take, drop, slice_range, IsTrue, refl, sym, ap, ◌∙◌, append_assoc, arith, length-drop, take-add, drop-take, drop-drop, length-take-le, Consumes, IsAtEnd, FeedState, feed_state, buffer_of, start_of, Comes, Stays, Feed}
 use Rattle.deb_syntax.specs.Lines.{file_limit}
-use Rattle.deb_syntax.specs.Feeding.{FeedState, feed_state, buffer_of, start_of, Comes, Stays}
-use Rattle.deb_syntax.specs.declared.feed.Feed.{Feed}
 use Rattle.deb_syntax.proofs.Slices.{take-slice_range}
 
 -- a slice of the first f bytes, which are the same

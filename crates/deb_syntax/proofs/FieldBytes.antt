@@ -1,12 +1,6 @@
 -- The bytes of a name and of the spaces and tabs around a body, and that the body of a field whose lines are text is text.
-use Rattle.std.proofs.Common.{List, ◌∷◌, ◌++◌, subst, arith}
-use Rattle.std.specs.List.{AllByRecursion}
+use Rattle.deb_syntax.proofs.Common.{List, ◌∷◌, ◌++◌, subst, arith, AllByRecursion, Line, Field, SpellsField, colon, name_is_ascii, blanks_are_ascii, IsUtf8-after_all_ascii, IsUtf8-before_all_ascii, IsUtf8-after_ascii, IsUtf8-joined}
 use Rattle.std.specs.Str.{IsUtf8}
-use Rattle.deb_base.specs.Bodies.{Line}
-use Rattle.deb_syntax.specs.Fields.{Field, SpellsField}
-use Rattle.deb_base.specs.FieldNames.{colon}
-use Rattle.deb_base.proofs.FieldBytes.{name_is_ascii, blanks_are_ascii, IsUtf8-after_all_ascii, IsUtf8-before_all_ascii}
-use Rattle.deb_base.proofs.TextLines.{IsUtf8-after_ascii, IsUtf8-joined}
 
 -- the body of a field whose lines are text is text
 pub IsUtf8-body : (own : List Line) (field : Field) → AllByRecursion IsUtf8 own → SpellsField own field → IsUtf8 field.body

@@ -1,30 +1,9 @@
 -- What a line that begins a field makes of the fields before it, from what a search for its colon says.
-use Rattle.std.proofs.Common.{◌≡◌, ℕ, zero, suc, ◌==◌, ◌+◌, ◌-◌, ◌<◌, ◌≤◌, Bool, true, false, not, cond, ◌&&◌, List, [], ◌∷◌, ◌++◌, length, map, take, drop, nat_lt, slice_index, slice_range, Some, None, Result, Ok, Err, refl, sym, ap, ◌∙◌, arith, length-take, length-drop}
-use Rattle.std.specs.List.{list_all, position_or_len, prefix_len}
-use Rattle.std.proofs.lemmas.Bool.{and_parts, and_from, eqb-true, ltb-true, lt-ltb, true≢false}
-use Rattle.std.proofs.lemmas.List.{map_push, take-append-drop, drop_more}
-use Rattle.std.proofs.lemmas.List.Folds.{list_any_at}
-use Rattle.std.proofs.lemmas.List.Sums.{position_or_len_is}
-use Rattle.memchr.specs.Find.{IsFirstByte, is_byte}
-use Rattle.deb_base.specs.declared.code.Code.TheVariants.{BadFieldName, NoColon, DuplicateField}
-use Rattle.deb_base.specs.declared.refusal.Refusal.{Refusal}
-use Rattle.deb_base.specs.Bodies.{Line}
-use Rattle.deb_syntax.specs.Fields.{Field, has_name}
-use Rattle.deb_base.specs.FieldNames.{colon, is_name, is_name_byte, may_begin_name}
-use Rattle.deb_syntax.specs.Judging.{begins_armour, begins_comment, has_colon, begun, is_named, field_line}
-use Rattle.deb_syntax.proofs.JudgingLaws.{begun-field}
-use Rattle.deb_syntax.proofs.JudgingLawsTexts.{begins_armour-field, begins_comment-field, has_colon-field}
-use Rattle.deb_syntax.specs.Places.{begun_at, begun_fields, name_at, has_stood}
-use Rattle.deb_syntax.specs.declared.place.Place.{Place}
+use Rattle.deb_syntax.proofs.Common.{◌≡◌, ℕ, zero, suc, ◌==◌, ◌+◌, ◌-◌, ◌<◌, ◌≤◌, Bool, true, false, not, cond, ◌&&◌, List, [], ◌∷◌, ◌++◌, length, map, take, drop, nat_lt, slice_index, slice_range, Some, None, Ok, Err, refl, sym, ap, ◌∙◌, arith, length-take, length-drop, list_all, position_or_len, prefix_len, and_parts, and_from, eqb-true, ltb-true, lt-ltb, true≢false, cond-true, cond-false, map_push, take-append-drop, drop_more, All-from_get_or, list_any_at, list_any_none, position_or_len_is, IsFirstByte, is_byte, BadFieldName, NoColon, DuplicateField, Line, Field, has_name, colon, is_name, is_name_byte, each_name_byte, begins_armour, begins_comment, has_colon, begun, is_named, field_line, begun_at, begun_fields, name_at, has_stood, Place}
+use Rattle.deb_syntax.proofs.JudgingLaws.{field_line-name}
 use Rattle.deb_syntax.proofs.Pieces.{not_true}
 use Rattle.deb_syntax.proofs.PlaceLemmas.{LiesWithin, has_name-begun}
 use Rattle.deb_syntax.proofs.Slices.{take-slice_range, drop-slice_range}
-
-at_true : {A : Type 0} (b : Bool) (x y : A) → b ≡ true → cond b x y ≡ x
-at_true b x y is = ap (λ t. cond t x y) is
-
-at_false : {A : Type 0} (b : Bool) (x y : A) → b ≡ false → cond b x y ≡ y
-at_false b x y is = ap (λ t. cond t x y) is
 
 -- the bytes of a name end at the first that is none
 prefix_len-at : (p : ℕ → Bool) (line : Line) (k : ℕ) → k < length line → list_all p (take k line) ≡ true → p (slice_index line k) ≡ false → prefix_len p line ≡ k
@@ -34,58 +13,39 @@ prefix_len-at p (b ∷ bs) (suc k) h all other =
     let parts = and_parts (p b) (list_all p (take k bs)) all in
     rw (parts.0, prefix_len-at p bs k (omega arith) parts.1 other) (omega arith)
 
-name_parts : (name : List ℕ) → is_name name ≡ true → list_all is_name_byte name ≡ true
-name_parts [] h = refl
-name_parts (b ∷ bs) h = (and_parts (may_begin_name b) (list_all is_name_byte (b ∷ bs)) h).1
-
 -- where no name and colon stand at the front, what stands before the first colon is no name
 pub not_named : (line : Line) (n k : ℕ) → n ≡ prefix_len is_name_byte line → is_named line n ≡ false → IsFirstByte (is_byte colon) line (Some k) → is_name (take k line) ≡ false
 not_named line n k most not found =
     not_true _ (λ name.
     let byte : slice_index line k ≡ colon = eqb-true _ _ found.1 in
-    let same : prefix_len is_name_byte line ≡ k = prefix_len-at is_name_byte line k found.0.high (name_parts (take k line) name) (ap is_name_byte byte) in
+    let same : prefix_len is_name_byte line ≡ k = prefix_len-at is_name_byte line k found.0.high (each_name_byte (take k line) name) (ap is_name_byte byte) in
     let named : is_named line k ≡ true = and_from _ _ (and_from _ _ (lt-ltb k (length line) found.0.high) found.1) name in
     true≢false (sym named ∙ ap (is_named line) (sym (most ∙ same)) ∙ not))
 
 -- the search found no colon
 has_colon-none : (line : Line) → IsFirstByte (is_byte colon) line None → has_colon line ≡ false
-has_colon-none [] h = refl
-has_colon-none (b ∷ bs) h =
-    let rest : has_colon bs ≡ false = has_colon-none bs (λ k low lt passes. h (suc k) (omega arith) (omega arith) passes) in
-    rw (not_true _ (h 0 (omega arith) (omega arith)), rest) refl
+has_colon-none line h = list_any_none (is_byte colon) line (All-from_get_or (λ b. is_byte colon b ≡ false) line 0 (λ k lt. not_true _ (h k (omega arith) lt)))
 
 module _ (n : ℕ) (fields : List Field) (line : Line) where
   module _ (armour : begins_armour line ≡ false) where
     module _ (comment : begins_comment line ≡ false) where
       pub field_line-no_colon : IsFirstByte (is_byte colon) line None → field_line n fields line ≡ Err (record { code = NoColon; line = n })
       field_line-no_colon none =
-          at_false (begins_armour line) _ _ armour ∙ at_false (begins_comment line) _ _ comment ∙ at_true (not (has_colon line)) _ _ (ap not (has_colon-none line none))
+          cond-false (begins_armour line) _ _ armour ∙ cond-false (begins_comment line) _ _ comment ∙ cond-true (not (has_colon line)) _ _ (ap not (has_colon-none line none))
 
       pub field_line-bad_name : (at : ℕ) → IsFirstByte (is_byte colon) line (Some at) → is_name (take at line) ≡ false → field_line n fields line ≡ Err (record { code = BadFieldName; line = n })
       field_line-bad_name at found bad =
           let here : position_or_len (is_byte colon) line ≡ at = position_or_len_is (is_byte colon) line at 0 (omega (arith, found.0.high)) (λ k lt. not_true _ (found.0.before k (omega arith) lt)) (λ lt. found.1) in
           let has : has_colon line ≡ true = list_any_at (is_byte colon) line at 0 found.0.high found.1 in
-          at_false (begins_armour line) _ _ armour ∙ at_false (begins_comment line) _ _ comment ∙ at_false (not (has_colon line)) _ _ (ap not has)
-          ∙ at_true (not (is_name (begun n line).name)) _ _ (ap (λ i. not (is_name (take i line))) here ∙ ap not bad)
-
-  -- a line that begins with a name and a colon
-  field_line-name : (name more : List ℕ) → is_name name ≡ true → field_line n fields (name ++ colon ∷ more) ≡ cond (has_name name fields) (Err (record { code = DuplicateField; line = n })) (Ok (fields ++ record { name = name; line = n; body = more } ∷ []))
-  field_line-name name more good =
-      let own = begun-field n name more good in
-      let whole : Line = name ++ colon ∷ more in
-      let rest : Field → Result (List Field) Refusal = λ f. cond (has_name f.name fields) (Err (record { code = DuplicateField; line = n })) (Ok (fields ++ f ∷ [])) in
-      at_false (begins_armour whole) _ _ (begins_armour-field name more good)
-      ∙ at_false (begins_comment whole) _ _ (begins_comment-field name more good)
-      ∙ at_false (not (has_colon whole)) _ _ (ap not (has_colon-field name more))
-      ∙ at_false (not (is_name (begun n whole).name)) _ _ (ap (λ f. not (is_name f.name)) own ∙ ap not good)
-      ∙ ap rest own
+          cond-false (begins_armour line) _ _ armour ∙ cond-false (begins_comment line) _ _ comment ∙ cond-false (not (has_colon line)) _ _ (ap not has)
+          ∙ cond-true (not (is_name (begun n line).name)) _ _ (ap (λ i. not (is_name (take i line))) here ∙ ap not bad)
 
   pub field_line-found : (at : ℕ) → is_named line at ≡ true → field_line n fields line ≡ cond (has_name (take at line) fields) (Err (record { code = DuplicateField; line = n })) (Ok (fields ++ record { name = take at line; line = n; body = drop (at + 1) line } ∷ []))
   field_line-found at named =
       let parts = and_parts (nat_lt at (length line) && (slice_index line at == colon)) (is_name (take at line)) named in
       let front = and_parts (nat_lt at (length line)) (slice_index line at == colon) parts.0 in
       let split : line ≡ take at line ++ colon ∷ drop (at + 1) line = sym (take-append-drop at line) ∙ ap (λ zs. take at line ++ zs) (drop_more line at 0 (ltb-true _ _ front.0) ∙ ap (λ b. b ∷ drop (at + 1) line) (eqb-true _ _ front.1)) in
-      ap (field_line n fields) split ∙ field_line-name (take at line) (drop (at + 1) line) parts.1
+      ap (field_line n fields) split ∙ field_line-name n fields (take at line) (drop (at + 1) line) parts.1
 
 -- the place of a field that the line from `start` to `end` begins, with its colon at `at`
 module _ (text : List ℕ) (start end at : ℕ) (ordered : start ≤ end) (within : end ≤ length text) (inside : at < length (slice_range text start end)) where
@@ -108,11 +68,15 @@ module _ (text : List ℕ) (start end at : ℕ) (ordered : start ≤ end) (withi
   module _ (n : ℕ) (places : List Place)
       (judges : field_line n (begun_fields text places) (slice_range text start end) ≡ cond (has_name (take at (slice_range text start end)) (begun_fields text places)) (Err (record { code = DuplicateField; line = n })) (Ok (begun_fields text places ++ record { name = take at (slice_range text start end); line = n; body = drop (at + 1) (slice_range text start end) } ∷ []))) where
     pub field_line-stood : has_stood (take at (slice_range text start end)) (map (name_at text) places) ≡ true → field_line n (begun_fields text places) (slice_range text start end) ≡ Err (record { code = DuplicateField; line = n })
-    field_line-stood stood = judges ∙ at_true (has_name (take at (slice_range text start end)) (begun_fields text places)) _ _ (has_name-begun text _ places ∙ stood)
+    field_line-stood stood = judges ∙ cond-true (has_name (take at (slice_range text start end)) (begun_fields text places)) _ _ (has_name-begun text _ places ∙ stood)
 
     pub field_line-new : has_stood (take at (slice_range text start end)) (map (name_at text) places) ≡ false → field_line n (begun_fields text places) (slice_range text start end) ≡ Ok (begun_fields text (places ++ record { line = n; start = start; colon = start + at; end = end } ∷ []))
     field_line-new new =
         judges
-        ∙ at_false (has_name (take at (slice_range text start end)) (begun_fields text places)) _ _ (has_name-begun text _ places ∙ new)
+        ∙ cond-false (has_name (take at (slice_range text start end)) (begun_fields text places)) _ _ (has_name-begun text _ places ∙ new)
         ∙ ap (λ f. Ok (begun_fields text places ++ f ∷ [])) (begun_at-begun n)
         ∙ ap Ok (sym (map_push (begun_at text) places (record { line = n; start = start; colon = start + at; end = end })))
+
+pub ruleset naming = (field_line-found, not_named, field_line-no_colon, field_line-bad_name)
+
+pub ruleset beginning = (field_line-stood, field_line-new)

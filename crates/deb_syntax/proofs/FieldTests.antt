@@ -1,20 +1,9 @@
 -- Fields that pass the test of a paragraph's fields: those that lines spell.
-use Rattle.std.proofs.Common.{◌≡◌, ℕ, zero, suc, ◌+◌, ◌<◌, ◌≤◌, true, not, List, [], ◌∷◌, ◌++◌, length, leb, get_or, subst, refl, ap, arith, Ok, IsUtf8}
-use Rattle.std.specs.List.{AllByRecursion, list_all}
-use Rattle.std.proofs.lemmas.Bool.{and_parts, and_from, le-leb}
-use Rattle.deb_base.specs.Bodies.{Line, IsBody, is_body, paragraph_limit, pieces_of}
-use Rattle.deb_base.specs.FieldNames.{is_name}
-use Rattle.deb_base.proofs.BodyLemmas.{IsBody-from_test, is_body-from_IsBody}
-use Rattle.deb_syntax.specs.Lines.{Paragraph, total_length}
-use Rattle.deb_syntax.specs.Fields.{Field, SpellsField, SpellsFields, SpellsParagraph, AreDistinct, is_field, are_fields, are_numbered}
-use Rattle.deb_syntax.specs.Judging.{judged}
-use Rattle.deb_syntax.specs.Extents.{AreNotBlank}
-use Rattle.deb_syntax.specs.Places.{field_at, fields_at}
-use Rattle.deb_syntax.specs.declared.place.Place.{Place}
+use Rattle.deb_syntax.proofs.Common.{◌≡◌, ℕ, zero, suc, ◌+◌, ◌<◌, ◌≤◌, true, not, List, [], ◌∷◌, ◌++◌, length, leb, get_or, subst, refl, ap, arith, Ok, IsUtf8, AllByRecursion, list_all, and_parts, and_from, le-leb, Line, IsBody, is_body, paragraph_limit, pieces_of, is_name, IsBody-from_test, is_body-from_IsBody, Paragraph, total_length, Field, SpellsField, SpellsFields, SpellsParagraph, AreDistinct, is_field, are_fields, are_numbered, judged, AreNotBlank, field_at, fields_at, Place}
 use Rattle.deb_syntax.proofs.FieldBytes.{IsUtf8-body}
 use Rattle.deb_syntax.proofs.JudgingLaws.{all_left, all_right}
 use Rattle.deb_syntax.proofs.JudgingLawsRefusals.{not_blank-solid}
-use Rattle.deb_syntax.proofs.JudgingLawsSound.{judged-sound_from}
+use Rattle.deb_syntax.proofs.JudgingLawsRefusals.{judged-sound_from}
 use Rattle.deb_syntax.proofs.LinesLawsTexts.{pieces_of-no_newline}
 
 is_field-from_spells : (own : List Line) (field : Field) → AllByRecursion IsUtf8 own → SpellsField own field → is_field field ≡ true
@@ -58,3 +47,5 @@ is_field-at text (p ∷ ps) (suc i) d h are = is_field-at text ps i d (omega ari
 -- the parts of the test of one field
 pub is_field-body : (field : Field) → is_field field ≡ true → IsBody field.body
 is_field-body field h = IsBody-from_test field.body (and_parts (is_name field.name) (is_body field.body) h).1
+
+pub ruleset testing = (is_field-at, is_field-body)

@@ -1,53 +1,15 @@
 -- The first line ahead that isn't blank: blank lines that pass by pieces, and the line behind them.
-use Rattle.std.proofs.Common.{◌≡◌, ℕ, ◌+◌, ◌-◌, ◌<◌, ◌≤◌, ◌==◌, inl, inr, Bool, true, false, cond, List, [], ◌∷◌, ◌++◌, Option, Some, None, Result, Ok, Err, length, take, drop, IsTrue, IsFalse, refl, sym, ap, subst, ◌∙◌, append_assoc, arith, length-append, length-drop, length-take, append-nil, nat_lt, min}
-use Rattle.std.proofs.Math.Seq.{take-append_seam, drop-append_seam, drop-length}
-use Rattle.std.proofs.lemmas.Bool.{false≢true, lt-ltb}
-use Rattle.std.proofs.lemmas.List.{take-append-drop, drop_all}
-use Rattle.std.specs.Bool.{MatchBool}
-use Rattle.std.specs.Option.{unwrap_or}
+use Rattle.deb_syntax.proofs.Common.{◌≡◌, ℕ, ◌+◌, ◌-◌, ◌<◌, ◌≤◌, ◌==◌, inl, inr, Bool, true, false, cond, List, [], ◌∷◌, ◌++◌, Option, Some, None, Result, Ok, Err, length, take, drop, IsTrue, IsFalse, refl, sym, ap, subst, ◌∙◌, append_assoc, arith, length-append, length-drop, length-take, nat_lt, min, take-append_seam, drop-append_seam, drop-length, false≢true, lt-ltb, take-append-drop, drop_all, MatchBool, unwrap_or, All-append, Line, newline, HasNoNewline, is_blank, paragraph_limit, FileTooLong, Fault, Refused, Refusal, part_within, line_beyond, answer_of_first, begin_of_first, AreBlank, Paragraph, lines_of, with_newlines, paragraphs_from, file_limit, FeedState, Comes, PassesOn, Sees, IsTail, room_of, StandInFront, Describes, EndsNotBlank, SkipsBlanks, left_answer, left_begin, room_ahead, IsAhead, IsNear, PassesBlanks, PassesAll, KeepsLine, HidesLine, HasFirst, IsFirst, HasNewline, TextAfterLine, IsDropped, Begun, First, Sight, Tail, More, Nothing, Beyond, Skipped, Run, DroppedLine, End, Kept, Dropped}
+use Rattle.std.proofs.Common.{append-nil}
 use mir.Val.{bool_byte}
-use Rattle.deb_base.specs.Bodies.{Line, newline, HasNoNewline, is_blank, paragraph_limit}
-use Rattle.deb_base.specs.declared.code.Code.TheVariants.{FileTooLong}
-use Rattle.deb_base.specs.declared.fault.Fault.{Fault}
-use Rattle.deb_base.specs.declared.fault.Fault.TheVariants.{Refused, Memory, Read, Write}
-use Rattle.deb_base.specs.declared.refusal.Refusal.{Refusal}
-use Rattle.deb_syntax.specs.Answers.{part_within, line_beyond, answer_of_first, begin_of_first}
-use Rattle.deb_syntax.specs.Extents.{AreBlank}
-use Rattle.deb_syntax.specs.Lines.{Paragraph, lines_of, with_newlines, ends_line, paragraphs_from, file_limit}
-use Rattle.deb_syntax.specs.Feeding.{FeedState, Comes, PassesOn, Sees, IsTail, room_of}
-use Rattle.deb_syntax.specs.Walking.{StandInFront, Describes, EndsNotBlank, SkipsBlanks}
-use Rattle.deb_syntax.specs.Ahead.{left_answer, left_begin, room_ahead, IsAhead, IsNear, PassesBlanks, PassesAll, KeepsLine, HidesLine, HasFirst, IsFirst, HasNewline, TextAfterLine, FindsDropped, IsDropped}
-use Rattle.deb_syntax.specs.declared.begun.Begun.{Begun}
-use Rattle.deb_syntax.specs.declared.first.First.{First}
-use Rattle.deb_syntax.specs.declared.feed.Sight.{Sight}
-use Rattle.deb_syntax.specs.declared.feed.Tail.{Tail}
-use Rattle.deb_syntax.specs.declared.feed.Tail.TheVariants.{More, Nothing, Beyond}
-use Rattle.deb_syntax.specs.declared.skip.Skipped.{Skipped}
-use Rattle.deb_syntax.specs.declared.take.Run.{Run}
-use Rattle.deb_syntax.specs.declared.dropped.DroppedLine.{DroppedLine}
-use Rattle.deb_syntax.specs.declared.first.First.TheVariants.{End, Kept, Dropped}
-use Rattle.deb_syntax.proofs.Boundaries.{ends_line-both}
+use Rattle.deb_syntax.proofs.Faults.{readers_fault}
 use Rattle.deb_syntax.proofs.Feeds.{comes_whole, comes_end}
-use Rattle.deb_syntax.proofs.JudgingLaws.{all_append}
 use Rattle.deb_syntax.proofs.LeftAnswers.{left-beyond, left-cut}
 use Rattle.deb_syntax.proofs.Parts.{part_within-append, part_within-some, line_beyond-append, whole_lines-none}
+use Rattle.deb_syntax.proofs.LinesLawsTexts.{lines_of-with_newlines}
+use Rattle.deb_syntax.proofs.Passing.{ends_line-with_newlines}
 use Rattle.deb_syntax.proofs.Runs.{paragraphs_from-blanks, lines_of-last}
 use Rattle.deb_syntax.proofs.WalkingLines.{lines_of-with_newlines_and, lines_of-unended, with_newlines-append, few_lines-with_newlines}
-
-ends_line-newline : (line : List ℕ) → ends_line (line ++ newline ∷ []) ≡ true
-ends_line-newline [] = refl
-ends_line-newline (b ∷ []) = refl
-ends_line-newline (b ∷ c ∷ line) = ends_line-newline (c ∷ line)
-
-ends_line-lines : (lines : List Line) → ends_line (with_newlines lines) ≡ true
-ends_line-lines [] = refl
-ends_line-lines (line ∷ lines) =
-    ap ends_line (sym (append_assoc line (newline ∷ []) (with_newlines lines)))
-    ∙ ends_line-both (line ++ newline ∷ []) (with_newlines lines) (ends_line-newline line) (ends_line-lines lines)
-
-lines_of-lines : (text ahead : List ℕ) (lines : List Line) → StandInFront text lines ahead → lines_of (with_newlines lines) ≡ lines
-lines_of-lines text ahead lines front =
-    ap lines_of (sym (append-nil (with_newlines lines))) ∙ lines_of-with_newlines_and lines [] front.lines ∙ append-nil lines
 
 -- what is answered behind blank lines
 left-blanks : {A : Type 0} (f : Option ℕ → List Paragraph → A) (n room : ℕ) (text ahead : List ℕ) (blanks : List Line) → StandInFront text blanks ahead → AreBlank blanks → length (with_newlines blanks) ≤ room
@@ -56,11 +18,11 @@ left-blanks : {A : Type 0} (f : Option ℕ → List Paragraph → A) (n room : �
 left-blanks f n room text ahead blanks front blank within =
     let beyond : line_beyond n room text ≡ line_beyond (n + length blanks) (room - length (with_newlines blanks)) ahead =
     ap (line_beyond n room) front.text
-    ∙ line_beyond-append n room (with_newlines blanks) ahead (ends_line-lines blanks) within
-    ∙ ap (λ ls. line_beyond (n + length ls) (room - length (with_newlines blanks)) ahead) (lines_of-lines text ahead blanks front) in
+    ∙ line_beyond-append n room (with_newlines blanks) ahead (ends_line-with_newlines blanks) within
+    ∙ ap (λ ls. line_beyond (n + length ls) (room - length (with_newlines blanks)) ahead) (lines_of-with_newlines blanks front.lines) in
     let part : lines_of (part_within room text) ≡ blanks ++ lines_of (part_within (room - length (with_newlines blanks)) ahead) =
     ap (λ t. lines_of (part_within room t)) front.text
-    ∙ ap lines_of (part_within-append room (with_newlines blanks) ahead (ends_line-lines blanks) within)
+    ∙ ap lines_of (part_within-append room (with_newlines blanks) ahead (ends_line-with_newlines blanks) within)
     ∙ lines_of-with_newlines_and blanks (part_within (room - length (with_newlines blanks)) ahead) front.lines in
     let paragraphs : paragraphs_from n (lines_of (part_within room text)) ≡ paragraphs_from (n + length blanks) (lines_of (part_within (room - length (with_newlines blanks)) ahead)) =
     ap (paragraphs_from n) part ∙ paragraphs_from-blanks n blanks (lines_of (part_within (room - length (with_newlines blanks)) ahead)) blank in
@@ -97,9 +59,9 @@ module _ (text ahead : List ℕ) (before feed : FeedState) (p : PassesBlanks tex
           p.front.text ∙ ap (λ zs. with_newlines p.blanks ++ zs) q.front.text
           ∙ sym (append_assoc (with_newlines p.blanks) (with_newlines q.blanks) behind)
           ∙ ap (λ zs. zs ++ behind) (sym (with_newlines-append p.blanks q.blanks));
-      lines = all_append HasNoNewline p.blanks q.blanks p.front.lines q.front.lines;
+      lines = All-append HasNoNewline p.blanks q.blanks p.front.lines q.front.lines;
     };
-    blank = all_append _ p.blanks q.blanks p.blank q.blank;
+    blank = All-append _ p.blanks q.blanks p.blank q.blank;
     bytes = omega (arith, p.bytes, q.bytes, ap length (with_newlines-append p.blanks q.blanks), length-append (with_newlines p.blanks) (with_newlines q.blanks));
     lines = omega (arith, p.lines, q.lines, length-append p.blanks q.blanks);
   }
@@ -109,7 +71,7 @@ module _ (text ahead : List ℕ) (before feed : FeedState) (p : PassesBlanks tex
       let lines : lines_of text ≡ p.blanks ++ lines_of ahead = ap lines_of p.front.text ∙ lines_of-with_newlines_and p.blanks ahead p.front.lines in
       let size : length text ≡ length (with_newlines p.blanks) + length ahead = ap length p.front.text ∙ length-append (with_newlines p.blanks) ahead in
       record {
-        blank = subst AreBlank (sym lines) (all_append _ p.blanks (lines_of ahead) p.blank q.blank);
+        blank = subst AreBlank (sym lines) (All-append _ p.blanks (lines_of ahead) p.blank q.blank);
         within = omega (arith, size, q.within, p.bytes, small);
         unread = q.unread;
         bytes = omega (arith, size, q.bytes, p.bytes);
@@ -120,10 +82,7 @@ module _ (text ahead : List ℕ) (before feed : FeedState) (p : PassesBlanks tex
   first-behind after left (Ok End) h = (passes-all after h.0, h.1)
   first-behind after left (Ok (Kept begun)) h = (h.0, passes-more after h.0 h.1, h.2)
   first-behind after left (Ok (Dropped begun)) h = (h.0, h.1, passes-more after h.0 h.2, h.3, h.4)
-  first-behind after left (Err (Refused refusal)) h = (answer-behind ∙ h.0, begin-behind ∙ h.1)
-  first-behind after left (Err Memory) h = h
-  first-behind after left (Err Read) h = h
-  first-behind after left (Err Write) h = h
+  first-behind after left (Err fault) h = readers_fault fault (λ refusal e. (answer-behind ∙ e.0, begin-behind ∙ e.1)) h
 
 -- no line ends within what may be looked at
 pub first-beyond : (text : List ℕ) (before after : FeedState) (left : Option (List ℕ)) (refusal : Refusal) → room_ahead before < length text → HasNoNewline (take (room_ahead before) text) → refusal ≡ record { code = FileTooLong; line = before.lines + 1 } → IsFirst text before (Err (Refused refusal)) after left
@@ -265,13 +224,13 @@ module _ (feed mid : FeedState) (run : Run) (no_bytes : run.bytes ≡ 0) (line :
   }
 
 -- a line that was dropped is the first one
-pub dropped-found : (feed mid after : FeedState) (run : Run) (dropped : DroppedLine) → run.bytes ≡ 0 → paragraph_limit ≤ length feed.unread → FindsDropped feed run (Ok dropped) mid → PassesOn mid (at_of dropped.newline) 0 0 after → HasFirst (Ok (Dropped dropped.line)) after
-dropped-found feed mid after run dropped no_bytes long found passes =
+pub dropped-found : (feed mid after : FeedState) (run : Run) (dropped : DroppedLine) (left_before left : Option (List ℕ)) → run.bytes ≡ 0 → paragraph_limit ≤ length feed.unread → IsDropped feed left_before run (Ok dropped) mid left → PassesOn mid (at_of dropped.newline) 0 0 after → HasFirst (Ok (Dropped dropped.line)) after
+dropped-found feed mid after run dropped left_before left no_bytes long found passes =
     let d = found.0 in
     (d.line, dropped-hides feed mid run no_bytes d.line after dropped.line d.more d.bytes d.describes long d.begins dropped.newline found.1 passes)
 
-pub dropped-first : (feed mid after : FeedState) (run : Run) (dropped : DroppedLine) (text : List ℕ) (left : Option (List ℕ)) → run.bytes ≡ 0 → paragraph_limit ≤ length feed.unread → IsDropped text feed run (Ok dropped) mid left → PassesOn mid (at_of dropped.newline) 0 0 after → IsFirst text feed (Ok (Dropped dropped.line)) after left
-dropped-first feed mid after run dropped text left no_bytes long found passes =
+pub dropped-first : (feed mid after : FeedState) (run : Run) (dropped : DroppedLine) (left_before left : Option (List ℕ)) → run.bytes ≡ 0 → paragraph_limit ≤ length feed.unread → IsDropped feed left_before run (Ok dropped) mid left → PassesOn mid (at_of dropped.newline) 0 0 after → (text : List ℕ) → IsAhead text [] feed left_before → IsFirst text feed (Ok (Dropped dropped.line)) after left
+dropped-first feed mid after run dropped left_before left no_bytes long found passes text a =
     let d = found.0 in (
       text,
       d.line,
@@ -282,21 +241,17 @@ dropped-first feed mid after run dropped text left no_bytes long found passes =
         bytes = omega (arith, passes.bytes, d.bytes);
         lines = omega (arith, passes.lines, d.lines);
       },
-      dropped-ahead feed mid run no_bytes d.line after text left dropped.newline found.2 found.1 passes,
+      dropped-ahead feed mid run no_bytes d.line after text left dropped.newline (found.2 text a) found.1 passes,
       dropped-hides feed mid run no_bytes d.line after dropped.line d.more d.bytes d.describes long d.begins dropped.newline found.1 passes,
     )
 
-pub dropped-fault : (feed after : FeedState) (run : Run) (fault : Fault) (text : List ℕ) (left : Option (List ℕ)) → run.bytes ≡ 0 → run.lines ≡ 0 → IsDropped text feed run (Err fault) after left → IsFirst text feed (Err fault) after left
-dropped-fault feed after run (Refused refusal) text left no_bytes no_lines h =
-    let line : take (room_ahead feed) text ≡ h.2.0 = h.2.1 ∙ ap (λ n. take n feed.unread ++ h.2.0) no_bytes in
+pub dropped-fault : (feed after : FeedState) (run : Run) (fault : Fault) (left_before left : Option (List ℕ)) → run.bytes ≡ 0 → run.lines ≡ 0 → IsDropped feed left_before run (Err fault) after left → (text : List ℕ) → IsAhead text [] feed left_before → IsFirst text feed (Err fault) after left
+dropped-fault feed after run fault left_before left no_bytes no_lines h text a =
     let number : feed.lines + run.lines + 1 ≡ feed.lines + 1 = omega (arith, no_lines) in
-    first-beyond text feed after left refusal h.1 (subst HasNoNewline (sym line) h.2.2) (h.0 ∙ ap too_long number)
+    readers_fault fault (λ refusal (long, beyond, cut). first-beyond text feed after left refusal beyond (subst HasNoNewline (sym (cut.1 ∙ ap (λ n. take n feed.unread ++ cut.0) no_bytes)) cut.2) (long ∙ ap too_long number)) (h text a)
   where
     too_long : ℕ → Refusal
     too_long n = record { code = FileTooLong; line = n }
-dropped-fault feed after run Memory text left no_bytes no_lines h = tt
-dropped-fault feed after run Read text left no_bytes no_lines h = tt
-dropped-fault feed after run Write text left no_bytes no_lines h = h
 
 -- blank lines have passed, and so much was seen of the line that begins the unread bytes
 pub record Walked (before : FeedState) (left_before : Option (List ℕ)) (feed : FeedState) (left : Option (List ℕ)) (begun : Begun) : Type 0 where
@@ -464,28 +419,3 @@ module _ (before : FeedState) (left_before : Option (List ℕ)) (feed : FeedStat
   stands-first after left_after result small answers text a =
       let h = s.ahead text a in
       first-behind text h.0 before feed h.1 small after left_after result (answers h.0 h.2)
-
--- how much may still come
-abbrev pub still : FeedState → ℕ
-still feed = ((file_limit + 1) - (feed.bytes + length feed.unread)) + cond feed.ended 0 1
-
-pub still-less : (start feed after : FeedState) (left left_after : Option (List ℕ)) (n m : ℕ) → PassesOn start n n m feed → n ≤ length start.unread → feed.bytes ≤ file_limit → length feed.unread ≤ room_of feed 0 → IsFalse feed.ended → Comes feed left after left_after → still after < still start
-still-less start feed after left left_after n m passes within small le more come =
-    let before_is : feed.ended ≡ false = more in
-    let start_is : start.ended ≡ false = sym passes.ended ∙ before_is in
-    let left_length : length feed.unread ≡ length start.unread - n = ap length passes.unread ∙ length-drop n start.unread in
-    let one : ◌≡◌ {A = ℕ} (cond start.ended 0 1) 1 = ap one_if start_is in
-    let grown : length after.unread ≡ length feed.unread + length come.piece = ap length come.unread ∙ length-append feed.unread come.piece in
-    go after.ended refl left_length one grown
-  where
-    one_if : Bool → ℕ
-    one_if t = cond t 0 1
-
-    go : (t : Bool) → after.ended ≡ t → length feed.unread ≡ length start.unread - n → ◌≡◌ {A = ℕ} (cond start.ended 0 1) 1 → length after.unread ≡ length feed.unread + length come.piece → still after < still start
-    go true is left_length one grown =
-        let none : ◌≡◌ {A = ℕ} (cond after.ended 0 1) 0 = ap one_if is in
-        omega (arith, none, one, left_length, grown, passes.bytes, come.bytes, within)
-    go false is left_length one grown =
-        let again : ◌≡◌ {A = ℕ} (cond after.ended 0 1) 1 = ap one_if is in
-        let some : 0 < length come.piece = come.more is in
-        omega (arith, again, one, left_length, grown, passes.bytes, come.bytes, within, some, small, le)

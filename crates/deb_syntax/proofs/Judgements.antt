@@ -1,48 +1,26 @@
 -- What is judged of one line, and of the lines up to it.
-use Rattle.std.proofs.Common.{◌≡◌, ℕ, ◌+◌, ◌≤◌, true, false, not, cond, List, [], ◌∷◌, length, drop, slice_range, Ok, Err, ap, sym, subst, ◌∙◌, IsUtf8, IsTrue}
-use Rattle.std.specs.List.{AllByRecursion}
-use Rattle.std.specs.Str.{is_utf8}
-use Rattle.std.proofs.lemmas.Bool.{false≢true, le-ltb}
-use Rattle.std.proofs.lemmas.Str.{IsUtf8-from_is_utf8, is_utf8-from_IsUtf8}
-use Rattle.std.proofs.lemmas.Simd.{map-map}
-use Rattle.deb_base.specs.declared.code.Code.TheVariants.{NotUtf8}
-use Rattle.deb_base.specs.Bodies.{Line, pieces_of, begins_with_blank}
-use Rattle.deb_syntax.specs.Fields.{Field}
-use Rattle.deb_syntax.specs.Judging.{line_judged, lines_judged, judged, continuation_line, field_line, ended}
-use Rattle.deb_syntax.specs.Places.{begun_at, begun_fields, fields_at, pieces_behind}
-use Rattle.deb_syntax.specs.declared.place.Place.{Place}
-use Rattle.deb_base.proofs.TextLines.{IsUtf8-lines}
+use Rattle.deb_syntax.proofs.Common.{◌≡◌, ℕ, ◌+◌, ◌≤◌, true, false, cond, List, [], ◌∷◌, length, drop, slice_range, Ok, Err, ap, sym, subst, ◌∙◌, IsUtf8, IsTrue, AllByRecursion, false≢true, le-ltb, false_from_ne_true, IsUtf8-from_is_utf8, is_utf8-from_IsUtf8, map-map, NotUtf8, Line, pieces_of, begins_with_blank, Field, line_judged, lines_judged, judged, continuation_line, field_line, ended, begun_at, begun_fields, fields_at, pieces_behind, Place, IsUtf8-lines}
 use Rattle.deb_syntax.proofs.LinesLaws.{joined-pieces_of}
-use Rattle.deb_syntax.proofs.Pieces.{not_true}
 
 -- what a check for UTF-8 answered
 module _ (n : ℕ) (fields : List Field) (line : Line) where
   pub line_judged-not_utf8 : (IsUtf8 line → IsTrue false) → line_judged n fields line ≡ Err (record { code = NotUtf8; line = n })
-  line_judged-not_utf8 refuses =
-      let is : is_utf8 line ≡ false = not_true _ (λ e. false≢true (refuses (IsUtf8-from_is_utf8 line e))) in
-      ap (λ t. cond (not t) (Err (record { code = NotUtf8; line = n })) (cond (begins_with_blank line) (continuation_line n fields line) (field_line n fields line))) is
+  line_judged-not_utf8 refuses = rw (false_from_ne_true _ (λ e. false≢true (refuses (IsUtf8-from_is_utf8 line e))))
 
-  module _ (utf8 : IsUtf8 line) where
-    line_judged-utf8 : line_judged n fields line ≡ cond (begins_with_blank line) (continuation_line n fields line) (field_line n fields line)
-    line_judged-utf8 =
-        ap (λ t. cond (not t) (Err (record { code = NotUtf8; line = n })) (cond (begins_with_blank line) (continuation_line n fields line) (field_line n fields line))) (is_utf8-from_IsUtf8 line utf8)
+  pub line_judged-continuation : IsUtf8 line → begins_with_blank line ≡ true → line_judged n fields line ≡ continuation_line n fields line
+  line_judged-continuation utf8 blank = rw (is_utf8-from_IsUtf8 line utf8, blank)
 
-    pub line_judged-continuation : begins_with_blank line ≡ true → line_judged n fields line ≡ continuation_line n fields line
-    line_judged-continuation blank = line_judged-utf8 ∙ ap (λ t. cond t (continuation_line n fields line) (field_line n fields line)) blank
-
-    pub line_judged-field : begins_with_blank line ≡ false → line_judged n fields line ≡ field_line n fields line
-    line_judged-field other = line_judged-utf8 ∙ ap (λ t. cond t (continuation_line n fields line) (field_line n fields line)) other
+  pub line_judged-field : IsUtf8 line → begins_with_blank line ≡ false → line_judged n fields line ≡ field_line n fields line
+  line_judged-field utf8 other = rw (is_utf8-from_IsUtf8 line utf8, other)
 
 -- the line from `start` to `end` is judged after the lines before it
 module _ (text : List ℕ) (first n start end : ℕ) (places : List Place)
     (so_far : judged first (pieces_of text) ≡ lines_judged n (Ok (begun_fields text places)) (pieces_of (drop start text)))
     (pieces : pieces_of (drop start text) ≡ slice_range text start end ∷ pieces_behind text end) where
-  step : judged first (pieces_of text) ≡ lines_judged (n + 1) (line_judged n (begun_fields text places) (slice_range text start end)) (pieces_behind text end)
-  step = so_far ∙ ap (lines_judged n (Ok (begun_fields text places))) pieces
-
   pub judged-whole : (more : List Place) → length text ≤ end → line_judged n (begun_fields text places) (slice_range text start end) ≡ Ok (begun_fields text more) → judged first (pieces_of text) ≡ Ok (fields_at text more)
   judged-whole more le ok =
-      step
+      so_far
+      ∙ ap (lines_judged n (Ok (begun_fields text places))) pieces
       ∙ ap (λ r. lines_judged (n + 1) r (pieces_behind text end)) ok
       ∙ ap (λ t. lines_judged (n + 1) (Ok (begun_fields text more)) (cond t (pieces_of (drop (end + 1) text)) [])) (le-ltb end (length text) le)
       ∙ ap Ok (map-map ended (begun_at text) more)
@@ -50,3 +28,5 @@ module _ (text : List ℕ) (first n start end : ℕ) (places : List Place)
 -- the pieces of a text that is UTF-8 are
 pub utf8_pieces : (text : List ℕ) → IsUtf8 text → AllByRecursion IsUtf8 (pieces_of text)
 utf8_pieces text utf8 = IsUtf8-lines (pieces_of text) (subst IsUtf8 (sym (joined-pieces_of text)) utf8)
+
+pub ruleset judging = (line_judged-not_utf8, line_judged-continuation, line_judged-field, judged-whole, utf8_pieces)

@@ -1,26 +1,6 @@
 -- A paragraph's meaning is what stands under each name: the order of the fields is no part of it.
-use Rattle.std.proofs.Common.{◌≡◌, ℕ, zero, suc, Bool, true, false, cond, T, List, [], ◌∷◌, refl, sym, ap, ◌∙◌, subst, arith, Option, Some, None, Contains, IsPermutation}
-use Rattle.std.proofs.lemmas.Bool.{or_parts, or_from}
-use Rattle.std.proofs.lemmas.Bool.Decides.{same_from_decides}
-use Rattle.std.proofs.lemmas.Cmp.{nat_list_cmp_total}
-use Rattle.std.proofs.lemmas.List.Folds.{Any-from_list_any}
-use Rattle.std.proofs.lemmas.List.Sorted.{Contains-permutation, list_any-IsPermutation}
-use Rattle.std.proofs.lemmas.Map.Keys.{IsDistinct-IsPermutation}
-use Rattle.std.proofs.lemmas.Map.Text.{is_eq-slice_cmp}
-use Rattle.std.proofs.lemmas.Slice.Eq.{bytes_eq-Decides}
-use Rattle.std.specs.BTreeMap.{insert_entry}
-use Rattle.std.specs.FinMap.{put, is_sorted, nat_cmp-IsAntisymmetric, slice_cmp-IsAntisymmetric}
-use Rattle.std.specs.FinMap.Entries.{find-put, is_sorted-put, same_entries, by_order}
-use Rattle.std.specs.List.{AllByRecursion, list_any, IsDistinct}
-use Rattle.std.specs.Ordering.{eq_by_cmp, match_ordering}
-use Rattle.std.specs.declared.cmp.Ordering.{Ordering}
-use Rattle.std.specs.declared.cmp.Ordering.TheVariants.{Less, Equal, Greater}
-use Rattle.std.specs.Str.{bytes_eq}
-use Rattle.deb_base.specs.Names.{folded, canonical_name}
-use Rattle.deb_base.proofs.CanonicalNames.{canonical_name-from_folded, folded-from_canonical_name}
-use Rattle.deb_syntax.specs.Fields.{Field, has_name, AreDistinct}
-use Rattle.deb_syntax.specs.Meaning.{Entries, byte_order, entries_after, entries_of}
-use Rattle.deb_syntax.specs.Laws.{body_at, body_of}
+use Rattle.deb_syntax.proofs.Common.{◌≡◌, ℕ, zero, suc, Bool, true, false, cond, T, List, [], ◌∷◌, refl, sym, ap, ◌∙◌, subst, arith, Option, Some, None, Contains, IsPermutation, or_parts, or_from, same_from_decides, nat_list_cmp_total, Any-from_list_any, Contains-permutation, list_any-IsPermutation, is_eq-slice_cmp, bytes_eq-Decides, insert_entry, put, is_sorted, nat_cmp-IsAntisymmetric, slice_cmp-IsAntisymmetric, find-put, is_sorted-put, same_entries, by_order, list_any, eq_by_cmp, match_ordering, Ordering, Less, Equal, Greater, bytes_eq, folded, canonical_name, canonical_name-from_folded, folded-from_canonical_name, Field, has_name, AreDistinct, Entries, byte_order, entries_after, entries_of, body_at, body_of}
+pub use Rattle.deb_syntax.proofs.DistinctNames.{distinct-permutation}
 
 insert_entry-put : (entries : Entries) (k v : List ℕ) → insert_entry byte_order entries k v ≡ put byte_order k v entries
 insert_entry-put [] k v = refl
@@ -111,34 +91,6 @@ last_under-found q field (f ∷ fields) was d (zero, below, is) h =
     ∙ ap (λ t. last_under q fields (cond t (Some field.body) was)) h
     ∙ last_under-none q fields (Some field.body) (others_apart q field fields h (ap (λ g. has_name g.name fields) (sym is) ∙ d.0))
 last_under-found q field (f ∷ fields) was d (suc k, below, is) h = last_under-found q field fields (cond (stands_under q f) (Some f.body) was) d.1 (k, omega arith, is) h
-
--- distinct fields stay so in another order
-abbrev same_field : Field → Field → Bool
-same_field f g = bytes_eq (folded g.name) (folded f.name)
-
-same_field-flips : (f g : Field) → same_field f g ≡ same_field g f
-same_field-flips f g = same_from_decides (same_field f g) (same_field g f) (bytes_eq-Decides (folded g.name) (folded f.name)) ((λ h. sym ((bytes_eq-Decides (folded f.name) (folded g.name)).0 h)), (λ h. (bytes_eq-Decides (folded f.name) (folded g.name)).1 (sym h)))
-
-none-from_any : (field : Field) (fields : List Field) → has_name field.name fields ≡ false → AllByRecursion (λ g. same_field field g ≡ false) fields
-none-from_any field [] h = tt
-none-from_any field (f ∷ fields) h = let p = or_parts (same_field field f) (has_name field.name fields) h in (p.0, none-from_any field fields p.1)
-
-any-from_none : (field : Field) (fields : List Field) → AllByRecursion (λ g. same_field field g ≡ false) fields → has_name field.name fields ≡ false
-any-from_none field [] h = refl
-any-from_none field (f ∷ fields) h = or_from (same_field field f) (has_name field.name fields) h.0 (any-from_none field fields h.1)
-
-distinct-to : (fields : List Field) → AreDistinct fields → IsDistinct same_field fields
-unfolding IsDistinct
-distinct-to [] d = tt
-distinct-to (f ∷ fields) d = (none-from_any f fields d.0, distinct-to fields d.1)
-
-distinct-from : (fields : List Field) → IsDistinct same_field fields → AreDistinct fields
-unfolding IsDistinct
-distinct-from [] d = tt
-distinct-from (f ∷ fields) d = (any-from_none f fields d.0, distinct-from fields d.1)
-
-pub distinct-permutation : (fields others : List Field) → IsPermutation fields others → AreDistinct fields → AreDistinct others
-distinct-permutation fields others p d = distinct-from others (IsDistinct-IsPermutation same_field same_field-flips fields others p (distinct-to fields d))
 
 -- the order of distinct fields is no part of the meaning
 pub entries_of-permutation : (fields others : List Field) → IsPermutation fields others → AreDistinct fields → entries_of fields ≡ entries_of others

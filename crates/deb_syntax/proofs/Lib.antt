@@ -1,7 +1,9 @@
+mod Common
 pub mod Advancing
 pub mod AnswerLaws
 pub mod Boundaries
 pub mod Callers
+pub mod DistinctNames
 pub mod Dropping
 pub mod EndingSteps
 pub mod EndingWalks
@@ -18,6 +20,7 @@ pub mod JudgingLawsMeaning
 pub mod JudgingLawsRefusals
 pub mod JudgingLawsSound
 pub mod JudgingLawsTexts
+pub mod LawProofs
 pub mod LeftAnswers
 pub mod LinesLaws
 pub mod LinesLawsPlaces

@@ -1,21 +1,9 @@
 -- Each paragraph of a text is a run of its lines, at its own number; and a text means at most one thing.
-use Rattle.std.proofs.Common.{◌≡◌, ◌⊎◌, inl, inr, ℕ, ◌+◌, Result, Ok, Err, List, [], ◌∷◌, ◌++◌, length, refl, sym, ap, ◌∙◌, subst, arith, append_assoc, length-append}
-use Rattle.std.specs.List.{AllByRecursion}
-use Rattle.deb_base.specs.Bodies.{Line, HasNoNewline}
-use Rattle.deb_syntax.specs.Lines.{Paragraph, paragraphs_of, lines_of}
-use Rattle.deb_base.specs.declared.refusal.Refusal.{Refusal}
-use Rattle.deb_syntax.specs.Fields.{Field, IsShort}
-use Rattle.deb_syntax.specs.Judging.{judged}
-use Rattle.deb_syntax.specs.Meaning.{Entries, entries_of, HaveMeanings, Means}
-use Rattle.deb_syntax.specs.Laws.{IsRun, AreRuns, StandsAmong, IsFirstRefusal}
+use Rattle.deb_syntax.proofs.Common.{◌≡◌, ◌⊎◌, inl, inr, ℕ, ◌+◌, Result, Ok, Err, List, [], ◌∷◌, ◌++◌, length, refl, sym, ap, ◌∙◌, subst, arith, append_assoc, length-append, AllByRecursion, Line, HasNoNewline, All-weaker, Paragraph, paragraphs_of, lines_of, Refusal, Field, IsShort, judged, Entries, entries_of, HaveMeanings, Means, IsRun, AreRuns, StandsAmong, IsFirstRefusal}
 use Rattle.deb_syntax.proofs.JudgingLaws.{all_left, all_right}
 use Rattle.deb_syntax.proofs.JudgingLawsRefusals.{judged-sound, judged-refused, spells-unique}
 use Rattle.deb_syntax.proofs.LinesLawsTexts.{lines_of-no_newline}
 use Rattle.deb_syntax.proofs.LinesLawsRuns.{paragraphs_from-AreRuns}
-
-pub all_map : {X : Type 0} (P Q : X → Type 0) → ((x : X) → P x → Q x) → (xs : List X) → AllByRecursion P xs → AllByRecursion Q xs
-all_map P Q f [] h = tt
-all_map P Q f (x ∷ xs) h = (f x h.0, all_map P Q f xs h.1)
 
 -- each paragraph is a run of lines
 pub runs-IsRun : (paragraphs : List Paragraph) (n : ℕ) (lines : List Line) → AreRuns n lines paragraphs → AllByRecursion HasNoNewline lines → AllByRecursion (λ p. IsRun p.lines) paragraphs
@@ -45,7 +33,7 @@ runs-StandsAmong (p ∷ ps) n lines r =
     let is : lines ≡ front ++ r.1 = r.2 ∙ sym (append_assoc r.0 p.lines r.1) in
     let e : n + length r.0 + length p.lines ≡ n + length (r.0 ++ p.lines) = omega (arith, length-append r.0 p.lines) in (
       record { before = r.0; behind = r.1; is = r.2; number = r.4 },
-      all_map (StandsAmong m r.1) (StandsAmong n lines) (λ q s. subst (λ ls. StandsAmong n ls q) (sym is) (later n m front r.1 q e s)) ps (runs-StandsAmong ps m r.1 r.8),
+      All-weaker (StandsAmong m r.1) (StandsAmong n lines) (λ q s. subst (λ ls. StandsAmong n ls q) (sym is) (later n m front r.1 q e s)) ps (runs-StandsAmong ps m r.1 r.8),
     )
 
 -- a paragraph of a text is a run of lines

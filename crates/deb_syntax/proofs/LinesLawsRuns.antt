@@ -1,10 +1,6 @@
 -- The paragraphs of lines are the maximal runs of lines that aren't blank, and there is one such list of them.
-use Rattle.std.proofs.Common.{◌≡◌, ◌≢◌, ℕ, ◌+◌, suc, Bool, true, false, cond, List, [], ◌∷◌, ◌++◌, length, refl, sym, ap, ◌∙◌, subst, arith, append-nil}
-use Rattle.std.proofs.lemmas.Bool.{true≢false}
-use Rattle.std.specs.List.{AllByRecursion}
-use Rattle.deb_base.specs.Bodies.{Line, is_blank}
-use Rattle.deb_syntax.specs.Lines.{Paragraph, begins_blank, with_line, paragraphs_from}
-use Rattle.deb_syntax.specs.Laws.{AreRuns}
+use Rattle.deb_syntax.proofs.Common.{◌≡◌, ◌≢◌, ℕ, ◌+◌, suc, Bool, true, false, cond, List, [], ◌∷◌, ◌++◌, length, refl, sym, ap, ◌∙◌, subst, arith, true≢false, AllByRecursion, Line, is_blank, Paragraph, begins_blank, with_line, paragraphs_from, AreRuns}
+use Rattle.std.proofs.Common.{append-nil}
 use Rattle.deb_syntax.proofs.Runs.{paragraphs_from-blanks, paragraphs_from-run}
 
 abbrev AllBlank : List Line → Type 0

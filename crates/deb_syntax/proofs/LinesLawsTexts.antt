@@ -1,9 +1,7 @@
 -- The lines of a text: none holds a newline, and together they give the text back.
-use Rattle.std.proofs.Common.{◌≡◌, ℕ, Bool, true, false, cond, eqb, List, [], ◌∷◌, refl, sym, ap, ◌∙◌, eqb-true}
-use Rattle.std.specs.List.{AllByRecursion}
-use Rattle.deb_base.specs.Bodies.{Line, newline, with_byte, pieces_of, HasNoNewline}
-use Rattle.deb_syntax.specs.Lines.{lines_of, with_newlines}
-use Rattle.deb_syntax.specs.Laws.{with_last_newline}
+use Rattle.deb_syntax.proofs.Common.{◌≡◌, ℕ, Bool, true, false, cond, eqb, List, [], ◌∷◌, refl, sym, ap, ◌∙◌, cond_both, AllByRecursion, Line, newline, with_byte, pieces_of, HasNoNewline, lines_of, with_newlines, with_last_newline}
+use Rattle.std.proofs.Common.{eqb-true}
+use Rattle.deb_syntax.proofs.LinesLaws.{HasFirst, with_byte-some}
 use Rattle.deb_syntax.proofs.Runs.{lines_of-line}
 
 with_byte-no_newline : (b : ℕ) (lines : List Line) → eqb b 10 ≡ false → AllByRecursion HasNoNewline lines → AllByRecursion HasNoNewline (with_byte b lines)
@@ -13,28 +11,15 @@ with_byte-no_newline b (line ∷ lines) e h = ((e, h.0), h.1)
 -- no line of a text holds a newline
 pub lines_of-no_newline : (text : List ℕ) → AllByRecursion HasNoNewline (lines_of text)
 lines_of-no_newline [] = tt
-lines_of-no_newline (b ∷ bs) = go (eqb b 10) refl (lines_of-no_newline bs)
-  where
-    go : (t : Bool) → eqb b 10 ≡ t → AllByRecursion HasNoNewline (lines_of bs) → AllByRecursion HasNoNewline (cond t ([] ∷ lines_of bs) (with_byte b (lines_of bs)))
-    go true e h = (tt, h)
-    go false e h = with_byte-no_newline b (lines_of bs) e h
+lines_of-no_newline (b ∷ bs) = cond_both (eqb b 10) _ _ (AllByRecursion HasNoNewline) (λ _. (tt, lines_of-no_newline bs)) (λ e. with_byte-no_newline b (lines_of bs) e (lines_of-no_newline bs))
 
 -- nor does a piece
 pub pieces_of-no_newline : (text : List ℕ) → AllByRecursion HasNoNewline (pieces_of text)
 pieces_of-no_newline [] = (tt, tt)
-pieces_of-no_newline (b ∷ bs) = go (eqb b 10) refl (pieces_of-no_newline bs)
-  where
-    go : (t : Bool) → eqb b 10 ≡ t → AllByRecursion HasNoNewline (pieces_of bs) → AllByRecursion HasNoNewline (cond t ([] ∷ pieces_of bs) (with_byte b (pieces_of bs)))
-    go true e h = (tt, h)
-    go false e h = with_byte-no_newline b (pieces_of bs) e h
+pieces_of-no_newline (b ∷ bs) = cond_both (eqb b 10) _ _ (AllByRecursion HasNoNewline) (λ _. (tt, pieces_of-no_newline bs)) (λ e. with_byte-no_newline b (pieces_of bs) e (pieces_of-no_newline bs))
 
-lines_of-some : (b : ℕ) (bs : List ℕ) → (line : Line) × (lines : List Line) × (lines_of (b ∷ bs) ≡ line ∷ lines)
-lines_of-some b bs = go (eqb b 10) (lines_of bs)
-  where
-    go : (t : Bool) (lines : List Line) → (line : Line) × (rest : List Line) × (cond t ([] ∷ lines) (with_byte b lines) ≡ line ∷ rest)
-    go true lines = ([], lines, refl)
-    go false [] = (b ∷ [], [], refl)
-    go false (line ∷ lines) = (b ∷ line, lines, refl)
+pub lines_of-some : (b : ℕ) (bs : List ℕ) → HasFirst (lines_of (b ∷ bs))
+lines_of-some b bs = cond_both (eqb b 10) _ _ HasFirst (λ _. ([], lines_of bs, refl)) (λ _. with_byte-some b (lines_of bs))
 
 -- the lines of a text, each with its newline, are the text with its last newline
 pub with_newlines-lines_of : (text : List ℕ) → with_newlines (lines_of text) ≡ with_last_newline text

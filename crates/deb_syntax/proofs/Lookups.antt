@@ -1,12 +1,6 @@
 -- A search for a field by its name, one field after another.
-use Rattle.std.proofs.Common.{◌≡◌, ℕ, ◌+◌, ◌<◌, cond, List, length, drop, get_or, Some, ap, ◌∙◌}
-use Rattle.std.proofs.lemmas.List.{drop_more}
-use Rattle.std.proofs.lemmas.Slice.Eq.{bytes_eq-Decides}
-use Rattle.std.specs.Str.{bytes_eq}
-use Rattle.deb_base.specs.Names.{folded}
-use Rattle.deb_syntax.specs.Places.{name_at, field_at, fields_at}
-use Rattle.deb_syntax.specs.Raw.{field_named}
-use Rattle.deb_syntax.specs.declared.place.Place.{Place}
+use Rattle.deb_syntax.proofs.Common.{◌≡◌, ℕ, ◌+◌, ◌<◌, cond, List, length, drop, get_or, Some, ap, ◌∙◌, drop_more, bytes_eq-Decides, bytes_eq, folded, name_at, field_at, fields_at, field_named, Place}
+use Rattle.deb_syntax.proofs.FieldTests.{is_field-at}
 use Rattle.deb_syntax.proofs.Pieces.{not_true}
 
 module _ (text name : List ℕ) (places : List Place) (i : ℕ) (d : Place) (within : i < length places) where
@@ -20,3 +14,5 @@ module _ (text name : List ℕ) (places : List Place) (i : ℕ) (d : Place) (wit
   pub field_named-passed : (folded (name_at text (get_or places i d)) ≡ folded name → ⊥) → field_named name (fields_at text (drop i places)) ≡ field_named name (fields_at text (drop (i + 1) places))
   field_named-passed other =
       step ∙ ap (λ t. cond t (Some (field_at text (get_or places i d))) (field_named name (fields_at text (drop (i + 1) places)))) (not_true _ (λ e. other ((bytes_eq-Decides (folded (name_at text (get_or places i d))) (folded name)).0 e)))
+
+pub ruleset looking = (field_named-found, field_named-passed, is_field-at)

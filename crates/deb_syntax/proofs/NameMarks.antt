@@ -1,15 +1,6 @@
 -- The marks of names, which tell that a name didn't stand before.
-use Rattle.std.proofs.Common.{◌≡◌, ℕ, ◌+◌, ◌-◌, ◌*◌, ◌%◌, ◌==◌, ◌||◌, Bool, true, false, List, [], ◌∷◌, ◌++◌, length, get_or, refl, sym, ap, ◌∙◌}
-use Rattle.std.specs.Char.{to_ascii_lowercase}
-use Rattle.std.specs.List.{list_all}
-use Rattle.std.specs.Str.{bytes_eq}
-use Rattle.std.proofs.Math.ListN.{get_or-map}
-use Rattle.std.proofs.lemmas.Bool.{and_parts, and_from, true≢false}
-use Rattle.std.proofs.lemmas.List.{length-map}
-use Rattle.std.proofs.lemmas.List.Folds.{list_all-append}
-use Rattle.std.proofs.lemmas.Slice.Eq.{bytes_eq-Decides}
-use Rattle.deb_base.specs.Names.{folded}
-use Rattle.deb_syntax.specs.Places.{has_stood, mark_of, is_marked}
+use Rattle.deb_syntax.proofs.Common.{◌≡◌, ℕ, ◌+◌, ◌-◌, ◌*◌, ◌%◌, ◌==◌, ◌||◌, Bool, true, false, List, [], ◌∷◌, ◌++◌, length, get_or, refl, sym, ap, ◌∙◌, to_ascii_lowercase, list_all, bytes_eq, get_or-map, and_parts, and_from, true≢false, length-map, list_all-append, bytes_eq-Decides, folded, has_stood, is_marked}
+use Rattle.deb_syntax.specs.Places.{mark_of}
 use Rattle.deb_syntax.proofs.Pieces.{not_true}
 
 -- names that are equal without case have one mark
@@ -44,3 +35,5 @@ marked_push stood marks name all here = list_all-append (is_marked marks) stood 
 pub or_true : (a b : Bool) → b ≡ true → (a || b) ≡ true
 or_true true b h = refl
 or_true false b h = h
+
+pub ruleset marking = (unmarked, marked_more, marked_push, or_true)

@@ -1,15 +1,5 @@
 -- Names that stood before, one after another, and a set that keeps them.
-use Rattle.std.proofs.Common.{◌≡◌, ℕ, ◌+◌, ◌<◌, Bool, true, false, cond, ◌||◌, List, [], ◌∷◌, ◌++◌, length, map, take, drop, get_or, refl, sym, ap, ◌∙◌, subst}
-use Rattle.std.specs.List.{list_any}
-use Rattle.std.specs.Str.{bytes_eq}
-use Rattle.std.specs.Cmp.Lexicographic.{nat_list_eq_equiv}
-use Rattle.std.proofs.lemmas.List.{drop_more, take_more, map_push}
-use Rattle.std.proofs.lemmas.List.Folds.{list_any-append}
-use Rattle.std.proofs.lemmas.Slice.Eq.{bytes_eq-Decides}
-use Rattle.deb_base.specs.Names.{folded}
-use Rattle.deb_syntax.specs.Places.{name_at, has_stood, is_kept}
-use Rattle.deb_syntax.specs.declared.folded_name.FoldedName.{FoldedName}
-use Rattle.deb_syntax.specs.declared.place.Place.{Place}
+use Rattle.deb_syntax.proofs.Common.{◌≡◌, ℕ, ◌+◌, ◌<◌, Bool, true, false, cond, ◌||◌, List, [], ◌∷◌, ◌++◌, length, map, take, drop, get_or, refl, sym, ap, ◌∙◌, subst, list_any, bytes_eq, nat_list_eq_equiv, drop_more, take_more, map_push, list_any-append, bytes_eq-Decides, folded, name_at, has_stood, is_kept, FoldedName, Place}
 use Rattle.deb_syntax.proofs.Pieces.{not_true}
 
 or_false : (b : Bool) → (b || false) ≡ b
@@ -59,3 +49,5 @@ is_kept-insert names more n other is = go (is_kept n.0.now names) refl is
     go : (b : Bool) → is_kept n.0.now names ≡ b → more ≡ cond b names (names ++ n ∷ []) → is_kept other more ≡ (is_kept other names || bytes_eq (folded n.0.now) (folded other))
     go true kept e = ap (is_kept other) e ∙ is_kept-again names n.0.now other kept
     go false new e = ap (is_kept other) e ∙ is_kept-push names n other
+
+pub ruleset standing = (has_stood-found, has_stood-passed, has_stood-more)

@@ -1,10 +1,5 @@
 -- The paragraphs of lines that follow others, and what a refusal of one paragraph says of the whole text.
-use Rattle.std.proofs.Common.{◌≡◌, ◌≢◌, ℕ, ◌+◌, ◌≤◌, Bool, true, false, cond, List, [], ◌∷◌, ◌++◌, length, refl, sym, ap, ◌∙◌, arith}
-use Rattle.std.proofs.lemmas.List.{append-nil}
-use Rattle.std.proofs.lemmas.List.Sums.{sum_by-append}
-use Rattle.deb_base.specs.Bodies.{Line, is_blank, line_length}
-use Rattle.deb_syntax.specs.Lines.{Paragraph, begins_blank, ends_blank, with_line, paragraphs_from, total_length}
-use Rattle.deb_syntax.specs.Extents.{AreBlank, AreNotBlank}
+use Rattle.deb_syntax.proofs.Common.{◌≡◌, ◌≢◌, ℕ, ◌+◌, ◌≤◌, Bool, true, false, cond, List, [], ◌∷◌, ◌++◌, length, refl, sym, ap, ◌∙◌, arith, append-nil, sum_by-append, Line, is_blank, line_length, Paragraph, begins_blank, ends_blank, with_line, paragraphs_from, total_length, AreBlank, AreNotBlank}
 use Rattle.deb_syntax.proofs.Runs.{paragraphs_from-blanks, paragraphs_from-run}
 
 -- the length of lines, of which the first is taken apart

@@ -1,10 +1,5 @@
 -- The part of a text that is looked at, behind whole lines of it.
-use Rattle.std.proofs.Common.{◌≡◌, ℕ, ◌+◌, ◌-◌, ◌<◌, ◌≤◌, ◌==◌, inl, inr, Bool, true, false, cond, List, [], ◌∷◌, ◌++◌, Some, None, length, take, leb, refl, sym, ap, ◌∙◌, arith, length-append}
-use Rattle.std.proofs.lemmas.Bool.{le-leb, lt-leb, cases_lt}
-use Rattle.std.proofs.Math.Seq.{take-append-add}
-use Rattle.deb_base.specs.Bodies.{newline, HasNoNewline}
-use Rattle.deb_syntax.specs.Answers.{with_whole, whole_lines, part_within, line_beyond}
-use Rattle.deb_syntax.specs.Lines.{lines_of, ends_line}
+use Rattle.deb_syntax.proofs.Common.{◌≡◌, ℕ, ◌+◌, ◌-◌, ◌<◌, ◌≤◌, ◌==◌, inl, inr, Bool, true, false, cond, List, [], ◌∷◌, ◌++◌, Some, None, length, take, leb, refl, sym, ap, ◌∙◌, arith, length-append, le-leb, lt-leb, cases_lt, take-append-add, newline, HasNoNewline, with_whole, whole_lines, part_within, line_beyond, lines_of, ends_line}
 use Rattle.deb_syntax.proofs.Boundaries.{lines_of-append}
 
 at_true : {A : Type 0} (b : Bool) (x y : A) → b ≡ true → cond b x y ≡ x

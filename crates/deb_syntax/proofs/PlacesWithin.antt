@@ -1,9 +1,5 @@
 -- Places that lie within a part of a buffer.
-use Rattle.std.proofs.Common.{◌≡◌, ℕ, ◌-◌, ◌≤◌, ◌&&◌, Bool, true, List, subst, leb, IsTrue}
-use Rattle.std.specs.List.{list_all}
-use Rattle.std.proofs.lemmas.Bool.{and_from, le-leb}
-use Rattle.deb_syntax.specs.declared.place.Place.{Place}
-use Rattle.deb_syntax.specs.Places.{lies_within}
+use Rattle.deb_syntax.proofs.Common.{◌≡◌, ℕ, ◌-◌, ◌≤◌, ◌&&◌, Bool, true, List, subst, leb, IsTrue, list_all, and_from, le-leb, Place, lies_within}
 
 -- the part lies within the buffer, and the places within the part, where the fields are
 pub within_test : (from to len n : ℕ) (places : List Place) (fields : Bool) → from ≤ to → to ≤ len → n ≡ to - from → IsTrue (list_all (lies_within n) places) → fields ≡ true → IsTrue (leb from to && leb to len && list_all (lies_within (to - from)) places && fields)

@@ -1,8 +1,5 @@
 -- The lines of a text that is put together from lines, and the paragraphs of lines that are put together from runs.
-use Rattle.std.proofs.Common.{◌≡◌, ℕ, ◌+◌, Bool, true, false, cond, List, [], ◌∷◌, ◌++◌, length, refl, ap, ◌∙◌, arith}
-use Rattle.std.specs.List.{AllByRecursion}
-use Rattle.deb_base.specs.Bodies.{Line, newline, with_byte, pieces_of, HasNoNewline, is_blank}
-use Rattle.deb_syntax.specs.Lines.{lines_of, Paragraph, begins_blank, with_line, paragraphs_from}
+use Rattle.deb_syntax.proofs.Common.{◌≡◌, ℕ, ◌+◌, Bool, true, false, cond, List, [], ◌∷◌, ◌++◌, length, refl, ap, ◌∙◌, arith, AllByRecursion, Line, newline, with_byte, pieces_of, HasNoNewline, is_blank, lines_of, Paragraph, begins_blank, with_line, paragraphs_from}
 
 -- a line with its newline comes first among the lines
 pub lines_of-line : (line rest : List ℕ) → HasNoNewline line → lines_of (line ++ newline ∷ rest) ≡ line ∷ lines_of rest

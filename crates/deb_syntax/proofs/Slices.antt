@@ -1,7 +1,5 @@
 -- Slices of a list: joined, and cut again.
-use Rattle.std.proofs.Common.{◌≡◌, ℕ, ◌+◌, ◌-◌, ◌<◌, ◌≤◌, Bool, List, [], ◌∷◌, ◌++◌, length, take, drop, map, slice_index, slice_range, refl, ap, arith, rules, ◌||◌}
-use Rattle.std.specs.List.{list_any}
-use Rattle.std.proofs.lemmas.List.{same_lists, places}
+use Rattle.deb_syntax.proofs.Common.{◌≡◌, ℕ, ◌+◌, ◌-◌, ◌<◌, ◌≤◌, Bool, List, [], ◌∷◌, ◌++◌, length, take, drop, map, slice_index, slice_range, refl, ap, arith, rules, ◌||◌, list_any, same_lists, places}
 
 -- a slice, an element and the slice behind it are one slice
 pub slice_range-join : (xs : List ℕ) (a b c : ℕ) → a ≤ b → b < c → c ≤ length xs → slice_range xs a b ++ slice_index xs b ∷ slice_range xs (b + 1) c ≡ slice_range xs a c

@@ -1,15 +1,5 @@
 -- Blank lines that are passed in pieces, and the line behind them.
-use Rattle.std.proofs.Common.{◌≡◌, ℕ, zero, suc, ◌+◌, ◌≤◌, ◌<◌, ◌⊎◌, inl, inr, Bool, true, false, List, [], ◌∷◌, ◌++◌, length, take, drop, slice_index, nat_le, refl, sym, ap, subst, ◌∙◌, append_assoc, arith, length-append, length-drop}
-use Rattle.std.proofs.lemmas.Bool.{and_parts, false≢true}
-use Rattle.std.proofs.lemmas.List.{take-append-drop}
-use Rattle.std.specs.Bool.{MatchBool}
-use Rattle.deb_base.specs.Bodies.{Line, newline, is_blank_byte, is_all_blank, is_blank, paragraph_limit}
-use Rattle.deb_syntax.specs.Lines.{with_newlines}
-use Rattle.deb_syntax.specs.Extents.{AreBlank}
-use Rattle.deb_syntax.specs.Walking.{StandInFront, Describes, EndsIn, GoesAlong, GoesThroughBlanks, EndsNotBlank, SkipsBlanks}
-use Rattle.deb_syntax.specs.declared.begun.Begun.{Begun}
-use Rattle.deb_syntax.specs.declared.begun.AlongLine.{AlongLine}
-use Rattle.deb_syntax.proofs.JudgingLaws.{all_append}
+use Rattle.deb_syntax.proofs.Common.{◌≡◌, ℕ, zero, suc, ◌+◌, ◌≤◌, ◌<◌, ◌⊎◌, inl, inr, Bool, true, false, List, [], ◌∷◌, ◌++◌, length, take, drop, slice_index, nat_le, refl, sym, ap, subst, ◌∙◌, append_assoc, arith, length-append, length-drop, and_parts, false≢true, take-append-drop, MatchBool, All-append, Line, newline, is_blank_byte, is_all_blank, is_blank, paragraph_limit, with_newlines, AreBlank, StandInFront, Describes, EndsIn, GoesAlong, GoesThroughBlanks, EndsNotBlank, SkipsBlanks, Begun, AlongLine}
 use Rattle.deb_syntax.proofs.Pieces.{not_true}
 use Rattle.deb_syntax.proofs.WalkingLines.{drop-front, length-front, few_lines-with_newlines, front-step, length-with_newlines-step}
 use Rattle.deb_syntax.proofs.WalkingSteps.{newline_at, is_blank-longer, is_blank-other}
@@ -48,7 +38,7 @@ skip-step text n count begun seen new s through lt here blank nothing =
       lines = s.lines ++ line ∷ [];
       rest = more;
       front = front-step text s.lines line more front through.describes.line;
-      blank = all_append _ _ _ s.blank (blank, tt);
+      blank = All-append _ _ _ s.blank (blank, tt);
       bytes = omega (arith, s.bytes, through.describes.len);
       counted = omega (arith, s.counted);
       within = omega arith;

@@ -1,11 +1,5 @@
 -- Lines at the front of a text, each with its newline, and what stands behind them.
-use Rattle.std.proofs.Common.{◌≡◌, ◌≢◌, ℕ, ◌+◌, ◌-◌, ◌≤◌, List, [], ◌∷◌, ◌++◌, length, take, drop, refl, sym, ap, ◌∙◌, append_assoc, arith, length-append}
-use Rattle.std.proofs.Math.Seq.{take-append_seam, drop-append_seam}
-use Rattle.std.proofs.lemmas.List.Sums.{sum_by-append}
-use Rattle.std.specs.List.{AllByRecursion}
-use Rattle.deb_base.specs.Bodies.{Line, newline, pieces_of, HasNoNewline, line_length}
-use Rattle.deb_syntax.specs.Lines.{lines_of, with_newlines, total_length}
-use Rattle.deb_syntax.specs.Walking.{StandInFront}
+use Rattle.deb_syntax.proofs.Common.{◌≡◌, ◌≢◌, ℕ, ◌+◌, ◌-◌, ◌≤◌, List, [], ◌∷◌, ◌++◌, length, take, drop, refl, sym, ap, ◌∙◌, append_assoc, arith, length-append, take-append_seam, drop-append_seam, sum_by-append, AllByRecursion, Line, newline, pieces_of, HasNoNewline, line_length, lines_of, with_newlines, total_length, StandInFront}
 use Rattle.deb_syntax.proofs.Runs.{lines_of-line, lines_of-last, pieces_of-line, pieces_of-last}
 
 -- the lines of a text that begins with whole lines are these and the lines of the rest

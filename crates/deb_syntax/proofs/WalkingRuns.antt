@@ -1,16 +1,5 @@
 -- Lines that are taken in pieces: where the line behind them goes on, ends, and joins them.
-use Rattle.std.proofs.Common.{◌≡◌, ◌≢◌, ℕ, ◌+◌, ◌≤◌, inl, inr, true, false, List, [], ◌∷◌, ◌++◌, length, drop, refl, sym, ap, subst, ◌∙◌, append_assoc, arith, length-append}
-use Rattle.std.proofs.Math.Seq.{drop-append_seam, drop-append-add}
-use Rattle.std.proofs.lemmas.List.{append-nil}
-use Rattle.std.proofs.lemmas.Bool.{MatchBool-at_true, MatchBool-at_false}
-use Rattle.deb_base.specs.Bodies.{Line, newline, is_blank, paragraph_limit}
-use Rattle.deb_syntax.specs.Lines.{with_newlines}
-use Rattle.deb_syntax.specs.Walking.{Describes, EndsIn, GoesAlong, RunStands, CanGoOn, Stops}
-use Rattle.deb_syntax.specs.declared.begun.Begun.{Begun}
-use Rattle.deb_syntax.specs.declared.begun.AlongLine.{AlongLine}
-use Rattle.deb_syntax.specs.declared.take.Run.{Run}
-use Rattle.deb_syntax.specs.declared.take.Stop.TheVariants.{Open}
-use Rattle.deb_syntax.proofs.JudgingLaws.{all_append}
+use Rattle.deb_syntax.proofs.Common.{◌≡◌, ◌≢◌, ℕ, ◌+◌, ◌≤◌, inl, inr, true, false, List, [], ◌∷◌, ◌++◌, length, drop, refl, sym, ap, subst, ◌∙◌, append_assoc, arith, length-append, drop-append_seam, drop-append-add, append-nil, MatchBool-at_true, MatchBool-at_false, All-append, Line, newline, is_blank, paragraph_limit, with_newlines, Describes, EndsIn, GoesAlong, RunStands, CanGoOn, Stops, Begun, AlongLine, Run, Open}
 use Rattle.deb_syntax.proofs.WalkingLines.{length-front, few_lines-with_newlines, front-step, length-with_newlines-step}
 use Rattle.deb_syntax.proofs.WalkingSteps.{CannotBeBlank-longer}
 
@@ -89,7 +78,7 @@ run-step text run new e nothing blank short =
       e.rest,
       record {
         front = front-step text e.lines e.seen e.rest h.front h.describes.line;
-        not_blank = all_append _ _ _ h.not_blank (blank, tt);
+        not_blank = All-append _ _ _ h.not_blank (blank, tt);
         bytes = let more = length-with_newlines-step e.lines e.seen in omega (arith, h.bytes, h.describes.len);
         short = short;
         counted = let more = length-append e.lines (e.seen ∷ []) in omega (arith, h.counted);

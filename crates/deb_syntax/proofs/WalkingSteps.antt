@@ -1,10 +1,5 @@
 -- What was seen of a line, and what it is with more bytes.
-use Rattle.std.proofs.Common.{◌≡◌, ℕ, zero, suc, ◌+◌, ◌≤◌, ◌<◌, inl, inr, true, false, ◌&&◌, nat_le, List, [], ◌∷◌, ◌++◌, length, take, drop, slice_index, sym, ap, ◌∙◌, arith, length-append}
-use Rattle.std.proofs.lemmas.List.Folds.{list_all-append}
-use Rattle.std.proofs.lemmas.Bool.{and_parts, and_from, leb-true, le-leb, false≢true}
-use Rattle.memchr.specs.Find.{is_byte}
-use Rattle.deb_base.specs.Bodies.{newline, is_blank_byte, is_all_blank, is_blank, HasNoNewline, paragraph_limit}
-use Rattle.deb_syntax.specs.Walking.{CannotBeBlank}
+use Rattle.deb_syntax.proofs.Common.{◌≡◌, ℕ, zero, suc, ◌+◌, ◌≤◌, ◌<◌, inl, inr, true, false, ◌&&◌, nat_le, List, [], ◌∷◌, ◌++◌, length, take, drop, slice_index, sym, ap, ◌∙◌, arith, length-append, list_all-append, and_parts, and_from, leb-true, le-leb, false≢true, is_byte, newline, is_blank_byte, is_all_blank, is_blank, HasNoNewline, paragraph_limit, CannotBeBlank}
 use Rattle.deb_syntax.proofs.Pieces.{not_true}
 
 -- the first newline ends a line

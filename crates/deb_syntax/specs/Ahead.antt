@@ -1,11 +1,11 @@
 -- The walk of a reader through the text ahead of it: blank lines that are passed, a line of which
 -- nothing is kept, and where the next paragraph ends. Debian Policy 5.1; the limits are this
 -- project's own.
-use Rattle.std.specs.Prelude.{◌≡◌, ℕ, ◌+◌, ◌-◌, ◌<◌, ◌≤◌, ◌⊎◌, false, List, [], ◌∷◌, ◌++◌, length, take, drop, Option, Some, None, Result, Ok, Err, IsTrue}
+use Rattle.std.specs.Prelude.{◌≡◌, ◌≢◌, ℕ, ◌+◌, ◌-◌, ◌<◌, ◌≤◌, ◌⊎◌, false, List, [], ◌∷◌, ◌++◌, length, take, drop, Option, Some, None, Result, Ok, Err, IsTrue}
 use Rattle.deb_base.specs.Bodies.{Line, newline, HasNoNewline, is_blank, pieces_of, paragraph_limit}
+use Rattle.deb_base.specs.Faults.{IsReadersFault}
 use Rattle.deb_base.specs.declared.code.Code.TheVariants.{FileTooLong}
 use Rattle.deb_base.specs.declared.fault.Fault.{Fault}
-use Rattle.deb_base.specs.declared.fault.Fault.TheVariants.{Refused, Memory, Read, Write}
 use Rattle.deb_base.specs.declared.refusal.Refusal.{Refusal}
 use Rattle.deb_syntax.specs.Answers.{Seen, part_within, line_beyond, answer_of_first, begin_of_first, seen_from}
 use Rattle.deb_syntax.specs.Extents.{AreBlank, AreNotBlank}
@@ -65,7 +65,7 @@ EndsInSight bytes line feed =
     ((more : List ℕ) × (bytes ≡ line ++ newline ∷ more) × (length line + 1 ≤ room_ahead feed))
     ⊎ ((bytes ≡ line) × IsTrue feed.ended × (length line ≤ room_ahead feed))
 
--- A line that isn't blank begins the unread bytes.
+-- A whole line that isn't blank begins the unread bytes.
 pub record KeepsLine (begun : Begun) (feed : FeedState) : Type 0 where
   pub line : List ℕ
   pub describes : Describes begun line
@@ -73,8 +73,8 @@ pub record KeepsLine (begun : Begun) (feed : FeedState) : Type 0 where
   pub ends : EndsInSight feed.unread line feed
   pub near : IsNear feed.unread
 
--- A line that is longer than a paragraph may be stands before the unread bytes, which begin with
--- its newline or are none.
+-- A line that is longer than a paragraph may be, its newline counted, stands before the unread
+-- bytes, which begin with its newline or are none.
 pub record HidesLine (begun : Begun) (feed : FeedState) (hidden : List ℕ) : Type 0 where
   pub describes : Describes begun hidden
   pub long : paragraph_limit ≤ length hidden
@@ -97,12 +97,10 @@ IsFirst text before (Ok (Kept begun)) after left =
 IsFirst text before (Ok (Dropped begun)) after left =
     (ahead : List ℕ) × (hidden : List ℕ) × PassesBlanks text before after ahead
     × IsAhead ahead hidden after left × HidesLine begun after hidden
-IsFirst text before (Err (Refused refusal)) after left =
+IsFirst text before (Err fault) after left =
+    IsReadersFault fault (λ refusal.
     (left_answer (before.lines + 1) (room_ahead before) text ≡ Err refusal)
-    × (left_begin (before.lines + 1) (room_ahead before) text ≡ Err refusal)
-IsFirst text before (Err Memory) after left = Unit {0}
-IsFirst text before (Err Read) after left = Unit {0}
-IsFirst text before (Err Write) after left = ⊥
+    × (left_begin (before.lines + 1) (room_ahead before) text ≡ Err refusal))
 
 -- what an answer says of a feed, whatever its source tells
 abbrev pub HasFirst : Result First Fault → FeedState → Type 0
@@ -143,36 +141,30 @@ TextAfterLine text before run line (Some at) after left =
     × (text ≡ take run.bytes before.unread ++ (line ++ (drop at after.unread ++ rest)))
     × (IsTrue after.ended → rest ≡ [])
 
--- What is found behind a run where a line is dropped.
-abbrev pub FindsDropped : FeedState → Run → Result DroppedLine Fault → FeedState → Type 0
-FindsDropped before run (Ok dropped) after =
-    (d : DropsLine before run dropped after) × HasNewline before run d.line dropped.newline after
-FindsDropped before run (Err fault) after = Unit {0}
-
--- The same of the text ahead. Refused: the file is too long, and the line goes on beyond what may
--- be looked at.
-abbrev pub IsDropped : List ℕ → FeedState → Run → Result DroppedLine Fault → FeedState
+-- What is found behind a run where a line is dropped, and what of the text ahead it is. Refused:
+-- the file is too long, and the line goes on beyond what may be looked at.
+abbrev pub IsDropped : FeedState → Option (List ℕ) → Run → Result DroppedLine Fault → FeedState
     → Option (List ℕ) → Type 0
-IsDropped text before run (Ok dropped) after left =
+IsDropped before left_before run (Ok dropped) after left =
     (d : DropsLine before run dropped after) × HasNewline before run d.line dropped.newline after
-    × TextAfterLine text before run d.line dropped.newline after left
-IsDropped text before run (Err (Refused refusal)) after left =
+    × ((text : List ℕ) → IsAhead text [] before left_before
+    → TextAfterLine text before run d.line dropped.newline after left)
+IsDropped before left_before run (Err fault) after left =
+    (text : List ℕ) → IsAhead text [] before left_before
+    → IsReadersFault fault (λ refusal.
     (refusal ≡ record { code = FileTooLong; line = before.lines + run.lines + 1 })
     × (room_ahead before < length text)
     × ((line : List ℕ) × (take (room_ahead before) text ≡ take run.bytes before.unread ++ line)
-    × HasNoNewline line)
-IsDropped text before run (Err Memory) after left = Unit {0}
-IsDropped text before run (Err Read) after left = Unit {0}
-IsDropped text before run (Err Write) after left = ⊥
+    × HasNoNewline line))
 
 -- The next paragraph ends at `end` of the unread bytes; with the blank line behind it, or the
 -- file's end, it is `bytes` bytes and `lines` lines of the file, and `skip` unread ones.
 pub record IsExtentOf (e : Extent) (feed : FeedState) : Type 0 where
-  pub first : Line
-  pub run : List Line
-  pub pieces : pieces_of (take e.end feed.unread) ≡ first ∷ run
-  pub not_blank : AreNotBlank (first ∷ run)
-  pub short : total_length (first ∷ run) ≤ paragraph_limit
+  pub lines : List Line
+  pub some : lines ≢ []
+  pub pieces : pieces_of (take e.end feed.unread) ≡ lines
+  pub not_blank : AreNotBlank lines
+  pub short : total_length lines ≤ paragraph_limit
   pub end_within : e.end ≤ length feed.unread
   pub skip_within : e.skip ≤ length feed.unread
   pub within : e.bytes ≤ room_ahead feed
@@ -215,13 +207,11 @@ pub record IsNextRun (n room : ℕ) (text : List ℕ) (run : List Line) : Type 0
 abbrev pub IsExtentAhead : List ℕ → FeedState → Result Extent Fault → FeedState → Option (List ℕ)
     → Type 0
 IsExtentAhead text before (Ok e) after left =
-    (x : IsExtentOf e after) × PassesParagraph text e after left (x.first ∷ x.run)
-    × IsNextRun (before.lines + 1) (room_ahead before) text (x.first ∷ x.run)
-IsExtentAhead text before (Err (Refused refusal)) after left =
-    left_answer (before.lines + 1) (room_ahead before) text ≡ Err refusal
-IsExtentAhead text before (Err Memory) after left = Unit {0}
-IsExtentAhead text before (Err Read) after left = Unit {0}
-IsExtentAhead text before (Err Write) after left = ⊥
+    (x : IsExtentOf e after) × PassesParagraph text e after left x.lines
+    × IsNextRun (before.lines + 1) (room_ahead before) text x.lines
+IsExtentAhead text before (Err fault) after left =
+    IsReadersFault fault (λ refusal.
+    left_answer (before.lines + 1) (room_ahead before) text ≡ Err refusal)
 
 -- nothing has passed
 pub record SameCounts (before after : FeedState) : Type 0 where

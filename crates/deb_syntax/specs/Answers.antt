@@ -113,7 +113,7 @@ begin_of_first (Some line) [] = Err (record { code = FileTooLong; line = line })
 begin_of_first beyond (p ∷ more) = Ok (Some p.first)
 
 -- The line at which the next paragraph begins behind the first `count` ones: none, or that the file
--- is too long.
+-- is too long. A line that is cut off begins none.
 abbrev pub next_begin_under : ℕ → ℕ → List ℕ → ℕ → Result (Option ℕ) Refusal
 next_begin_under limit most text count =
     begin_of_first (line_beyond 1 most text)

@@ -1,6 +1,6 @@
 -- A file that is read by pieces: the bytes of it that are unread, and how far it may be looked at
 -- (this project's own).
-use Rattle.std.specs.Prelude.{◌≡◌, ℕ, ◌+◌, ◌-◌, ◌<◌, ◌≤◌, Bool, List, [], ◌++◌, length, take, drop, slice_range, vec_len, Option, Result, OnOk, OnErr, IfErr, IsErrOf, IsTrue, IsFalse}
+use Rattle.std.specs.Prelude.{◌≡◌, ℕ, ◌+◌, ◌-◌, ◌<◌, ◌≤◌, Bool, List, [], ◌++◌, length, take, drop, slice_range, vec_len, Option, Some, None, IsSome, Result, OnOk, OnErr, IfErr, IsErrOf, IsTrue, IsFalse}
 use Rattle.std.specs.Io.KnownBytes.{Consumes, IsAtEnd}
 use Rattle.deb_base.specs.Devices.{Shown, read_failures_after}
 use Rattle.deb_base.specs.declared.fault.Fault.{Fault}
@@ -78,6 +78,23 @@ pub record Comes (before : FeedState) (left : Option (List ℕ)) (after : FeedSt
   pub more : IsFalse after.ended → 0 < length piece
   pub consumed : Consumes left left_after piece
   pub at_end : IsTrue after.ended → IsAtEnd left_after
+
+-- how many bytes a source has left, where it shows them
+abbrev pub left_count : Option (List ℕ) → ℕ
+left_count None = 0
+left_count (Some rest) = length rest
+
+-- how many bytes of a file have passed or are unread
+abbrev pub had : FeedState → ℕ
+had state = state.bytes + length state.unread
+
+-- `n` bytes and what a source had left are at most `m` bytes and what it has left afterwards: where
+-- `n` bytes of a file were taken before, no more than `m` were by then. A source that shows what it
+-- has left goes on doing so.
+pub record Takes (n : ℕ) (left : Option (List ℕ)) (m : ℕ) (left_after : Option (List ℕ))
+    : Type 0 where
+  pub shown : IsSome left → IsSome left_after
+  pub few : n + left_count left ≤ m + left_count left_after
 
 -- Nothing came, and nothing of the file has changed but the room behind it.
 pub record Stays (before : FeedState) (left : Option (List ℕ)) (after : FeedState)

@@ -1,6 +1,6 @@
 -- Where the fields of a paragraph stand in its bytes, and what stands there. Debian Policy 5.1;
 -- deb822(5), "Syntax".
-use Rattle.std.specs.Prelude.{◌≡◌, ℕ, ◌+◌, ◌-◌, ◌*◌, ◌%◌, ◌<◌, ◌≤◌, ◌==◌, ◌&&◌, Bool, true, false, List, [], ◌∷◌, length, map, nat_le, nat_lt, drop, get_or, slice_index, slice_range, if◌then◌else◌, IsTrue, Result, Err, codes, refl}
+use Rattle.std.specs.Prelude.{◌≡◌, ℕ, ◌+◌, ◌-◌, ◌*◌, ◌%◌, ◌<◌, ◌≤◌, ◌==◌, ◌&&◌, Bool, true, false, List, [], ◌∷◌, ◌++◌, length, map, nat_le, nat_lt, drop, get_or, slice_index, slice_range, if◌then◌else◌, IsTrue, Result, Err, codes, refl}
 use Rattle.std.specs.List.{list_all, list_any}
 use Rattle.std.specs.Str.{bytes_eq}
 use Rattle.std.specs.Char.{to_ascii_lowercase}
@@ -12,7 +12,7 @@ use Rattle.deb_base.specs.Bodies.{Line, pieces_of}
 use Rattle.deb_syntax.specs.Fields.{Field}
 use Rattle.deb_base.specs.Trimming.{trimmed}
 use Rattle.deb_syntax.specs.declared.folded_name.FoldedName.{FoldedName}
-use Rattle.deb_syntax.specs.declared.names.Names.{Names}
+use Rattle.deb_syntax.specs.declared.seen_names.Names.{Names}
 use Rattle.deb_syntax.specs.declared.place.Place.{Place}
 
 -- the name of the field at a place of a paragraph's bytes
@@ -53,11 +53,12 @@ begun_fields text places = map (begun_at text) places
 abbrev pub pieces_behind : List ℕ → ℕ → List Line
 pieces_behind text end = if nat_lt end (length text) then pieces_of (drop (end + 1) text) else []
 
--- the places, of which the last ends at `end`
-abbrev pub with_last_end : ℕ → List Place → List Place
-with_last_end end [] = []
-with_last_end end (place ∷ []) = record place { end = end } ∷ []
-with_last_end end (place ∷ next ∷ places) = place ∷ with_last_end end (next ∷ places)
+-- The last of the places goes on to `end`.
+pub record LastGoesOn (end : ℕ) (places longer : List Place) : Type 0 where
+  pub front : List Place
+  pub last : Place
+  pub is : places ≡ front ++ last ∷ []
+  pub becomes : longer ≡ front ++ record last { end = end } ∷ []
 
 -- whether the last of the places ends one byte before a line's begin
 abbrev pub ends_before : ℕ → List Place → Bool
@@ -121,14 +122,20 @@ place_beyond : lies_within 10 (record { line = 3; start = 9; colon = 10; end = 1
 place_beyond = refl
 
 -- of places that end before the line's begin the last goes on to the line's end
-last_place_goes_on : with_last_end 11 (record { line = 1; start = 0; colon = 1; end = 4 }
+last_place_goes_on : LastGoesOn 11 (record { line = 1; start = 0; colon = 1; end = 4 }
     ∷ record { line = 2; start = 5; colon = 6; end = 8 } ∷ [])
-    ≡ record { line = 1; start = 0; colon = 1; end = 4 }
-    ∷ record { line = 2; start = 5; colon = 6; end = 11 } ∷ []
-last_place_goes_on = refl
+    (record { line = 1; start = 0; colon = 1; end = 4 }
+    ∷ record { line = 2; start = 5; colon = 6; end = 11 } ∷ [])
+last_place_goes_on =
+    record {
+      front = record { line = 1; start = 0; colon = 1; end = 4 } ∷ [];
+      last = record { line = 2; start = 5; colon = 6; end = 8 };
+      is = refl;
+      becomes = refl;
+    }
 
-no_place_goes_on : (with_last_end 11 [] ≡ []) × (ends_before 0 [] ≡ true)
-no_place_goes_on = (refl, refl)
+no_place_before : ends_before 0 [] ≡ true
+no_place_before = refl
 
 places_before : (ends_before 9 (record { line = 1; start = 0; colon = 1; end = 8 } ∷ []) ≡ true)
     × (ends_before 8 (record { line = 1; start = 0; colon = 1; end = 8 } ∷ []) ≡ false)

@@ -8,7 +8,6 @@ use Rattle.deb_base.specs.Codes.{number_of}
 use Rattle.deb_base.specs.Devices.{Shown, read_failures_after}
 use Rattle.deb_base.specs.Faults.{IsReadersFault}
 use Rattle.deb_base.specs.declared.fault.Fault.{Fault}
-use Rattle.deb_base.specs.declared.fault.Fault.TheVariants.{Refused, Memory, Read, Write}
 use Rattle.deb_base.specs.declared.refusal.Refusal.{Refusal}
 use Rattle.deb_syntax.specs.declared.first.First.{First}
 use Rattle.deb_syntax.specs.declared.first.First.TheVariants.{End, Kept, Dropped}
@@ -117,11 +116,8 @@ abbrev pub Answers : (text passed : List ℕ) → Result (Option Seen) Fault →
     → Type 0
 Answers text passed (Ok None) new left = GivesNone text passed new left
 Answers text passed (Ok (Some seen)) new left = GivesNext text passed seen new left
-Answers text passed (Err (Refused refusal)) new left =
-    next_answer text (passed_count passed) ≡ Err refusal
-Answers text passed (Err Memory) new left = Unit {0}
-Answers text passed (Err Read) new left = Unit {0}
-Answers text passed (Err Write) new left = ⊥
+Answers text passed (Err fault) new left =
+    IsReadersFault fault (λ refusal. next_answer text (passed_count passed) ≡ Err refusal)
 
 -- What is told of the first line ahead that isn't blank: it is there, or none is, or why the file
 -- is refused.
@@ -130,23 +126,18 @@ abbrev pub FindsFirst : (text passed : List ℕ) → Result First Fault → Stat
 FindsFirst text passed (Ok End) new left = GivesNone text passed new left
 FindsFirst text passed (Ok (Kept begun)) new left = BeginsHere text passed new left
 FindsFirst text passed (Ok (Dropped begun)) new left = BeginsHere text passed new left
-FindsFirst text passed (Err (Refused refusal)) new left =
+FindsFirst text passed (Err fault) new left =
+    IsReadersFault fault (λ refusal.
     (next_answer text (passed_count passed) ≡ Err refusal)
-    × (next_begin text (passed_count passed) ≡ Err refusal)
-FindsFirst text passed (Err Memory) new left = Unit {0}
-FindsFirst text passed (Err Read) new left = Unit {0}
-FindsFirst text passed (Err Write) new left = ⊥
+    × (next_begin text (passed_count passed) ≡ Err refusal))
 
 -- What an answer that a paragraph begins, or none, says of one.
 abbrev pub AnswersBegin : (text passed : List ℕ) → Result (Option ℕ) Fault → State → Option (List ℕ)
     → Type 0
 AnswersBegin text passed (Ok None) new left = GivesNone text passed new left
 AnswersBegin text passed (Ok (Some line)) new left = GivesLine text passed line new left
-AnswersBegin text passed (Err (Refused refusal)) new left =
-    next_begin text (passed_count passed) ≡ Err refusal
-AnswersBegin text passed (Err Memory) new left = Unit {0}
-AnswersBegin text passed (Err Read) new left = Unit {0}
-AnswersBegin text passed (Err Write) new left = ⊥
+AnswersBegin text passed (Err fault) new left =
+    IsReadersFault fault (λ refusal. next_begin text (passed_count passed) ≡ Err refusal)
 
 -- a refusal of a file that is read has a code from 1 to 9 and a line
 pub record IsRefusalOfText (refusal : Refusal) : Type 0 where
@@ -172,8 +163,7 @@ tells_end (Err fault) = false
 
 -- A call of a reader without error: what it answers of each text that fits, and how much of it was
 -- taken by then, how often its source failed, and which errors there are. Only the answer that
--- nothing follows ends it, and is then given again and again. Where it gives a paragraph nothing
--- that it has read is left out.
+-- nothing follows ends it, and is then given again and again. After a paragraph no bytes are hidden.
 pub record Advances (before : Moment) (answer : Result (Option Seen) Fault)
     (after : Moment) : Type 0 where
   pub answers : (text passed : List ℕ) → Fits text passed before.state before.source.bytes
@@ -188,6 +178,7 @@ pub record Advances (before : Moment) (answer : Result (Option Seen) Fault)
   pub ended : IsTrue before.state.finished → answer ≡ Ok None
   pub unhidden : IfOk answer (λ seen. IfSome seen (λ _. after.state.hidden ≡ 0))
 
+-- The same of a call that tells where the next paragraph begins; afterwards none is current.
 pub record Begins (before : Moment) (answer : Result (Option ℕ) Fault)
     (after : Moment) : Type 0 where
   pub answers : (text passed : List ℕ) → Fits text passed before.state before.source.bytes

@@ -1,15 +1,15 @@
 -- What stands in the buffer of a reader of paragraphs: the paragraph that was found last, and the
 -- line that is hidden.
-use Rattle.std.specs.Prelude.{◌≡◌, ◌≢◌, ◌⊎◌, ◌≤◌, ◌++◌, Result, Ok, Err, ◌+◌, ◌-◌, [], ◌∷◌, length, ℕ, ◌==◌, ◌&&◌, ◌||◌, Bool, true, false, nat_le, List, Option, Some, None, slice_range}
+use Rattle.std.specs.Prelude.{◌≡◌, ◌≢◌, ◌⊎◌, ◌<◌, ◌≤◌, ◌++◌, Result, Ok, Err, ◌+◌, ◌-◌, [], length, ℕ, ◌&&◌, Bool, true, nat_le, List, Option, Some, None, IsTrue, get_or, slice_range}
 use Rattle.std.specs.List.{list_all}
 use Rattle.deb_base.specs.Bodies.{Line, newline, paragraph_limit}
+use Rattle.deb_base.specs.Faults.{IsReadersFault}
 use Rattle.deb_base.specs.declared.fault.Fault.{Fault}
-use Rattle.deb_base.specs.declared.fault.Fault.TheVariants.{Refused, Memory, Read, Write}
 use Rattle.deb_syntax.specs.Ahead.{left_answer, room_ahead, IsAhead, IsNextRun}
 use Rattle.deb_syntax.specs.Extents.{AreBlank, AreNotBlank}
 use Rattle.deb_syntax.specs.Judging.{judged}
 use Rattle.deb_syntax.specs.declared.place.Place.{Place}
-use Rattle.deb_syntax.specs.declared.standing.Standing.{Standing}
+use Rattle.deb_syntax.specs.declared.paragraphs.Standing.{Standing}
 use Rattle.deb_syntax.specs.Answers.{Seen}
 use Rattle.deb_syntax.specs.Feeding.{FeedState}
 use Rattle.deb_syntax.specs.Fields.{are_fields, are_numbered}
@@ -31,22 +31,18 @@ stands_within buffer places (Some at) =
     && (are_fields (standing_of buffer places at).fields
     && are_numbered at.first_line (standing_of buffer places at).fields)
 
--- whether a newline comes first
-abbrev pub begins_with_newline : List ℕ → Bool
-begins_with_newline [] = false
-begins_with_newline (b ∷ bs) = b == newline
+-- so many bytes of the file are hidden, which end in front of the unread bytes: with a newline, or
+-- with the file
+abbrev pub EndsHidden : ℕ → FeedState → Type 0
+EndsHidden hidden feed =
+    (feed.bytes + hidden ≤ file_limit) × (length feed.unread ≡ 0 → IsTrue feed.ended)
+    × (0 < length feed.unread → (get_or feed.unread 0 newline ≡ newline)
+    × (feed.bytes + hidden + 1 ≤ file_limit))
 
-abbrev pub is_nothing : List ℕ → Bool
-is_nothing [] = true
-is_nothing (b ∷ bs) = false
-
--- whether a hidden line of so many bytes, if there is one, is longer than a paragraph may be and
--- ends in front of the unread bytes: with its newline, or with the file
-abbrev pub hides_line : ℕ → FeedState → Bool
-hides_line hidden feed =
-    (hidden == 0) || (nat_le paragraph_limit hidden && nat_le (feed.bytes + hidden) file_limit
-    && ((begins_with_newline feed.unread && nat_le (feed.bytes + hidden + 1) file_limit)
-    || (is_nothing feed.unread && feed.ended)))
+-- a hidden line, if there is one, is longer than a paragraph may be, its newline counted, and ends
+-- there
+abbrev pub HidesLong : ℕ → FeedState → Type 0
+HidesLong hidden feed = 0 < hidden → (paragraph_limit ≤ hidden) × EndsHidden hidden feed
 
 -- what an answer shows that says where a paragraph stands
 abbrev pub standing_answer : List ℕ → List Place → Result Standing Fault → Result Seen Fault
@@ -78,8 +74,6 @@ pub record PassesNext (text : List ℕ) (before : FeedState) (seen : Seen) (afte
 -- What is told of the paragraph that begins the text ahead.
 abbrev pub IsPassed : List ℕ → FeedState → Result Seen Fault → FeedState → Option (List ℕ) → Type 0
 IsPassed text before (Ok seen) after left = PassesNext text before seen after left
-IsPassed text before (Err (Refused refusal)) after left =
-    left_answer (before.lines + 1) (room_ahead before) text ≡ Err refusal
-IsPassed text before (Err Memory) after left = Unit {0}
-IsPassed text before (Err Read) after left = Unit {0}
-IsPassed text before (Err Write) after left = ⊥
+IsPassed text before (Err fault) after left =
+    IsReadersFault fault (λ refusal.
+    left_answer (before.lines + 1) (room_ahead before) text ≡ Err refusal)

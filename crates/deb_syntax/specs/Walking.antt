@@ -18,7 +18,7 @@ pub record StandInFront (whole : List ℕ) (passed : List Line) (rest : List ℕ
   pub text : whole ≡ with_newlines passed ++ rest
   pub lines : AllByRecursion HasNoNewline passed
 
--- what was seen of a line whose newline hasn't been seen
+-- what was seen of a line, without its newline
 pub record Describes (begun : Begun) (seen : List ℕ) : Type 0 where
   pub len : begun.len ≡ length seen
   pub line : HasNoNewline seen
@@ -77,7 +77,8 @@ pub record RunStands (text : List ℕ) (run : Run) (lines : List Line)
   pub describes : Describes run.begun seen
   pub begins : (lines ≢ []) ⊎ CannotBeBlank seen
 
--- lines can be taken from there on
+-- lines can be taken from there on: the run stands at the text's front, and its first line isn't
+-- blank, however it goes on
 abbrev pub CanGoOn : List ℕ → Run → Type 0
 CanGoOn text run =
     (lines : List Line) × (seen : List ℕ) × (fresh : List ℕ) × RunStands text run lines seen fresh

@@ -1,13 +1,13 @@
-//! Lines that come in pieces: what was seen of a line before its newline came (Debian Policy 5.1).
+//! Lines that come in pieces: what was seen of a line so far (Debian Policy 5.1).
 
-ghost use Rattle.std.specs.Prelude.{◌≡◌, ◌+◌, ◌<◌, ◌^◌, ◌++◌, ℕ, List, [], length};
+ghost use Rattle.std.specs.Prelude.{◌≡◌, ◌+◌, ◌<◌, ◌≤◌, ◌^◌, ◌++◌, ℕ, List, [], length};
 ghost use Rattle.deb_base.specs.Bodies.{HasNoNewline, is_blank};
 ghost use Rattle.deb_syntax.specs.Walking.{Describes, GoesAlong};
 
 use deb_base::{PARAGRAPH_LIMIT, is_only_blanks};
 use memchr::memchr;
 
-/// What was seen of a line whose newline hasn't come yet.
+/// What was seen of a line, without its newline.
 #[derive(Clone, Copy, Debug)]
 pub(crate) struct Begun {
     /// How many bytes, none of them a newline.
@@ -38,8 +38,9 @@ impl Begun {
     /// The same line with more bytes of it.
     fn with(self, bytes: &[u8]) -> Begun
         requires { self.len + length bytes.now < 2 ^ 64 }
-        ensures { (seen : List ℕ) → Describes self seen → HasNoNewline bytes.now
+        ensures describes { (seen : List ℕ) → Describes self seen → HasNoNewline bytes.now
             → Describes result (seen ++ bytes.now) }
+        ensures longer { self.len ≤ result.len }
     {
         Begun {
             len: self.len + bytes.len(),
@@ -61,7 +62,8 @@ pub(crate) struct AlongLine {
 /// of them.
 pub(crate) fn along(fresh: &[u8], begun: Begun) -> AlongLine
     requires { begun.len + length fresh.now < 2 ^ 64 }
-    ensures { (seen : List ℕ) → Describes begun seen → GoesAlong seen fresh.now result }
+    ensures goes { (seen : List ℕ) → Describes begun seen → GoesAlong seen fresh.now result }
+    ensures longer { begun.len ≤ result.begun.len }
 {
     match memchr(b'\n', fresh) {
         Some(len) => AlongLine {

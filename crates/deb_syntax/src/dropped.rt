@@ -1,12 +1,13 @@
 //! A line that is read to its end and not kept (this project's own: a paragraph's lines have a
 //! limit).
 
-ghost use Rattle.std.specs.Prelude.{◌≡◌, ◌≤◌, ℕ, List, [], length, drop, IfErr, IsFalse};
+ghost use Rattle.std.specs.Prelude.{◌≡◌, ◌+◌, ◌≤◌, ℕ, List, [], length, drop, IfErr, IsFalse};
 ghost use Rattle.deb_base.specs.Devices.{read_failures_after};
 ghost use Rattle.deb_base.specs.Faults.{IsReadersFault};
-ghost use Rattle.deb_syntax.specs.Ahead.{TakesNoMore, room_ahead, IsAhead, FindsDropped, IsDropped, SameCounts};
+ghost use Rattle.deb_syntax.specs.Ahead.{room_ahead, IsDropped, SameCounts};
 ghost use Rattle.deb_syntax.specs.Reading.{IsRefusalOfText};
-ghost use Rattle.deb_syntax.specs.Feeding.{feed_state};
+ghost use Rattle.deb_syntax.specs.Lines.{file_limit};
+ghost use Rattle.deb_syntax.specs.Feeding.{piece_limit, feed_state, had, Takes};
 ghost use Rattle.deb_syntax.specs.Walking.{Describes};
 
 use crate::begun::{Begun, along};
@@ -23,7 +24,7 @@ pub(crate) struct DroppedLine {
 }
 
 /// Goes to the end of the line behind a run of lines, and keeps none of its bytes but those that
-/// came last.
+/// came last. The run's bytes stay; `run.begun` is all that is unread behind them.
 ///
 /// Refused: the line goes on beyond what a file may have (`FileTooLong`, at that line).
 pub(crate) fn drop_line<R: Source>(
@@ -37,13 +38,11 @@ pub(crate) fn drop_line<R: Source>(
     requires room { length (feed_state feed.old).unread ≤ room_ahead (feed_state feed.old) }
     requires seen { Describes run.begun (drop run.bytes (feed_state feed.old).unread) }
     requires few { run.lines ≤ run.bytes }
-    ensures found { FindsDropped (feed_state feed.old) run result (feed_state feed.new) }
-    ensures ahead { (text : List ℕ) → IsAhead text [] (feed_state feed.old) (R.left reader.old)
-        → IsDropped text (feed_state feed.old) run result (feed_state feed.new)
-        (R.left reader.new) }
+    ensures drops { IsDropped (feed_state feed.old) (R.left reader.old) run result
+        (feed_state feed.new) (R.left reader.new) }
     ensures same { SameCounts (feed_state feed.old) (feed_state feed.new) }
-    ensures taken { (text : List ℕ) → IsAhead text [] (feed_state feed.old) (R.left reader.old)
-        → TakesNoMore text (room_ahead (feed_state feed.old)) (R.left reader.new) }
+    ensures taken { Takes (had (feed_state feed.old)) (R.left reader.old)
+        (file_limit + piece_limit) (R.left reader.new) }
     ensures fault { IfErr result (λ fault. IsReadersFault fault IsRefusalOfText) }
     ensures counted { R.failures reader.new ≡ read_failures_after (R.failures reader.old) result }
 {

@@ -5,10 +5,10 @@ ghost use Rattle.deb_base.specs.Bodies.{paragraph_limit};
 ghost use Rattle.deb_base.specs.Devices.{read_failures_after};
 ghost use Rattle.deb_base.specs.Faults.{IsReadersFault};
 ghost use Rattle.deb_base.specs.declared.fault.Fault.TheVariants.{Refused};
-ghost use Rattle.deb_syntax.specs.Ahead.{TakesNoMore, room_ahead, IsAhead, KeepsLine, HasExtent, IsExtentAhead, SameCounts};
+ghost use Rattle.deb_syntax.specs.Ahead.{room_ahead, IsAhead, KeepsLine, HasExtent, IsExtentAhead, SameCounts};
 ghost use Rattle.deb_syntax.specs.Reading.{IsRefusalOfText};
 ghost use Rattle.deb_syntax.specs.Lines.{file_limit};
-ghost use Rattle.deb_syntax.specs.Feeding.{piece_limit, feed_state};
+ghost use Rattle.deb_syntax.specs.Feeding.{piece_limit, feed_state, had, Takes};
 ghost use Rattle.deb_syntax.specs.Walking.{Stops};
 ghost use Rattle.deb_syntax.specs.declared.take.Stop.TheVariants.{Open};
 
@@ -31,8 +31,8 @@ pub(crate) struct Extent {
     pub(crate) lines: u64,
 }
 
-/// Where the paragraph ends that begins the unread bytes; so much was seen of its first line, which
-/// isn't blank.
+/// Where the paragraph ends that begins the unread bytes; `begun` is the whole of its first line,
+/// which isn't blank.
 ///
 /// Refused: with a line that isn't blank its lines are too long (`ParagraphTooLong`, at that line),
 /// or the file is too long and no blank line behind the paragraph is in sight (`FileTooLong`, at
@@ -50,8 +50,8 @@ pub(crate) fn paragraph_extent<R: Source>(
         → IsExtentAhead text
         (feed_state feed.old) result (feed_state feed.new) (R.left reader.new) }
     ensures same { SameCounts (feed_state feed.old) (feed_state feed.new) }
-    ensures taken { (text : List ℕ) → IsAhead text [] (feed_state feed.old) (R.left reader.old)
-        → TakesNoMore text (room_ahead (feed_state feed.old)) (R.left reader.new) }
+    ensures taken { Takes (had (feed_state feed.old)) (R.left reader.old)
+        (file_limit + piece_limit) (R.left reader.new) }
     ensures fault { IfErr result (λ fault. IsReadersFault fault IsRefusalOfText) }
     ensures counted { R.failures reader.new ≡ read_failures_after (R.failures reader.old) result }
     ensures quiet { IsTrue (feed_state feed.old).ended → reader.new ≡ reader.old }
@@ -93,7 +93,8 @@ fn refused(feed: &Feed, code: Code, run: Run) -> Fault
     })
 }
 
-/// The same where there is no room for the line behind the run beside it.
+/// As `paragraph_extent`, where as much is unread as a paragraph may have, and the line behind the
+/// run hasn't ended.
 fn extent_beyond<R: Source>(feed: &mut Feed, run: Run, reader: &mut R) -> Result<Extent, Fault>
     requires more { IsFalse (feed_state feed.old).ended }
     requires room { length (feed_state feed.old).unread ≤ room_ahead (feed_state feed.old) }
@@ -104,8 +105,8 @@ fn extent_beyond<R: Source>(feed: &mut Feed, run: Run, reader: &mut R) -> Result
         → IsExtentAhead text
         (feed_state feed.old) result (feed_state feed.new) (R.left reader.new) }
     ensures same { SameCounts (feed_state feed.old) (feed_state feed.new) }
-    ensures taken { (text : List ℕ) → IsAhead text [] (feed_state feed.old) (R.left reader.old)
-        → TakesNoMore text (room_ahead (feed_state feed.old)) (R.left reader.new) }
+    ensures taken { Takes (had (feed_state feed.old)) (R.left reader.old)
+        (file_limit + piece_limit) (R.left reader.new) }
     ensures fault { IfErr result (λ fault. IsReadersFault fault IsRefusalOfText) }
     ensures counted { R.failures reader.new ≡ read_failures_after (R.failures reader.old) result }
 {
@@ -124,7 +125,8 @@ fn extent_beyond<R: Source>(feed: &mut Feed, run: Run, reader: &mut R) -> Result
     })
 }
 
-/// The same where no byte is left behind the line behind the run, whose newline is missing.
+/// As `paragraph_extent`, where the file ends with the line behind the run, whose newline is
+/// missing.
 fn ended_by_file(feed: &Feed, run: Run) -> Result<Extent, Fault>
     requires ended { IsTrue (feed_state feed.now).ended }
     requires room { length (feed_state feed.now).unread ≤ room_ahead (feed_state feed.now) }

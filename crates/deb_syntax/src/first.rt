@@ -3,10 +3,10 @@
 ghost use Rattle.std.specs.Prelude.{◌≡◌, ◌+◌, ◌≤◌, ℕ, List, [], length, Option, Ok, IfErr, IsTrue, IsFalse};
 ghost use Rattle.deb_base.specs.Devices.{read_failures_after};
 ghost use Rattle.deb_base.specs.Faults.{IsReadersFault};
-ghost use Rattle.deb_syntax.specs.Ahead.{TakesNoMore, room_ahead, IsAhead, IsNear, IsFirst, HasFirst};
+ghost use Rattle.deb_syntax.specs.Ahead.{room_ahead, IsAhead, IsNear, IsFirst, HasFirst};
 ghost use Rattle.deb_syntax.specs.Reading.{IsRefusalOfText};
 ghost use Rattle.deb_syntax.specs.Lines.{file_limit};
-ghost use Rattle.deb_syntax.specs.Feeding.{piece_limit, feed_state};
+ghost use Rattle.deb_syntax.specs.Feeding.{piece_limit, feed_state, had, Takes};
 ghost use Rattle.deb_syntax.specs.Walking.{Describes};
 
 use crate::begun::Begun;
@@ -23,8 +23,8 @@ pub(crate) enum First {
     End,
     /// It begins the unread bytes.
     Kept(Begun),
-    /// It is longer than a paragraph may be, and none of its bytes are kept: its newline begins the
-    /// unread bytes, or there are none.
+    /// It is longer than a paragraph may be, its newline counted, and none of its bytes are kept: its
+    /// newline begins the unread bytes, or there are none.
     Dropped(Begun),
 }
 
@@ -39,8 +39,8 @@ pub(crate) fn first_line<R: Source>(feed: &mut Feed, reader: &mut R) -> Result<F
     ensures found { HasFirst result (feed_state feed.new) }
     ensures ahead { (text : List ℕ) → IsAhead text [] (feed_state feed.old) (R.left reader.old)
         → IsFirst text (feed_state feed.old) result (feed_state feed.new) (R.left reader.new) }
-    ensures taken { (text : List ℕ) → IsAhead text [] (feed_state feed.old) (R.left reader.old)
-        → TakesNoMore text (room_ahead (feed_state feed.old)) (R.left reader.new) }
+    ensures taken { Takes (had (feed_state feed.old)) (R.left reader.old)
+        (file_limit + piece_limit) (R.left reader.new) }
     ensures fault { IfErr result (λ fault. IsReadersFault fault IsRefusalOfText) }
     ensures counted { R.failures reader.new ≡ read_failures_after (R.failures reader.old) result }
     ensures stays { IsTrue (feed_state feed.old).ended → IsTrue (feed_state feed.new).ended }
@@ -70,7 +70,7 @@ pub(crate) fn first_line<R: Source>(feed: &mut Feed, reader: &mut R) -> Result<F
     }
 }
 
-/// The same where the rest of the file is one line without its newline, or nothing.
+/// As `first_line`, where the rest of the file is one line without its newline, or nothing.
 fn last_line(feed: &mut Feed, begun: Begun) -> First
     requires ended { IsTrue (feed_state feed.old).ended }
     requires seen { Describes begun (feed_state feed.old).unread }
@@ -88,7 +88,7 @@ fn last_line(feed: &mut Feed, begun: Begun) -> First
     First::End
 }
 
-/// The same where that line is longer than a paragraph may be.
+/// As `first_line`, where the line that was begun is longer than a paragraph may be.
 fn drop_first<R: Source>(feed: &mut Feed, begun: Begun, reader: &mut R) -> Result<First, Fault>
     requires more { IsFalse (feed_state feed.old).ended }
     requires seen { Describes begun (feed_state feed.old).unread }
@@ -97,8 +97,8 @@ fn drop_first<R: Source>(feed: &mut Feed, begun: Begun, reader: &mut R) -> Resul
     ensures found { HasFirst result (feed_state feed.new) }
     ensures ahead { (text : List ℕ) → IsAhead text [] (feed_state feed.old) (R.left reader.old)
         → IsFirst text (feed_state feed.old) result (feed_state feed.new) (R.left reader.new) }
-    ensures taken { (text : List ℕ) → IsAhead text [] (feed_state feed.old) (R.left reader.old)
-        → TakesNoMore text (room_ahead (feed_state feed.old)) (R.left reader.new) }
+    ensures taken { Takes (had (feed_state feed.old)) (R.left reader.old)
+        (file_limit + piece_limit) (R.left reader.new) }
     ensures fault { IfErr result (λ fault. IsReadersFault fault IsRefusalOfText) }
     ensures counted { R.failures reader.new ≡ read_failures_after (R.failures reader.old) result }
 {

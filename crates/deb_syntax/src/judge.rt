@@ -7,11 +7,11 @@ ghost use Rattle.deb_base.specs.FieldNames.{colon, is_name, is_name_byte};
 ghost use Rattle.deb_base.specs.Bodies.{newline, pieces_of};
 ghost use Rattle.deb_syntax.specs.Fields.{Field, has_name};
 ghost use Rattle.deb_syntax.specs.Judging.{begins_comment, is_named, field_line, judged, line_judged};
-ghost use Rattle.deb_syntax.specs.Places.{begun_fields, fields_at, lies_within, pieces_behind, with_last_end, StandsAt, IsFaultOf};
+ghost use Rattle.deb_syntax.specs.Places.{begun_fields, fields_at, lies_within, pieces_behind, LastGoesOn, StandsAt, IsFaultOf};
 
-use crate::name::{is_name, name_bytes};
-use crate::names::{Names, add};
+use crate::field_name::{is_name, name_bytes};
 use crate::place::Place;
+use crate::seen_names::{Names, add};
 use deb_base::{Code, Fault, Refusal, begins_with_blank};
 use memchr::memchr;
 use simdutf8::is_utf8;
@@ -42,6 +42,7 @@ struct Line {
 /// (`Comment`), is a continuation line without a field above it (`StrayContinuation`), has no colon
 /// (`NoColon`), or no name before its colon (`BadFieldName`) or one that stood before
 /// (`DuplicateField`). Memory: a growth of `places`, or of the set of names, was refused.
+#[tactic(auto, using(crate::proofs::Judgements::judging))]
 pub(crate) fn judge(
     alloc: Global,
     text: &[u8],
@@ -72,6 +73,7 @@ pub(crate) fn judge(
 }
 
 /// Where the line that begins at `start` ends, without its newline.
+#[tactic(auto, using(crate::proofs::Pieces::cutting))]
 fn line_end(text: &[u8], start: usize) -> usize
     requires { start ≤ length text.now }
     ensures after { start ≤ result }
@@ -87,6 +89,7 @@ fn line_end(text: &[u8], start: usize) -> usize
 }
 
 /// Judges one line after the lines before it. `utf8` says that it is UTF-8; else it is asked.
+#[tactic(auto, using(crate::proofs::Judgements::judging, crate::proofs::PlaceLemmas::going_on))]
 fn judge_line<'a>(
     text: &'a [u8],
     line: Line,
@@ -137,9 +140,9 @@ fn refused(code: Code, line: Line) -> Fault
 }
 
 /// Gives a continuation line to the last field.
+#[tactic(auto, using(crate::proofs::PlaceLemmas::going_on))]
 fn continue_field(line: Line, places: &mut Vec<Place>) -> Result<(), Fault>
-    ensures ok { OnOk result ((0 < length places.old.items)
-        × (places.new.items ≡ with_last_end line.end places.old.items)) }
+    ensures ok { OnOk result (LastGoesOn line.end places.old.items places.new.items) }
     ensures stray { IfErr result (λ fault. (places.old.items ≡ [])
         × (fault ≡ Fault.Refused (record { code = Code.StrayContinuation; line = line.number }))) }
 {
@@ -152,6 +155,7 @@ fn continue_field(line: Line, places: &mut Vec<Place>) -> Result<(), Fault>
 }
 
 /// Begins the field of a line that is no continuation line.
+#[tactic(auto, using(crate::proofs::FieldLines::beginning))]
 fn begin_field<'a>(
     text: &'a [u8],
     line: Line,
@@ -170,7 +174,7 @@ fn begin_field<'a>(
         (field_line line.number (begun_fields text.now places.old.items) content)) }
 {
     let content = &text[line.start..line.end];
-    let colon = colon_of(content).map_err(|code| refused(code, line))?;
+    let colon = colon_of(content, line)?;
     if !add(names, text, places.as_slice(), &content[..colon])? {
         return Err(refused(Code::DuplicateField, line));
     }
@@ -180,28 +184,32 @@ fn begin_field<'a>(
         colon: line.start + colon,
         end: line.end,
     };
-    places.push(place).map_err(|_| Fault::Memory)?;
+    places.push(place)?;
     Ok(())
 }
 
 /// Where the colon stands behind the name in a line that begins a field, perhaps one that stood
 /// before.
-fn colon_of(content: &[u8]) -> Result<usize, Code>
+#[tactic(auto, using(crate::proofs::FieldLines::naming))]
+fn colon_of(content: &[u8], line: Line) -> Result<usize, Fault>
     ensures within { IfOk result (λ colon. colon < length content.now) }
-    ensures ok { IfOk result (λ colon. (n : ℕ) (fields : List Field) →
+    ensures ok { IfOk result (λ colon. (fields : List Field) →
         let name = take colon content.now in
-        field_line n fields content.now ≡ (if has_name name fields
-        then Err (record { code = Code.DuplicateField; line = n })
-        else Ok (fields
-        ++ record { name = name; line = n; body = drop (colon + 1) content.now } ∷ []))) }
-    ensures refused { IfErr result (λ code. (n : ℕ) (fields : List Field) →
-        field_line n fields content.now ≡ Err (record { code = code; line = n })) }
+        field_line line.number fields content.now ≡ (if has_name name fields
+        then Err (record { code = Code.DuplicateField; line = line.number })
+        else Ok (fields ++ record {
+          name = name;
+          line = line.number;
+          body = drop (colon + 1) content.now;
+        } ∷ []))) }
+    ensures refused { IfErr result (λ fault. (fields : List Field) →
+        IsFaultOf (field_line line.number fields content.now) fault) }
 {
     let len = name_bytes(content);
     if is_named(content, len) {
         Ok(len)
     } else {
-        Err(no_name(content))
+        Err(refused(no_name(content), line))
     }
 }
 
@@ -216,6 +224,7 @@ fn is_named(content: &[u8], len: usize) -> bool
 
 /// Why a line that begins no field is refused: the first reason in the order of the refusals.
 #[cold]
+#[tactic(auto, using(crate::proofs::FieldLines::naming))]
 fn no_name(content: &[u8]) -> Code
     requires { (k : ℕ) → IsFirstByte (is_byte colon) content.now (Some k)
         → IsFalse (is_name (take k content.now)) }

@@ -1,5 +1,7 @@
 //! Laws of the definitions of the reader. Each function does nothing, and its contract is the law.
 
+#![tactic(auto, using(crate::proofs::LawProofs::laws))]
+
 ghost use Rattle.deb_syntax.specs.Laws.{JudgedIsSpelled, SpelledIsJudged, RefusedIsNotSpelled, ParagraphHasOneReading, TextHasOneMeaning, TextIsMeantOrRefused, ParagraphsAreRuns, ParagraphsStandInText, LinesGiveTextBack, TextGivesLinesBack, PiecesGiveTextBack, MeaningIsItsBodies, MeaningHasBodies, OrderIsNoMeaning, AcceptedIsNeverRefused, NeverRefusedIsAccepted, RefusalIsOfText, AnswersEnd};
 
 /// What is judged of the lines of a paragraph that is within its limit of length is what the lines

@@ -1,10 +1,10 @@
 //! The reader of paragraphs (Debian Policy 5.1; deb822(5)).
 
 ghost use Rattle.std.specs.Prelude.{◌≡◌, ◌+◌, ◌≤◌, ◌⊎◌, ℕ, List, [], Some, None, true, false, length, IsTrue, IfErr, IfOk, OnOk};
-ghost use Rattle.deb_syntax.specs.Ahead.{room_ahead, IsAhead, IsNear, KeepsLine, TakesNoMore};
-ghost use Rattle.deb_syntax.specs.Feeding.{feed_state, buffer_of, piece_limit};
+ghost use Rattle.deb_syntax.specs.Ahead.{room_ahead, IsAhead, IsNear, KeepsLine};
+ghost use Rattle.deb_syntax.specs.Feeding.{feed_state, buffer_of, piece_limit, had, Takes};
 ghost use Rattle.deb_syntax.specs.Lines.{file_limit};
-ghost use Rattle.deb_syntax.specs.Standing.{hides_line, stands_within, standing_answer, IsPassed};
+ghost use Rattle.deb_syntax.specs.Standing.{HidesLong, stands_within, standing_answer, IsPassed};
 ghost use Rattle.deb_base.specs.Devices.{read_failures_after};
 ghost use Rattle.deb_base.specs.Faults.{IsReadersFault};
 ghost use Rattle.deb_syntax.specs.Reading.{IsRefusalOfText};
@@ -16,9 +16,16 @@ use crate::first::{First, first_line};
 use crate::judge::judge;
 use crate::place::Place;
 use crate::raw::Raw;
-use crate::standing::Standing;
 use deb_base::{Code, Fault, Refusal, Source};
 use std::alloc::Global;
+
+/// Where a paragraph's bytes begin and end in the buffer, and the number of its first line.
+#[derive(Clone, Copy)]
+pub(crate) struct Standing {
+    pub(crate) from: usize,
+    pub(crate) to: usize,
+    pub(crate) first_line: u64,
+}
 
 /// Reads the paragraphs of a file, one after another (Debian Policy 5.1).
 ///
@@ -43,7 +50,7 @@ pub struct Paragraphs {
     ghost near: { IsNear (feed_state feed).unread },
     ghost reach: { (feed_state feed).bytes + hidden + length (feed_state feed).unread
         ≤ 4295032831 },
-    ghost hides: { IsTrue (hides_line hidden (feed_state feed)) },
+    ghost hides: { HidesLong hidden (feed_state feed) },
     ghost stands: { IsTrue (stands_within (buffer_of feed) places.items current) },
 }
 
@@ -105,8 +112,8 @@ impl Paragraphs {
         if self.finished { self.feed.lines() } else { 0 }
     }
 
-    /// The paragraph that `advance` found last, or `None` where it found none since, or `begins`
-    /// was called.
+    /// The paragraph that the last `advance` or `next` found, or `None` where it found none or failed,
+    /// or `begins` was called since.
     pub fn current(&self) -> Option<Raw<'_>>
         ensures { option_map seen_of result ≡ (state_of self.now).current }
     {
@@ -126,8 +133,8 @@ impl Paragraphs {
     ///
     /// After an error every later call answers the same error, and reads nothing.
     ///
-    /// - `Fault::Refused`: the file is too long, and no further paragraph begins within what it may
-    ///   have (`FileTooLong`).
+    /// - `Fault::Refused`: the file is too long, and no line of a further paragraph ends within what
+    ///   it may have (`FileTooLong`, at the line that is cut off).
     /// - `Fault::Memory`: a growth of memory was refused.
     /// - `Fault::Read`: a read of `reader` failed in this call.
     pub fn begins<R: Source>(&mut self, reader: &mut R) -> Result<Option<u64>, Fault>
@@ -147,7 +154,7 @@ impl Paragraphs {
     }
 
     /// The next paragraph of the file, or `None` where there is no further one. After `None` it
-    /// goes on answering `None`.
+    /// goes on answering `None`. Once the answer is let go, this is as `advance` leaves it.
     ///
     /// # Errors
     ///
@@ -156,9 +163,9 @@ impl Paragraphs {
     /// - `Fault::Refused`: the file is refused there, for the first of these. The paragraph's lines
     ///   are too long (`ParagraphTooLong`, at the line with which they are), the file is too long
     ///   and no blank line behind the paragraph was seen before (`FileTooLong`, at the line that is
-    ///   cut off), or a line is refused: it isn't UTF-8, begins an armoured message or a comment,
-    ///   continues no field, has no colon, has no name of a field before it, or one that stood
-    ///   before in its paragraph. Behind the last paragraph: the file is too long.
+    ///   cut off), or a line is refused, the first such one: it isn't UTF-8, begins an armoured message
+    ///   or a comment, continues no field, has no colon, has no field's name before its colon, or one
+    ///   that stood before in its paragraph. Behind the last paragraph: the file is too long.
     /// - `Fault::Memory`: a growth of memory was refused.
     /// - `Fault::Read`: a read of `reader` failed in this call.
     pub fn next<'a, R: Source>(&'a mut self, reader: &mut R) -> Result<Option<Raw<'a>>, Fault>
@@ -244,9 +251,8 @@ impl Paragraphs {
             (feed_state self.new.feed) }
         ensures none { (state_of self.new).current ≡ None }
         ensures ended { IsTrue (state_of self.old).finished → result ≡ Ok First.End }
-        ensures taken { (text passed : List ℕ)
-            → Fits text passed (state_of self.old) (R.left reader.old)
-            → TakesNoMore text file_limit (R.left reader.new) }
+        ensures taken { Takes (had (feed_state self.old.feed) + self.old.hidden)
+            (R.left reader.old) (file_limit + piece_limit) (R.left reader.new) }
         ensures fault { IfErr result (λ fault. IsReadersFault fault IsRefusalOfText) }
         ensures counted { R.failures reader.new
             ≡ read_failures_after (R.failures reader.old) result }
@@ -297,9 +303,8 @@ impl Paragraphs {
         ensures unfinished { self.new.finished ≡ false }
         ensures unhidden { self.new.hidden ≡ 0 }
         ensures none { IfErr result (λ _. (state_of self.new).current ≡ None) }
-        ensures taken { (text passed : List ℕ)
-            → Fits text passed (state_of self.old) (R.left reader.old)
-            → TakesNoMore text file_limit (R.left reader.new) }
+        ensures taken { Takes (had (feed_state self.old.feed) + self.old.hidden)
+            (R.left reader.old) (file_limit + piece_limit) (R.left reader.new) }
         ensures fault { IfErr result (λ fault. IsReadersFault fault IsRefusalOfText) }
         ensures counted { R.failures reader.new
             ≡ read_failures_after (R.failures reader.old) result }
@@ -337,8 +342,8 @@ fn pass_paragraph<R: Source>(
     ensures ahead { (text : List ℕ) → IsAhead text [] (feed_state feed.old) (R.left reader.old)
         → IsPassed text (feed_state feed.old) (standing_answer (buffer_of feed.new) places.new.items
         result) (feed_state feed.new) (R.left reader.new) }
-    ensures taken { (text : List ℕ) → IsAhead text [] (feed_state feed.old) (R.left reader.old)
-        → TakesNoMore text (room_ahead (feed_state feed.old)) (R.left reader.new) }
+    ensures taken { Takes (had (feed_state feed.old)) (R.left reader.old)
+        (file_limit + piece_limit) (R.left reader.new) }
     ensures fault { IfErr result (λ fault. IsReadersFault fault IsRefusalOfText) }
     ensures counted { R.failures reader.new ≡ read_failures_after (R.failures reader.old) result }
     ensures quiet { IsTrue (feed_state feed.old).ended → reader.new ≡ reader.old }

@@ -97,6 +97,7 @@ impl<'a> Raw<'a> {
     }
 
     /// The field at an index from 0, in the order of the file, or `None` where there are no more.
+    #[tactic(auto, using(crate::proofs::FieldTests::testing))]
     pub fn field(&self, index: usize) -> Option<RawField<'a>>
         ensures field { option_map field_of result ≡ slice_get (fields_of self.now) index }
         ensures name { IfSome result (λ field. IsTrue (is_name field.name.now)) }
@@ -108,6 +109,7 @@ impl<'a> Raw<'a> {
 
     /// The field of a name, where names that differ in ASCII case alone are the same, or `None`
     /// where there is no such field.
+    #[tactic(auto, using(crate::proofs::Lookups::looking))]
     pub fn get(&self, name: &[u8]) -> Option<RawField<'a>>
         ensures field { option_map field_of result ≡ field_named name.now (fields_of self.now) }
         ensures name { IfSome result (λ field. IsTrue (is_name field.name.now)) }

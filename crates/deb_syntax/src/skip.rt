@@ -47,7 +47,8 @@ pub(crate) fn skip_blanks(text: &[u8], begun: Begun) -> Skipped
     }
 }
 
-/// Goes on through the spaces and tabs of a line that has held nothing else.
+/// Goes on through the spaces and tabs of a line that has held nothing else; one that has held more
+/// stays as it is.
 fn through_blanks(line: &[u8], begun: Begun) -> Begun
     requires within { begun.len ≤ length line.now }
     requires seen { Describes begun (take begun.len line.now) }

@@ -1,5 +1,6 @@
 //! The lines of a paragraph, taken from where a run of them has come so far (Debian Policy 5.1).
 
+ghost use Rattle.std.specs.Prelude.{◌+◌, ◌≤◌};
 ghost use Rattle.deb_syntax.specs.Walking.{CanGoOn, Stops};
 
 use crate::begun::{Begun, along};
@@ -34,10 +35,12 @@ pub(crate) struct Taken {
     pub(crate) stop: Stop,
 }
 
-/// Takes lines up to a blank one, from where a run has come so far.
+/// Takes lines from where a run has come so far, up to a blank one, or to one with which they are too
+/// long for a paragraph, or until no newline follows.
 pub(crate) fn take_lines(text: &[u8], run: Run) -> Taken
     requires { CanGoOn text.now run }
-    ensures { Stops text.now result.stop result.run }
+    ensures stops { Stops text.now result.stop result.run }
+    ensures further { run.bytes + run.begun.len ≤ result.run.bytes + result.run.begun.len }
 {
     let mut bytes = run.bytes;
     let mut lines = run.lines;

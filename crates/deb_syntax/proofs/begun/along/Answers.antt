@@ -1,10 +1,9 @@
-use Rattle.std.proofs.Common.{take, drop, suc, arith}
-use Rattle.std.proofs.lemmas.Bool.{eqb-true}
+use Rattle.deb_syntax.proofs.Common.{take, drop, suc, arith, eqb-true}
 use Rattle.deb_syntax.proofs.WalkingSteps.{line-found, line-none, newline_at}
 use Rattle.deb_syntax.proofs.begun.along.Goals as goal
 
-pub returns-in-Some : goal.returns-in-Some
-returns-in-Some c = λ seen described.
+pub returns-in-Some-clause-goes : goal.returns-in-Some-clause-goes
+returns-in-Some-clause-goes c = λ seen described.
     let fresh = c.args.fresh.now in
     let found = c.in-Some.ensures in
     let n = c.in-Some.len in
@@ -12,9 +11,9 @@ returns-in-Some c = λ seen described.
       more = take n fresh;
       rest = drop (suc n) fresh;
       whole = newline_at fresh n found.0.high (eqb-true _ _ found.1);
-      describes = c.with.ensures seen described (line-found fresh n (λ k lt. found.0.before k (omega arith) lt) found.0.high);
+      describes = c.with.ensures.describes seen described (line-found fresh n (λ k lt. found.0.before k (omega arith) lt) found.0.high);
     }
 
-pub returns-in-None : goal.returns-in-None
-returns-in-None c = λ seen described.
-    c.with-in-None.ensures seen described (line-none c.args.fresh.now (λ k lt. c.in-None.ensures k (omega arith) lt))
+pub returns-in-None-clause-goes : goal.returns-in-None-clause-goes
+returns-in-None-clause-goes c = λ seen described.
+    c.with-in-None.ensures.describes seen described (line-none c.args.fresh.now (λ k lt. c.in-None.ensures k (omega arith) lt))

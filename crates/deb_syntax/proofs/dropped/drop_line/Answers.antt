@@ -1,8 +1,7 @@
-use Rattle.std.proofs.Common.{◌∙◌, ◌+◌, ◌-◌, ◌≤◌, refl, sym, subst, arith, IsFalse}
-use Rattle.deb_syntax.specs.Feeding.{feed_state, IsTail}
+use Rattle.deb_syntax.proofs.Common.{◌∙◌, ◌+◌, ◌-◌, ◌≤◌, refl, sym, subst, arith, IsFalse, feed_state, IsTail}
 use Rattle.deb_syntax.proofs.Feeds.{feed_small}
-use Rattle.deb_syntax.proofs.Dropping.{dropping-start, came, stays-counts, came-counts, came-small, came-bound, came-fits, came-lines, ended-fits, went, went-ended, went-on, ended-longer, ended-found, ended-ahead, more-dropping, more-smaller, none-found, none-ahead, beyond-ahead}
-use Rattle.deb_syntax.proofs.Takings.{stays-takes, dropping-takes, came-takes}
+use Rattle.deb_syntax.proofs.Dropping.{dropping-start, came, stays-counts, came-counts, came-takes, came-small, came-bound, came-fits, came-lines, ended-fits, went, went-ended, went-on, ended-longer, ended-drops, more-dropping, more-smaller, none-drops, beyond-drops}
+use Rattle.deb_syntax.proofs.Takings.{takes_then, stays_takes}
 use Rattle.deb_syntax.proofs.dropped.drop_line.Goals as goal
 
 pub pieces-init : goal.pieces-init
@@ -33,17 +32,12 @@ slice_bounds-along-count g c =
 pub overflow_sub-result : goal.overflow_sub-result
 overflow_sub-result g c =
     let here = came _ _ _ _ _ _ _ _ _ c.pieces.invariant.dropping c.keep.ensures.keeps c.in_ok-take.ensures.taken in
-    ended-longer _ _ _ _ _ _ here _ (went-ended _ _ _ _ _ _ here _ (went _ _ _ _ _ _ here _ _ c.sight-sight.ensures c.along-next.ensures) c.if-next.true)
+    ended-longer _ _ _ _ _ _ here _ (went-ended _ _ _ _ _ _ here _ (went _ _ _ _ _ _ here _ _ c.sight-sight.ensures c.along-next.ensures.goes) c.if-next.true)
 
-pub returns-then-next-clause-found : goal.returns-then-next-clause-found
-returns-then-next-clause-found g c =
+pub returns-then-next-clause-drops : goal.returns-then-next-clause-drops
+returns-then-next-clause-drops g c =
     let here = came _ _ _ _ _ _ _ _ _ c.pieces.invariant.dropping c.keep.ensures.keeps c.in_ok-take.ensures.taken in
-    ended-found _ _ _ _ _ _ here _ (went-ended _ _ _ _ _ _ here _ (went _ _ _ _ _ _ here _ _ c.sight-sight.ensures c.along-next.ensures) c.if-next.true)
-
-pub returns-then-next-clause-ahead : goal.returns-then-next-clause-ahead
-returns-then-next-clause-ahead g c =
-    let here = came _ _ _ _ _ _ _ _ _ c.pieces.invariant.dropping c.keep.ensures.keeps c.in_ok-take.ensures.taken in
-    ended-ahead _ _ _ _ _ _ here _ (went-ended _ _ _ _ _ _ here _ (went _ _ _ _ _ _ here _ _ c.sight-sight.ensures c.along-next.ensures) c.if-next.true)
+    ended-drops _ _ _ _ _ _ here _ (went-ended _ _ _ _ _ _ here _ (went _ _ _ _ _ _ here _ _ c.sight-sight.ensures c.along-next.ensures.goes) c.if-next.true)
 
 pub returns-then-next-clause-same : goal.returns-then-next-clause-same
 returns-then-next-clause-same g c = came-counts _ _ _ _ _ _ (came _ _ _ _ _ _ _ _ _ c.pieces.invariant.dropping c.keep.ensures.keeps c.in_ok-take.ensures.taken)
@@ -59,7 +53,7 @@ pieces-preserved g c =
     let here = came _ _ _ _ _ _ _ _ _ c.pieces.invariant.dropping c.keep.ensures.keeps c.in_ok-take.ensures.taken in
     let tail = subst (IsTail (feed_state c.take.new.self) c.pieces.begun.len) c.in-More.is c.sight-sight.ensures.tail in
     record {
-      dropping = more-dropping _ _ _ _ _ _ here _ (went-on _ _ _ _ _ _ here _ (went _ _ _ _ _ _ here _ _ c.sight-sight.ensures c.along-next.ensures) c.if-next.false) tail.0 tail.1;
+      dropping = more-dropping _ _ _ _ _ _ here _ (went-on _ _ _ _ _ _ here _ (went _ _ _ _ _ _ here _ _ c.sight-sight.ensures c.along-next.ensures.goes) c.if-next.false) tail.0 tail.1;
       counted = c.in_ok-take.ensures.counted ∙ c.pieces.invariant.counted;
     }
 
@@ -67,25 +61,19 @@ pub pieces-smaller : goal.pieces-smaller
 pieces-smaller g c =
     let here = came _ _ _ _ _ _ _ _ _ c.pieces.invariant.dropping c.keep.ensures.keeps c.in_ok-take.ensures.taken in
     let tail = subst (IsTail (feed_state c.take.new.self) c.pieces.begun.len) c.in-More.is c.sight-sight.ensures.tail in
-    more-smaller _ _ _ _ _ _ here _ (went-on _ _ _ _ _ _ here _ (went _ _ _ _ _ _ here _ _ c.sight-sight.ensures c.along-next.ensures) c.if-next.false) tail.0 tail.1
+    more-smaller _ _ _ _ _ _ here _ (went-on _ _ _ _ _ _ here _ (went _ _ _ _ _ _ here _ _ c.sight-sight.ensures c.along-next.ensures.goes) c.if-next.false) tail.0 tail.1
 
-pub returns-in-Nothing-clause-found : goal.returns-in-Nothing-clause-found
-returns-in-Nothing-clause-found g c =
+pub returns-in-Nothing-clause-drops : goal.returns-in-Nothing-clause-drops
+returns-in-Nothing-clause-drops g c =
     let here = came _ _ _ _ _ _ _ _ _ c.pieces.invariant.dropping c.keep.ensures.keeps c.in_ok-take.ensures.taken in
     let tail = subst (IsTail (feed_state c.take.new.self) c.pieces.begun.len) c.in-Nothing.is c.sight-sight.ensures.tail in
-    none-found _ _ _ _ _ _ here _ (went-on _ _ _ _ _ _ here _ (went _ _ _ _ _ _ here _ _ c.sight-sight.ensures c.along-next.ensures) c.if-next.false) tail.0 tail.1
+    none-drops _ _ _ _ _ _ here _ (went-on _ _ _ _ _ _ here _ (went _ _ _ _ _ _ here _ _ c.sight-sight.ensures c.along-next.ensures.goes) c.if-next.false) tail.0 tail.1
 
-pub returns-in-Nothing-clause-ahead : goal.returns-in-Nothing-clause-ahead
-returns-in-Nothing-clause-ahead g c =
-    let here = came _ _ _ _ _ _ _ _ _ c.pieces.invariant.dropping c.keep.ensures.keeps c.in_ok-take.ensures.taken in
-    let tail = subst (IsTail (feed_state c.take.new.self) c.pieces.begun.len) c.in-Nothing.is c.sight-sight.ensures.tail in
-    none-ahead _ _ _ _ _ _ here _ (went-on _ _ _ _ _ _ here _ (went _ _ _ _ _ _ here _ _ c.sight-sight.ensures c.along-next.ensures) c.if-next.false) tail.0 tail.1
-
-pub returns-in-Beyond-clause-ahead : goal.returns-in-Beyond-clause-ahead
-returns-in-Beyond-clause-ahead g c =
+pub returns-in-Beyond-clause-drops : goal.returns-in-Beyond-clause-drops
+returns-in-Beyond-clause-drops g c =
     let here = came _ _ _ _ _ _ _ _ _ c.pieces.invariant.dropping c.keep.ensures.keeps c.in_ok-take.ensures.taken in
     let tail = subst (IsTail (feed_state c.take.new.self) c.pieces.begun.len) c.in-Beyond.is c.sight-sight.ensures.tail in
-    beyond-ahead _ _ _ _ _ _ here _ (went-on _ _ _ _ _ _ here _ (went _ _ _ _ _ _ here _ _ c.sight-sight.ensures c.along-next.ensures) c.if-next.false) _ tail (came-lines _ _ _ _ _ _ here _ c.lines.ensures)
+    beyond-drops _ _ _ _ _ _ here _ (went-on _ _ _ _ _ _ here _ (went _ _ _ _ _ _ here _ _ c.sight-sight.ensures c.along-next.ensures.goes) c.if-next.false) _ tail (came-lines _ _ _ _ _ _ here _ c.lines.ensures)
 
 pub returns-then-next-clause-counted : goal.returns-then-next-clause-counted
 returns-then-next-clause-counted g c = c.in_ok-take.ensures.counted ∙ c.pieces.invariant.counted
@@ -104,13 +92,14 @@ along-next-requires g c =
 pub overflow_add-result : goal.overflow_add-result
 overflow_add-result g c =
     let here = came _ _ _ _ _ _ _ _ _ c.pieces.invariant.dropping c.keep.ensures.keeps c.in_ok-take.ensures.taken in
-    let fits : c.args.run.bytes + (c.along-next.result.begun.len - c.pieces.begun.len) ≤ c.args.run.bytes + 65536 = ended-fits _ _ _ _ _ _ here _ (went-ended _ _ _ _ _ _ here _ (went _ _ _ _ _ _ here _ _ c.sight-sight.ensures c.along-next.ensures) c.if-next.true) in
+    let fits : c.args.run.bytes + (c.along-next.result.begun.len - c.pieces.begun.len) ≤ c.args.run.bytes + 65536 = ended-fits _ _ _ _ _ _ here _ (went-ended _ _ _ _ _ _ here _ (went _ _ _ _ _ _ here _ _ c.sight-sight.ensures c.along-next.ensures.goes) c.if-next.true) in
     let short : c.args.run.bytes ≤ 16777216 = c.requires.short in
     omega (arith, fits, short)
 
 pub returns-in_err-take-clause-taken : goal.returns-in_err-take-clause-taken
-returns-in_err-take-clause-taken g c = λ text a.
-    stays-takes text _ _ _ _ _ (dropping-takes _ _ _ _ _ _ c.pieces.invariant.dropping text a) c.in_err-take.ensures.failed
+returns-in_err-take-clause-taken g c =
+    let d = c.pieces.invariant.dropping in
+    takes_then _ _ _ _ _ _ _ _ d.takes (stays_takes _ _ _ _ c.in_err-take.ensures.failed) (omega (arith, d.room, d.small))
 
 pub returns-then-next-clause-taken : goal.returns-then-next-clause-taken
 returns-then-next-clause-taken g c = came-takes _ _ _ _ _ _ (came _ _ _ _ _ _ _ _ _ c.pieces.invariant.dropping c.keep.ensures.keeps c.in_ok-take.ensures.taken)

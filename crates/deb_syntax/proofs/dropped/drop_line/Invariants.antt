@@ -1,6 +1,4 @@
-use Rattle.std.proofs.Common.{◌≡◌, ◌-◌}
-use Rattle.deb_syntax.specs.Feeding.{feed_state}
-use Rattle.deb_syntax.specs.Lines.{file_limit}
+use Rattle.deb_syntax.proofs.Common.{◌≡◌, ◌-◌, feed_state, file_limit}
 use Rattle.deb_syntax.proofs.Dropping.{Dropping}
 use Rattle.deb_syntax.proofs.dropped.drop_line.Given as goal
 

@@ -1,7 +1,6 @@
-use Rattle.std.proofs.Common.{◌∙◌, sym, arith}
+use Rattle.deb_syntax.proofs.Common.{◌∙◌, sym, arith, feed_state}
 use Rattle.deb_base.specs.Bodies.{paragraph_limit}
-use Rattle.deb_syntax.specs.Feeding.{feed_state}
-use Rattle.deb_syntax.proofs.EndingSteps.{open-few, file-some, file-none-found, file-none-ahead, file-last-found, file-last-ahead, file-long-ahead}
+use Rattle.deb_syntax.proofs.EndingSteps.{stops-few, file-some, file-none-found, file-none-ahead, file-last-found, file-last-ahead, file-long-ahead}
 use Rattle.deb_syntax.proofs.Feeds.{feed_few}
 use Rattle.deb_syntax.proofs.ending.ended_by_file.Goals as goal
 
@@ -12,7 +11,7 @@ ended_by_end-requires-clause-some c =
 pub ended_by_end-requires-clause-lines : goal.ended_by_end-requires-clause-lines
 unfolding paragraph_limit
 ended_by_end-requires-clause-lines c =
-    omega (arith, open-few (feed_state c.args.feed.now).unread c.args.run c.requires.stops, c.requires.stops.stands.short)
+    omega (arith, stops-few _ _ c.args.run c.requires.stops, c.requires.stops.stands.short)
 
 pub returns-then-is_blank-clause-found : goal.returns-then-is_blank-clause-found
 returns-then-is_blank-clause-found c =
@@ -28,7 +27,7 @@ returns-then-is_blank-clause-ahead c =
 pub refused-requires : goal.refused-requires
 unfolding paragraph_limit
 refused-requires c =
-    omega (arith, open-few (feed_state c.args.feed.now).unread c.args.run c.requires.stops, c.requires.stops.stands.short, feed_few c.args.feed.now, c.args.feed.now.small)
+    omega (arith, stops-few _ _ c.args.run c.requires.stops, c.requires.stops.stands.short, feed_few c.args.feed.now, c.args.feed.now.small)
 
 pub returns-then-all-ge-PARAGRAPH_LIMIT-clause-ahead : goal.returns-then-all-ge-PARAGRAPH_LIMIT-clause-ahead
 unfolding paragraph_limit
@@ -39,7 +38,7 @@ returns-then-all-ge-PARAGRAPH_LIMIT-clause-ahead c =
 pub overflow_add-result : goal.overflow_add-result
 unfolding paragraph_limit
 overflow_add-result c =
-    omega (arith, open-few (feed_state c.args.feed.now).unread c.args.run c.requires.stops, c.requires.stops.stands.short)
+    omega (arith, stops-few _ _ c.args.run c.requires.stops, c.requires.stops.stands.short)
 
 pub returns-clause-found : goal.returns-clause-found
 unfolding paragraph_limit

@@ -1,17 +1,16 @@
-use Rattle.std.proofs.Common.{◌∙◌, length, Ok, Err, refl, sym, ap, subst, arith}
-use Rattle.std.proofs.lemmas.Bool.{false≢true}
+use Rattle.deb_syntax.proofs.Common.{◌∙◌, length, Ok, Err, refl, sym, ap, subst, arith, false≢true, feed_state, had, IsTail, Open, Blank, TooLong}
 use Rattle.deb_base.specs.Bodies.{paragraph_limit}
-use Rattle.deb_syntax.specs.Feeding.{feed_state, IsTail}
-use Rattle.deb_syntax.specs.declared.take.Stop.TheVariants.{Open, Blank, TooLong}
-use Rattle.deb_syntax.proofs.EndingWalks.{walks-start, walks-more, reads-less, same-ahead, sees-unread, seen-stops, unread-stops, stops-few, blank-some, stop-blank-found, stop-blank-ahead, stop-long-ahead, stop-beyond-ahead}
+use Rattle.deb_syntax.proofs.EndingWalks.{walks-start, walks-more, same-ahead, sees-unread, seen-stops, unread-stops, blank-some, stop-blank-found, stop-blank-ahead, stop-long-ahead, stop-beyond-ahead}
+use Rattle.deb_syntax.proofs.EndingSteps.{stops-few}
 use Rattle.deb_syntax.proofs.Feeds.{feed_small}
-use Rattle.deb_syntax.proofs.Takings.{stays-takes, ahead-takes, more-reach, same-takes}
+use Rattle.deb_syntax.proofs.Takings.{takes_none, takes_more, takes_then, comes_takes, stays_takes, more-reach, still-less}
 use Rattle.deb_syntax.proofs.ending.paragraph_extent.Goals as goal
 
 pub pieces-init : goal.pieces-init
 pieces-init g c = record {
   walks = walks-start (feed_state c.args.feed.now) (g.R.Source.left c.args.reader.now) c.args.begun c.requires.line;
-  reach = c.requires.reach;
+  takes = takes_none _ _ _ (omega arith);
+  taken = takes_none _ _ _ c.requires.reach;
   counted = refl;
   quiet = λ e. (e, refl);
 }
@@ -22,17 +21,17 @@ sight-sight-requires g c = omega (arith, feed_small c.pieces.feed)
 pub ended_by_blank-requires-clause-some : goal.ended_by_blank-requires-clause-some
 ended_by_blank-requires-clause-some g c =
     blank-some (feed_state c.pieces.feed) c.take_lines-taken.result.run
-    (seen-stops (feed_state c.pieces.feed) c.sight-sight.result c.take_lines-taken.result.stop Blank c.take_lines-taken.result.run c.sight-sight.ensures c.in-Blank.is c.take_lines-taken.ensures)
+    (seen-stops (feed_state c.pieces.feed) c.sight-sight.result c.take_lines-taken.result.stop Blank c.take_lines-taken.result.run c.sight-sight.ensures c.in-Blank.is c.take_lines-taken.ensures.stops)
 
 pub ended_by_blank-requires-clause-lines : goal.ended_by_blank-requires-clause-lines
 unfolding paragraph_limit
-ended_by_blank-requires-clause-lines g c = omega (arith, stops-few _ _ _ c.take_lines-taken.ensures, c.take_lines-taken.ensures.stands.short)
+ended_by_blank-requires-clause-lines g c = omega (arith, stops-few _ _ _ c.take_lines-taken.ensures.stops, c.take_lines-taken.ensures.stops.stands.short)
 
 pub returns-in-Blank-clause-found : goal.returns-in-Blank-clause-found
 returns-in-Blank-clause-found g c =
     stop-blank-found (feed_state c.pieces.feed) c.take_lines-taken.result.run
-    (seen-stops (feed_state c.pieces.feed) c.sight-sight.result c.take_lines-taken.result.stop Blank c.take_lines-taken.result.run c.sight-sight.ensures c.in-Blank.is c.take_lines-taken.ensures)
-    _ c.pieces.invariant.walks.near c.ended_by_blank.ensures
+    (seen-stops (feed_state c.pieces.feed) c.sight-sight.result c.take_lines-taken.result.stop Blank c.take_lines-taken.result.run c.sight-sight.ensures c.in-Blank.is c.take_lines-taken.ensures.stops)
+    _ (omega (arith, c.pieces.invariant.walks.near, c.take_lines-taken.ensures.further)) c.ended_by_blank.ensures
 
 pub returns-in-Blank-clause-ahead : goal.returns-in-Blank-clause-ahead
 returns-in-Blank-clause-ahead g c = λ text a.
@@ -40,13 +39,13 @@ returns-in-Blank-clause-ahead g c = λ text a.
     let w = c.pieces.invariant.walks in
     same-ahead text (feed_state c.args.feed.now) state state (g.R.Source.left c.pieces.reader) (Ok c.ended_by_blank.result) w.counts
     (stop-blank-ahead state c.take_lines-taken.result.run
-    (seen-stops state c.sight-sight.result c.take_lines-taken.result.stop Blank c.take_lines-taken.result.run c.sight-sight.ensures c.in-Blank.is c.take_lines-taken.ensures)
-    text (g.R.Source.left c.pieces.reader) c.ended_by_blank.result w.near c.ended_by_blank.ensures (w.ahead text a))
+    (seen-stops state c.sight-sight.result c.take_lines-taken.result.stop Blank c.take_lines-taken.result.run c.sight-sight.ensures c.in-Blank.is c.take_lines-taken.ensures.stops)
+    text (g.R.Source.left c.pieces.reader) c.ended_by_blank.result (omega (arith, w.near, c.take_lines-taken.ensures.further)) c.ended_by_blank.ensures (w.ahead text a))
 
 pub refused-requires : goal.refused-requires
 unfolding paragraph_limit
 refused-requires g c =
-    omega (arith, stops-few _ _ _ c.take_lines-taken.ensures, c.take_lines-taken.ensures.stands.short, c.pieces.feed.few, c.pieces.feed.small)
+    omega (arith, stops-few _ _ _ c.take_lines-taken.ensures.stops, c.take_lines-taken.ensures.stops.stands.short, c.pieces.feed.few, c.pieces.feed.small)
 
 pub returns-in-TooLong-clause-ahead : goal.returns-in-TooLong-clause-ahead
 returns-in-TooLong-clause-ahead g c = λ text a.
@@ -54,7 +53,7 @@ returns-in-TooLong-clause-ahead g c = λ text a.
     let w = c.pieces.invariant.walks in
     same-ahead text (feed_state c.args.feed.now) state state (g.R.Source.left c.pieces.reader) (Err c.refused.result) w.counts
     (stop-long-ahead state c.take_lines-taken.result.run
-    (seen-stops state c.sight-sight.result c.take_lines-taken.result.stop TooLong c.take_lines-taken.result.run c.sight-sight.ensures c.in-TooLong.is c.take_lines-taken.ensures)
+    (seen-stops state c.sight-sight.result c.take_lines-taken.result.stop TooLong c.take_lines-taken.result.run c.sight-sight.ensures c.in-TooLong.is c.take_lines-taken.ensures.stops)
     text (g.R.Source.left c.pieces.reader) c.refused.result c.refused.ensures (w.ahead text a))
 
 pub extent_beyond-requires-clause-full : goal.extent_beyond-requires-clause-full
@@ -72,23 +71,22 @@ returns-in-More-clause-ahead g c = λ text a.
     (c.extent_beyond.ensures.ahead text (w.ahead text a))
 
 pub pieces-smaller : goal.pieces-smaller
-unfolding paragraph_limit
 pieces-smaller g c =
-    let state = feed_state c.pieces.feed in
-    let tail = subst (IsTail state 0) c.in-More-2.is c.sight-sight.ensures.tail in
-    let size = ap length (sees-unread state c.sight-sight.result c.sight-sight.ensures tail.0) in
-    reads-less state (feed_state c.take.new.self) _ _ tail.1 (omega (arith, size, c.if-is_full.false)) c.in_ok-take-in-More-2.ensures.taken
+    let tail = subst (IsTail (feed_state c.pieces.feed) 0) c.in-More-2.is c.sight-sight.ensures.tail in
+    still-less (feed_state c.pieces.feed) _ _ _ (feed_small c.pieces.feed) tail.0 tail.1 c.in_ok-take-in-More-2.ensures.taken
 
 pub pieces-preserved : goal.pieces-preserved
 pieces-preserved g c =
     let state = feed_state c.pieces.feed in
     let tail = subst (IsTail state 0) c.in-More-2.is c.sight-sight.ensures.tail in
+    let takes = takes_then _ _ _ _ (had (feed_state c.take.new.self)) _ _ _ c.pieces.invariant.takes (comes_takes _ _ _ _ c.in_ok-take-in-More-2.ensures.taken) (omega arith) in
     record {
       walks = walks-more (feed_state c.args.feed.now) (g.R.Source.left c.args.reader.now) c.pieces.run c.take_lines-taken.result.run state (feed_state c.take.new.self)
           (g.R.Source.left c.pieces.reader) (g.R.Source.left c.take.new.reader) c.pieces.invariant.walks
-          (unread-stops state c.sight-sight.result c.take_lines-taken.result.stop Open c.take_lines-taken.result.run c.sight-sight.ensures tail.0 c.in-Open.is c.take_lines-taken.ensures)
+          (unread-stops state c.sight-sight.result c.take_lines-taken.result.stop Open c.take_lines-taken.result.run c.sight-sight.ensures tail.0 c.in-Open.is c.take_lines-taken.ensures.stops)
           (omega (arith, tail.0)) c.in_ok-take-in-More-2.ensures.taken;
-      reach = more-reach state (feed_state c.take.new.self) (g.R.Source.left c.pieces.reader) (g.R.Source.left c.take.new.reader) (feed_small c.pieces.feed) tail.0 c.in_ok-take-in-More-2.ensures.taken;
+      takes = takes;
+      taken = takes_more _ _ _ _ _ _ takes (omega arith) (more-reach state (feed_state c.take.new.self) (g.R.Source.left c.pieces.reader) (g.R.Source.left c.take.new.reader) (feed_small c.pieces.feed) tail.0 c.in_ok-take-in-More-2.ensures.taken);
       counted = c.in_ok-take-in-More-2.ensures.counted ∙ c.pieces.invariant.counted;
       quiet = λ e. absurd (false≢true (sym tail.1 ∙ (c.pieces.invariant.quiet e).0));
     }
@@ -102,7 +100,7 @@ returns-in-Nothing-clause-ahead g c = λ text a.
 pub refused-requires-in-Beyond : goal.refused-requires-in-Beyond
 unfolding paragraph_limit
 refused-requires-in-Beyond g c =
-    omega (arith, stops-few _ _ _ c.take_lines-taken.ensures, c.take_lines-taken.ensures.stands.short, c.pieces.feed.few, c.pieces.feed.small)
+    omega (arith, stops-few _ _ _ c.take_lines-taken.ensures.stops, c.take_lines-taken.ensures.stops.stands.short, c.pieces.feed.few, c.pieces.feed.small)
 
 pub returns-in-Beyond-clause-ahead : goal.returns-in-Beyond-clause-ahead
 returns-in-Beyond-clause-ahead g c = λ text a.
@@ -111,43 +109,11 @@ returns-in-Beyond-clause-ahead g c = λ text a.
     let tail = subst (IsTail state 0) c.in-Beyond.is c.sight-sight.ensures.tail in
     same-ahead text (feed_state c.args.feed.now) state state (g.R.Source.left c.pieces.reader) (Err c.refused-in-Beyond.result) w.counts
     (stop-beyond-ahead state c.take_lines-taken.result.run
-    (seen-stops state c.sight-sight.result c.take_lines-taken.result.stop Open c.take_lines-taken.result.run c.sight-sight.ensures c.in-Open.is c.take_lines-taken.ensures)
+    (seen-stops state c.sight-sight.result c.take_lines-taken.result.stop Open c.take_lines-taken.result.run c.sight-sight.ensures c.in-Open.is c.take_lines-taken.ensures.stops)
     (omega (arith, tail)) text (g.R.Source.left c.pieces.reader) c.refused-in-Beyond.result c.refused-in-Beyond.ensures (w.ahead text a))
 
-pub returns-in-Blank-clause-taken : goal.returns-in-Blank-clause-taken
-returns-in-Blank-clause-taken g c = λ text a.
-    let state = feed_state c.pieces.feed in
-    let w = c.pieces.invariant.walks in
-    same-takes (feed_state c.args.feed.now) state (g.R.Source.left c.pieces.reader) text w.counts (ahead-takes state (g.R.Source.left c.pieces.reader) (feed_small c.pieces.feed) c.pieces.invariant.reach text (w.ahead text a))
-
-pub returns-in-TooLong-clause-taken : goal.returns-in-TooLong-clause-taken
-returns-in-TooLong-clause-taken g c = λ text a.
-    let state = feed_state c.pieces.feed in
-    let w = c.pieces.invariant.walks in
-    same-takes (feed_state c.args.feed.now) state (g.R.Source.left c.pieces.reader) text w.counts (ahead-takes state (g.R.Source.left c.pieces.reader) (feed_small c.pieces.feed) c.pieces.invariant.reach text (w.ahead text a))
-
-pub returns-in-Nothing-clause-taken : goal.returns-in-Nothing-clause-taken
-returns-in-Nothing-clause-taken g c = λ text a.
-    let state = feed_state c.pieces.feed in
-    let w = c.pieces.invariant.walks in
-    same-takes (feed_state c.args.feed.now) state (g.R.Source.left c.pieces.reader) text w.counts (ahead-takes state (g.R.Source.left c.pieces.reader) (feed_small c.pieces.feed) c.pieces.invariant.reach text (w.ahead text a))
-
-pub returns-in-Beyond-clause-taken : goal.returns-in-Beyond-clause-taken
-returns-in-Beyond-clause-taken g c = λ text a.
-    let state = feed_state c.pieces.feed in
-    let w = c.pieces.invariant.walks in
-    same-takes (feed_state c.args.feed.now) state (g.R.Source.left c.pieces.reader) text w.counts (ahead-takes state (g.R.Source.left c.pieces.reader) (feed_small c.pieces.feed) c.pieces.invariant.reach text (w.ahead text a))
-
 pub returns-in_err-take-in-More-2-clause-taken : goal.returns-in_err-take-in-More-2-clause-taken
-returns-in_err-take-in-More-2-clause-taken g c = λ text a.
-    let state = feed_state c.pieces.feed in
-    let w = c.pieces.invariant.walks in
-    stays-takes text _ state (feed_state c.take.new.self) (g.R.Source.left c.pieces.reader) (g.R.Source.left c.take.new.reader)
-    (same-takes (feed_state c.args.feed.now) state (g.R.Source.left c.pieces.reader) text w.counts (ahead-takes state (g.R.Source.left c.pieces.reader) (feed_small c.pieces.feed) c.pieces.invariant.reach text (w.ahead text a)))
-    c.in_err-take-in-More-2.ensures.failed
+returns-in_err-take-in-More-2-clause-taken g c = takes_then _ _ _ _ _ _ _ _ c.pieces.invariant.taken (stays_takes _ _ _ _ c.in_err-take-in-More-2.ensures.failed) (omega arith)
 
 pub returns-in-More-clause-taken : goal.returns-in-More-clause-taken
-returns-in-More-clause-taken g c = λ text a.
-    let state = feed_state c.pieces.feed in
-    let w = c.pieces.invariant.walks in
-    same-takes (feed_state c.args.feed.now) state (g.R.Source.left c.extent_beyond.new.reader) text w.counts (c.extent_beyond.ensures.taken text (w.ahead text a))
+returns-in-More-clause-taken g c = takes_then _ _ _ _ _ _ _ _ c.pieces.invariant.takes c.extent_beyond.ensures.taken (omega arith)

@@ -1,7 +1,5 @@
-use Rattle.std.proofs.Common.{◌∙◌, ◌≤◌, length, refl, subst, arith}
-use Rattle.std.proofs.lemmas.Result.{err_from_is_err_and}
+use Rattle.deb_syntax.proofs.Common.{◌∙◌, ◌≤◌, length, refl, subst, arith, err_from_is_err_and, feed_state, PassesOn}
 use Rattle.deb_base.specs.Bodies.{paragraph_limit}
-use Rattle.deb_syntax.specs.Feeding.{feed_state, PassesOn}
 use Rattle.deb_syntax.proofs.FirstLines.{unwrap-at, dropped-found, dropped-first, dropped-fault}
 use Rattle.deb_syntax.proofs.first.drop_first.Goals as goal
 
@@ -10,16 +8,16 @@ unfolding paragraph_limit
 returns-clause-found g c =
     let long : paragraph_limit ≤ length (feed_state c.args.feed.now).unread = omega (arith, c.requires.long, c.requires.seen.len) in
     let passes = subst (λ n. PassesOn (feed_state c.drop_line.new.feed) n 0 0 (feed_state c.pass.new.self)) (c.unwrap_or.ensures ∙ unwrap-at c.in_ok-dropped.dropped.newline) c.pass.ensures.passes in
-    dropped-found _ (feed_state c.drop_line.new.feed) _ _ c.in_ok-dropped.dropped refl long c.in_ok-dropped.ensures.found passes
+    dropped-found _ (feed_state c.drop_line.new.feed) _ _ c.in_ok-dropped.dropped _ _ refl long c.in_ok-dropped.ensures.drops passes
 
 pub returns-clause-ahead : goal.returns-clause-ahead
 unfolding paragraph_limit
-returns-clause-ahead g c = λ text a.
+returns-clause-ahead g c =
     let long : paragraph_limit ≤ length (feed_state c.args.feed.now).unread = omega (arith, c.requires.long, c.requires.seen.len) in
     let passes = subst (λ n. PassesOn (feed_state c.drop_line.new.feed) n 0 0 (feed_state c.pass.new.self)) (c.unwrap_or.ensures ∙ unwrap-at c.in_ok-dropped.dropped.newline) c.pass.ensures.passes in
-    dropped-first _ (feed_state c.drop_line.new.feed) _ _ c.in_ok-dropped.dropped text _ refl long (c.in_ok-dropped.ensures.ahead text a) passes
+    dropped-first _ (feed_state c.drop_line.new.feed) _ _ c.in_ok-dropped.dropped _ _ refl long c.in_ok-dropped.ensures.drops passes
 
 pub returns-in_err-dropped-clause-ahead : goal.returns-in_err-dropped-clause-ahead
 returns-in_err-dropped-clause-ahead g c =
     let p = err_from_is_err_and c.from_residual.result c.from_residual.ensures.1 in
-    rw (p.1, p.2) (λ text a. dropped-fault (feed_state c.args.feed.now) (feed_state c.drop_line.new.feed) (record { bytes = 0; lines = 0; begun = c.args.begun }) c.in_err-dropped.field-0.0 text (g.R.Source.left c.drop_line.new.reader) refl refl (c.in_err-dropped.ensures.ahead text a))
+    rw (p.1, p.2) (dropped-fault (feed_state c.args.feed.now) (feed_state c.drop_line.new.feed) (record { bytes = 0; lines = 0; begun = c.args.begun }) c.in_err-dropped.field-0.0 (g.R.Source.left c.args.reader.now) (g.R.Source.left c.drop_line.new.reader) refl refl c.in_err-dropped.ensures.drops)

@@ -1,12 +1,7 @@
-use Rattle.std.proofs.Common.{◌∙◌, ◌+◌, ◌≤◌, ap, sym, subst, arith, Ok, ℕ}
-use Rattle.std.proofs.lemmas.Bool.{false≢true}
-use Rattle.deb_base.specs.declared.refusal.Refusal.{Refusal}
-use Rattle.deb_base.specs.declared.code.Code.TheVariants.{FileTooLong}
-use Rattle.deb_syntax.specs.Lines.{file_limit}
-use Rattle.deb_syntax.specs.Feeding.{feed_state, IsTail}
+use Rattle.deb_syntax.proofs.Common.{◌∙◌, ◌+◌, ◌<◌, ◌≤◌, ap, sym, subst, arith, Ok, ℕ, false≢true, Refusal, FileTooLong, file_limit, feed_state, had, IsTail}
 use Rattle.deb_syntax.proofs.Feeds.{feed_small}
-use Rattle.deb_syntax.proofs.FirstLines.{skipped-within, skipped-room, skipped-few, stands, stands-found, stands-kept, stands-beyond, stands-first, walked-more, still-less}
-use Rattle.deb_syntax.proofs.Takings.{stays-takes, more-reach, pass-reach, stands-takes, stands-reach}
+use Rattle.deb_syntax.proofs.FirstLines.{skipped-within, skipped-room, skipped-few, stands, stands-found, stands-kept, stands-beyond, stands-first, walked-more}
+use Rattle.deb_syntax.proofs.Takings.{takes_more, takes_then, comes_takes, stays_takes, more-reach, pass-had, still, still-less, pass-still}
 use Rattle.deb_syntax.proofs.first.first_line.Goals as goal
 
 pub sight-sight-requires : goal.sight-sight-requires
@@ -38,15 +33,19 @@ pieces-smaller g c =
     let s = stands (feed_state c.args.feed.now) (g.R.Source.left c.args.reader.now) (feed_state c.pieces.feed) (feed_state c.pass.new.self) (g.R.Source.left c.pieces.reader) c.pieces.begun c.sight-sight.result c.skip_blanks-skipped.result (feed_small c.pieces.feed) c.pieces.invariant.walked c.sight-sight.ensures c.skip_blanks-skipped.ensures c.pass.ensures.passes in
     let tail = subst (IsTail (feed_state c.pass.new.self) 0) c.in-More-2.is s.tail in
     let within = skipped-within (feed_state c.pieces.feed) c.pieces.begun c.sight-sight.result c.sight-sight.ensures c.skip_blanks-skipped.result c.skip_blanks-skipped.ensures in
-    still-less (feed_state c.pieces.feed) (feed_state c.pass.new.self) (feed_state c.take.new.self) (g.R.Source.left c.pieces.reader) (g.R.Source.left c.take.new.reader) c.skip_blanks-skipped.result.bytes c.skip_blanks-skipped.result.lines c.pass.ensures.passes within (feed_small c.pass.new.self) tail.0 tail.1 c.in_ok-take-in-More-2.ensures.taken
+    subst (λ n. still (feed_state c.take.new.self) < n) (pass-still _ _ _ _ c.pass.ensures.passes within) (still-less _ (feed_state c.take.new.self) _ _ (feed_small c.pass.new.self) tail.0 tail.1 c.in_ok-take-in-More-2.ensures.taken)
 
 pub pieces-preserved : goal.pieces-preserved
 pieces-preserved g c =
     let s = stands (feed_state c.args.feed.now) (g.R.Source.left c.args.reader.now) (feed_state c.pieces.feed) (feed_state c.pass.new.self) (g.R.Source.left c.pieces.reader) c.pieces.begun c.sight-sight.result c.skip_blanks-skipped.result (feed_small c.pieces.feed) c.pieces.invariant.walked c.sight-sight.ensures c.skip_blanks-skipped.ensures c.pass.ensures.passes in
     let tail = subst (IsTail (feed_state c.pass.new.self) 0) c.in-More-2.is s.tail in
+    let within = skipped-within (feed_state c.pieces.feed) c.pieces.begun c.sight-sight.result c.sight-sight.ensures c.skip_blanks-skipped.result c.skip_blanks-skipped.ensures in
+    let takes = takes_then _ _ _ _ (had (feed_state c.take.new.self)) _ _ _ c.pieces.invariant.takes (comes_takes _ _ _ _ c.in_ok-take-in-More-2.ensures.taken) (omega (arith, pass-had _ _ _ _ c.pass.ensures.passes within)) in
+    let reach = more-reach (feed_state c.pass.new.self) (feed_state c.take.new.self) (g.R.Source.left c.pieces.reader) (g.R.Source.left c.take.new.reader) (feed_small c.pass.new.self) tail.0 c.in_ok-take-in-More-2.ensures.taken in
     record {
       walked = walked-more _ _ _ _ _ _ s (feed_state c.take.new.self) (g.R.Source.left c.take.new.reader) c.if-skipped.false tail.0 tail.1 c.in_ok-take-in-More-2.ensures.taken;
-      reach = more-reach (feed_state c.pass.new.self) (feed_state c.take.new.self) (g.R.Source.left c.pieces.reader) (g.R.Source.left c.take.new.reader) (feed_small c.pass.new.self) tail.0 c.in_ok-take-in-More-2.ensures.taken;
+      takes = takes;
+      taken = takes_more _ _ _ _ _ _ takes (omega arith) reach;
       counted = c.in_ok-take-in-More-2.ensures.counted ∙ c.pieces.invariant.counted;
       quiet = λ e. absurd (false≢true (sym tail.1 ∙ s.ended e));
     }
@@ -63,35 +62,10 @@ returns-in-Beyond-clause-ahead g c =
     let refusal : ℕ → Refusal = λ n. record { code = FileTooLong; line = n + 1 } in
     stands-beyond _ _ _ _ _ _ s (record { code = FileTooLong; line = c.lines.result + 1 }) c.if-skipped.false (feed_small c.pass.new.self) tail (ap refusal c.lines.ensures)
 
-pub returns-then-skipped-clause-taken : goal.returns-then-skipped-clause-taken
-returns-then-skipped-clause-taken g c =
-    let s = stands (feed_state c.args.feed.now) (g.R.Source.left c.args.reader.now) (feed_state c.pieces.feed) (feed_state c.pass.new.self) (g.R.Source.left c.pieces.reader) c.pieces.begun c.sight-sight.result c.skip_blanks-skipped.result (feed_small c.pieces.feed) c.pieces.invariant.walked c.sight-sight.ensures c.skip_blanks-skipped.ensures c.pass.ensures.passes in
-    let within = skipped-within (feed_state c.pieces.feed) c.pieces.begun c.sight-sight.result c.sight-sight.ensures c.skip_blanks-skipped.result c.skip_blanks-skipped.ensures in
-    let reach = pass-reach (feed_state c.pieces.feed) (feed_state c.pass.new.self) c.skip_blanks-skipped.result.bytes c.skip_blanks-skipped.result.lines c.pass.ensures.passes within c.pieces.invariant.reach in
-    stands-reach _ _ _ _ _ _ s (feed_small c.pass.new.self) reach
-
-pub returns-in-Nothing-clause-taken : goal.returns-in-Nothing-clause-taken
-returns-in-Nothing-clause-taken g c =
-    let s = stands (feed_state c.args.feed.now) (g.R.Source.left c.args.reader.now) (feed_state c.pieces.feed) (feed_state c.pass.new.self) (g.R.Source.left c.pieces.reader) c.pieces.begun c.sight-sight.result c.skip_blanks-skipped.result (feed_small c.pieces.feed) c.pieces.invariant.walked c.sight-sight.ensures c.skip_blanks-skipped.ensures c.pass.ensures.passes in
-    let within = skipped-within (feed_state c.pieces.feed) c.pieces.begun c.sight-sight.result c.sight-sight.ensures c.skip_blanks-skipped.result c.skip_blanks-skipped.ensures in
-    let reach = pass-reach (feed_state c.pieces.feed) (feed_state c.pass.new.self) c.skip_blanks-skipped.result.bytes c.skip_blanks-skipped.result.lines c.pass.ensures.passes within c.pieces.invariant.reach in
-    stands-reach _ _ _ _ _ _ s (feed_small c.pass.new.self) reach
-
-pub returns-in-Beyond-clause-taken : goal.returns-in-Beyond-clause-taken
-returns-in-Beyond-clause-taken g c =
-    let s = stands (feed_state c.args.feed.now) (g.R.Source.left c.args.reader.now) (feed_state c.pieces.feed) (feed_state c.pass.new.self) (g.R.Source.left c.pieces.reader) c.pieces.begun c.sight-sight.result c.skip_blanks-skipped.result (feed_small c.pieces.feed) c.pieces.invariant.walked c.sight-sight.ensures c.skip_blanks-skipped.ensures c.pass.ensures.passes in
-    let within = skipped-within (feed_state c.pieces.feed) c.pieces.begun c.sight-sight.result c.sight-sight.ensures c.skip_blanks-skipped.result c.skip_blanks-skipped.ensures in
-    let reach = pass-reach (feed_state c.pieces.feed) (feed_state c.pass.new.self) c.skip_blanks-skipped.result.bytes c.skip_blanks-skipped.result.lines c.pass.ensures.passes within c.pieces.invariant.reach in
-    stands-reach _ _ _ _ _ _ s (feed_small c.pass.new.self) reach
-
 pub returns-in_err-take-in-More-2-clause-taken : goal.returns-in_err-take-in-More-2-clause-taken
-returns-in_err-take-in-More-2-clause-taken g c = λ text a.
-    let s = stands (feed_state c.args.feed.now) (g.R.Source.left c.args.reader.now) (feed_state c.pieces.feed) (feed_state c.pass.new.self) (g.R.Source.left c.pieces.reader) c.pieces.begun c.sight-sight.result c.skip_blanks-skipped.result (feed_small c.pieces.feed) c.pieces.invariant.walked c.sight-sight.ensures c.skip_blanks-skipped.ensures c.pass.ensures.passes in
-    let within = skipped-within (feed_state c.pieces.feed) c.pieces.begun c.sight-sight.result c.sight-sight.ensures c.skip_blanks-skipped.result c.skip_blanks-skipped.ensures in
-    let reach = pass-reach (feed_state c.pieces.feed) (feed_state c.pass.new.self) c.skip_blanks-skipped.result.bytes c.skip_blanks-skipped.result.lines c.pass.ensures.passes within c.pieces.invariant.reach in
-    stays-takes text _ (feed_state c.pass.new.self) (feed_state c.take.new.self) (g.R.Source.left c.pieces.reader) (g.R.Source.left c.take.new.reader) (stands-reach _ _ _ _ _ _ s (feed_small c.pass.new.self) reach text a) c.in_err-take-in-More-2.ensures.failed
+returns-in_err-take-in-More-2-clause-taken g c = takes_then _ _ _ _ _ _ _ _ c.pieces.invariant.taken (stays_takes _ _ _ _ c.in_err-take-in-More-2.ensures.failed) (omega arith)
 
 pub returns-in-More-clause-taken : goal.returns-in-More-clause-taken
 returns-in-More-clause-taken g c =
-    let s = stands (feed_state c.args.feed.now) (g.R.Source.left c.args.reader.now) (feed_state c.pieces.feed) (feed_state c.pass.new.self) (g.R.Source.left c.pieces.reader) c.pieces.begun c.sight-sight.result c.skip_blanks-skipped.result (feed_small c.pieces.feed) c.pieces.invariant.walked c.sight-sight.ensures c.skip_blanks-skipped.ensures c.pass.ensures.passes in
-    stands-takes _ _ _ _ _ _ s (feed_small c.pass.new.self) (g.R.Source.left c.drop_first.new.reader) c.drop_first.ensures.taken
+    let within = skipped-within (feed_state c.pieces.feed) c.pieces.begun c.sight-sight.result c.sight-sight.ensures c.skip_blanks-skipped.result c.skip_blanks-skipped.ensures in
+    takes_then _ _ _ _ _ _ _ _ c.pieces.invariant.takes c.drop_first.ensures.taken (omega (arith, pass-had _ _ _ _ c.pass.ensures.passes within))

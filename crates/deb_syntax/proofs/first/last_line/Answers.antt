@@ -1,5 +1,4 @@
-use Rattle.std.proofs.Common.{◌∙◌, sym, arith}
-use Rattle.deb_syntax.specs.Feeding.{feed_state}
+use Rattle.deb_syntax.proofs.Common.{◌∙◌, sym, arith, feed_state}
 use Rattle.deb_syntax.proofs.FirstLines.{byte-of, last-kept, last-kept-ahead, last-end}
 use Rattle.deb_syntax.proofs.Feeds.{feed_small}
 use Rattle.deb_syntax.proofs.first.last_line.Goals as goal

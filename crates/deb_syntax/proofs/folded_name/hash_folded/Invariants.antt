@@ -1,6 +1,5 @@
-use Rattle.std.proofs.Common.{◌≡◌, take, fold, flat_map}
+use Rattle.deb_syntax.proofs.Common.{◌≡◌, take, fold, flat_map, folded}
 use Rattle.std.specs.Hash as fed
-use Rattle.deb_base.specs.Names.{folded}
 use Rattle.deb_syntax.proofs.folded_name.hash_folded.Given as goal
 
 -- what was fed so far: the length, and the bytes up to here in lower case

@@ -1,8 +1,4 @@
-use Rattle.std.proofs.Common.{◌≡◌, ◌+◌, ◌-◌, ◌<◌, ◌≤◌, length, drop, slice_index, Ok, IsTrue, IsUtf8}
-use Rattle.std.specs.List.{AllByRecursion}
-use Rattle.deb_base.specs.Bodies.{newline, pieces_of}
-use Rattle.deb_syntax.specs.Judging.{judged, lines_judged}
-use Rattle.deb_syntax.specs.Places.{begun_fields, StandsAt}
+use Rattle.deb_syntax.proofs.Common.{◌≡◌, ◌+◌, ◌-◌, ◌<◌, ◌≤◌, length, drop, slice_index, Ok, IsTrue, IsUtf8, AllByRecursion, newline, pieces_of, judged, lines_judged, begun_fields, StandsAt}
 use Rattle.deb_syntax.proofs.judge.judge.Given as goal
 
 -- the lines before `start` are judged, and what is judged of the whole is what follows from there

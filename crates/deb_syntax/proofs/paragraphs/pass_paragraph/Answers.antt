@@ -1,9 +1,4 @@
-use Rattle.std.proofs.Common.{◌≡◌, ◌+◌, ◌∷◌, Ok, IsTrue, List, ℕ, take, length, subst, arith}
-use Rattle.std.specs.List.{list_all}
-use Rattle.deb_base.specs.Bodies.{pieces_of}
-use Rattle.deb_syntax.specs.Feeding.{feed_state, buffer_of}
-use Rattle.deb_syntax.specs.Judging.{judged}
-use Rattle.deb_syntax.specs.Places.{IsFaultOf, fields_at, lies_within}
+use Rattle.deb_syntax.proofs.Common.{◌≡◌, ◌+◌, Ok, IsTrue, List, ℕ, take, length, subst, arith, list_all, pieces_of, feed_state, buffer_of, judged, IsFaultOf, fields_at, lies_within}
 use Rattle.deb_syntax.proofs.Advancing.{passes_next, judged_fault, judged_is_readers, stands_test, standing_fields}
 use Rattle.deb_syntax.proofs.paragraphs.pass_paragraph.Goals as goal
 
@@ -12,7 +7,7 @@ returns-in-Err-clause-ahead g c = λ text is.
     let found = c.in_ok-extent.ensures.ahead text is in
     let number : c.lines-first_line.result + 1 ≡ (feed_state c.args.feed.now).lines + 1 = omega (arith, c.lines-first_line.ensures, c.in_ok-extent.ensures.same.lines) in
     let judges = subst (λ (zs : List ℕ). IsFaultOf (judged (c.lines-first_line.result + 1) (pieces_of (take c.in_ok-extent.extent.end zs))) c.in-Err.fault) c.unread.ensures c.in-Err.ensures.fault in
-    judged_fault text (feed_state c.args.feed.now) (feed_state c.paragraph_extent.new.feed) _ (found.0.first ∷ found.0.run) _ c.in-Err.fault number found.2
+    judged_fault text (feed_state c.args.feed.now) found.0.lines _ c.in-Err.fault number found.2
     (subst (λ ls. IsFaultOf (judged (c.lines-first_line.result + 1) ls) c.in-Err.fault) found.0.pieces judges)
 
 pub returns-in-Err-clause-fault : goal.returns-in-Err-clause-fault

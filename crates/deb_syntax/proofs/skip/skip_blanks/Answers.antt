@@ -1,7 +1,4 @@
-use Rattle.std.proofs.Common.{◌≡◌, ◌∙◌, inl, inr, ◌-◌, length, take, drop, slice_index, sym, ap, subst, arith}
-use Rattle.std.proofs.lemmas.List.{take_rest}
-use Rattle.deb_base.specs.Bodies.{newline}
-use Rattle.deb_syntax.specs.Walking.{GoesThroughBlanks, GoesAlong}
+use Rattle.deb_syntax.proofs.Common.{◌≡◌, ◌∙◌, inl, inr, ◌-◌, length, take, drop, slice_index, sym, ap, subst, arith, take_rest, newline, GoesThroughBlanks, GoesAlong}
 use Rattle.deb_syntax.proofs.WalkingBlanks.{NoBlankEnds, skip-step, skip-end, skipped-within, skipped-few}
 use Rattle.deb_syntax.proofs.skip.skip_blanks.Goals as goal
 use Rattle.deb_syntax.proofs.skip.skip_blanks.Goals.{then-seen-line-via-then-seen-line, then-seen-line-via-else-seen-line+then-line-seen-ne10, then-seen-line-via-else-seen-line+else-line-seen-ne10+then-not-is_blank}
@@ -20,7 +17,7 @@ returns-then-seen-line c =
       | then-seen-line-via-else-seen-line+else-line-seen-ne10+then-not-is_blank w ↦ inr (inr (sym (w.is_blank.ensures _ c.through_blanks-seen.ensures.describes) ∙ w.if-not-is_blank.true))
     ]) in
     skip-end text n c.loop-line.lines c.loop-line.front seen c.along-next.result c.loop-line.invariant.skipped through stop
-    (subst (λ zs. GoesAlong (take seen.len (drop n text)) zs c.along-next.result) (take_rest line seen.len ∙ ap (drop seen.len) rest) (c.along-next.ensures (take seen.len (drop n text)) through.describes))
+    (subst (λ zs. GoesAlong (take seen.len (drop n text)) zs c.along-next.result) (take_rest line seen.len ∙ ap (drop seen.len) rest) (c.along-next.ensures.goes (take seen.len (drop n text)) through.describes))
 
 pub loop-line-preserved : goal.loop-line-preserved
 loop-line-preserved c =

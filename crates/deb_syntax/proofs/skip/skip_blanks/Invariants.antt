@@ -1,4 +1,4 @@
-use Rattle.std.proofs.Common.{◌+◌, ◌-◌, ◌≤◌, length}
+use Rattle.deb_syntax.proofs.Common.{◌+◌, ◌-◌, ◌≤◌, length}
 use Rattle.deb_syntax.proofs.WalkingBlanks.{SkippedSoFar}
 use Rattle.deb_syntax.proofs.skip.skip_blanks.Given as goal
 

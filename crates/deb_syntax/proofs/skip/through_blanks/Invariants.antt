@@ -1,5 +1,4 @@
-use Rattle.std.proofs.Common.{◌≡◌, ◌-◌, ◌≤◌, true, length, take}
-use Rattle.deb_base.specs.Bodies.{HasNoNewline, is_all_blank}
+use Rattle.deb_syntax.proofs.Common.{◌≡◌, ◌-◌, ◌≤◌, true, length, take, HasNoNewline, is_all_blank}
 use Rattle.deb_syntax.proofs.skip.through_blanks.Given as goal
 
 -- the bytes so far are blank

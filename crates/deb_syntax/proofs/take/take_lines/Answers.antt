@@ -1,8 +1,5 @@
-use Rattle.std.proofs.Common.{◌∙◌, ◌+◌, ◌∷◌, ◌≤◌, refl, sym, subst, arith}
-use Rattle.std.proofs.lemmas.Bool.{not-true, not-false}
-use Rattle.std.proofs.lemmas.List.{take_rest}
-use Rattle.deb_base.specs.Bodies.{newline, paragraph_limit}
-use Rattle.deb_syntax.specs.Walking.{GoesAlong}
+use Rattle.deb_syntax.proofs.Common.{◌∙◌, ◌+◌, ◌∷◌, ◌≤◌, refl, sym, subst, arith, not-true, not-false, take_rest, newline, GoesAlong}
+use Rattle.deb_base.specs.Bodies.{paragraph_limit}
 use Rattle.deb_syntax.proofs.WalkingRuns.{CanGoOn-within, CanGoOn-few, run-open-from, run-ended-from, run-step}
 use Rattle.deb_syntax.proofs.take.take_lines.Goals as goal
 
@@ -11,22 +8,23 @@ loop-next-init c = record {
   stands = c.requires;
   within = CanGoOn-within c.args.text.now c.args.run c.requires;
   few = CanGoOn-few c.args.text.now c.args.run c.requires;
+  further = omega arith;
 }
 
-pub returns-then-not-next : goal.returns-then-not-next
-returns-then-not-next c =
+pub returns-then-not-next-clause-stops : goal.returns-then-not-next-clause-stops
+returns-then-not-next-clause-stops c =
     let text = c.args.text.now in
     let l = c.loop-next in
     run-open-from text (record { bytes = l.bytes; lines = l.lines; begun = l.begun }) c.along-next.result l.invariant.stands
-    (λ seen d. subst (λ zs. GoesAlong seen zs c.along-next.result) (take_rest text (l.bytes + l.begun.len)) (c.along-next.ensures seen d))
+    (λ seen d. subst (λ zs. GoesAlong seen zs c.along-next.result) (take_rest text (l.bytes + l.begun.len)) (c.along-next.ensures.goes seen d))
     (not-true _ c.if-not-next.true)
 
-pub returns-then-is_blank : goal.returns-then-is_blank
-returns-then-is_blank c =
+pub returns-then-is_blank-clause-stops : goal.returns-then-is_blank-clause-stops
+returns-then-is_blank-clause-stops c =
     let text = c.args.text.now in
     let l = c.loop-next in
     let e = run-ended-from text (record { bytes = l.bytes; lines = l.lines; begun = l.begun }) c.along-next.result l.invariant.stands
-    (λ seen d. subst (λ zs. GoesAlong seen zs c.along-next.result) (take_rest text (l.bytes + l.begun.len)) (c.along-next.ensures seen d))
+    (λ seen d. subst (λ zs. GoesAlong seen zs c.along-next.result) (take_rest text (l.bytes + l.begun.len)) (c.along-next.ensures.goes seen d))
     (not-false _ c.if-not-next.false) in
     record {
       lines = e.lines;
@@ -36,13 +34,13 @@ returns-then-is_blank c =
       stopped = ((e.rest, refl), sym (c.is_blank.ensures e.seen e.stands.describes) ∙ c.if-is_blank.true);
     }
 
-pub returns-then-bytes-next-ge-PARAGRAPH_LIMIT : goal.returns-then-bytes-next-ge-PARAGRAPH_LIMIT
+pub returns-then-bytes-next-ge-PARAGRAPH_LIMIT-clause-stops : goal.returns-then-bytes-next-ge-PARAGRAPH_LIMIT-clause-stops
 unfolding paragraph_limit
-returns-then-bytes-next-ge-PARAGRAPH_LIMIT c =
+returns-then-bytes-next-ge-PARAGRAPH_LIMIT-clause-stops c =
     let text = c.args.text.now in
     let l = c.loop-next in
     let e = run-ended-from text (record { bytes = l.bytes; lines = l.lines; begun = l.begun }) c.along-next.result l.invariant.stands
-    (λ seen d. subst (λ zs. GoesAlong seen zs c.along-next.result) (take_rest text (l.bytes + l.begun.len)) (c.along-next.ensures seen d))
+    (λ seen d. subst (λ zs. GoesAlong seen zs c.along-next.result) (take_rest text (l.bytes + l.begun.len)) (c.along-next.ensures.goes seen d))
     (not-false _ c.if-not-next.false) in
     record {
       lines = e.lines;
@@ -62,7 +60,7 @@ loop-next-preserved c =
     let text = c.args.text.now in
     let l = c.loop-next in
     let e = run-ended-from text (record { bytes = l.bytes; lines = l.lines; begun = l.begun }) c.along-next.result l.invariant.stands
-    (λ seen d. subst (λ zs. GoesAlong seen zs c.along-next.result) (take_rest text (l.bytes + l.begun.len)) (c.along-next.ensures seen d))
+    (λ seen d. subst (λ zs. GoesAlong seen zs c.along-next.result) (take_rest text (l.bytes + l.begun.len)) (c.along-next.ensures.goes seen d))
     (not-false _ c.if-not-next.false) in
     let short : l.bytes + (c.along-next.result.begun.len + 1) ≤ paragraph_limit = omega (arith, c.if-bytes-next-ge-PARAGRAPH_LIMIT.false) in
     let stands = run-step text (record { bytes = l.bytes; lines = l.lines; begun = c.along-next.result.begun }) c.nothing-begun.result e c.nothing-begun.ensures
@@ -71,4 +69,5 @@ loop-next-preserved c =
       stands = stands;
       within = CanGoOn-within text _ stands;
       few = CanGoOn-few text _ stands;
+      further = omega arith;
     }

@@ -1,5 +1,4 @@
-use Rattle.std.proofs.Common.{◌+◌, ◌-◌, ◌≤◌, length}
-use Rattle.deb_syntax.specs.Walking.{CanGoOn}
+use Rattle.deb_syntax.proofs.Common.{◌+◌, ◌-◌, ◌≤◌, length, CanGoOn}
 use Rattle.deb_syntax.proofs.take.take_lines.Given as goal
 
 -- lines can be taken from there on
@@ -8,6 +7,7 @@ invariant-loop-next l = record {
   stands : CanGoOn l.text (record { bytes = l.bytes; lines = l.lines; begun = l.begun });
   within : l.bytes + l.begun.len ≤ length l.text;
   few : l.lines ≤ l.bytes;
+  further : l.fn.run.bytes + l.fn.run.begun.len ≤ l.bytes + l.begun.len;
 }
 
 abbrev pub decreases-loop-next : goal.decreases-loop-next

@@ -1,4 +1,4 @@
-use Rattle.std.proofs.Common.{refl}
+use Rattle.deb_syntax.proofs.Common.{refl}
 use Rattle.deb_syntax.proofs.Advancing.{advance_err}
 use Rattle.deb_syntax.proofs.paragraphs.Paragraphs.advance.Goals as goal
 

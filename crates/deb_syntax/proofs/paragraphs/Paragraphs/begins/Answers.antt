@@ -1,4 +1,4 @@
-use Rattle.std.proofs.Common.{refl}
+use Rattle.deb_syntax.proofs.Common.{refl}
 use Rattle.deb_syntax.proofs.Advancing.{begins_err}
 use Rattle.deb_syntax.proofs.paragraphs.Paragraphs.begins.Goals as goal
 

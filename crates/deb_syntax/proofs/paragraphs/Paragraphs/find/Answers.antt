@@ -1,15 +1,13 @@
-use Rattle.std.proofs.Common.{◌+◌, Ok, Err, refl, sym, ap, ◌∙◌}
-use Rattle.deb_base.specs.Devices.{read_failures_after}
-use Rattle.deb_syntax.specs.Feeding.{feed_state}
-use Rattle.deb_syntax.specs.Paragraphs.{state_of}
-use Rattle.deb_syntax.proofs.Advancing.{answers_behind, first_err, dropped_answer, is_line_refusal, kept_no_end, dropped_no_end, err_no_end, some_no_end, if_seen}
+use Rattle.deb_syntax.proofs.Common.{◌+◌, Ok, Err, refl, sym, ap, ◌∙◌, read_failures_after, feed_state, state_of}
+use Rattle.deb_syntax.proofs.Advancing.{answers_behind, takes_text, dropped_answer, is_line_refusal, some_no_end, if_seen}
+use Rattle.deb_syntax.proofs.Faults.{readers_fault}
 use Rattle.deb_syntax.proofs.Feeds.{feed_small}
 use Rattle.deb_syntax.proofs.paragraphs.Paragraphs.find.Goals as goal
 
 pub returns-in-Ok-End-clause-advances : goal.returns-in-Ok-End-clause-advances
 returns-in-Ok-End-clause-advances g c = record {
   answers = λ text passed fits. rw c.in-Ok-End.field-0-is at (c.in-Ok-End.ensures.first text passed fits);
-  taken = c.in-Ok-End.ensures.taken;
+  taken = λ text passed fits. takes_text text passed _ _ _ fits c.in-Ok-End.ensures.taken;
   counted = c.in-Ok-End.ensures.counted;
   fault = tt;
   current = c.in-Ok-End.ensures.none;
@@ -24,12 +22,12 @@ returns-in-Ok-Dropped-clause-advances g c =
     let shows = rw c.in-Ok-Dropped.field-0-is at c.in-Ok-Dropped.ensures.shows in
     record {
       answers = λ text passed fits. dropped_answer text passed (feed_state new.feed) new.hidden new.finished _ new.fault _ _ (rw c.in-Ok-Dropped.field-0-is at (c.in-Ok-Dropped.ensures.first text passed fits)) shows.0 new.hides (feed_small new.feed) (ap (λ n. n + 1) c.lines.ensures);
-      taken = c.in-Ok-Dropped.ensures.taken;
+      taken = λ text passed fits. takes_text text passed _ _ _ fits c.in-Ok-Dropped.ensures.taken;
       counted = c.in-Ok-Dropped.ensures.counted;
       fault = is_line_refusal c.lines.result;
       current = c.in-Ok-Dropped.ensures.none;
       finished = shows.1;
-      ended = λ finished. absurd (dropped_no_end _ (rw c.in-Ok-Dropped.field-0-is at (c.in-Ok-Dropped.ensures.ended finished)));
+      ended = λ finished. let e = rw c.in-Ok-Dropped.field-0-is at (c.in-Ok-Dropped.ensures.ended finished) in absurd cc;
       unhidden = tt;
     }
 
@@ -38,12 +36,12 @@ returns-in-Ok-clause-advances g c = record {
   answers = λ text passed fits.
       let b = rw c.in-Ok-Kept.field-0-is at (c.in-Ok-Kept.ensures.first text passed fits) in
       answers_behind text passed b.passed_now (Ok (state_of c.find_end.new.self).current) (state_of c.find_end.new.self) (g.R.Source.left c.find_end.new.reader) b.passes (c.in-Ok.ensures.answers text b.passed_now b.again);
-  taken = λ text passed fits. let b = rw c.in-Ok-Kept.field-0-is at (c.in-Ok-Kept.ensures.first text passed fits) in c.in-Ok.ensures.taken text b.passed_now b.again;
+  taken = λ text passed fits. let b = rw c.in-Ok-Kept.field-0-is at (c.in-Ok-Kept.ensures.first text passed fits) in takes_text text b.passed_now _ _ _ b.again c.in-Ok.ensures.taken;
   counted = c.in-Ok.ensures.counted ∙ c.in-Ok-Kept.ensures.counted;
   fault = tt;
   current = refl;
   finished = c.in-Ok.ensures.unfinished ∙ sym (some_no_end (state_of c.find_end.new.self).current c.in-Ok.ensures.found);
-  ended = λ finished. absurd (kept_no_end _ (rw c.in-Ok-Kept.field-0-is at (c.in-Ok-Kept.ensures.ended finished)));
+  ended = λ finished. let e = rw c.in-Ok-Kept.field-0-is at (c.in-Ok-Kept.ensures.ended finished) in absurd cc;
   unhidden = if_seen (state_of c.find_end.new.self).current _ c.in-Ok.ensures.unhidden;
 }
 
@@ -52,23 +50,23 @@ returns-in-Err-find_end-clause-advances g c = record {
   answers = λ text passed fits.
       let b = rw c.in-Ok-Kept.field-0-is at (c.in-Ok-Kept.ensures.first text passed fits) in
       answers_behind text passed b.passed_now (Err c.in-Err-find_end.fault) (state_of c.find_end.new.self) (g.R.Source.left c.find_end.new.reader) b.passes (c.in-Err-find_end.ensures.answers text b.passed_now b.again);
-  taken = λ text passed fits. let b = rw c.in-Ok-Kept.field-0-is at (c.in-Ok-Kept.ensures.first text passed fits) in c.in-Err-find_end.ensures.taken text b.passed_now b.again;
+  taken = λ text passed fits. let b = rw c.in-Ok-Kept.field-0-is at (c.in-Ok-Kept.ensures.first text passed fits) in takes_text text b.passed_now _ _ _ b.again c.in-Err-find_end.ensures.taken;
   counted = c.in-Err-find_end.ensures.counted ∙ ap (λ n. read_failures_after {T = Unit {0}} n (Err c.in-Err-find_end.fault)) c.in-Ok-Kept.ensures.counted;
   fault = c.in-Err-find_end.ensures.fault;
   current = c.in-Err-find_end.ensures.none;
   finished = c.in-Err-find_end.ensures.unfinished;
-  ended = λ finished. absurd (kept_no_end _ (rw c.in-Ok-Kept.field-0-is at (c.in-Ok-Kept.ensures.ended finished)));
+  ended = λ finished. let e = rw c.in-Ok-Kept.field-0-is at (c.in-Ok-Kept.ensures.ended finished) in absurd cc;
   unhidden = tt;
 }
 
 pub returns-in-Err-clause-advances : goal.returns-in-Err-clause-advances
 returns-in-Err-clause-advances g c = record {
-  answers = λ text passed fits. first_err text passed c.in-Err.fault _ _ _ (c.in-Err.ensures.first text passed fits);
-  taken = c.in-Err.ensures.taken;
+  answers = λ text passed fits. readers_fault c.in-Err.fault (λ refusal is. is.0) (c.in-Err.ensures.first text passed fits);
+  taken = λ text passed fits. takes_text text passed _ _ _ fits c.in-Err.ensures.taken;
   counted = c.in-Err.ensures.counted;
   fault = c.in-Err.ensures.fault;
   current = c.in-Err.ensures.none;
   finished = c.in-Err.ensures.shows;
-  ended = λ finished. absurd (err_no_end c.in-Err.fault (c.in-Err.ensures.ended finished));
+  ended = λ finished. let e = c.in-Err.ensures.ended finished in absurd cc;
   unhidden = tt;
 }

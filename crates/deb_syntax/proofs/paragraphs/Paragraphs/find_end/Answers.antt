@@ -1,7 +1,7 @@
-use Rattle.std.proofs.Common.{length, ap, refl, arith}
-use Rattle.deb_syntax.specs.Feeding.{feed_state}
-use Rattle.deb_syntax.proofs.Advancing.{plain_ahead, tell_next, tell_end_fault, fits_cut, keeps_reach, limit_reach, near_nothing, hides_nothing, taken_of}
+use Rattle.deb_syntax.proofs.Common.{length, ap, refl, arith, feed_state}
+use Rattle.deb_syntax.proofs.Advancing.{plain_ahead, tell_next, tell_end_fault, keeps_reach, limit_reach, near_nothing, hides_nothing}
 use Rattle.deb_syntax.proofs.Feeds.{feed_small}
+use Rattle.deb_syntax.proofs.Takings.{takes_more}
 use Rattle.deb_syntax.proofs.paragraphs.Paragraphs.find_end.Goals as goal
 
 pub returns-in-Ok-clause-answers : goal.returns-in-Ok-clause-answers
@@ -18,7 +18,7 @@ returns-in-Err-clause-answers g c = λ text passed fits.
     let none = c.requires.unhidden in
     let small = feed_small old.feed in
     let ahead = plain_ahead text passed (feed_state old.feed) old.hidden none old.finished _ old.fault _ fits small in
-    tell_end_fault text passed (feed_state old.feed) old.hidden none old.finished _ old.fault _ fits small c.in-Err.fault (feed_state c.pass_paragraph.new.feed) _ _ _ (c.in-Err.ensures.ahead _ ahead)
+    tell_end_fault text passed (feed_state old.feed) old.hidden none old.finished _ old.fault _ fits small c.in-Err.fault (c.in-Err.ensures.ahead _ ahead)
 
 pub pass_paragraph-requires-clause-reach : goal.pass_paragraph-requires-clause-reach
 pass_paragraph-requires-clause-reach g c = keeps_reach _ (feed_state c.args.self.now.feed) (feed_small c.args.self.now.feed) c.requires.line
@@ -32,15 +32,7 @@ invariant_of-self-in-Err g c = record {
 }
 
 pub returns-in-Ok-clause-taken : goal.returns-in-Ok-clause-taken
-returns-in-Ok-clause-taken g c = λ text passed fits.
-    let old = c.args.self.now in
-    let small = feed_small old.feed in
-    let ahead = plain_ahead text passed (feed_state old.feed) old.hidden c.requires.unhidden old.finished _ old.fault _ fits small in
-    taken_of text passed _ _ _ _ (fits_cut text passed _ _ fits) small (c.in-Ok.ensures.taken _ ahead)
+returns-in-Ok-clause-taken g c = takes_more _ _ _ _ _ _ c.in-Ok.ensures.taken (omega (arith, c.requires.unhidden)) (omega arith)
 
 pub returns-in-Err-clause-taken : goal.returns-in-Err-clause-taken
-returns-in-Err-clause-taken g c = λ text passed fits.
-    let old = c.args.self.now in
-    let small = feed_small old.feed in
-    let ahead = plain_ahead text passed (feed_state old.feed) old.hidden c.requires.unhidden old.finished _ old.fault _ fits small in
-    taken_of text passed _ _ _ _ (fits_cut text passed _ _ fits) small (c.in-Err.ensures.taken _ ahead)
+returns-in-Err-clause-taken g c = takes_more _ _ _ _ _ _ c.in-Err.ensures.taken (omega (arith, c.requires.unhidden)) (omega arith)

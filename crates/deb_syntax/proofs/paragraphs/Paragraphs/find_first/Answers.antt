@@ -1,11 +1,7 @@
-use Rattle.std.proofs.Common.{◌≡◌, Bool, ◌≤◌, [], length, true, None, refl, sym, ap, subst, arith}
-use Rattle.std.specs.Option.{option_map}
-use Rattle.deb_base.specs.Bodies.{paragraph_limit}
-use Rattle.deb_syntax.specs.Feeding.{feed_state, buffer_of}
-use Rattle.deb_syntax.specs.Reading.{State, Fits, state_from}
-use Rattle.deb_syntax.specs.Standing.{standing_of}
-use Rattle.deb_syntax.proofs.Advancing.{plain_ahead, tell_none, tell_begin, stays_none, hidden_begins, near_nothing, hides_nothing, test_from_hides, tell_fault, long_not_blank, long_some, hides_reach, keeps_reach, limit_reach, reach_limit, taken_of, taken_none, fits_cut}
+use Rattle.deb_syntax.proofs.Common.{◌≡◌, Bool, ◌≤◌, [], length, true, None, refl, sym, ap, subst, arith, option_map, paragraph_limit, feed_state, buffer_of, State, Fits, state_from, standing_of}
+use Rattle.deb_syntax.proofs.Advancing.{plain_ahead, tell_none, tell_begin, stays_none, hidden_begins, near_nothing, hides_nothing, hides_long, tell_fault, long_not_blank, long_some, hides_reach, keeps_reach, limit_reach, reach_limit}
 use Rattle.deb_syntax.proofs.Feeds.{feed_small}
+use Rattle.deb_syntax.proofs.Takings.{takes_none, takes_more}
 use Rattle.deb_syntax.proofs.paragraphs.Paragraphs.find_first.Goals as goal
 
 pub returns-then-self-clause-first : goal.returns-then-self-clause-first
@@ -28,7 +24,7 @@ invariant_of-self-in-Ok-End g c =
 pub invariant_of-self-in-Ok-Dropped : goal.invariant_of-self-in-Ok-Dropped
 invariant_of-self-in-Ok-Dropped g c =
     let shows = rw c.in-Ok-Dropped.field-0-is at c.in-Ok-Dropped.ensures.found in
-    record { near = shows.1.near; reach = limit_reach _ (hides_reach _ _ _ _ shows.1.describes.len (feed_small c.first_line.new.feed) shows.1); hides = test_from_hides shows.0 _ _ _ shows.1.describes.len shows.1 (feed_small c.first_line.new.feed); stands = refl }
+    record { near = shows.1.near; reach = limit_reach _ (hides_reach _ _ _ _ shows.1.describes.len (feed_small c.first_line.new.feed) shows.1); hides = hides_long shows.0 _ _ _ shows.1.describes.len shows.1 (feed_small c.first_line.new.feed); stands = refl }
 
 pub invariant_of-self-in-Err : goal.invariant_of-self-in-Err
 invariant_of-self-in-Err g c =
@@ -73,7 +69,7 @@ returns-in-Err-clause-first g c = λ text passed fits.
     let none : old.hidden ≡ 0 = omega arith in
     let small = feed_small old.feed in
     let ahead = plain_ahead text passed (feed_state old.feed) old.hidden none old.finished _ old.fault _ fits small in
-    tell_fault text passed (feed_state old.feed) old.hidden none old.finished _ old.fault _ fits small c.in-Err.fault (feed_state c.first_line.new.feed) _ _ _ (c.in-Err.ensures.ahead _ ahead)
+    tell_fault text passed (feed_state old.feed) old.hidden none old.finished _ old.fault _ fits small c.in-Err.fault (c.in-Err.ensures.ahead _ ahead)
 
 pub first_line-requires-clause-reach : goal.first_line-requires-clause-reach
 first_line-requires-clause-reach g c = reach_limit _ (omega (arith, c.args.self.now.reach))
@@ -89,39 +85,19 @@ invariant_of-self-in-Kept-1 g c =
     }
 
 pub returns-then-self-clause-taken : goal.returns-then-self-clause-taken
-returns-then-self-clause-taken g c = λ text passed fits.
-    let old = c.args.self.now in
-    taken_none text passed (feed_state old.feed) old.hidden old.finished _ old.fault _ fits (reach_limit _ old.reach)
+returns-then-self-clause-taken g c = takes_none _ _ _ (reach_limit _ (omega (arith, c.args.self.now.reach)))
 
 pub returns-then-self-gt0-clause-taken : goal.returns-then-self-gt0-clause-taken
-returns-then-self-gt0-clause-taken g c = λ text passed fits.
-    let old = c.args.self.now in
-    taken_none text passed (feed_state old.feed) old.hidden old.finished _ old.fault _ fits (reach_limit _ old.reach)
+returns-then-self-gt0-clause-taken g c = takes_none _ _ _ (reach_limit _ (omega (arith, c.args.self.now.reach)))
 
 pub returns-in-Ok-End-clause-taken : goal.returns-in-Ok-End-clause-taken
-returns-in-Ok-End-clause-taken g c = λ text passed fits.
-    let old = c.args.self.now in
-    let small = feed_small old.feed in
-    let ahead = plain_ahead text passed (feed_state old.feed) old.hidden (omega arith) old.finished _ old.fault _ fits small in
-    taken_of text passed _ _ _ _ (fits_cut text passed _ _ fits) small (c.in-Ok-End.ensures.taken _ ahead)
+returns-in-Ok-End-clause-taken g c = takes_more _ _ _ _ _ _ c.in-Ok-End.ensures.taken (omega arith) (omega arith)
 
 pub returns-in-Ok-Kept-clause-taken : goal.returns-in-Ok-Kept-clause-taken
-returns-in-Ok-Kept-clause-taken g c = λ text passed fits.
-    let old = c.args.self.now in
-    let small = feed_small old.feed in
-    let ahead = plain_ahead text passed (feed_state old.feed) old.hidden (omega arith) old.finished _ old.fault _ fits small in
-    taken_of text passed _ _ _ _ (fits_cut text passed _ _ fits) small (c.in-Ok-Kept.ensures.taken _ ahead)
+returns-in-Ok-Kept-clause-taken g c = takes_more _ _ _ _ _ _ c.in-Ok-Kept.ensures.taken (omega arith) (omega arith)
 
 pub returns-in-Ok-Dropped-clause-taken : goal.returns-in-Ok-Dropped-clause-taken
-returns-in-Ok-Dropped-clause-taken g c = λ text passed fits.
-    let old = c.args.self.now in
-    let small = feed_small old.feed in
-    let ahead = plain_ahead text passed (feed_state old.feed) old.hidden (omega arith) old.finished _ old.fault _ fits small in
-    taken_of text passed _ _ _ _ (fits_cut text passed _ _ fits) small (c.in-Ok-Dropped.ensures.taken _ ahead)
+returns-in-Ok-Dropped-clause-taken g c = takes_more _ _ _ _ _ _ c.in-Ok-Dropped.ensures.taken (omega arith) (omega arith)
 
 pub returns-in-Err-clause-taken : goal.returns-in-Err-clause-taken
-returns-in-Err-clause-taken g c = λ text passed fits.
-    let old = c.args.self.now in
-    let small = feed_small old.feed in
-    let ahead = plain_ahead text passed (feed_state old.feed) old.hidden (omega arith) old.finished _ old.fault _ fits small in
-    taken_of text passed _ _ _ _ (fits_cut text passed _ _ fits) small (c.in-Err.ensures.taken _ ahead)
+returns-in-Err-clause-taken g c = takes_more _ _ _ _ _ _ c.in-Err.ensures.taken (omega arith) (omega arith)

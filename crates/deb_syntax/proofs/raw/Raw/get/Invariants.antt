@@ -1,6 +1,4 @@
-use Rattle.std.proofs.Common.{◌≡◌, drop}
-use Rattle.deb_syntax.specs.Places.{fields_at}
-use Rattle.deb_syntax.specs.Raw.{fields_of, field_named}
+use Rattle.deb_syntax.proofs.Common.{◌≡◌, drop, fields_at, fields_of, field_named}
 use Rattle.deb_syntax.proofs.raw.Raw.get.Given as goal
 
 -- no field so far has the name

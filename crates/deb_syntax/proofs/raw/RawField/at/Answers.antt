@@ -1,6 +1,4 @@
-use Rattle.std.proofs.Common.{subst, sym}
-use Rattle.deb_base.specs.Bodies.{IsBody}
-use Rattle.deb_syntax.specs.Places.{field_at}
+use Rattle.deb_syntax.proofs.Common.{subst, sym, IsBody, field_at}
 use Rattle.deb_syntax.proofs.FieldTests.{is_field-body}
 use Rattle.deb_syntax.proofs.raw.RawField.at.Goals as goal
 

@@ -1,4 +1,4 @@
-use Rattle.std.proofs.Common.{sym}
+use Rattle.deb_syntax.proofs.Common.{sym}
 use Rattle.deb_syntax.proofs.Slices.{drop-slice_range}
 use Rattle.deb_syntax.proofs.window.Window.pass.Goals as goal
 

@@ -1,5 +1,4 @@
-use Rattle.std.proofs.Common.{◌∙◌, ◌+◌, ◌++◌, take, drop, slice_range, ap, arith, rules, length-drop}
-use Rattle.std.proofs.lemmas.List.{length-take-le, with_items_is, places}
+use Rattle.deb_syntax.proofs.Common.{◌∙◌, ◌+◌, ◌++◌, take, drop, slice_range, ap, arith, rules, length-drop, length-take-le, with_items_is, places}
 use Rattle.deb_syntax.proofs.Feeds.{slice_range-same_front, slice_range-grown}
 use Rattle.deb_syntax.proofs.window.Window.take.Goals as goal
 

@@ -1,6 +1,5 @@
-use Rattle.std.proofs.Common.{◌≡◌, drop, map}
-use Rattle.deb_syntax.specs.Places.{name_at, has_stood}
-use Rattle.deb_syntax.proofs.names.stands_at.Given as goal
+use Rattle.deb_syntax.proofs.Common.{◌≡◌, drop, map, name_at, has_stood}
+use Rattle.deb_syntax.proofs.seen_names.stands_at.Given as goal
 
 -- the name is at none of the places so far
 abbrev pub invariant-loop-place : goal.invariant-loop-place

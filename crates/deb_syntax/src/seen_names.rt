@@ -36,7 +36,7 @@ impl<'a> Names<'a> {
 }
 
 /// Adds a name behind those at the places, and says whether it is new. Memory: a growth of the set
-/// was refused.
+/// was refused. Where it isn't new, or after want of memory, the set is of no further use.
 pub(crate) fn add<'a>(
     names: &mut Names<'a>,
     text: &'a [u8],
@@ -61,6 +61,7 @@ pub(crate) fn add<'a>(
 }
 
 /// Adds a name behind those at the places, whose marks are set, and says whether it is new.
+#[tactic(auto, using(crate::proofs::NameMarks::marking))]
 fn add_to_few(marks: &mut [bool; 256], text: &[u8], places: &[Place], name: &[u8]) -> bool
     requires within { IsTrue (list_all (lies_within (length text.now)) places.now) }
     requires marked { IsTrue (list_all (is_marked marks.old) (map (name_at text.now) places.now)) }
@@ -98,6 +99,7 @@ fn set_mark(marks: &mut [bool; 256], mark: usize)
 }
 
 /// Whether the name stands at one of the places.
+#[tactic(auto, using(crate::proofs::NameSets::standing))]
 fn stands_at(text: &[u8], places: &[Place], name: &[u8]) -> bool
     requires { IsTrue (list_all (lies_within (length text.now)) places.now) }
     ensures { result ≡ has_stood name.now (map (name_at text.now) places.now) }
@@ -111,6 +113,7 @@ fn stands_at(text: &[u8], places: &[Place], name: &[u8]) -> bool
 }
 
 /// Keeps the names at the places in an empty set.
+#[tactic(auto, using(crate::proofs::NameSets::standing))]
 fn keep_all<'a>(
     all: &mut IndexSet<FoldedName<'a>>,
     text: &'a [u8],
@@ -135,6 +138,6 @@ fn keep<'a>(all: &mut IndexSet<FoldedName<'a>>, name: &'a [u8]) -> Result<bool, 
         ≡ (is_kept other all.old.keys || bytes_eq (folded name.now) (folded other))) }
     ensures fault { IfErr result (λ fault. fault ≡ Fault.Memory) }
 {
-    let added = all.insert(FoldedName(name)).map_err(|_| Fault::Memory)?;
+    let added = all.insert(FoldedName(name))?;
     Ok(added)
 }

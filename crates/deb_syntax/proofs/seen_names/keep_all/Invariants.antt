@@ -1,6 +1,5 @@
-use Rattle.std.proofs.Common.{◌≡◌, ℕ, List, take, map}
-use Rattle.deb_syntax.specs.Places.{name_at, has_stood, is_kept}
-use Rattle.deb_syntax.proofs.names.keep_all.Given as goal
+use Rattle.deb_syntax.proofs.Common.{◌≡◌, ℕ, List, take, map, name_at, has_stood, is_kept}
+use Rattle.deb_syntax.proofs.seen_names.keep_all.Given as goal
 
 -- the names so far are kept
 abbrev pub invariant-loop-place : goal.invariant-loop-place

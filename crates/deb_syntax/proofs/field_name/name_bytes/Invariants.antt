@@ -1,7 +1,5 @@
-use Rattle.std.proofs.Common.{◌≡◌, ◌+◌, ◌-◌, ◌≤◌, length, take, drop, true}
-use Rattle.std.specs.List.{list_all, prefix_len}
-use Rattle.deb_base.specs.FieldNames.{is_name_byte}
-use Rattle.deb_syntax.proofs.name.name_bytes.Given as goal
+use Rattle.deb_syntax.proofs.Common.{◌≡◌, ◌+◌, ◌-◌, ◌≤◌, length, take, drop, true, list_all, prefix_len, is_name_byte}
+use Rattle.deb_syntax.proofs.field_name.name_bytes.Given as goal
 
 -- the bytes so far are a name's, and what follows tells how many more are
 abbrev pub invariant-loop-len : goal.invariant-loop-len
