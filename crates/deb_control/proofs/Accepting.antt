@@ -1,31 +1,11 @@
 -- A file is refused exactly where no meaning of it is accepted.
-use Rattle.std.proofs.Common.{◌≡◌, ℕ, ◌≤◌, ◌&&◌, not, Bool, true, false, List, [], ◌∷◌, ◌++◌, length, map, Option, None, IsTrue, refl, sym, ap, ◌∙◌, subst, arith, append-nil}
-use Rattle.std.proofs.lemmas.Bool.{false≢true}
-use Rattle.std.proofs.lemmas.List.{length-map}
-use Rattle.std.specs.List.{AllByRecursion}
-use Rattle.deb_syntax.specs.Lines.{Paragraph, paragraphs_of, file_limit}
-use Rattle.deb_base.specs.Bodies.{paragraph_limit}
-use Rattle.deb_syntax.specs.Fields.{IsShort}
-use Rattle.deb_syntax.specs.Laws.{IsRun}
-use Rattle.deb_syntax.specs.Meaning.{Entries, entries_of, HaveMeanings}
-use Rattle.deb_syntax.specs.Answers.{line_beyond, paragraphs_within}
-use Rattle.deb_syntax.proofs.JudgingLaws.{push-append, judged-complete}
-use Rattle.deb_syntax.proofs.JudgingLawsRefusals.{judged-sound}
-use Rattle.deb_syntax.proofs.LinesLawsPlaces.{paragraphs_of-IsRun}
-use Rattle.deb_field.specs.CanonLaw.{CanonLaw}
-use Rattle.deb_control.specs.Canonical.{file_text}
-use Rattle.deb_control.specs.Pairs.{Pairwise}
-use Rattle.deb_control.specs.Rules.{Rules, AreRulesOf}
-use Rattle.deb_control.specs.Refusals.{has_some, outcome_behind, outcome, line_behind, refusal_by}
-use Rattle.deb_control.specs.ValueFiles.{ValueEntries, SpellsEntry, SpellsEntries, MeansValues, body_under, bodies_of, values_text}
-use Rattle.deb_control.specs.Acceptance.{has_values, IsAccepted}
+use Rattle.deb_control.proofs.Common.{◌≡◌, ℕ, ◌≤◌, ◌&&◌, not, Bool, true, false, List, [], ◌∷◌, ◌++◌, length, map, Option, None, IsTrue, refl, sym, ap, ◌∙◌, subst, arith, append-nil, false≢true, length-map, AllByRecursion, Paragraph, paragraphs_of, file_limit, paragraph_limit, IsShort, IsRun, Entries, entries_of, HaveMeanings, line_beyond, paragraphs_within, push-append, judged-complete, judged-sound, paragraphs_of-IsRun, CanonLaw, file_text, Pairwise, Rules, AreRulesOf, has_some, outcome_behind, outcome, line_behind, refusal_by, ValueEntries, SpellsEntry, SpellsEntries, MeansValues, body_under, bodies_of, values_text, has_values, IsAccepted, RefusedOrAccepted, AcceptedMeansOneThing, AcceptedIsWritten, CanonicalTextIsAccepted, CanonicalTextTellsAccepted, CanonicalTextIsItsOwn}
 use Rattle.deb_control.proofs.FileText.{AreEntries-from_means}
 use Rattle.deb_control.proofs.Limits.{line_too_long-none, total_length-within, line_beyond-none, length-within, part_within-whole, file_text-grows, paragraphs_at, paragraphs_of-file_text, HasShortText, short-from_texts, texts-from_short}
 use Rattle.deb_control.proofs.FieldValues.{has_values-have_names, values-from_none, none-from_values, canonical-from_values}
 use Rattle.deb_control.proofs.Passing.{AllPass, outcome-from_pass, pass-from_outcome, last-parts, last-from_parts}
 use Rattle.deb_control.proofs.ValueBodies.{AreEntries-bodies_of}
 use Rattle.deb_control.proofs.ValueFiles.{text_means_one_thing, canonical_text_means_the_same, canonical_text_tells_meanings}
-use Rattle.deb_control.specs.AcceptanceLaws.{RefusedOrAccepted, AcceptedMeansOneThing, AcceptedIsWritten, CanonicalTextIsAccepted, CanonicalTextTellsAccepted, CanonicalTextIsItsOwn}
 
 -- the canonical text of all is within the limit where the last front is
 file_within : (rules : Rules) (beyond : Option ℕ) (before : List Entries) (left : List Paragraph) (passed : List Entries) → AllPass rules beyond before left passed → length (file_text before) ≤ file_limit → length (file_text (before ++ passed)) ≤ file_limit

@@ -1,26 +1,6 @@
 -- What is built of a paragraph whose fields were read and sorted.
-use Rattle.std.proofs.Common.{◌≡◌, ◌<◌, ◌≤◌, ◌&&◌, not, true, List, [], ◌∷◌, length, map, Ok, Err, None, refl, sym, ap, ◌∙◌, subst, arith, All, IsPermutation}
-use Rattle.std.proofs.lemmas.Bool.{and_parts, not-true}
-use Rattle.std.proofs.lemmas.List.Elements.{All-nil, All-cons, All-tail, All-get_or}
-use Rattle.std.proofs.lemmas.List.Sorted.{All-permutation}
-use Rattle.std.specs.List.{AllByRecursion}
-use Rattle.std.specs.List.Sorted.{IsSortedBy}
-use Rattle.deb_base.specs.declared.code.Code.TheVariants.{ParagraphTooLong}
+use Rattle.deb_control.proofs.Common.{◌≡◌, ◌<◌, ◌≤◌, ◌&&◌, not, true, List, [], ◌∷◌, length, map, Ok, Err, None, refl, sym, ap, ◌∙◌, subst, arith, All, IsPermutation, and_parts, not-true, All-nil, All-cons, All-tail, All-get_or, All-permutation, AllByRecursion, IsSortedBy, ParagraphTooLong, Field, has_name, AreDistinct, is_field, are_fields, entries_of, Seen, Doc, ValueMeaning, value_text, SpellsValue, value_law, paragraph_text, rules_of, Pairwise, field_in, values_in, text_of_values, IsTypedField, AreValuesOf, value_refusal_of, have_names, canonical_entries, built, comes_before, SpellsEntry, body_under, TypedField}
 use Rattle.deb_base.specs.Bodies.{paragraph_limit}
-use Rattle.deb_syntax.specs.Fields.{Field, has_name, AreDistinct, is_field, are_fields}
-use Rattle.deb_syntax.specs.Meaning.{entries_of}
-use Rattle.deb_syntax.specs.Answers.{Seen}
-use Rattle.deb_field.specs.declared.kind.Doc.{Doc}
-use Rattle.deb_field.specs.Values.{ValueMeaning, value_text, SpellsValue}
-use Rattle.deb_field.specs.ValueLaws.{value_law}
-use Rattle.deb_control.specs.Canonical.{paragraph_text}
-use Rattle.deb_control.specs.Documents.{rules_of}
-use Rattle.deb_control.specs.Pairs.{Pairwise}
-use Rattle.deb_control.specs.Paragraphs.{field_in, values_in, text_of_values, IsTypedField, AreValuesOf}
-use Rattle.deb_control.specs.Refusals.{value_refusal_of, have_names, canonical_entries, built}
-use Rattle.deb_control.specs.Sorting.{comes_before}
-use Rattle.deb_control.specs.ValueFiles.{SpellsEntry, body_under}
-use Rattle.deb_control.specs.declared.typed_field.TypedField.{TypedField}
 use Rattle.deb_control.proofs.DocumentRules.{document_rules}
 use Rattle.deb_control.proofs.FieldValues.{canonical-from_values}
 use Rattle.deb_control.proofs.Passing.{built-from_parts, built-long}

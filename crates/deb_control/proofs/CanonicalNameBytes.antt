@@ -1,11 +1,5 @@
 -- The canonical spelling of a name is a name.
-use Rattle.std.proofs.Common.{◌≡◌, ℕ, Bool, true, false, IsTrue, List, [], ◌∷◌, eqb, refl, arith}
-use Rattle.std.proofs.lemmas.Bool.{and_parts, and_from}
-use Rattle.std.proofs.lemmas.Bool.Decides.{nat_tests}
-use Rattle.std.specs.List.{list_all}
-use Rattle.std.specs.Char.{to_ascii_lowercase, to_ascii_uppercase}
-use Rattle.deb_base.specs.Names.{capitalised, canonical_name}
-use Rattle.deb_base.specs.FieldNames.{is_name_byte, may_begin_name, is_name}
+use Rattle.deb_control.proofs.Common.{◌≡◌, ℕ, Bool, true, false, IsTrue, List, [], ◌∷◌, eqb, refl, arith, and_parts, and_from, nat_tests, list_all, to_ascii_lowercase, to_ascii_uppercase, capitalised, canonical_name, is_name_byte, may_begin_name, is_name}
 
 is_name_byte-upper : (b : ℕ) → is_name_byte b ≡ true → is_name_byte (to_ascii_uppercase b) ≡ true
 is_name_byte-upper b h = grind (arith, nat_tests)

@@ -1,11 +1,5 @@
 -- The rules of a kind of document are those of its values.
-use Rattle.std.proofs.Common.{◌≡◌, ℕ, List, Option, None, Some, refl, sym, ap, ◌∙◌}
-use Rattle.deb_base.specs.declared.code.Code.{Code}
-use Rattle.deb_field.specs.declared.kind.Doc.{Doc}
-use Rattle.deb_field.specs.Values.{ValueMeaning, value_text, SpellsValue, value_refusal}
-use Rattle.deb_field.specs.ValueLaws.{value_law, value_refusals}
-use Rattle.deb_control.specs.Rules.{AreRulesOf}
-use Rattle.deb_control.specs.Documents.{rules_of, text_unless_refused}
+use Rattle.deb_control.proofs.Common.{◌≡◌, ℕ, List, Option, None, Some, refl, sym, ap, ◌∙◌, Code, Doc, ValueMeaning, value_text, SpellsValue, value_refusal, value_law, value_refusals, AreRulesOf, rules_of, text_unless_refused}
 
 text_is : (doc : Doc) (name body : List ℕ) (v : ValueMeaning) (o : Option Code) (e : value_refusal doc name body ≡ o) → SpellsValue doc name body v → text_unless_refused doc name body o e ≡ value_text v
 text_is doc name body v None e s =

@@ -1,20 +1,5 @@
 -- What every meaning's entries are: in ascending order of canonical names, with bodies that are text.
-use Rattle.std.proofs.Common.{◌≡◌, ℕ, ◌+◌, IsTrue, List, [], ◌∷◌, ◌++◌, length, Ordering, Less, Equal, Greater, refl, sym, ap, ◌∙◌, subst}
-use Rattle.std.specs.List.{AllByRecursion}
-use Rattle.std.specs.Str.{IsUtf8}
-use Rattle.std.specs.BTreeMap.{insert_entry}
-use Rattle.std.specs.Ordering.{match_ordering, ordering_reverse}
-use Rattle.std.proofs.lemmas.Cmp.{nat_list_cmp_total}
-use Rattle.deb_base.specs.Names.{canonical_name}
-use Rattle.deb_base.proofs.CanonicalNames.{canonical_name-canonical_name}
-use Rattle.deb_base.specs.Bodies.{Line, is_body_shape}
-use Rattle.deb_syntax.specs.Lines.{Paragraph}
-use Rattle.deb_syntax.specs.Fields.{Field, SpellsField, SpellsFields, SpellsParagraph}
-use Rattle.deb_base.specs.FieldNames.{is_name}
-use Rattle.deb_syntax.specs.Meaning.{byte_order, Entries, entries_after, entries_of, HaveMeanings}
-use Rattle.deb_syntax.proofs.LinesOfPieces.{IsNonempty}
-use Rattle.deb_syntax.proofs.FieldBytes.{IsUtf8-body}
-use Rattle.deb_syntax.proofs.ParagraphLines.{HaveLines}
+use Rattle.deb_control.proofs.Common.{◌≡◌, ℕ, ◌+◌, IsTrue, List, [], ◌∷◌, ◌++◌, length, Ordering, Less, Equal, Greater, refl, sym, ap, ◌∙◌, subst, AllByRecursion, IsUtf8, insert_entry, match_ordering, ordering_reverse, nat_list_cmp_total, canonical_name, canonical_name-canonical_name, Line, is_body_shape, Paragraph, Field, SpellsField, SpellsFields, SpellsParagraph, is_name, byte_order, Entries, entries_after, entries_of, HaveMeanings, IsNonempty, IsUtf8-body, HaveLines}
 use Rattle.deb_control.proofs.CanonicalNameBytes.{is_name-canonical_name}
 
 -- a canonical name, and a body that a field may have

@@ -1,19 +1,5 @@
 -- The lines of an entry's canonical text spell a field of its name and body.
-use Rattle.std.proofs.Common.{◌≡◌, ℕ, ◌==◌, Bool, true, false, IsTrue, List, [], ◌∷◌, ◌++◌, drop, refl, sym, ap, ◌∙◌, subst, append_assoc, append-nil, arith}
-use Rattle.std.proofs.lemmas.Bool.{and_parts, cond_both}
-use Rattle.std.proofs.lemmas.Bool.Decides.{nat_tests}
-use Rattle.std.specs.List.{AllByRecursion, list_all}
-use Rattle.std.specs.Str.{IsUtf8}
-use Rattle.deb_base.specs.Bodies.{Line, newline, pieces_of, is_blank_byte, is_all_blank}
-use Rattle.deb_syntax.specs.Lines.{lines_of}
-use Rattle.deb_base.specs.FieldNames.{colon, is_name_byte, is_name}
-use Rattle.deb_syntax.specs.Fields.{SpellsField}
-use Rattle.deb_base.proofs.TextLines.{IsUtf8-with_ascii, IsUtf8-lines}
-use Rattle.deb_syntax.proofs.LinesLaws.{joined-pieces_of}
-use Rattle.deb_syntax.proofs.LinesOfPieces.{IsNonempty, IsNonempty-pieces_of, lines_of-pieces}
-use Rattle.deb_base.proofs.FieldBytes.{each_from_list_all, each_name_byte, name_is_ascii, blanks_are_ascii, IsUtf8-with_all_ascii}
-use Rattle.deb_base.proofs.LaterPieces.{HoldNoBlank, HoldNoBlank-pieces_of, HoldNoBlank-body, later_pieces-cons, later_pieces-append}
-use Rattle.deb_control.specs.Canonical.{behind_colon, field_text}
+use Rattle.deb_control.proofs.Common.{◌≡◌, ℕ, ◌==◌, Bool, true, false, IsTrue, List, [], ◌∷◌, ◌++◌, drop, refl, sym, ap, ◌∙◌, subst, append_assoc, append-nil, arith, and_parts, cond_both, nat_tests, AllByRecursion, list_all, IsUtf8, Line, newline, pieces_of, is_blank_byte, is_all_blank, lines_of, colon, is_name_byte, is_name, SpellsField, IsUtf8-with_ascii, IsUtf8-lines, joined-pieces_of, IsNonempty, IsNonempty-pieces_of, lines_of-pieces, each_from_list_all, each_name_byte, name_is_ascii, blanks_are_ascii, IsUtf8-with_all_ascii, HoldNoBlank, HoldNoBlank-pieces_of, HoldNoBlank-body, later_pieces-cons, later_pieces-append, behind_colon, field_text}
 use Rattle.deb_control.proofs.Entries.{IsEntry}
 
 -- an entry's canonical text without its last newline

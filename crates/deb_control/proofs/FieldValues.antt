@@ -1,28 +1,5 @@
 -- The values of a paragraph's fields: they are there exactly where no body is refused, and have the canonical bodies.
-use Rattle.std.proofs.Common.{◌≡◌, ℕ, ◌||◌, ◌&&◌, Bool, true, false, cond, is_some, Option, None, Some, List, [], ◌∷◌, map, Ordering, Less, Equal, Greater, refl, sym, ap, ◌∙◌, subst}
-use Rattle.std.proofs.lemmas.Bool.{or_parts}
-use Rattle.std.proofs.lemmas.Map.Text.{is_eq-slice_cmp}
-use Rattle.std.proofs.lemmas.Slice.Eq.{bytes_eq-Decides}
-use Rattle.std.proofs.Common.{is_eq}
-use Rattle.std.specs.BTreeMap.{insert_entry}
-use Rattle.std.specs.FinMap.{find}
-use Rattle.std.specs.List.{AllByRecursion}
-use Rattle.std.specs.Ordering.{match_ordering, eq_by_cmp}
-use Rattle.std.specs.Str.{bytes_eq}
-use Rattle.deb_base.specs.declared.code.Code.{Code}
-use Rattle.deb_base.specs.declared.refusal.Refusal.{Refusal}
-use Rattle.deb_base.specs.Names.{folded, canonical_name}
-use Rattle.deb_syntax.specs.Fields.{Field, has_name, AreDistinct}
-use Rattle.deb_syntax.specs.Meaning.{byte_order, Entries, entries_after, entries_of}
-use Rattle.deb_syntax.specs.Laws.{body_of}
-use Rattle.deb_syntax.proofs.JudgingLaws.{bytes_eq-swap}
-use Rattle.deb_syntax.proofs.JudgingLawsMeaning.{body_at-entries_of}
-use Rattle.deb_field.specs.CanonLaw.{CanonLaw}
-use Rattle.deb_control.specs.Pairs.{Pairwise}
-use Rattle.deb_control.specs.Rules.{Rules, AreRulesOf}
-use Rattle.deb_control.specs.Refusals.{refusal_or, value_refusal_of, have_names, canonical_field, canonical_entries}
-use Rattle.deb_control.specs.ValueFiles.{ValueEntries, SpellsEntry, body_under}
-use Rattle.deb_control.specs.Acceptance.{has_values}
+use Rattle.deb_control.proofs.Common.{◌≡◌, ℕ, ◌||◌, ◌&&◌, Bool, true, false, cond, is_some, Option, None, Some, List, [], ◌∷◌, map, Ordering, Less, Equal, Greater, refl, sym, ap, ◌∙◌, subst, or_parts, is_eq-slice_cmp, bytes_eq-Decides, is_eq, insert_entry, find, AllByRecursion, match_ordering, eq_by_cmp, bytes_eq, Code, Refusal, folded, canonical_name, Field, has_name, AreDistinct, byte_order, Entries, entries_after, entries_of, body_of, bytes_eq-swap, body_at-entries_of, CanonLaw, Pairwise, Rules, AreRulesOf, refusal_or, value_refusal_of, have_names, canonical_field, canonical_entries, ValueEntries, SpellsEntry, body_under, has_values}
 use Rattle.deb_control.proofs.ValueBodies.{value_at, one_paragraph}
 
 -- equal in the order of bytes is the same

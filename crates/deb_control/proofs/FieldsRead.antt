@@ -1,24 +1,5 @@
 -- The fields of a paragraph that have been read so far.
-use Rattle.std.proofs.Common.{◌≡◌, ℕ, suc, ◌+◌, ◌<◌, ◌&&◌, Bor, inl, inr, Bool, true, false, is_some, Option, None, Some, List, [], ◌∷◌, ◌++◌, length, map, drop, slice_get, option_map, add-one, append_assoc, refl, sym, ap, ◌∙◌, subst, arith}
-use Rattle.std.proofs.Math.Seq.{drop-cons}
-use Rattle.std.proofs.lemmas.List.{map-append}
-use Rattle.std.proofs.lemmas.Option.{slice_get_within, slice_get_cases, get_or_from_slice_get}
-use Rattle.std.specs.List.{AllByRecursion, list_all}
-use Rattle.std.specs.Str.{bytes_eq}
-use Rattle.deb_base.specs.declared.fault.Fault.{Fault}
-use Rattle.deb_base.specs.declared.fault.Fault.TheVariants.{Refused, Memory, Read, Write}
-use Rattle.deb_base.specs.declared.refusal.Refusal.{Refusal}
-use Rattle.deb_base.specs.Faults.{RefusedOrMemory}
-use Rattle.deb_base.specs.Names.{folded, canonical_name}
-use Rattle.deb_syntax.specs.Fields.{Field, has_name}
-use Rattle.deb_syntax.specs.Raw.{field_of, field_named}
-use Rattle.deb_syntax.specs.declared.raw.RawField.{RawField}
-use Rattle.deb_field.specs.declared.kind.Doc.{Doc}
-use Rattle.deb_field.specs.Values.{value_refusal}
-use Rattle.deb_control.specs.Documents.{rules_of}
-use Rattle.deb_control.specs.Paragraphs.{field_in, IsTypedField}
-use Rattle.deb_control.specs.Refusals.{refusal_or, value_refusal_of, have_names}
-use Rattle.deb_control.specs.declared.typed_field.TypedField.{TypedField}
+use Rattle.deb_control.proofs.Common.{◌≡◌, ℕ, suc, ◌+◌, ◌<◌, ◌&&◌, Bor, inl, inr, Bool, true, false, is_some, Option, None, Some, List, [], ◌∷◌, ◌++◌, length, map, drop, slice_get, option_map, add-one, append_assoc, refl, sym, ap, ◌∙◌, subst, arith, drop-cons, map-append, slice_get_within, slice_get_cases, get_or_from_slice_get, AllByRecursion, list_all, bytes_eq, Fault, Refused, Memory, Read, Write, Refusal, RefusedOrMemory, folded, canonical_name, Field, has_name, field_of, field_named, RawField, Doc, value_refusal, rules_of, field_in, IsTypedField, refusal_or, value_refusal_of, have_names, TypedField}
 use Rattle.deb_control.proofs.DocumentRules.{document_rules}
 
 -- those before an index, none of which is refused

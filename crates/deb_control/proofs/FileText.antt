@@ -1,15 +1,6 @@
 -- The paragraphs of a meaning's canonical text have that meaning.
-use Rattle.std.proofs.Common.{◌≡◌, ℕ, ◌+◌, true, List, [], ◌∷◌, ◌++◌, length, refl, sym, ap, ◌∙◌, subst, append-nil}
-use Rattle.std.specs.List.{AllByRecursion}
-use Rattle.deb_base.specs.Bodies.{Line, newline, is_blank, paragraph_limit}
-use Rattle.deb_syntax.specs.Lines.{lines_of, Paragraph, begins_blank, paragraphs_from, paragraphs_of}
-use Rattle.deb_syntax.specs.Fields.{SpellsParagraph}
-use Rattle.deb_syntax.specs.Meaning.{Entries, HaveMeanings, Means}
-use Rattle.deb_syntax.proofs.Runs.{paragraphs_from-run}
-use Rattle.deb_syntax.proofs.LinesOfPieces.{IsNonempty}
-use Rattle.deb_base.proofs.LaterPieces.{HoldNoBlank}
-use Rattle.deb_syntax.proofs.ParagraphLines.{HaveLines-paragraphs_from}
-use Rattle.deb_control.specs.Canonical.{paragraph_text, file_text}
+use Rattle.deb_control.proofs.Common.{◌≡◌, ℕ, ◌+◌, true, List, [], ◌∷◌, ◌++◌, length, refl, sym, ap, ◌∙◌, subst, append-nil, AllByRecursion, Line, newline, is_blank, lines_of, Paragraph, begins_blank, paragraphs_from, paragraphs_of, SpellsParagraph, Entries, HaveMeanings, Means, paragraphs_from-run, IsNonempty, HoldNoBlank, HaveLines-paragraphs_from, paragraph_text, file_text}
+use Rattle.deb_base.specs.Bodies.{paragraph_limit}
 use Rattle.deb_control.proofs.Entries.{AreEntries, AreEntries-from_meanings}
 use Rattle.deb_control.proofs.ParagraphText.{paragraph_lines, lines_of-paragraph_text, IsUtf8-paragraph_lines, HoldNoBlank-paragraph_lines, IsNonempty-paragraph_lines, fields_from, SpellsFields-paragraph_lines, AreDistinct-fields_from, entries_of-fields_from}
 

@@ -1,14 +1,5 @@
 -- What comes of a file behind its first paragraphs, which have passed.
-use Rattle.std.proofs.Common.{◌≡◌, ℕ, zero, suc, ◌+◌, List, [], ◌∷◌, ◌++◌, ◌&&◌, not, Bool, true, false, cond, length, drop, Option, None, Some, Result, Ok, Err, refl, sym, ap, ◌∙◌, subst, arith, append-nil, length-append}
-use Rattle.deb_base.specs.declared.code.Code.TheVariants.{NoParagraph}
-use Rattle.deb_base.specs.declared.refusal.Refusal.{Refusal}
-use Rattle.deb_syntax.specs.Answers.{line_beyond, answer_of_first, paragraphs_within}
-use Rattle.deb_syntax.specs.Lines.{Paragraph, file_limit}
-use Rattle.deb_syntax.specs.Meaning.{Entries}
-use Rattle.deb_syntax.proofs.JudgingLaws.{push-append}
-use Rattle.deb_control.specs.Checking.{Follow}
-use Rattle.deb_control.specs.Refusals.{has_some, answer_of_seen, answer_behind, next_checked, Outcome, stopped, followed, outcome_behind, outcome, line_behind}
-use Rattle.deb_control.specs.Rules.{Rules}
+use Rattle.deb_control.proofs.Common.{◌≡◌, ℕ, zero, suc, ◌+◌, List, [], ◌∷◌, ◌++◌, ◌&&◌, not, Bool, true, false, cond, length, drop, Option, None, Some, Result, Ok, Err, refl, sym, ap, ◌∙◌, subst, arith, append-nil, length-append, NoParagraph, Refusal, line_beyond, answer_of_first, paragraphs_within, Paragraph, file_limit, Entries, push-append, Follow, has_some, answer_of_seen, answer_behind, next_checked, Outcome, stopped, followed, outcome_behind, outcome, line_behind, Rules}
 
 -- one paragraph more follows
 pub follow-push : (rules : Rules) (text : List ℕ) (front more : List Entries) (entries : Entries) → Follow rules text front more → next_checked rules text (front ++ more) ≡ Ok (Some entries) → Follow rules text front (more ++ entries ∷ [])
@@ -26,7 +17,7 @@ drop_one (suc k) (x ∷ xs) = drop_one k xs ∙ sym (ap (λ m. drop m (x ∷ xs)
 
 module _ (rules : Rules) (beyond : Option ℕ) (n : ℕ) where
   -- behind the last paragraph there is none
-  never_behind_all : (before : List Entries) (entries : Entries) → answer_behind rules beyond n before [] ≡ Ok (Some entries) → ⊥
+  pub never_behind_all : (before : List Entries) (entries : Entries) → answer_behind rules beyond n before [] ≡ Ok (Some entries) → ⊥
   never_behind_all before entries h = go beyond h
     where
       none : (t : Bool) → cond {A = Result (Option Entries) Refusal} t (Err (record { code = NoParagraph; line = n })) (Ok None) ≡ Ok (Some entries) → ⊥

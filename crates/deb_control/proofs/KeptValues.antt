@@ -1,20 +1,5 @@
 -- What was kept of the fields that were shown so far.
-use Rattle.std.proofs.Common.{◌≡◌, ℕ, ◌+◌, ◌≤◌, ◌||◌, Bool, true, false, IsTrue, IsFalse, List, length, drop, slice_get, cond, Option, None, Some, refl, sym, ap, ◌∙◌, subst}
-use Rattle.std.proofs.lemmas.Bool.{false≢true}
-use Rattle.std.proofs.lemmas.List.{drop_all}
-use Rattle.std.proofs.lemmas.Slice.Eq.{bytes_eq-Decides}
-use Rattle.std.specs.List.{list_any}
-use Rattle.std.specs.Str.{bytes_eq}
-use Rattle.deb_base.specs.Names.{folded, canonical_name}
-use Rattle.deb_syntax.specs.Answers.{Seen}
-use Rattle.deb_syntax.specs.Fields.{Field, has_name, are_fields, AreDistinct}
-use Rattle.deb_syntax.specs.Raw.{field_named}
-use Rattle.deb_field.specs.declared.kind.Doc.{Doc}
-use Rattle.deb_field.specs.Values.{ValueMeaning, SpellsValue}
-use Rattle.deb_control.specs.Checking.{is_judged}
-use Rattle.deb_control.specs.Finding.{passing_of_found}
-use Rattle.deb_control.specs.Keeping.{ShownValues, none_shown, KeepsField, IsShown, KeepsFields, KeepsFound, KeepsValues}
-use Rattle.deb_control.specs.PassingValues.{HasValue}
+use Rattle.deb_control.proofs.Common.{◌≡◌, ℕ, ◌+◌, ◌≤◌, ◌||◌, Bool, true, false, IsTrue, IsFalse, List, length, drop, slice_get, cond, Option, None, Some, refl, sym, ap, ◌∙◌, subst, false≢true, drop_all, bytes_eq-Decides, list_any, bytes_eq, folded, canonical_name, Seen, Field, has_name, are_fields, AreDistinct, field_named, Doc, ValueMeaning, SpellsValue, is_judged, passing_of_found, ShownValues, none_shown, KeepsField, IsShown, KeepsFields, KeepsFound, KeepsValues, HasValue}
 use Rattle.deb_control.proofs.Building.{distinct-from}
 use Rattle.deb_control.proofs.FieldsRead.{drop-at}
 use Rattle.deb_control.proofs.PassingParagraphs.{none-passing, value-passing}

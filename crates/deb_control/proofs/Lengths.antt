@@ -1,21 +1,5 @@
 -- The length of a paragraph's canonical text is the sum of those of its fields, whatever their order.
-use Rattle.std.proofs.Common.{◌≡◌, ℕ, ◌+◌, ◌||◌, ◌==◌, min, Bool, true, false, List, [], ◌∷◌, ◌++◌, length, map, Ordering, Less, Equal, Greater, refl, sym, ap, ◌∙◌, arith, length-append}
-use Rattle.std.proofs.lemmas.Bool.{or_parts, both_ways}
-use Rattle.std.proofs.lemmas.List.Sums.{sum_by-cons}
-use Rattle.std.proofs.lemmas.Slice.Eq.{bytes_eq-Decides}
-use Rattle.std.specs.BTreeMap.{insert_entry}
-use Rattle.std.specs.List.{AllByRecursion, sum_by}
-use Rattle.std.specs.Ordering.{match_ordering}
-use Rattle.std.specs.Str.{bytes_eq}
-use Rattle.deb_base.specs.Bodies.{newline}
-use Rattle.deb_base.specs.Names.{folded, capitalised, canonical_name}
-use Rattle.deb_base.proofs.CanonicalNames.{folded-from_canonical_name}
-use Rattle.deb_syntax.specs.Fields.{Field, has_name, AreDistinct}
-use Rattle.deb_syntax.specs.Meaning.{byte_order, Entries, entries_after}
-use Rattle.deb_control.specs.Canonical.{behind_colon, field_text, paragraph_text}
-use Rattle.deb_control.specs.Lengths.{field_length, fields_length}
-use Rattle.deb_control.specs.Refusals.{canonical_field, canonical_entries}
-use Rattle.deb_control.specs.Rules.{Rules}
+use Rattle.deb_control.proofs.Common.{◌≡◌, ℕ, ◌+◌, ◌||◌, ◌==◌, min, Bool, true, false, List, [], ◌∷◌, ◌++◌, length, map, Ordering, Less, Equal, Greater, refl, sym, ap, ◌∙◌, arith, length-append, or_parts, both_ways, sum_by-cons, bytes_eq-Decides, insert_entry, AllByRecursion, sum_by, match_ordering, bytes_eq, newline, folded, capitalised, canonical_name, folded-from_canonical_name, Field, has_name, AreDistinct, byte_order, Entries, entries_after, behind_colon, field_text, paragraph_text, field_length, fields_length, canonical_field, canonical_entries, Rules}
 use Rattle.deb_control.proofs.FieldValues.{same_from_equal}
 use Rattle.deb_control.proofs.SortedFields.{entry_of}
 

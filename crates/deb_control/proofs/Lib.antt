@@ -1,3 +1,4 @@
+mod Common
 pub mod CanonicalNameBytes
 pub mod Entries
 pub mod EntryLines
@@ -23,6 +24,7 @@ pub mod KeptValues
 pub mod ValueLookups
 pub mod FollowedParagraphs
 pub mod CheckedSoFar
+pub mod ReadingOn
 pub mod ComparedSoFar
 pub mod PartsWithin
 pub mod ReadAlone

@@ -1,15 +1,5 @@
 -- The limits of files and paragraphs: as tests, and on canonical text.
-use Rattle.std.proofs.Common.{◌≡◌, ℕ, ◌+◌, ◌-◌, ◌≤◌, ◌==◌, Bool, true, false, cond, List, [], ◌∷◌, ◌++◌, length, nat_le, None, Some, refl, sym, ap, ◌∙◌, subst, append-nil, length-append, arith}
-use Rattle.std.proofs.lemmas.Bool.{leb-true, le-leb, cond_both}
-use Rattle.std.proofs.lemmas.List.Sums.{sum_by-append, sum_by-cons}
-use Rattle.std.specs.List.{AllByRecursion}
-use Rattle.deb_base.specs.Bodies.{Line, newline, pieces_of, with_byte, line_length, paragraph_limit}
-use Rattle.deb_syntax.specs.Lines.{Paragraph, lines_of, paragraphs_from, total_length, file_limit}
-use Rattle.deb_syntax.specs.Fields.{IsShort}
-use Rattle.deb_syntax.specs.Meaning.{Entries}
-use Rattle.deb_syntax.specs.Answers.{line_too_long, line_beyond, part_within}
-use Rattle.deb_syntax.proofs.LinesOfPieces.{IsNonempty, IsNonempty-pieces_of}
-use Rattle.deb_control.specs.Canonical.{behind_colon, field_text, paragraph_text, file_text}
+use Rattle.deb_control.proofs.Common.{◌≡◌, ℕ, ◌+◌, ◌-◌, ◌≤◌, ◌==◌, Bool, true, false, cond, List, [], ◌∷◌, ◌++◌, length, nat_le, None, Some, refl, sym, ap, ◌∙◌, subst, append-nil, length-append, arith, leb-true, le-leb, cond_both, sum_by-append, sum_by-cons, AllByRecursion, Line, newline, pieces_of, with_byte, line_length, paragraph_limit, Paragraph, lines_of, paragraphs_from, total_length, file_limit, IsShort, Entries, line_too_long, line_beyond, part_within, IsNonempty, IsNonempty-pieces_of, behind_colon, field_text, paragraph_text, file_text}
 use Rattle.deb_control.proofs.Entries.{AreEntries}
 use Rattle.deb_control.proofs.EntryLines.{entry_text, entry_lines}
 use Rattle.deb_control.proofs.ParagraphText.{paragraph_lines}

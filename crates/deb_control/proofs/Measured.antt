@@ -1,21 +1,5 @@
 -- What is known of a paragraph's fields whose lengths have been added so far.
-use Rattle.std.proofs.Common.{◌≡◌, ℕ, ◌+◌, ◌-◌, ◌^◌, ◌<◌, ◌≤◌, min, true, false, List, [], length, drop, slice_get, option_map, None, Some, Err, refl, sym, ap, ◌∙◌, subst, arith}
-use Rattle.std.proofs.Math.Nat.{min-le_left, min-le_right}
-use Rattle.std.proofs.lemmas.Bool.{false≢true}
-use Rattle.std.proofs.lemmas.List.{drop_all}
-use Rattle.std.proofs.lemmas.List.Sums.{sum_by-cons}
-use Rattle.deb_base.specs.Names.{canonical_name}
-use Rattle.deb_base.specs.declared.code.Code.TheVariants.{ParagraphTooLong}
-use Rattle.deb_syntax.specs.Answers.{Seen}
-use Rattle.deb_syntax.specs.Fields.{Field, are_fields}
-use Rattle.deb_syntax.specs.Raw.{field_of}
-use Rattle.deb_syntax.specs.declared.raw.RawField.{RawField}
-use Rattle.deb_field.specs.declared.kind.Doc.{Doc}
-use Rattle.deb_field.specs.Values.{ValueMeaning, value_text, SpellsValue, value_refusal}
-use Rattle.deb_control.specs.Canonical.{field_text, paragraph_text}
-use Rattle.deb_control.specs.Documents.{rules_of}
-use Rattle.deb_control.specs.Lengths.{field_length, fields_length, Measures}
-use Rattle.deb_control.specs.Refusals.{value_refusal_of, have_names, canonical_entries, built}
+use Rattle.deb_control.proofs.Common.{◌≡◌, ℕ, ◌+◌, ◌-◌, ◌^◌, ◌<◌, ◌≤◌, min, true, false, List, [], length, drop, slice_get, option_map, None, Some, Err, refl, sym, ap, ◌∙◌, subst, arith, min-le_left, min-le_right, false≢true, drop_all, sum_by-cons, canonical_name, ParagraphTooLong, Seen, Field, are_fields, field_of, RawField, Doc, ValueMeaning, value_text, SpellsValue, value_refusal, field_text, paragraph_text, rules_of, field_length, fields_length, Measures, value_refusal_of, have_names, canonical_entries, built}
 use Rattle.deb_control.proofs.Building.{distinct-from, limit_is}
 use Rattle.deb_control.proofs.DocumentRules.{document_rules}
 use Rattle.deb_control.proofs.FieldsRead.{drop-at, refusal-past}

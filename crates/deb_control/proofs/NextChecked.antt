@@ -1,16 +1,5 @@
 -- What is answered of a document's next paragraph, from what its reader of paragraphs answers.
-use Rattle.std.proofs.Common.{◌≡◌, ℕ, ◌+◌, ◌<◌, ◌≤◌, ◌&&◌, true, false, cond, List, [], ◌∷◌, ◌++◌, drop, length, Option, None, Some, Ok, Err, refl, sym, ap, ◌∙◌, arith, length-append}
-use Rattle.std.proofs.lemmas.Bool.{le-leb, lt-leb, ne_eqb}
-use Rattle.deb_base.specs.Bodies.{newline}
-use Rattle.deb_base.specs.declared.code.Code.TheVariants.{FileTooLong, TooManyParagraphs}
-use Rattle.deb_base.specs.declared.refusal.Refusal.{Refusal}
-use Rattle.deb_syntax.specs.Answers.{Seen, line_beyond, paragraphs_within, answer_of_first, begin_of_first, next_answer, next_begin}
-use Rattle.deb_syntax.specs.Lines.{Paragraph, file_limit}
-use Rattle.deb_syntax.specs.Meaning.{Entries}
-use Rattle.deb_control.specs.Canonical.{paragraph_text, file_text}
-use Rattle.deb_control.specs.Refusals.{built, within_file, has_some, answer_of_seen, answer_behind, line_behind, next_checked}
-use Rattle.deb_control.specs.Rules.{Rules}
-use Rattle.deb_control.specs.Tallies.{bytes_with}
+use Rattle.deb_control.proofs.Common.{◌≡◌, ℕ, ◌+◌, ◌<◌, ◌≤◌, ◌&&◌, true, false, List, [], ◌∷◌, ◌++◌, drop, length, Option, None, Some, Ok, Err, refl, sym, ap, ◌∙◌, arith, append_assoc, length-append, le-leb, lt-leb, ne_eqb, newline, FileTooLong, TooManyParagraphs, Refusal, Seen, line_beyond, paragraphs_within, answer_of_first, begin_of_first, next_answer, next_begin, Paragraph, file_limit, Entries, paragraph_text, file_text, built, within_file, has_some, answer_of_seen, answer_behind, line_behind, next_checked, Rules, bytes_with, gap_behind}
 
 -- of a document of which no paragraph is one too many
 pub next_checked-seen : (rules : Rules) (text : List ℕ) (before : List Entries) → (rules.single && has_some before) ≡ false → next_checked rules text before ≡ answer_of_seen rules (line_behind text) before (next_answer text (length before))
@@ -49,20 +38,18 @@ module _ (rules : Rules) (text : List ℕ) (before : List Entries) (single : rul
       go beyond (p ∷ left) e = absurd (cc)
 
 -- the canonical text of a file with a further paragraph
-one-more : (before : List Entries) (entries : Entries) → 0 < length before → length (file_text (before ++ entries ∷ [])) ≡ length (file_text before) + 1 + length (paragraph_text entries)
-one-more [] entries some = absurd (omega (arith, some))
-one-more (first ∷ []) entries some = omega (arith, length-append (paragraph_text first) (newline ∷ paragraph_text entries))
-one-more (first ∷ next ∷ before) entries some =
-    let rest : length (file_text (next ∷ (before ++ entries ∷ []))) ≡ length (file_text (next ∷ before)) + 1 + length (paragraph_text entries) = one-more (next ∷ before) entries (omega arith) in
-    let all : length (paragraph_text first ++ newline ∷ file_text (next ∷ (before ++ entries ∷ []))) ≡ length (paragraph_text first ++ newline ∷ file_text (next ∷ before)) + 1 + length (paragraph_text entries) =
-    omega (arith, length-append (paragraph_text first) (newline ∷ file_text (next ∷ (before ++ entries ∷ []))), length-append (paragraph_text first) (newline ∷ file_text (next ∷ before)), rest) in
-    all
+pub file_text-push : (before : List Entries) (entries : Entries) → file_text (before ++ entries ∷ []) ≡ file_text before ++ (gap_behind (length before) ++ paragraph_text entries)
+file_text-push [] entries = refl
+file_text-push (first ∷ []) entries = refl
+file_text-push (first ∷ next ∷ before) entries =
+    ap (λ rest. paragraph_text first ++ newline ∷ rest) (file_text-push (next ∷ before) entries)
+    ∙ sym (append_assoc (paragraph_text first) (newline ∷ file_text (next ∷ before)) (newline ∷ paragraph_text entries))
 
 length-file_text : (before : List Entries) (entries : Entries) → length (file_text (before ++ entries ∷ [])) ≡ bytes_with (length before) (length (file_text before)) (length (paragraph_text entries))
 length-file_text [] entries = omega arith
 length-file_text (first ∷ before) entries =
-    one-more (first ∷ before) entries (omega arith)
-    ∙ sym (ap (λ t. cond t (length (file_text (first ∷ before)) + length (paragraph_text entries)) (length (file_text (first ∷ before)) + 1 + length (paragraph_text entries))) (ne_eqb (length (first ∷ before)) 0 (λ e. omega (arith, e))))
+    let size : length (file_text (first ∷ (before ++ entries ∷ []))) ≡ length (file_text (first ∷ before)) + 1 + length (paragraph_text entries) = omega (arith, ap length (file_text-push (first ∷ before) entries), length-append (file_text (first ∷ before)) (newline ∷ paragraph_text entries)) in
+    rw (ne_eqb (length (first ∷ before)) 0 (λ e. omega (arith, e))) size
 
 pub bytes-with : (before : List Entries) (entries : Entries) (count bytes : ℕ) → count ≡ length before → bytes ≡ length (file_text before) → bytes_with count bytes (length (paragraph_text entries)) ≡ length (file_text (before ++ entries ∷ []))
 bytes-with before entries count bytes counted is = ap (λ n. bytes_with n bytes (length (paragraph_text entries))) counted ∙ ap (λ n. bytes_with (length before) n (length (paragraph_text entries))) is ∙ sym (length-file_text before entries)

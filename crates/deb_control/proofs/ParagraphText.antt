@@ -1,20 +1,6 @@
 -- The lines of a paragraph's canonical text spell fields whose entries are the paragraph's own.
-use Rattle.std.proofs.Common.{◌≡◌, ℕ, ◌+◌, false, IsFalse, List, [], ◌∷◌, ◌++◌, length, flat_map, bytes_eq, Less, Equal, Greater, refl, sym, ap, ◌∙◌, append_assoc, append-nil}
-use Rattle.std.proofs.lemmas.Bool.{or_from, false_from_ne_true}
-use Rattle.std.proofs.lemmas.Slice.Eq.{bytes_eq-Decides}
-use Rattle.std.proofs.lemmas.Cmp.{nat_list_cmp_total, tied_itself}
-use Rattle.std.specs.List.{AllByRecursion}
-use Rattle.std.specs.Str.{IsUtf8}
-use Rattle.std.specs.BTreeMap.{insert_entry}
-use Rattle.deb_base.specs.Names.{folded, canonical_name}
-use Rattle.deb_base.proofs.CanonicalNames.{canonical_name-from_folded}
-use Rattle.deb_base.specs.Bodies.{Line, is_blank}
-use Rattle.deb_syntax.specs.Lines.{lines_of}
-use Rattle.deb_syntax.specs.Fields.{Field, has_name, AreDistinct, SpellsFields}
-use Rattle.deb_syntax.specs.Meaning.{byte_order, Entries, entries_after, entries_of}
-use Rattle.deb_syntax.proofs.LinesOfPieces.{IsNonempty}
-use Rattle.deb_base.proofs.LaterPieces.{HoldNoBlank}
-use Rattle.deb_control.specs.Canonical.{field_text, paragraph_text}
+use Rattle.deb_control.proofs.Common.{◌≡◌, ℕ, ◌+◌, false, IsFalse, List, [], ◌∷◌, ◌++◌, length, flat_map, Less, Equal, Greater, refl, sym, ap, ◌∙◌, append_assoc, append-nil, or_from, false_from_ne_true, bytes_eq-Decides, nat_list_cmp_total, tied_itself, AllByRecursion, IsUtf8, insert_entry, folded, canonical_name, All-append, canonical_name-from_folded, Line, is_blank, lines_of, Field, has_name, AreDistinct, SpellsFields, byte_order, Entries, entries_after, entries_of, IsNonempty, HoldNoBlank, field_text, paragraph_text}
+use Rattle.std.proofs.Common.{bytes_eq}
 use Rattle.deb_control.proofs.Entries.{IsEntry, IsAscending, greater_from_less}
 use Rattle.deb_control.proofs.EntryLines.{entry_lines, lines_of-field_text, IsNonempty-entry_lines, SpellsField-entry_lines, IsUtf8-entry_lines, HoldNoBlank-entry_lines}
 
@@ -30,14 +16,10 @@ lines_of-paragraph_text (entry ∷ entries) rest =
     ∙ ap (λ lines. entry_lines entry ++ lines) (lines_of-paragraph_text entries rest)
     ∙ sym (append_assoc (entry_lines entry) (paragraph_lines entries) (lines_of rest))
 
-each_append : (P : Line → Type 0) (lines others : List Line) → AllByRecursion P lines → AllByRecursion P others → AllByRecursion P (lines ++ others)
-each_append P [] others h k = k
-each_append P (line ∷ lines) others h k = (h.0, each_append P lines others h.1 k)
-
 -- what holds of the lines of each entry holds of the paragraph's
 each_line : (P : Line → Type 0) → ((entry : List ℕ × List ℕ) → IsEntry entry → AllByRecursion P (entry_lines entry)) → (entries : Entries) → AllByRecursion IsEntry entries → AllByRecursion P (paragraph_lines entries)
 each_line P of_entry [] each = tt
-each_line P of_entry (entry ∷ entries) each = each_append P (entry_lines entry) (paragraph_lines entries) (of_entry entry each.0) (each_line P of_entry entries each.1)
+each_line P of_entry (entry ∷ entries) each = All-append P (entry_lines entry) (paragraph_lines entries) (of_entry entry each.0) (each_line P of_entry entries each.1)
 
 pub IsUtf8-paragraph_lines : (entries : Entries) → AllByRecursion IsEntry entries → AllByRecursion IsUtf8 (paragraph_lines entries)
 IsUtf8-paragraph_lines entries each = each_line IsUtf8 IsUtf8-entry_lines entries each

@@ -1,11 +1,5 @@
 -- The part of a text that is looked at is its first lines, and has no more paragraphs than the text.
-use Rattle.std.proofs.Common.{◌≡◌, ℕ, ◌+◌, ◌≤◌, ◌==◌, inl, inr, Bool, true, false, cond, List, [], ◌∷◌, ◌++◌, length, take, drop, refl, sym, ap, ◌∙◌, subst, arith, append_assoc, append-nil, take-append-drop}
-use Rattle.std.proofs.lemmas.Bool.{cases_lt}
-use Rattle.deb_base.specs.Bodies.{Line, newline, is_blank}
-use Rattle.deb_syntax.specs.Answers.{with_whole, whole_lines, part_within}
-use Rattle.deb_syntax.specs.Lines.{Paragraph, lines_of, ends_line, begins_blank, with_line, paragraphs_from, paragraphs_of}
-use Rattle.deb_syntax.proofs.Boundaries.{lines_of-append}
-use Rattle.deb_syntax.proofs.Parts.{part_within-all, part_within-some}
+use Rattle.deb_control.proofs.Common.{◌≡◌, ℕ, ◌+◌, ◌≤◌, ◌==◌, inl, inr, Bool, true, false, cond, List, [], ◌∷◌, ◌++◌, length, take, drop, refl, sym, ap, ◌∙◌, subst, arith, append_assoc, append-nil, take-append-drop, cases_lt, Line, newline, is_blank, with_whole, whole_lines, part_within, Paragraph, lines_of, ends_line, begins_blank, with_line, paragraphs_from, paragraphs_of, lines_of-append, part_within-all, part_within-some}
 
 whole-lines : (text : List ℕ) → (rest : List ℕ) × (text ≡ whole_lines text ++ rest) × (ends_line (whole_lines text) ≡ true)
 whole-lines [] = ([], refl, refl)

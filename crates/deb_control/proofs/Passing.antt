@@ -1,18 +1,5 @@
 -- Paragraphs that pass one after another, and what comes of a file whose paragraphs all pass.
-use Rattle.std.proofs.Common.{◌≡◌, ℕ, ◌+◌, ◌≤◌, ◌&&◌, not, Bool, true, false, cond, List, [], ◌∷◌, ◌++◌, ◌⊎◌, inl, inr, ◌<◌, length, nat_le, Option, None, Some, Result, Ok, Err, refl, sym, ap, ◌∙◌, subst, append-nil}
-use Rattle.std.proofs.lemmas.Bool.{leb-true, le-leb, lt-leb, not-false}
-use Rattle.deb_base.specs.declared.code.Code.TheVariants.{NoParagraph, FileTooLong, ParagraphTooLong}
-use Rattle.deb_base.specs.declared.refusal.Refusal.{Refusal}
-use Rattle.deb_base.specs.Bodies.{paragraph_limit}
-use Rattle.deb_syntax.specs.Lines.{Paragraph, file_limit}
-use Rattle.deb_syntax.specs.Fields.{Field}
-use Rattle.deb_syntax.specs.Judging.{judged}
-use Rattle.deb_syntax.specs.Meaning.{Entries}
-use Rattle.deb_syntax.specs.Answers.{Seen, line_too_long, is_line, seen_from, paragraph_answer, answer_of_first}
-use Rattle.deb_syntax.proofs.JudgingLaws.{push-append}
-use Rattle.deb_control.specs.Canonical.{paragraph_text, file_text}
-use Rattle.deb_control.specs.Rules.{Rules}
-use Rattle.deb_control.specs.Refusals.{value_refusal_of, have_names, canonical_entries, refused_or_built, built, within_file, has_some, answer_of_seen, answer_behind, stopped, followed, outcome_behind}
+use Rattle.deb_control.proofs.Common.{◌≡◌, ℕ, ◌+◌, ◌≤◌, ◌&&◌, not, Bool, true, false, cond, List, [], ◌∷◌, ◌++◌, ◌⊎◌, inl, inr, ◌<◌, length, nat_le, Option, None, Some, Result, Ok, Err, refl, sym, ap, ◌∙◌, subst, append-nil, leb-true, le-leb, lt-leb, not-false, NoParagraph, FileTooLong, ParagraphTooLong, Refusal, paragraph_limit, Paragraph, file_limit, Field, judged, Entries, Seen, line_too_long, is_line, seen_from, paragraph_answer, answer_of_first, push-append, paragraph_text, file_text, Rules, value_refusal_of, have_names, canonical_entries, refused_or_built, built, within_file, has_some, answer_of_seen, answer_behind, stopped, followed, outcome_behind}
 
 -- A paragraph passes every step behind others, and has these canonical bodies.
 pub record Passes (rules : Rules) (beyond : Option ℕ) (before : List Entries) (p : Paragraph) (entries : Entries) : Type 0 where
@@ -39,7 +26,7 @@ answer_of_first-cons (Some line) p left = refl
 ok_same : {A : Type 0} (r : Result A Refusal) (a b : A) → r ≡ Ok a → r ≡ Ok b → a ≡ b
 ok_same r a b e f = cc
 
-some_same : {A : Type 0} (o : Option A) (a b : A) → o ≡ Some a → o ≡ Some b → a ≡ b
+pub some_same : {A : Type 0} (o : Option A) (a b : A) → o ≡ Some a → o ≡ Some b → a ≡ b
 some_same o a b e f = cc
 
 never_some : {A : Type 0} (o : Option A) (a : A) → o ≡ Some a → o ≡ None → ⊥

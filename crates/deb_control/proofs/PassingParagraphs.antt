@@ -1,32 +1,5 @@
 -- The values of a paragraph that passes.
-use Rattle.std.proofs.Common.{◌≡◌, ℕ, List, [], ◌∷◌, Option, None, Some, Result, Ok, Err, is_ok, IsTrue, is_some, Bool, true, false, cond, refl, sym, ap, ◌∙◌, subst}
-use Rattle.std.proofs.lemmas.Bool.{false≢true}
-use Rattle.std.proofs.lemmas.Slice.Eq.{bytes_eq-Decides}
-use Rattle.std.specs.FinMap.{find}
-use Rattle.std.specs.List.{AllByRecursion}
-use Rattle.std.specs.Str.{bytes_eq}
-use Rattle.deb_base.proofs.CanonicalNames.{canonical_name-from_folded}
-use Rattle.deb_base.specs.Names.{folded, canonical_name}
-use Rattle.deb_base.specs.declared.code.Code.{Code}
-use Rattle.deb_base.specs.Faults.{RefusedOrMemory}
-use Rattle.deb_base.specs.declared.fault.Fault.{Fault}
-use Rattle.deb_base.specs.declared.fault.Fault.TheVariants.{Refused, Memory, Read, Write}
-use Rattle.deb_base.specs.declared.refusal.Refusal.{Refusal}
-use Rattle.deb_syntax.proofs.JudgingLawsMeaning.{body_at-entries_of}
-use Rattle.deb_syntax.specs.Answers.{Seen}
-use Rattle.deb_syntax.specs.Fields.{Field, are_fields}
-use Rattle.deb_syntax.specs.Laws.{body_of}
-use Rattle.deb_syntax.specs.Meaning.{Entries, entries_of, byte_order}
-use Rattle.deb_syntax.specs.Raw.{field_named}
-use Rattle.deb_field.specs.declared.kind.Doc.{Doc}
-use Rattle.deb_field.specs.Values.{ValueMeaning, value_text, SpellsValue, value_refusal}
-use Rattle.deb_field.specs.ValueLaws.{value_law}
-use Rattle.deb_control.specs.Checking.{is_judged}
-use Rattle.deb_control.specs.Documents.{rules_of}
-use Rattle.deb_control.specs.Paragraphs.{AreValuesOf}
-use Rattle.deb_control.specs.PassingValues.{HasValue}
-use Rattle.deb_control.specs.Refusals.{built, value_refusal_of}
-use Rattle.deb_control.specs.ValueFiles.{ValueEntries}
+use Rattle.deb_control.proofs.Common.{◌≡◌, ℕ, List, [], ◌∷◌, Option, None, Some, Result, Ok, Err, is_ok, IsTrue, is_some, Bool, true, false, cond, refl, sym, ap, ◌∙◌, subst, false≢true, bytes_eq-Decides, find, AllByRecursion, bytes_eq, canonical_name-from_folded, folded, canonical_name, Code, RefusedOrMemory, Fault, Refused, Memory, Read, Write, Refusal, body_at-entries_of, Seen, Field, are_fields, body_of, Entries, entries_of, byte_order, field_named, Doc, ValueMeaning, value_text, SpellsValue, value_refusal, value_law, is_judged, rules_of, AreValuesOf, HasValue, built, value_refusal_of, ValueEntries}
 use Rattle.deb_control.proofs.Building.{distinct-from}
 use Rattle.deb_control.proofs.DocumentRules.{document_rules}
 use Rattle.deb_control.proofs.FieldValues.{values-from_none, each-from_none, is_some-find}

@@ -1,28 +1,5 @@
 -- The codes with which a paragraph that was read is refused.
-use Rattle.std.proofs.Common.{◌≡◌, ◌≤◌, Bool, true, false, cond, not, nat_le, List, [], ◌∷◌, length, Option, None, Some, Result, Ok, Err, IfSome, refl, subst, arith}
-use Rattle.std.proofs.lemmas.Bool.{and_parts, leb-true}
-use Rattle.std.specs.List.{list_all}
-use Rattle.deb_base.specs.Codes.{number_of}
-use Rattle.deb_base.specs.Faults.{IsReadersFault}
-use Rattle.deb_base.specs.Names.{canonical_name}
-use Rattle.deb_base.specs.Bodies.{paragraph_limit}
-use Rattle.deb_base.specs.declared.code.Code.{Code}
-use Rattle.deb_base.specs.declared.code.Code.TheVariants.{MissingField, ParagraphTooLong}
-use Rattle.deb_base.specs.declared.fault.Fault.{Fault}
-use Rattle.deb_base.specs.declared.fault.Fault.TheVariants.{Refused, Memory, Read, Write}
-use Rattle.deb_base.specs.declared.refusal.Refusal.{Refusal}
-use Rattle.deb_syntax.specs.Answers.{Seen}
-use Rattle.deb_syntax.specs.Fields.{Field, are_numbered}
-use Rattle.deb_syntax.specs.Meaning.{Entries}
-use Rattle.deb_syntax.specs.Reading.{IsRefusalOfText}
-use Rattle.deb_field.specs.declared.kind.Doc.{Doc}
-use Rattle.deb_field.specs.Kinds.{kind_of}
-use Rattle.deb_field.specs.ValueCodes.{IsCodeOfValues, refusals_are_of_values}
-use Rattle.deb_field.specs.Values.{value_refusal}
-use Rattle.deb_control.specs.Canonical.{paragraph_text}
-use Rattle.deb_control.specs.Checking.{IsRefusalOfDocument}
-use Rattle.deb_control.specs.Documents.{rules_of}
-use Rattle.deb_control.specs.Refusals.{refusal_or, value_refusal_of, have_names, canonical_entries, refused_or_built, built}
+use Rattle.deb_control.proofs.Common.{◌≡◌, ◌≤◌, Bool, true, false, cond, not, nat_le, List, [], ◌∷◌, length, Option, None, Some, Result, Ok, Err, IfSome, refl, subst, arith, and_parts, leb-true, list_all, number_of, IsReadersFault, canonical_name, paragraph_limit, Code, MissingField, ParagraphTooLong, Fault, Refused, Memory, Read, Write, Refusal, Seen, Field, are_numbered, Entries, IsRefusalOfText, Doc, kind_of, IsCodeOfValues, refusals_are_of_values, value_refusal, paragraph_text, IsRefusalOfDocument, rules_of, refusal_or, value_refusal_of, have_names, canonical_entries, refused_or_built, built}
 
 abbrev IsCode : Code → Type 0
 IsCode code = (1 ≤ number_of code) × (number_of code ≤ 21)

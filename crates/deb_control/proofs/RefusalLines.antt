@@ -1,46 +1,20 @@
 -- The refusal of a file: its code, and the line at which it is told.
-use Rattle.std.proofs.Common.{◌≡◌, ℕ, zero, suc, ◌+◌, ◌≤◌, ◌&&◌, inl, inr, not, nat_le, Bool, true, false, cond, List, [], ◌∷◌, ◌++◌, length, drop, Option, None, Some, Result, Ok, Err, refl, sym, ap, ◌∙◌, subst, arith, length-append}
-use Rattle.std.proofs.lemmas.Bool.{and_from, le-leb}
-use Rattle.std.specs.List.{AllByRecursion, list_all}
-use Rattle.deb_base.specs.Bodies.{Line, paragraph_limit}
-use Rattle.deb_base.specs.FieldNames.{colon}
-use Rattle.deb_base.specs.Names.{canonical_name}
-use Rattle.deb_base.specs.declared.code.Code.{Code}
-use Rattle.deb_base.specs.declared.code.Code.TheVariants.{FileTooLong, MissingField, NoParagraph, ParagraphTooLong, TooManyParagraphs}
-use Rattle.deb_base.specs.declared.refusal.Refusal.{Refusal}
-use Rattle.deb_syntax.specs.Answers.{Seen, part_within, line_beyond, line_too_long, answer_of_first, paragraphs_within}
-use Rattle.deb_syntax.specs.Fields.{Field, SpellsField, SpellsFields}
-use Rattle.deb_syntax.specs.Laws.{IsRun, StandsAmong}
-use Rattle.deb_syntax.specs.Lines.{Paragraph, lines_of, paragraphs_of, file_limit}
-use Rattle.deb_syntax.specs.Meaning.{Entries}
-use Rattle.deb_syntax.proofs.AnswerLaws.{next_answer-refusal}
-use Rattle.deb_syntax.proofs.JudgingLawsRefusals.{judged-sound}
-use Rattle.deb_syntax.proofs.LinesLawsPlaces.{paragraphs_of-IsRun, paragraphs_of-StandsAmong}
-use Rattle.deb_field.specs.declared.kind.Doc.{Doc}
-use Rattle.deb_control.specs.Canonical.{paragraph_text, file_text}
-use Rattle.deb_control.specs.Checking.{IsRefusalOfDocument}
-use Rattle.deb_control.specs.Documents.{rules_of}
-use Rattle.deb_control.specs.Laws.{IsRefusalOfFile, RefusalsAreOfTheFile}
-use Rattle.deb_control.specs.Refusals.{refusal_or, value_refusal_of, have_names, canonical_entries, refused_or_built, built, within_file, has_some, answer_of_seen, answer_behind, line_behind, next_checked, stopped, followed, outcome_behind}
-use Rattle.deb_control.specs.Rules.{Rules}
+use Rattle.deb_control.proofs.Common.{◌≡◌, ℕ, zero, suc, ◌+◌, ◌≤◌, ◌&&◌, inl, inr, not, nat_le, Bool, true, false, cond, List, [], ◌∷◌, ◌++◌, length, drop, Option, None, Some, Result, Ok, Err, refl, sym, ap, ◌∙◌, subst, arith, length-append, and_from, le-leb, AllByRecursion, list_all, All-drop, Line, paragraph_limit, colon, canonical_name, Code, FileTooLong, MissingField, NoParagraph, ParagraphTooLong, TooManyParagraphs, Refusal, Seen, part_within, line_beyond, line_too_long, answer_of_first, paragraphs_within, Field, SpellsField, SpellsFields, IsRun, StandsAmong, Paragraph, lines_of, paragraphs_of, file_limit, Entries, next_answer-refusal, judged-sound, paragraphs_of-IsRun, paragraphs_of-StandsAmong, Doc, paragraph_text, file_text, IsRefusalOfDocument, rules_of, IsRefusalOfFile, RefusalsAreOfTheFile, refusal_or, value_refusal_of, have_names, canonical_entries, refused_or_built, built, within_file, has_some, answer_of_seen, answer_behind, line_behind, next_checked, stopped, followed, outcome_behind, Rules}
 use Rattle.deb_control.proofs.FollowedParagraphs.{drop_one}
 use Rattle.deb_control.proofs.Limits.{total_length-within}
 use Rattle.deb_control.proofs.PartsWithin.{part-front}
-use Rattle.deb_control.proofs.Passing.{IsSeen, seen-parts, answer_of_first-cons}
+use Rattle.deb_control.proofs.Passing.{some_same, IsSeen, seen-parts, answer_of_first-cons}
 use Rattle.deb_control.proofs.RefusalCodes.{built-code}
 
 pub same_refusal : {A : Type 0} (r : Result A Refusal) (a b : Refusal) → r ≡ Err a → r ≡ Err b → a ≡ b
 same_refusal r a b e f = cc
-
-same_some : {A : Type 0} (o : Option A) (a b : A) → o ≡ Some a → o ≡ Some b → a ≡ b
-same_some o a b e f = cc
 
 -- a file that is refused is so behind some of its paragraphs
 pub refused_behind : (rules : Rules) (text : List ℕ) (before : List Entries) (left : List Paragraph) (refusal : Refusal) → left ≡ drop (length before) (paragraphs_within text) → (outcome_behind rules (line_beyond 1 file_limit text) (line_behind text) before left).refusal ≡ Some refusal → (front : List Entries) × (next_checked rules text front ≡ Err refusal)
 refused_behind rules text before [] refusal is h = go (answer_behind rules (line_beyond 1 file_limit text) (line_behind text) before []) refl h
   where
     go : (a : Result (Option Entries) Refusal) → answer_behind rules (line_beyond 1 file_limit text) (line_behind text) before [] ≡ a → (stopped before a).refusal ≡ Some refusal → (front : List Entries) × (next_checked rules text front ≡ Err refusal)
-    go (Err other) e f = (before, ap (answer_behind rules (line_beyond 1 file_limit text) (line_behind text) before) (sym is) ∙ e ∙ ap Err (same_some (Some other) other refusal refl f))
+    go (Err other) e f = (before, ap (answer_behind rules (line_beyond 1 file_limit text) (line_behind text) before) (sym is) ∙ e ∙ ap Err (some_same (Some other) other refusal refl f))
     go (Ok next) e f = absurd (cc)
 refused_behind rules text before (p ∷ left) refusal is h = go (answer_behind rules (line_beyond 1 file_limit text) (line_behind text) before (p ∷ left)) refl h (λ entries. refused_behind rules text (before ++ entries ∷ []) left refusal (next entries))
   where
@@ -48,7 +22,7 @@ refused_behind rules text before (p ∷ left) refusal is h = go (answer_behind r
     next entries = ap (drop 1) is ∙ drop_one (length before) (paragraphs_within text) ∙ ap (λ k. drop k (paragraphs_within text)) (sym (length-append before (entries ∷ [])))
 
     go : (a : Result (Option Entries) Refusal) → answer_behind rules (line_beyond 1 file_limit text) (line_behind text) before (p ∷ left) ≡ a → (followed before a (λ e. outcome_behind rules (line_beyond 1 file_limit text) (line_behind text) (before ++ e ∷ []) left)).refusal ≡ Some refusal → ((entries : Entries) → (outcome_behind rules (line_beyond 1 file_limit text) (line_behind text) (before ++ entries ∷ []) left).refusal ≡ Some refusal → (front : List Entries) × (next_checked rules text front ≡ Err refusal)) → (front : List Entries) × (next_checked rules text front ≡ Err refusal)
-    go (Err other) e f rest = (before, ap (answer_behind rules (line_beyond 1 file_limit text) (line_behind text) before) (sym is) ∙ e ∙ ap Err (same_some (Some other) other refusal refl f))
+    go (Err other) e f rest = (before, ap (answer_behind rules (line_beyond 1 file_limit text) (line_behind text) before) (sym is) ∙ e ∙ ap Err (some_same (Some other) other refusal refl f))
     go (Ok None) e f rest = absurd (cc)
     go (Ok (Some entries)) e f rest = rest entries f
 
@@ -72,11 +46,6 @@ among lines (p ∷ ps) h runs =
     let size : length lines ≡ length s.before + length (p.lines ++ s.behind) = ap length s.is ∙ length-append s.before (p.lines ++ s.behind) in
     let more : length (p.lines ++ s.behind) ≡ length p.lines + length s.behind = length-append p.lines s.behind in
     (record { first = omega arith; last = omega arith; run = runs.0 }, among lines ps h.1 runs.1)
-
-all_drop : {X : Type 0} (P : X → Type 0) (k : ℕ) (xs : List X) → AllByRecursion P xs → AllByRecursion P (drop k xs)
-all_drop P zero xs h = h
-all_drop P (suc k) [] h = h
-all_drop P (suc k) (x ∷ xs) h = all_drop P k xs h.1
 
 some_line : (lines : List Line) → IsRun lines → 1 ≤ length lines
 some_line [] run = absurd (run.some refl)
@@ -111,7 +80,7 @@ value-line rules m [] refusal lines h = absurd (cc)
 value-line rules m (field ∷ fields) refusal lines h = go (rules.refusal (canonical_name field.name) field.body) (value-line rules m fields refusal lines.1) h
   where
     go : (o : Option Code) → (value_refusal_of rules fields ≡ Some refusal → IsLine m refusal.line) → refusal_or o field.line (value_refusal_of rules fields) ≡ Some refusal → IsLine m refusal.line
-    go (Some code) rest e = subst (λ r. IsLine m r.line) (same_some (Some (record { code = code; line = field.line })) (record { code = code; line = field.line }) refusal refl e) lines.0
+    go (Some code) rest e = subst (λ r. IsLine m r.line) (some_same (Some (record { code = code; line = field.line })) (record { code = code; line = field.line }) refusal refl e) lines.0
     go None rest e = rest e
 
 -- what is refused of a paragraph by itself is so at one of its lines
@@ -181,6 +150,6 @@ refusal_of_the_file doc text refusal h =
     let part : List ℕ = part_within file_limit text in
     let all = among (lines_of part) (paragraphs_of part) (paragraphs_of-StandsAmong part) (paragraphs_of-IsRun part) in
     behind-line doc text (length (lines_of part)) (part-lines file_limit text) found.0 refusal (line_beyond 1 file_limit text) (drop (length found.0) (paragraphs_within text))
-    (all_drop (IsAmong (length (lines_of part))) (length found.0) (paragraphs_of part) all)
+    (All-drop (IsAmong (length (lines_of part))) (length found.0) (paragraphs_of part) all)
     (λ other e. let is = next_answer-refusal text (length found.0) other e in record { least = is.least; most = omega (arith, is.most); first = is.first; last = inl is.last })
     found.1

@@ -1,22 +1,5 @@
 -- The refusal of control data of which no value is judged: its code is one of a text.
-use Rattle.std.proofs.Common.{◌≡◌, ℕ, ◌≤◌, not, nat_le, Bool, true, false, cond, List, [], ◌∷◌, ◌++◌, length, drop, Option, None, Some, Result, Ok, Err, refl, sym, ap, subst, ◌∙◌, arith}
-use Rattle.deb_base.specs.Bodies.{paragraph_limit}
-use Rattle.deb_base.specs.Codes.{number_of}
-use Rattle.deb_base.specs.Names.{canonical_name}
-use Rattle.deb_base.specs.declared.code.Code.TheVariants.{FileTooLong, ParagraphTooLong}
-use Rattle.deb_base.specs.declared.refusal.Refusal.{Refusal}
-use Rattle.deb_syntax.specs.Answers.{Seen, line_beyond, answer_of_first, paragraphs_within}
-use Rattle.deb_syntax.specs.Fields.{Field}
-use Rattle.deb_syntax.specs.Lines.{Paragraph, file_limit}
-use Rattle.deb_syntax.specs.Meaning.{Entries}
-use Rattle.deb_syntax.proofs.AnswerLaws.{next_answer-refusal}
-use Rattle.deb_field.specs.ValueLaws.{fields_of_any_are_texts}
-use Rattle.deb_field.specs.Values.{kind_refusal, value_refusal}
-use Rattle.deb_field.specs.declared.kind.Doc.TheVariants.{Any}
-use Rattle.deb_control.specs.Canonical.{paragraph_text, file_text}
-use Rattle.deb_control.specs.Documents.{rules_of}
-use Rattle.deb_control.specs.Laws.{RefusalsOfAnyAreOfText}
-use Rattle.deb_control.specs.Refusals.{refusal_or, value_refusal_of, canonical_entries, refused_or_built, built, within_file, answer_of_seen, answer_behind, line_behind}
+use Rattle.deb_control.proofs.Common.{◌≡◌, ℕ, ◌≤◌, not, nat_le, Bool, true, false, cond, List, [], ◌∷◌, ◌++◌, length, drop, Option, None, Some, Result, Ok, Err, refl, sym, ap, subst, ◌∙◌, arith, paragraph_limit, number_of, canonical_name, FileTooLong, ParagraphTooLong, Refusal, Seen, line_beyond, answer_of_first, paragraphs_within, Field, Paragraph, file_limit, Entries, next_answer-refusal, fields_of_any_are_texts, kind_refusal, value_refusal, Any, paragraph_text, file_text, rules_of, RefusalsOfAnyAreOfText, refusal_or, value_refusal_of, canonical_entries, refused_or_built, built, within_file, answer_of_seen, answer_behind, line_behind}
 use Rattle.deb_control.proofs.RefusalLines.{same_refusal, refused_behind}
 
 abbrev IsOfText : Refusal → Type 0

@@ -1,18 +1,7 @@
 -- Fields that are sorted by the canonical spellings of their names: what they mean is they themselves, in that order.
-use Rattle.std.proofs.Common.{◌≡◌, ℕ, suc, ◌<◌, Bool, false, List, [], ◌∷◌, ◌++◌, length, map, get_or, Ordering, Less, Equal, Greater, bytes_eq, is_eq, add-one, refl, sym, ap, ◌∙◌, subst, append-nil, append_assoc, arith}
-use Rattle.std.proofs.lemmas.Bool.{or_parts, both_ways}
-use Rattle.std.proofs.lemmas.Cmp.{nat_list_cmp_total}
-use Rattle.std.proofs.lemmas.List.Sorted.{sorted_far, ranks_by, IsPermutation-map}
-use Rattle.std.proofs.lemmas.Map.Text.{is_eq-slice_cmp}
-use Rattle.std.proofs.lemmas.Slice.Eq.{bytes_eq-Decides}
-use Rattle.std.specs.List.{AllByRecursion}
-use Rattle.std.specs.List.Sorted.{IsPermutation, IsSortedBy}
-use Rattle.std.specs.Ordering.{is_lt, ordering_reverse}
-use Rattle.deb_base.specs.Names.{folded, canonical_name}
-use Rattle.deb_base.proofs.CanonicalNames.{folded-from_canonical_name}
-use Rattle.deb_syntax.specs.Fields.{Field, has_name, AreDistinct}
-use Rattle.deb_syntax.specs.Meaning.{byte_order, Entries, entries_after, entries_of}
-use Rattle.deb_syntax.proofs.JudgingLawsMeaning.{distinct-permutation, entries_of-permutation}
+use Rattle.deb_control.proofs.Common.{◌≡◌, ℕ, suc, ◌<◌, Bool, false, List, [], ◌∷◌, ◌++◌, length, map, get_or, Ordering, Less, Equal, Greater, is_eq, add-one, refl, sym, ap, ◌∙◌, subst, append-nil, append_assoc, arith, or_parts, both_ways, nat_list_cmp_total, sorted_far, ranks_by, IsPermutation-map, is_eq-slice_cmp, bytes_eq-Decides, AllByRecursion, IsSortedBy, is_lt, ordering_reverse, folded, canonical_name, folded-from_canonical_name, Field, has_name, AreDistinct, byte_order, Entries, entries_after, entries_of, distinct-permutation, entries_of-permutation}
+use Rattle.std.proofs.Common.{bytes_eq}
+use Rattle.std.specs.List.Sorted.{IsPermutation}
 use Rattle.deb_control.proofs.Entries.{IsAscending}
 use Rattle.deb_control.proofs.ParagraphText.{insert_last, AllAbove, AllAbove-push, AllAbove-nil}
 

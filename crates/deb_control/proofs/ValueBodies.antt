@@ -1,17 +1,5 @@
 -- The canonical bodies of values that are spelled: they have the form of a meaning, and spell the values.
-use Rattle.std.proofs.Common.{◌≡◌, ℕ, Bool, true, false, cond, Some, IsTrue, List, [], ◌∷◌, map, Less, refl, sym, ap, ◌∙◌, subst}
-use Rattle.std.specs.List.{AllByRecursion}
-use Rattle.std.proofs.lemmas.Map.Text.{is_eq-slice_cmp}
-use Rattle.std.proofs.lemmas.Slice.Eq.{bytes_eq-Decides}
-use Rattle.std.specs.FinMap.{find}
-use Rattle.std.specs.Ordering.{eq_by_cmp}
-use Rattle.deb_base.specs.Names.{canonical_name}
-use Rattle.deb_base.specs.FieldNames.{is_name}
-use Rattle.deb_syntax.specs.Meaning.{byte_order, Entries}
-use Rattle.deb_syntax.proofs.LinesOfPieces.{IsNonempty}
-use Rattle.deb_field.specs.CanonLaw.{CanonLaw}
-use Rattle.deb_control.specs.Pairs.{Pairwise}
-use Rattle.deb_control.specs.ValueFiles.{ValueEntries, SpellsEntry, SpellsEntries, body_under, bodies_of}
+use Rattle.deb_control.proofs.Common.{◌≡◌, ℕ, Bool, true, false, cond, Some, IsTrue, List, [], ◌∷◌, map, Less, refl, sym, ap, ◌∙◌, subst, AllByRecursion, is_eq-slice_cmp, bytes_eq-Decides, find, eq_by_cmp, canonical_name, is_name, byte_order, Entries, IsNonempty, CanonLaw, Pairwise, ValueEntries, SpellsEntry, SpellsEntries, body_under, bodies_of}
 use Rattle.deb_control.proofs.Entries.{IsEntry, IsAscending, AreEntries}
 
 -- equal in the order of bytes is the same

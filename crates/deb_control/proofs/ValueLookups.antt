@@ -1,17 +1,5 @@
 -- A value among those of sorted fields, by a name without case.
-use Rattle.std.proofs.Common.{◌≡◌, ℕ, ◌+◌, ◌<◌, true, false, Some, List, ◌∷◌, length, drop, get_or, add-one, refl, sym, ap, ◌∙◌}
-use Rattle.std.proofs.Math.Seq.{drop-cons}
-use Rattle.std.proofs.lemmas.Bool.{false_from_ne_true}
-use Rattle.std.proofs.lemmas.Map.Text.{is_eq-slice_cmp}
-use Rattle.std.proofs.lemmas.Slice.Eq.{bytes_eq-Decides}
-use Rattle.std.specs.FinMap.{find}
-use Rattle.std.specs.Ordering.{eq_by_cmp}
-use Rattle.deb_base.specs.Names.{folded, canonical_name}
-use Rattle.deb_base.proofs.CanonicalNames.{canonical_name-from_folded, folded-from_canonical_name}
-use Rattle.deb_syntax.specs.Meaning.{byte_order}
-use Rattle.deb_field.specs.ValueMeanings.{value_meaning}
-use Rattle.deb_control.specs.Paragraphs.{values_in}
-use Rattle.deb_control.specs.declared.typed_field.TypedField.{TypedField}
+use Rattle.deb_control.proofs.Common.{◌≡◌, ℕ, ◌+◌, ◌<◌, true, false, Some, List, ◌∷◌, length, drop, get_or, add-one, refl, sym, ap, ◌∙◌, drop-cons, false_from_ne_true, is_eq-slice_cmp, bytes_eq-Decides, find, eq_by_cmp, folded, canonical_name, canonical_name-from_folded, folded-from_canonical_name, byte_order, value_meaning, values_in, TypedField}
 
 behind : (items : List TypedField) (i : ℕ) (d : TypedField) → i < length items → drop i items ≡ get_or items i d ∷ drop (i + 1) items
 behind items i d within = drop-cons items i d within ∙ ap (λ n. get_or items i d ∷ drop n items) (sym (add-one i))

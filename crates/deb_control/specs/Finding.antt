@@ -18,17 +18,18 @@ use Rattle.deb_syntax.specs.declared.paragraphs.Paragraphs.{Paragraphs}
 use Rattle.deb_control.specs.Checking.{CheckedMoment, Passing, ChecksOn, passing_seen}
 use Rattle.deb_control.specs.declared.tally.Tally.{Tally}
 
--- a reader of paragraphs and what was given of it, with a source that has these bytes left and
--- failed so often
-abbrev pub moment_from : Paragraphs → Tally → Option (List ℕ) → ℕ → CheckedMoment
-moment_from paragraphs given left failures = record {
+-- A reader of paragraphs and what was given of it, with a source that has these bytes left and
+-- failed so often; what was given last, and the error, are told beside them.
+abbrev pub moment_from : Option Passing → Option Fault → Paragraphs → Tally → Option (List ℕ) → ℕ
+    → CheckedMoment
+moment_from shown fault paragraphs given left failures = record {
   state =
       record {
         reader = state_of paragraphs;
         count = given.paragraphs;
         bytes = given.bytes;
-        current = None;
-        fault = None;
+        current = shown;
+        fault = fault;
       };
   source = record { bytes = left; failures = failures };
 }

@@ -19,6 +19,7 @@ pub mod Finding
 pub mod PassingValues
 pub mod Keeping
 pub mod CheckedStates
+pub mod ReadingOn
 pub mod Sorting
 pub mod Paragraphs
 pub mod ParagraphValues

@@ -10,6 +10,7 @@ ghost use Rattle.deb_control.specs.Calls.{IfRefused, HasParagraphs};
 ghost use Rattle.deb_control.specs.Checking.{FitsChecked, IsRefusalOfDocument};
 ghost use Rattle.deb_control.specs.CheckedStates.{checked_state};
 ghost use Rattle.deb_control.specs.Documents.{refusal_of};
+ghost use Rattle.deb_control.specs.ReadingOn.{ReadsOn, shown};
 
 use crate::checked::Checked;
 use deb_base::{Fault, Source};
@@ -51,14 +52,8 @@ pub(crate) fn count_rest<R: Source>(checked: &mut Checked, reader: &mut R) -> Re
     ensures ok { (text : List ℕ) (before : List Entries)
         → FitsChecked checked.old.doc text before (checked_state checked.old) (R.left reader.old)
         → IfOk result (λ n. HasParagraphs checked.old.doc text (length before + n)) }
-    ensures refused { (text : List ℕ) (before : List Entries)
-        → FitsChecked checked.old.doc text before (checked_state checked.old) (R.left reader.old)
-        → IfRefused result (λ refusal. refusal_of checked.old.doc text ≡ Some refusal) }
-    ensures taken { (text : List ℕ) (before : List Entries)
-        → FitsChecked checked.old.doc text before (checked_state checked.old) (R.left reader.old)
-        → TakesNoMore text file_limit (R.left reader.new) }
-    ensures fault { IfErr result (λ fault. IsReadersFault fault IsRefusalOfDocument) }
-    ensures reads { R.failures reader.new ≡ read_failures_after (R.failures reader.old) result }
+    ensures on { ReadsOn checked.old (shown (R.left reader.old) (R.failures reader.old)) result
+        checked.new (shown (R.left reader.new) (R.failures reader.new)) }
 {
     for count in 0..u64::MAX {
         if !checked.pass_over(reader)? {

@@ -6,10 +6,11 @@ ghost use Rattle.deb_base.specs.Faults.{IsReadersFault};
 ghost use Rattle.deb_syntax.specs.Ahead.{TakesNoMore};
 ghost use Rattle.deb_syntax.specs.Lines.{file_limit};
 ghost use Rattle.deb_control.specs.Calls.{IfRefused};
-ghost use Rattle.deb_control.specs.Checking.{FitsChecked, HasChecked, IsRefusalOfDocument};
+ghost use Rattle.deb_control.specs.Checking.{FitsChecked, IsRefusalOfDocument};
 ghost use Rattle.deb_control.specs.CheckedStates.{checked_state};
 ghost use Rattle.deb_control.specs.Comparing.{Agrees, RefusesSecond, TellsSame};
 ghost use Rattle.deb_control.specs.Documents.{refusal_of};
+ghost use Rattle.deb_control.specs.ReadingOn.{ReadsOn, shown};
 ghost use Rattle.deb_control.specs.Sides.{of_first, of_second};
 
 use crate::checked::Checked;
@@ -111,42 +112,11 @@ fn agree<R: Source, S: Source>(
         → FitsChecked one.old.doc text_too [] (checked_state other.old) (S.left second.old)
         → IfOk result (Agrees one.old.doc text text_too) }
 
-    // What is left to read of the first file, which has no fault.
-    ensures first { (text : List ℕ)
-        → FitsChecked one.old.doc text [] (checked_state one.old) (R.left first.old)
-        → IfOk (of_first result)
-        (λ _. HasChecked one.old.doc text (checked_state one.new) (R.left first.new)) }
-    ensures first_sound { IfOk (of_first result) (λ _. (checked_state one.new).fault ≡ None) }
-    ensures first_doc { IfOk (of_first result) (λ _. one.new.doc ≡ one.old.doc) }
-
-    // And of the second one, where no fault is told.
-    ensures second { (text : List ℕ)
-        → FitsChecked one.old.doc text [] (checked_state other.old) (S.left second.old)
-        → IfOk result
-        (λ _. HasChecked one.old.doc text (checked_state other.new) (S.left second.new)) }
-    ensures second_sound { IfOk result (λ _. (checked_state other.new).fault ≡ None) }
-    ensures second_doc { IfOk result (λ _. other.new.doc ≡ one.old.doc) }
-
-    // How much was taken of each.
-    ensures taken_first { (text : List ℕ)
-        → FitsChecked one.old.doc text [] (checked_state one.old) (R.left first.old)
-        → TakesNoMore text file_limit (R.left first.new) }
-    ensures taken_second { (text : List ℕ)
-        → FitsChecked one.old.doc text [] (checked_state other.old) (S.left second.old)
-        → TakesNoMore text file_limit (S.left second.new) }
-
-    // The faults.
-    ensures first_refused { (text : List ℕ)
-        → FitsChecked one.old.doc text [] (checked_state one.old) (R.left first.old)
-        → IfRefused (of_first result) (λ refusal. refusal_of one.old.doc text ≡ Some refusal) }
-    ensures second_refused { (text : List ℕ)
-        → FitsChecked one.old.doc text [] (checked_state other.old) (S.left second.old)
-        → IfRefused (of_second result) (λ refusal. refusal_of one.old.doc text ≡ Some refusal) }
+    ensures first { ReadsOn one.old (shown (R.left first.old) (R.failures first.old))
+        (of_first result) one.new (shown (R.left first.new) (R.failures first.new)) }
+    ensures second { ReadsOn other.old (shown (S.left second.old) (S.failures second.old))
+        (of_second result) other.new (shown (S.left second.new) (S.failures second.new)) }
     ensures fault { IfErr result (λ told. IsReadersFault told.fault IsRefusalOfDocument) }
-    ensures reads_first { R.failures first.new
-        ≡ read_failures_after (R.failures first.old) (of_first result) }
-    ensures reads_second { S.failures second.new
-        ≡ read_failures_after (S.failures second.old) (of_second result) }
 {
     for _ in 0..u64::MAX {
         let left = match one.next(first) {

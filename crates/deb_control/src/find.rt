@@ -1,10 +1,10 @@
 //! The next paragraph of a document, checked.
 
-ghost use Rattle.std.specs.Prelude.{◌≡◌, ◌<◌, ◌≤◌, ◌&&◌, ℕ, List, [], None, Some, Ok, Err, false, true, length, IfOk, IfErr, IsTrue, OnOk};
+ghost use Rattle.std.specs.Prelude.{◌≡◌, ◌≤◌, ◌==◌, ◌&&◌, not, ℕ, List, [], Option, None, Some, Ok, Err, false, true, length, IfOk, IfErr, IsTrue, OnOk};
 ghost use Rattle.deb_base.specs.Faults.{RefusedOrMemory};
 ghost use Rattle.deb_syntax.specs.Paragraphs.{state_of, seen_of};
 ghost use Rattle.deb_field.specs.Kinds.{is_single as is_one};
-ghost use Rattle.deb_control.specs.Checking.{passes_if, judged_if, found_answer, Checks};
+ghost use Rattle.deb_control.specs.Checking.{passes_if, judged_if, found_answer, Checks, Passing};
 ghost use Rattle.deb_control.specs.Documents.{rules_of};
 ghost use Rattle.deb_control.specs.Finding.{moment_from, AddsPassing, RefusesSeen, end_answer, given_answer, passing_of_found};
 ghost use Rattle.deb_control.specs.Keeping.{KeepsFound, KeepsValues};
@@ -33,10 +33,12 @@ pub(crate) fn find<R: Source, K: Keep>(
     reader: &mut R,
 ) -> Result<bool, Fault>
     requires sound { (state_of paragraphs.old).fault ≡ None }
-    ensures checks { Checks doc
-        (moment_from paragraphs.old given.old (R.left reader.old) (R.failures reader.old))
+    ensures checks { (shown shown_now : Option Passing) (kept kept_now : Option Fault) → Checks doc
+        (moment_from shown kept paragraphs.old given.old (R.left reader.old)
+        (R.failures reader.old))
         (given_answer (passing_of_found doc (state_of paragraphs.new).current) result)
-        (moment_from paragraphs.new given.new (R.left reader.new) (R.failures reader.new)) }
+        (moment_from shown_now kept_now paragraphs.new given.new (R.left reader.new)
+        (R.failures reader.new)) }
     ensures sound { IfOk result (λ _. (state_of paragraphs.new).fault ≡ None) }
     ensures passes { IfOk result
         (λ gives. IsTrue (passes_if (keeps_text && gives) doc
@@ -46,7 +48,7 @@ pub(crate) fn find<R: Source, K: Keep>(
     ensures kept { keeps_text ≡ false → result ≡ Ok true
         → KeepsFound K.Keeps keeper.new doc (state_of paragraphs.new).current }
 {
-    if is_single(doc) && given.paragraphs > 0 {
+    if is_complete(doc, given) {
         return none_follows(paragraphs, reader);
     }
     paragraphs.advance(reader)?;
@@ -56,13 +58,22 @@ pub(crate) fn find<R: Source, K: Keep>(
     }
 }
 
+/// Whether a document of the kind has all the paragraphs that it may have.
+fn is_complete(doc: Doc, given: &Tally) -> bool
+    ensures { result ≡ (is_one doc && not (given.now.paragraphs == 0)) }
+{
+    is_single(doc) && given.paragraphs != 0
+}
+
 /// Answers that no paragraph follows the one that a document has, or refuses a second one.
 fn none_follows<R: Source>(paragraphs: &mut Paragraphs, reader: &mut R) -> Result<bool, Fault>
     requires sound { (state_of paragraphs.old).fault ≡ None }
-    ensures checks { (doc : Doc) (given : Tally) → is_one doc ≡ true → 0 < given.paragraphs
-        → Checks doc (moment_from paragraphs.old given (R.left reader.old) (R.failures reader.old))
+    ensures checks { (shown shown_now : Option Passing) (kept kept_now : Option Fault) (doc : Doc)
+        (given : Tally) → (is_one doc && not (given.paragraphs == 0)) ≡ true → Checks doc
+        (moment_from shown kept paragraphs.old given (R.left reader.old) (R.failures reader.old))
         (found_answer None [] result)
-        (moment_from paragraphs.new given (R.left reader.new) (R.failures reader.new)) }
+        (moment_from shown_now kept_now paragraphs.new given (R.left reader.new)
+        (R.failures reader.new)) }
     ensures sound { IfOk result (λ _. (state_of paragraphs.new).fault ≡ None) }
     ensures none { IfOk result (λ gives. gives ≡ false) }
 {

@@ -7,9 +7,10 @@ ghost use Rattle.deb_syntax.specs.Lines.{file_limit};
 ghost use Rattle.deb_control.specs.Calls.{IfRefused, IfCutOff, IfWriteFailed, WritesCanonical, WritesRefused, WritesRead};
 ghost use Rattle.deb_control.specs.Checking.{IsRefusalOfDocument};
 ghost use Rattle.deb_control.specs.Documents.{out_of};
+ghost use Rattle.deb_control.specs.Tallies.{gap_behind};
 
 use crate::checked::Checked;
-use deb_base::{Fault, Sink, Source, put_all};
+use deb_base::{Fault, Sink, Source, put_pieces};
 use deb_field::Doc;
 use std::alloc::Global;
 
@@ -63,11 +64,16 @@ pub fn normalise<R: Source, W: Sink>(
         let Some(paragraph) = checked.next(reader)? else {
             return Ok(count);
         };
-        if count > 0 {
-            put_all(writer, b"\n")?;
-        }
-        put_all(writer, paragraph.canonical_text())?;
+        put_pieces(writer, &[separator(count), paragraph.canonical_text()])?;
     }
     // No file has so many paragraphs.
     unreachable!()
+}
+
+/// What stands between a paragraph and those before it, which are so many: a newline, if there are
+/// any.
+fn separator(before: u64) -> &'static [u8]
+    ensures { result.now ≡ gap_behind before }
+{
+    if before > 0 { b"\n" } else { b"" }
 }

@@ -1,9 +1,4 @@
-use Rattle.std.proofs.Common.{◌<◌, inr, refl, sym, ap, ◌∙◌, subst, arith}
-use Rattle.deb_base.specs.Faults.{RefusedOrMemory}
-use Rattle.deb_syntax.specs.Lines.{file_limit}
-use Rattle.deb_syntax.specs.Paragraphs.{seen_of}
-use Rattle.deb_control.specs.Finding.{RefusesSeen}
-use Rattle.deb_control.specs.Tallies.{bytes_with}
+use Rattle.deb_control.proofs.Common.{◌<◌, inr, refl, sym, ap, ◌∙◌, subst, arith, RefusedOrMemory, file_limit, seen_of, RefusesSeen, bytes_with}
 use Rattle.deb_control.proofs.Checks.{file_limit_is}
 use Rattle.deb_control.proofs.find.pass.Goals as goal
 

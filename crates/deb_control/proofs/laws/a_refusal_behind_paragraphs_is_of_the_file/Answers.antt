@@ -1,6 +1,4 @@
-use Rattle.std.proofs.Common.{ap}
-use Rattle.deb_control.specs.Canonical.{file_text}
-use Rattle.deb_control.specs.Documents.{rules_of}
+use Rattle.deb_control.proofs.Common.{ap, file_text, rules_of}
 use Rattle.deb_control.proofs.FollowedParagraphs.{outcome-from_refusal}
 use Rattle.deb_control.proofs.laws.a_refusal_behind_paragraphs_is_of_the_file.Goals as goal
 

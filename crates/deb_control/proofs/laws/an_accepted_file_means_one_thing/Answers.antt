@@ -1,6 +1,4 @@
-use Rattle.deb_field.specs.Values.{ValueMeaning, value_text, SpellsValue}
-use Rattle.deb_field.specs.ValueLaws.{value_law}
-use Rattle.deb_control.specs.Documents.{rules_of}
+use Rattle.deb_control.proofs.Common.{ValueMeaning, value_text, SpellsValue, value_law, rules_of}
 use Rattle.deb_control.proofs.Accepting.{accepted_means_one_thing}
 use Rattle.deb_control.proofs.laws.an_accepted_file_means_one_thing.Goals as goal
 

@@ -1,4 +1,4 @@
-use Rattle.deb_control.specs.Documents.{rules_of}
+use Rattle.deb_control.proofs.Common.{rules_of}
 use Rattle.deb_control.proofs.CheckedSoFar.{is_all_of}
 use Rattle.deb_control.proofs.FollowedParagraphs.{outcome-from_end}
 use Rattle.deb_control.proofs.laws.an_end_behind_paragraphs_is_of_the_file.Goals as goal

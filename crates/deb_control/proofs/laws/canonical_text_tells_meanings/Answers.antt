@@ -1,6 +1,4 @@
-use Rattle.deb_field.specs.Values.{ValueMeaning, value_text, SpellsValue}
-use Rattle.deb_field.specs.ValueLaws.{value_law}
-use Rattle.deb_control.specs.Documents.{rules_of}
+use Rattle.deb_control.proofs.Common.{ValueMeaning, value_text, SpellsValue, value_law, rules_of}
 use Rattle.deb_control.proofs.Accepting.{canonical_text_tells_accepted}
 use Rattle.deb_control.proofs.laws.canonical_text_tells_meanings.Goals as goal
 

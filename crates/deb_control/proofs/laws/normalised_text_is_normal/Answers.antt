@@ -1,8 +1,5 @@
-use Rattle.std.proofs.Common.{◌≡◌, subst, sym}
-use Rattle.std.proofs.lemmas.List.{append_cancel_left}
-use Rattle.deb_field.specs.Values.{ValueMeaning, value_text, SpellsValue}
-use Rattle.deb_field.specs.ValueLaws.{value_law}
-use Rattle.deb_control.specs.Documents.{rules_of, canonical_text, Accepted, out_of}
+use Rattle.deb_control.proofs.Common.{◌≡◌, subst, sym, append_cancel_left, ValueMeaning, value_text, SpellsValue, value_law, rules_of, canonical_text, out_of}
+use Rattle.deb_control.specs.Documents.{Accepted}
 use Rattle.deb_control.proofs.Accepting.{canonical_text_is_accepted, canonical_text_is_its_own}
 use Rattle.deb_control.proofs.DocumentRules.{document_rules}
 use Rattle.deb_control.proofs.laws.normalised_text_is_normal.Goals as goal

@@ -1,6 +1,4 @@
-use Rattle.std.proofs.Common.{refl, ◌∙◌}
-use Rattle.deb_field.specs.ValueMeanings.{value_meaning}
-use Rattle.deb_field.specs.Values.{value_text}
+use Rattle.deb_control.proofs.Common.{refl, ◌∙◌, value_meaning, value_text}
 use Rattle.deb_control.proofs.Lengths.{length-counted}
 use Rattle.deb_control.proofs.measure.canonical_len.Goals as goal
 

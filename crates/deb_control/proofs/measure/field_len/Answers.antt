@@ -1,6 +1,4 @@
-use Rattle.std.proofs.Common.{min, ◌-◌, ◌^◌, ap, ◌∙◌}
-use Rattle.deb_base.specs.Names.{canonical_name}
-use Rattle.deb_field.specs.ValueMeanings.{value_meaning}
+use Rattle.deb_control.proofs.Common.{min, ◌-◌, ◌^◌, ap, ◌∙◌, canonical_name, value_meaning}
 use Rattle.deb_control.proofs.DocumentRules.{document_rules}
 use Rattle.deb_control.proofs.Measured.{length-spelled}
 use Rattle.deb_control.proofs.measure.field_len.Goals as goal

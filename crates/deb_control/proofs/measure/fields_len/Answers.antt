@@ -1,10 +1,4 @@
-use Rattle.std.proofs.Common.{◌≡◌, ◌<◌, subst, Some, sym, arith}
-use Rattle.std.proofs.lemmas.Result.{err_from_is_err_and}
-use Rattle.deb_base.specs.Names.{canonical_name}
-use Rattle.deb_syntax.specs.Raw.{field_of, fields_of}
-use Rattle.deb_field.specs.Values.{value_refusal}
-use Rattle.deb_control.specs.Documents.{rules_of}
-use Rattle.deb_control.specs.Refusals.{value_refusal_of}
+use Rattle.deb_control.proofs.Common.{◌≡◌, ◌<◌, subst, Some, sym, arith, err_from_is_err_and, canonical_name, field_of, fields_of, value_refusal, rules_of, value_refusal_of}
 use Rattle.deb_control.proofs.FieldsRead.{refused-here, RefusedOrMemory-to, none_is_past}
 use Rattle.deb_control.proofs.KeptValues.{KeptSoFar-begin, KeptSoFar-next, KeepsFields-end}
 use Rattle.deb_control.proofs.Measured.{HasMeasured-begin, HasMeasured-next, HasMeasured-length}

@@ -1,4 +1,4 @@
-use Rattle.deb_syntax.specs.Raw.{fields_of}
+use Rattle.deb_control.proofs.Common.{fields_of}
 use Rattle.deb_control.proofs.KeptValues.{KeptSoFar}
 use Rattle.deb_control.proofs.Measured.{HasMeasured}
 use Rattle.deb_control.proofs.measure.fields_len.Given as goal

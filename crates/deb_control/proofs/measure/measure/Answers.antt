@@ -1,9 +1,4 @@
-use Rattle.std.proofs.Common.{◌≡◌, true, Err, is_ok, sym, ap, ◌∙◌}
-use Rattle.deb_base.specs.declared.code.Code.TheVariants.{ParagraphTooLong}
-use Rattle.deb_syntax.specs.Paragraphs.{seen_of}
-use Rattle.deb_syntax.specs.Raw.{fields_of}
-use Rattle.deb_field.specs.Kinds.{required}
-use Rattle.deb_control.specs.Refusals.{have_names}
+use Rattle.deb_control.proofs.Common.{◌≡◌, true, Err, is_ok, sym, ap, ◌∙◌, ParagraphTooLong, seen_of, fields_of, required, have_names}
 use Rattle.deb_control.proofs.KeptValues.{KeepsValues-passing}
 use Rattle.deb_control.proofs.Measured.{measured-too_long, Measures-measured}
 use Rattle.deb_control.proofs.measure.measure.Goals as goal

@@ -1,5 +1,4 @@
-use Rattle.std.proofs.Common.{◌≡◌, ◌++◌, drop}
-use Rattle.deb_base.specs.Names.{capitalised, canonical_name}
+use Rattle.deb_control.proofs.Common.{◌≡◌, ◌++◌, drop, capitalised, canonical_name}
 use Rattle.deb_control.proofs.name.append_name.Given as goal
 
 abbrev pub invariant-loop-byte : goal.invariant-loop-byte

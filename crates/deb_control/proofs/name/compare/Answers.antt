@@ -1,6 +1,4 @@
-use Rattle.std.proofs.Common.{◌≡◌, ◌∙◌, sym, refl, ℕ, ◌<◌, ◌≤◌, length, Bool, List, [], ◌∷◌, Less, arith}
-use Rattle.deb_base.specs.Names.{capitalised}
-use Rattle.deb_syntax.specs.Meaning.{byte_order}
+use Rattle.deb_control.proofs.Common.{◌≡◌, ◌∙◌, sym, refl, ℕ, ◌<◌, ◌≤◌, length, Bool, List, [], ◌∷◌, Less, arith, capitalised, byte_order}
 use Rattle.deb_control.proofs.name.compare.Goals as goal
 
 -- nothing comes before something

@@ -1,6 +1,4 @@
-use Rattle.std.proofs.Common.{◌≡◌, length}
-use Rattle.deb_base.specs.Names.{capitalised, canonical_name}
-use Rattle.deb_syntax.specs.Meaning.{byte_order}
+use Rattle.deb_control.proofs.Common.{◌≡◌, length, capitalised, canonical_name, byte_order}
 use Rattle.deb_control.proofs.name.compare.Given as goal
 
 abbrev pub invariant-loop-rest : goal.invariant-loop-rest

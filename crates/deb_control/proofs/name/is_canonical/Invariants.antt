@@ -1,6 +1,4 @@
-use Rattle.std.proofs.Common.{◌≡◌, length}
-use Rattle.std.specs.Str.{bytes_eq}
-use Rattle.deb_base.specs.Names.{capitalised, canonical_name}
+use Rattle.deb_control.proofs.Common.{◌≡◌, length, bytes_eq, capitalised, canonical_name}
 use Rattle.deb_control.proofs.name.is_canonical.Given as goal
 
 abbrev pub invariant-loop-rest : goal.invariant-loop-rest

@@ -1,6 +1,4 @@
-use Rattle.std.proofs.Common.{◌≡◌, ◌≤◌, ◌+◌, ℕ, List, Some, None}
-use Rattle.deb_syntax.specs.Lines.{file_limit}
-use Rattle.deb_control.specs.CheckedStates.{checked_state}
+use Rattle.deb_control.proofs.Common.{◌≡◌, ◌≤◌, ◌+◌, ℕ, List, Some, None, file_limit, checked_state}
 use Rattle.deb_control.proofs.CheckedSoFar.{HasWritten}
 use Rattle.deb_control.proofs.normalising.normalise.Given as goal
 

@@ -1,10 +1,4 @@
-use Rattle.std.proofs.Common.{◌≡◌, ◌<◌, subst, refl, Some}
-use Rattle.std.proofs.lemmas.Result.{err_from_is_err_and}
-use Rattle.deb_syntax.specs.Raw.{fields_of}
-use Rattle.deb_field.specs.Values.{value_refusal}
-use Rattle.deb_base.specs.Names.{canonical_name}
-use Rattle.deb_control.specs.Documents.{rules_of}
-use Rattle.deb_control.specs.Refusals.{value_refusal_of}
+use Rattle.deb_control.proofs.Common.{◌≡◌, ◌<◌, subst, refl, Some, err_from_is_err_and, fields_of, value_refusal, canonical_name, rules_of, value_refusal_of}
 use Rattle.deb_control.proofs.FieldsRead.{HasRead-next, refused-here, RefusedOrMemory-to, none_is_past}
 use Rattle.deb_control.proofs.paragraph.fields_with_values.Goals as goal
 use Rattle.deb_control.proofs.paragraph.fields_with_values.Goals.{in-Some+in_ok-value+in_ok-push, in_default}

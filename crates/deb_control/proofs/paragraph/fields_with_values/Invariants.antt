@@ -1,4 +1,4 @@
-use Rattle.deb_syntax.specs.Raw.{fields_of}
+use Rattle.deb_control.proofs.Common.{fields_of}
 use Rattle.deb_control.proofs.FieldsRead.{HasRead}
 use Rattle.deb_control.proofs.paragraph.fields_with_values.Given as goal
 

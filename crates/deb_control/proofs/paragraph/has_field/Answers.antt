@@ -1,5 +1,4 @@
-use Rattle.std.proofs.Common.{◌∙◌}
-use Rattle.deb_syntax.specs.Raw.{fields_of}
+use Rattle.deb_control.proofs.Common.{◌∙◌, fields_of}
 use Rattle.deb_control.proofs.FieldsRead.{has_name-found}
 use Rattle.deb_control.proofs.paragraph.has_field.Goals as goal
 

@@ -1,8 +1,4 @@
-use Rattle.std.proofs.Common.{◌∙◌, rules, tests}
-use Rattle.std.proofs.lemmas.Iterator.{YieldsList-from_slice}
-use Rattle.std.proofs.lemmas.Iterator.Search.{all_from_yields_List}
-use Rattle.deb_syntax.specs.Fields.{has_name}
-use Rattle.deb_syntax.specs.Raw.{fields_of}
+use Rattle.deb_control.proofs.Common.{◌∙◌, rules, tests, YieldsList-from_slice, all_from_yields_List, has_name, fields_of}
 use Rattle.deb_control.proofs.FieldsRead.{have_names-slices}
 use Rattle.deb_control.proofs.paragraph.has_fields.Goals as goal
 

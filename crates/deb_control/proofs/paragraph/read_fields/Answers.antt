@@ -1,11 +1,4 @@
-use Rattle.std.proofs.Common.{IsPermutation, map, ◌≡◌, ◌∙◌, ◌++◌, length, true, sym, ap, subst, Err, arith}
-use Rattle.std.proofs.lemmas.List.Sorted.{IsPermutation-map}
-use Rattle.deb_base.specs.declared.code.Code.TheVariants.{ParagraphTooLong}
-use Rattle.deb_syntax.specs.Paragraphs.{seen_of}
-use Rattle.deb_syntax.specs.Raw.{fields_of}
-use Rattle.deb_field.specs.Kinds.{required}
-use Rattle.deb_control.specs.Paragraphs.{field_in, values_in, text_of_values}
-use Rattle.deb_control.specs.Refusals.{have_names}
+use Rattle.deb_control.proofs.Common.{IsPermutation, map, ◌≡◌, ◌∙◌, ◌++◌, length, true, sym, ap, subst, Err, arith, IsPermutation-map, ParagraphTooLong, seen_of, fields_of, required, field_in, values_in, text_of_values, have_names}
 use Rattle.deb_control.proofs.Building.{AreRead, AreRead-sorted, built-too_long, AreValuesOf-read}
 use Rattle.deb_control.proofs.paragraph.read_fields.Goals as goal
 

@@ -1,7 +1,4 @@
-use Rattle.std.proofs.Common.{refl, sym, ap, ◌∙◌, subst}
-use Rattle.deb_field.specs.Values.{SpellsKind, kind_refusal}
-use Rattle.deb_field.specs.ValueLaws.{kind_of_canonical_name}
-use Rattle.deb_field.specs.ValueMeanings.{value_meaning}
+use Rattle.deb_control.proofs.Common.{refl, sym, ap, ◌∙◌, subst, SpellsKind, kind_refusal, kind_of_canonical_name, value_meaning}
 use Rattle.deb_control.proofs.paragraph.value_of.Goals as goal
 
 pub returns-in-Ok-clause-ok : goal.returns-in-Ok-clause-ok

@@ -1,5 +1,4 @@
-use Rattle.std.proofs.Common.{◌≡◌, ◌++◌, drop}
-use Rattle.deb_control.specs.Paragraphs.{values_in, text_of_values}
+use Rattle.deb_control.proofs.Common.{◌≡◌, ◌++◌, drop, values_in, text_of_values}
 use Rattle.deb_control.proofs.typed_field.append_fields.Given as goal
 
 abbrev pub invariant-loop-field : goal.invariant-loop-field

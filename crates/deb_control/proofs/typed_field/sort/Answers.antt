@@ -1,8 +1,4 @@
-use Rattle.std.proofs.Common.{rules}
-use Rattle.std.proofs.lemmas.Cmp.{nat_list_cmp_total}
-use Rattle.std.proofs.lemmas.List.Sorted.{ranks_by, answers_always}
-use Rattle.deb_base.specs.Names.{canonical_name}
-use Rattle.deb_control.specs.Sorting.{comes_before}
+use Rattle.deb_control.proofs.Common.{rules, nat_list_cmp_total, ranks_by, answers_always, canonical_name, comes_before}
 use Rattle.deb_control.proofs.typed_field.sort.Goals as goal
 
 pub returns-clause-sorted : goal.returns-clause-sorted

@@ -1,6 +1,4 @@
-use Rattle.std.proofs.Common.{refl}
-use Rattle.deb_syntax.specs.Paragraphs.{state_of}
-use Rattle.deb_control.specs.Finding.{passing_of_found}
+use Rattle.deb_control.proofs.Common.{refl, state_of, passing_of_found}
 use Rattle.deb_control.proofs.KeptValues.{KeepsValues-found}
 use Rattle.deb_control.proofs.checked.Checked.next_kept.Goals as goal
 

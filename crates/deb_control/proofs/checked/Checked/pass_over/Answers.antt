@@ -1,5 +1,4 @@
-use Rattle.deb_syntax.specs.Paragraphs.{state_of}
-use Rattle.deb_control.specs.Finding.{passing_of_found}
+use Rattle.deb_control.proofs.Common.{state_of, passing_of_found}
 use Rattle.deb_control.proofs.checked.Checked.pass_over.Goals as goal
 
 pub returns-clause-checks : goal.returns-clause-checks

@@ -1,6 +1,4 @@
-use Rattle.std.proofs.Common.{IsTrue, subst}
-use Rattle.deb_syntax.specs.Paragraphs.{state_of}
-use Rattle.deb_control.specs.Checking.{passes_if}
+use Rattle.deb_control.proofs.Common.{IsTrue, subst, state_of, passes_if}
 use Rattle.deb_control.proofs.Checks.{says-kept, told-of}
 use Rattle.deb_control.proofs.checked.Checked.step.Goals as goal
 

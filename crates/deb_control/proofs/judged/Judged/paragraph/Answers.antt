@@ -1,4 +1,4 @@
-use Rattle.deb_syntax.specs.Paragraphs.{seen_of}
+use Rattle.deb_control.proofs.Common.{seen_of}
 use Rattle.deb_control.proofs.PassingParagraphs.{only_memory, built-unrefused}
 use Rattle.deb_control.proofs.judged.Judged.paragraph.Goals as goal
 

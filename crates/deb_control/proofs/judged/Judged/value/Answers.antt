@@ -1,7 +1,4 @@
-use Rattle.std.proofs.Common.{sym}
-use Rattle.deb_syntax.specs.Paragraphs.{seen_of}
-use Rattle.deb_syntax.specs.Raw.{field_of}
-use Rattle.deb_field.specs.ValueMeanings.{value_meaning}
+use Rattle.deb_control.proofs.Common.{sym, seen_of, field_of, value_meaning}
 use Rattle.deb_control.proofs.PassingParagraphs.{none-passing, value-passing, only_memory, unrefused-passing}
 use Rattle.deb_control.proofs.judged.Judged.value.Goals as goal
 

@@ -1,7 +1,4 @@
-use Rattle.std.proofs.Common.{◌≡◌, sym, ap, subst, ◌∙◌, refl, Some}
-use Rattle.std.proofs.lemmas.Bool.{false≢true}
-use Rattle.deb_base.specs.Names.{folded}
-use Rattle.deb_field.specs.ValueMeanings.{value_meaning}
+use Rattle.deb_control.proofs.Common.{◌≡◌, sym, ap, subst, ◌∙◌, refl, Some, false≢true, folded, value_meaning}
 use Rattle.deb_control.proofs.ValueLookups.{value-found, value-passed}
 use Rattle.deb_control.proofs.paragraph.Paragraph.get.Goals as goal
 
