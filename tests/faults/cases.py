@@ -58,10 +58,11 @@ class Case:
 
     @property
     def is_job(self):
-        """Whether the words ask for a job and its files can be opened. Only then its answer goes
-        through a buffered writer, which asks again where a write was interrupted."""
+        """Whether the words ask for a job, and its files can be opened or standard output tells of
+        one that can't. Only then its answer goes through a buffered writer, which asks again where
+        a write was interrupted."""
         told = (b"usage: ", b"error: ", b"fault: ")
-        return self.words[0] != "help" and not self.err.startswith(told)
+        return self.words[0] != "help" and (bool(self.out) or not self.err.startswith(told))
 
     @property
     def opens_before_files(self):

@@ -40,6 +40,12 @@ class Fault:
         """Which devices are slow, and how slow; empty where none is."""
         return f"{self.slow} {self.few}" if self.slow else ""
 
+    @property
+    def why(self):
+        """What is told of a file that can't be opened for it."""
+        words = {errno.EACCES: b"permission denied"}
+        return words.get(self.error, b"os error %d" % self.error)
+
     def environment(self, k):
         """The variables that ask the library for it."""
         asked = {"FAULTS_CALLS": self.calls, "FAULTS_FIRST": str(k)}
@@ -84,6 +90,8 @@ FAULTS = [
     Fault("write k fails with EIO, others move one byte", "write", errno.EIO, slow="write"),
     Fault("write k fails with EIO, others move 7 bytes", "write", errno.EIO, slow="write", few=7),
     Fault("open k fails with EIO", "open", errno.EIO),
+    Fault("open k fails with EACCES", "open", errno.EACCES),
+    Fault("open k fails with EMFILE", "open", errno.EMFILE),
     Fault("open k fails with EINTR", "open", errno.EINTR),
     Fault("stat k fails with EIO", "stat", errno.EIO),
 ]
@@ -172,6 +180,9 @@ def wanted_of(case: Case, fault: Fault, record):
         return Wanted(case.out, line, FAULT_STATUS, "part", "part" if on_stderr else "all")
     if case.words[0] == "audit":
         return wanted_of_audit(case, fault, record)
+    if case.words[0] == "explain" and fault.calls in ("open", "stat"):
+        told = (b"file: ", case.words[-1].encode(), b"\nfault: read\nreason: ", fault.why, b"\n")
+        return Wanted(b"".join(told), line, FAULT_STATUS)
     if case.words[0] != "normalise":
         return Wanted(b"", line, FAULT_STATUS)
     most = paragraphs_read(case, record) if fault.calls == "read" else None
@@ -180,15 +191,20 @@ def wanted_of(case: Case, fault: Fault, record):
 
 def wanted_of_audit(case: Case, fault: Fault, record):
     """The answer of an audit: the file that was opened last tells the fault, and so does each later
-    one where the fault lasts; but before the first one was opened the audit ends with it."""
+    one where the fault lasts; but before the first one was opened the audit ends with it. Of a path
+    that can't be opened, that of a list among them, it is told why."""
     line = FAULT_LINES[fault.calls]
+    is_unopened = fault.calls in ("open", "stat")
     number = record["opens_at_met"] - case.opens_before_files
     if number < 1:
-        return Wanted(b"", line, FAULT_STATUS)
+        told = case.words[-1].encode() + b": fault: read: " + fault.why + b"\n"
+        return Wanted(told if is_unopened else b"", line, FAULT_STATUS)
+    if is_unopened:
+        line = b"fault: read: " + fault.why + b"\n"
     told = case.out.splitlines(keepends=True)
     for at in range(number - 1, len(told) if fault.is_lasting else number):
         path, _, answer = told[at].partition(b": ")
-        if not answer.startswith(b"fault: "):
+        if is_unopened or not answer.startswith(b"fault: "):
             told[at] = path + b": " + line
     return Wanted(b"".join(told), b"", FAULT_STATUS)
 

@@ -5,7 +5,7 @@
 //!   of the same refusal more than its code and its line.
 //! - [`Explanation::write`] writes that in lines `key: value`.
 //! - [`rule`] says in a sentence what a code means, and [`usually`] what its refusal usually is;
-//!   [`write_rule_of`] writes both.
+//!   [`write_rule_of`] writes both. [`write_shown`] writes any text in a line behind a key.
 //!
 //! ```text
 //! let told = explain(alloc, Doc::Packages, b"Package: aa\nVersion: 1_2\n")?;
@@ -25,4 +25,4 @@ pub use cause::Cause;
 pub use explained::{Explained, Explanation, RefusedField, Subject};
 pub use explaining::explain;
 pub use sentences::{rule, usually};
-pub use telling::write_rule_of;
+pub use telling::{write_rule_of, write_shown};

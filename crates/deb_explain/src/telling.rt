@@ -251,9 +251,15 @@ fn version_reason(fault: &BadVersion) -> &'static [u8]
     }
 }
 
-/// Writes a line of a text behind its key, shortened and with its bytes made printable.
+/// Writes a line of a text behind its key, with its bytes made printable and shortened, as
+/// `Explanation::write` writes those of a file. Takes no memory.
+///
+/// # Errors
+///
+/// `Fault::Write` alone: a write failed in this call, and a front of the line was written before
+/// it.
 #[tactic(auto, using(deb_base::proofs::Writes::put_steps), unfolding(crate::specs::Telling::shown_line))]
-fn write_shown<W: Sink>(key: &[u8], text: &[u8], out: &mut W) -> Result<(), Fault>
+pub fn write_shown<W: Sink>(key: &[u8], text: &[u8], out: &mut W) -> Result<(), Fault>
     ensures written { Puts (W.held out.old) (W.held out.new) result (shown_line key.now text.now) }
     ensures fault { IfErr result (λ fault. fault ≡ Fault.Write) }
     ensures counted { W.failures out.new ≡ write_failures_after (W.failures out.old) result }

@@ -9,12 +9,12 @@ use Rattle.std.specs.Prelude.{⊤}
 use Rattle.std.specs.Io.KnownBytes.{Appends}
 use Rattle.std.specs.List.{flat_map, fold}
 use Rattle.deb_base.specs.Devices.{AppendsFront, failures_after, write_failures_after}
-use Rattle.deb_base.specs.declared.device.Failed.{Failed}
 use Rattle.deb_base.specs.declared.fault.Fault.{Fault}
 use Rattle.deb_base.specs.declared.fault.Fault.TheVariants.{Write}
 use Rattle.deb_field.specs.declared.kind.Doc.{Doc}
 use Rattle.deb_base.proofs.Writes.{AppendsFront-then}
-use Rattle.debctl_jobs.specs.AuditJob.{answer_status, audit_line, worst, AnswersOpened, Audited, Audits, IsAnswered}
+use Rattle.debctl_jobs.specs.AuditJob.{outcome_status, audit_line, worst, AnswersOpened, Audited, Audits, IsAnswered}
+use Rattle.debctl_jobs.specs.declared.unopened.Unopened.{Unopened}
 
 -- the worst of some statuses and of others is the worse of the two
 fold-max : (a : ℕ) (ns : List ℕ) → fold max a ns ≡ max a (fold max 0 ns)
@@ -45,34 +45,34 @@ module _ {R : Type 0} (left : R → Option (List ℕ)) (failures : R → ℕ) (d
   }
 
   -- one file
-  module _ (path : List ℕ) (opened : Result R Failed) (answer : Result ℕ Fault) (answers : AnswersOpened left failures doc (text path) opened answer) where
+  module _ (path : List ℕ) (opened : Result R Unopened) (outcome : Result (Result ℕ Fault) Unopened) (answers : AnswersOpened left failures doc (text path) opened outcome) where
     abbrev file : Audited R
-    file = record { path = path; opened = opened; answer = answer }
+    file = record { path = path; opened = opened; outcome = outcome }
 
     each_one : Rattle.std.specs.List.All (IsAnswered left failures doc text) (file ∷ [])
     each_one = All-cons (IsAnswered left failures doc text) file [] answers (All-nil (IsAnswered left failures doc text))
 
-    pub audits_one : (n n_after : ℕ) (out out_after : Option (List ℕ)) (m m_after : ℕ) → n_after ≡ failures_after n opened → Appends out out_after (audit_line path answer) → m_after ≡ m
-        → (status : ℕ) → status ≡ answer_status answer → Audits left failures doc text n n_after out out_after m m_after (path ∷ []) (Ok status)
+    pub audits_one : (n n_after : ℕ) (out out_after : Option (List ℕ)) (m m_after : ℕ) → n_after ≡ failures_after n opened → Appends out out_after (audit_line path outcome) → m_after ≡ m
+        → (status : ℕ) → status ≡ outcome_status outcome → Audits left failures doc text n n_after out out_after m m_after (path ∷ []) (Ok status)
     audits_one n n_after out out_after m m_after opens told writes status is = record {
       files = file ∷ [];
       behind = [];
       whole = refl;
       each = each_one;
-      told = subst (Appends out out_after) (sym (append-nil (audit_line path answer))) told;
-      ends = (refl, is ∙ worst_of_one (answer_status answer));
+      told = subst (Appends out out_after) (sym (append-nil (audit_line path outcome))) told;
+      ends = (refl, is ∙ worst_of_one (outcome_status outcome));
       opens = opens;
       writes = writes;
     }
 
-    pub audits_unwritten : (n n_after : ℕ) (out out_after : Option (List ℕ)) (m m_after : ℕ) → n_after ≡ failures_after n opened → AppendsFront out out_after (audit_line path answer)
+    pub audits_unwritten : (n n_after : ℕ) (out out_after : Option (List ℕ)) (m m_after : ℕ) → n_after ≡ failures_after n opened → AppendsFront out out_after (audit_line path outcome)
         → (fault : Fault) → fault ≡ Write → m_after ≡ write_failures_after {T = ⊤} m (Err fault) → Audits left failures doc text n n_after out out_after m m_after (path ∷ []) (Err fault)
     audits_unwritten n n_after out out_after m m_after opens told fault is writes = rw is (record {
       files = file ∷ [];
       behind = [];
       whole = refl;
       each = each_one;
-      told = subst (AppendsFront out out_after) (sym (append-nil (audit_line path answer))) told;
+      told = subst (AppendsFront out out_after) (sym (append-nil (audit_line path outcome))) told;
       ends = refl;
       opens = opens;
       writes = rw is at writes;
@@ -84,12 +84,12 @@ module _ {R : Type 0} (left : R → Option (List ℕ)) (failures : R → ℕ) (d
     path_of file = file.path
 
     abbrev line_of : Audited R → List ℕ
-    line_of file = audit_line file.path file.answer
+    line_of file = audit_line file.path file.outcome
 
     abbrev status_of : Audited R → ℕ
-    status_of file = answer_status file.answer
+    status_of file = outcome_status file.outcome
 
-    abbrev opened_of : Audited R → Result R Failed
+    abbrev opened_of : Audited R → Result R Unopened
     opened_of file = file.opened
 
     whole : (files : List (Audited R)) (behind : List (List ℕ)) → more ≡ map path_of files ++ behind → paths ++ more ≡ map path_of (front.files ++ files) ++ behind

@@ -8,7 +8,6 @@ use Rattle.deb_base.specs.Devices.{failures_after, read_failures_after, write_fa
 use Rattle.deb_base.specs.Faults.{IsReadersFault}
 use Rattle.deb_base.specs.Lines.{fault_line}
 use Rattle.deb_base.specs.declared.code.Code.TheVariants.{NoColon}
-use Rattle.deb_base.specs.declared.device.Failed.{Failed}
 use Rattle.deb_base.specs.declared.fault.Fault.{Fault}
 use Rattle.deb_base.specs.declared.fault.Fault.TheVariants.{Refused, Memory, Read, Write}
 use Rattle.deb_field.specs.declared.kind.Doc.{Doc}
@@ -17,6 +16,9 @@ use Rattle.deb_control.specs.Checking.{IsRefusalOfDocument}
 use Rattle.deb_control.specs.Documents.{refusal_of}
 use Rattle.debctl_jobs.specs.DocumentJobs.{ok_line}
 use Rattle.debctl_jobs.specs.Telling.{status_of}
+use Rattle.debctl_jobs.specs.Unopened.{unopened_line}
+use Rattle.debctl_jobs.specs.declared.unopened.Unopened.{Unopened}
+use Rattle.debctl_jobs.specs.declared.unopened.Unopened.TheVariants.{NotFound, NotUtf8}
 
 -- ---- lines and statuses
 
@@ -25,14 +27,24 @@ abbrev pub answer_line : Result ℕ Fault → List ℕ
 answer_line (Ok n) = ok_line n
 answer_line (Err fault) = fault_line fault
 
--- that line behind the file's path
-abbrev pub audit_line : List ℕ → Result ℕ Fault → List ℕ
-audit_line path answer = path ++ codes ": " ++ answer_line answer
+-- the line of a file: of one that couldn't be opened, with why
+abbrev pub outcome_line : Result (Result ℕ Fault) Unopened → List ℕ
+outcome_line (Ok answer) = answer_line answer
+outcome_line (Err why) = unopened_line why
 
--- the status of a file: 0 where it is accepted, 2 where it is refused, else 3
+-- that line behind the file's path
+abbrev pub audit_line : List ℕ → Result (Result ℕ Fault) Unopened → List ℕ
+audit_line path outcome = path ++ codes ": " ++ outcome_line outcome
+
+-- the status of what is answered: 0 where a file is accepted, 2 where it is refused, else 3
 abbrev pub answer_status : Result ℕ Fault → ℕ
 answer_status (Ok n) = 0
 answer_status (Err fault) = status_of fault
+
+-- the status of a file
+abbrev pub outcome_status : Result (Result ℕ Fault) Unopened → ℕ
+outcome_status (Ok answer) = answer_status answer
+outcome_status (Err why) = 3
 
 -- the worst of some statuses, and 0 where there is none
 abbrev pub worst : List ℕ → ℕ
@@ -40,11 +52,12 @@ worst statuses = fold max 0 statuses
 
 -- ---- files
 
--- What became of the file of a path: what opening it gave, and what was answered.
+-- What became of the file of a path: what opening it gave, and what was answered, or why it
+-- couldn't be opened.
 pub record Audited (R : Type 0) : Type 0 where
   pub path : List ℕ
-  pub opened : Result R Failed
-  pub answer : Result ℕ Fault
+  pub opened : Result R Unopened
+  pub outcome : Result (Result ℕ Fault) Unopened
 
 -- What `check` answers of a file: by the text that its reader tells, and the reader's count of
 -- failed calls before and after.
@@ -57,19 +70,21 @@ pub record AnswersFile (doc : Doc) (left : Option (List ℕ)) (count count_after
   pub reads : count_after ≡ read_failures_after count answer
 
 -- A file that was opened has the text that is told of it, and is answered by what its reader came
--- to be. One that couldn't be opened is answered as one that couldn't be read.
+-- to be. Of one that couldn't be opened that is told, and why.
 abbrev pub AnswersOpened : {R : Type 0} → (R → Option (List ℕ)) → (R → ℕ) → Doc → Option (List ℕ)
-    → Result R Failed → Result ℕ Fault → Type 0
-AnswersOpened {R} left failures doc told (Ok reader) answer =
+    → Result R Unopened → Result (Result ℕ Fault) Unopened → Type 0
+AnswersOpened {R} left failures doc told (Ok reader) (Ok answer) =
     (left reader ≡ told)
     × ((after : R) × AnswersFile doc told (failures reader) (failures after) answer)
-AnswersOpened left failures doc told (Err _) answer = answer ≡ Err Read
+AnswersOpened left failures doc told (Ok reader) (Err why) = ⊥
+AnswersOpened left failures doc told (Err why) (Ok answer) = ⊥
+AnswersOpened left failures doc told (Err why) (Err why_told) = why_told ≡ why
 
 -- the same of a file by its path
 abbrev pub IsAnswered : {R : Type 0} → (R → Option (List ℕ)) → (R → ℕ) → Doc
     → (List ℕ → Option (List ℕ)) → Audited R → Type 0
 IsAnswered left failures doc text file =
-    AnswersOpened left failures doc (text file.path) file.opened file.answer
+    AnswersOpened left failures doc (text file.path) file.opened file.outcome
 
 -- The files of some paths are answered, and told one by one in the order of the paths. The status
 -- is the worst of theirs; or a write failed, and no path behind that one was opened. (n and n_after
@@ -81,33 +96,42 @@ pub record Audits {R : Type 0} (left : R → Option (List ℕ)) (failures : R �
   pub behind : List (List ℕ)
   pub whole : paths ≡ map (λ file. file.path) files ++ behind
   pub each : All (IsAnswered left failures doc text) files
-  pub told : Puts out out_after status (flat_map (λ file. audit_line file.path file.answer) files)
+  pub told : Puts out out_after status (flat_map (λ file. audit_line file.path file.outcome) files)
   pub ends : MatchResult status
-      (λ status. (behind ≡ []) × (status ≡ worst (map (λ file. answer_status file.answer) files)))
+      (λ status. (behind ≡ []) × (status ≡ worst (map (λ file. outcome_status file.outcome) files)))
       (λ fault. fault ≡ Write)
   pub opens : n_after ≡ fold failures_after n (map (λ file. file.opened) files)
   pub writes : m_after ≡ write_failures_after m status
 
-line_of_accepted : audit_line (codes "a/b") (Ok 2) ≡ codes "a/b: ok 2\n"
+line_of_accepted : audit_line (codes "a/b") (Ok (Ok 2)) ≡ codes "a/b: ok 2\n"
 unfolding digits
 line_of_accepted = refl
 
 line_of_refused :
-    audit_line (codes "b") (Err (Refused (record { code = NoColon; line = 1 })))
+    audit_line (codes "b") (Ok (Err (Refused (record { code = NoColon; line = 1 }))))
     ≡ codes "b: line 1: 6 NoColon\n"
 unfolding digits
 line_of_refused = refl
 
-line_of_unread : audit_line (codes "no such file") (Err Read) ≡ codes "no such file: fault: read\n"
+line_of_unread : audit_line (codes "a") (Ok (Err Read)) ≡ codes "a: fault: read\n"
 line_of_unread = refl
 
-line_of_memory : audit_line (codes "c") (Err Memory) ≡ codes "c: fault: memory\n"
+line_of_unopened : audit_line (codes "missing") (Err NotFound)
+    ≡ codes "missing: fault: read: no such file or directory\n"
+line_of_unopened = refl
+
+line_of_memory : audit_line (codes "c") (Ok (Err Memory)) ≡ codes "c: fault: memory\n"
 line_of_memory = refl
 
 -- a path stands as it is given, with a newline or without any byte
-line_of_odd_paths : (audit_line (codes "a\nb") (Err Read) ≡ codes "a\nb: fault: read\n")
-    × (audit_line [] (Err Read) ≡ codes ": fault: read\n")
+line_of_odd_paths : (audit_line (codes "a\nb") (Ok (Err Read)) ≡ codes "a\nb: fault: read\n")
+    × (audit_line [] (Err NotUtf8) ≡ codes ": fault: read: the path isn't UTF-8\n")
 line_of_odd_paths = (refl, refl)
+
+status_of_each : (outcome_status (Ok (Ok 1)) ≡ 0)
+    × (outcome_status (Ok (Err (Refused (record { code = NoColon; line = 1 })))) ≡ 2)
+    × (outcome_status (Ok (Err Read)) ≡ 3) × (outcome_status (Err NotFound) ≡ 3)
+status_of_each = (refl, refl, refl, refl)
 
 worst_of_none : worst [] ≡ 0
 worst_of_none = refl

@@ -1,14 +1,18 @@
 -- What the jobs of `explain` answer. The form of what is told is this project's own.
-use Rattle.std.specs.Prelude.{◌≡◌, ◌⊎◌, ℕ, Bool, true, false, List, Option, Some, Result, ⊤, IfOk, IfErr}
+use Rattle.std.specs.Prelude.{◌≡◌, ◌⊎◌, ℕ, Bool, true, false, List, [], ◌∷◌, ◌++◌, Option, Some, Result, ⊤, IfOk, IfErr, codes, refl}
 use Rattle.std.specs.Io.KnownBytes.{Appends}
+use Rattle.deb_base.specs.Bodies.{newline}
 use Rattle.deb_base.specs.Devices.{AppendsFront, Puts, write_failures_after}
 use Rattle.deb_base.specs.Faults.{MatchFault}
 use Rattle.deb_base.specs.declared.code.Code.{Code}
 use Rattle.deb_base.specs.declared.fault.Fault.{Fault}
 use Rattle.deb_explain.specs.Explanations.{Told, explanation_of}
-use Rattle.deb_explain.specs.Telling.{explanation_text, rule_text}
+use Rattle.deb_explain.specs.Telling.{escaped_byte, explanation_text, front_of, rule_text, shortened, shown_line}
 use Rattle.deb_field.specs.declared.kind.Doc.{Doc}
 use Rattle.debctl_jobs.specs.DocumentJobs.{WritesOk, WritesFrontOfOk}
+use Rattle.debctl_jobs.specs.Unopened.{unopened_words}
+use Rattle.debctl_jobs.specs.declared.unopened.Unopened.{Unopened}
+use Rattle.debctl_jobs.specs.declared.unopened.Unopened.TheVariants.{NotFound}
 
 -- the status of an answer that is there: 0 where the text is accepted, 2 where it is refused
 abbrev pub explain_status : Bool → ℕ
@@ -56,3 +60,14 @@ pub record WritesRule {W : Type 0} (code : Code) (held : W → Option (List ℕ)
     (old new : W) (answer : Result ⊤ Fault) : Type 0 where
   pub written : Puts (held old) (held new) answer (rule_text code)
   pub writes : failures new ≡ write_failures_after (failures old) answer
+
+-- what is written of a file that can't be opened
+abbrev pub unopened_text : List ℕ → Unopened → List ℕ
+unopened_text path why =
+    shown_line (codes "file: ") path
+    ++ (codes "fault: read\nreason: " ++ (unopened_words why ++ newline ∷ []))
+
+text_of_unopened : unopened_text (codes "a\tb") NotFound
+    ≡ codes "file: a\\tb\nfault: read\nreason: no such file or directory\n"
+unfolding shown_line shortened front_of escaped_byte
+text_of_unopened = refl

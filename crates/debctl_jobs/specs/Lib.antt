@@ -8,5 +8,6 @@ pub mod SameJob
 pub mod SortJob
 pub mod Taking
 pub mod Telling
+pub mod Unopened
 pub mod VersionJobs
 pub mod WordsTelling

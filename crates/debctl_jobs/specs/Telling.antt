@@ -1,9 +1,9 @@
 -- How a command ends: its status, and the line of a fault on standard error. Both are this
 -- project's own.
-use Rattle.std.specs.Prelude.{◌≡◌, ◌⊎◌, ℕ, List, Option, Result, Ok, Err, codes, refl}
+use Rattle.std.specs.Prelude.{◌≡◌, ◌⊎◌, ℕ, List, Option, Result, Ok, Err, ⊤, IfErr, codes, refl}
 use Rattle.std.specs.Io.KnownBytes.{Appends}
 use Rattle.std.specs.Fmt.{digits}
-use Rattle.deb_base.specs.Devices.{AppendsFront, one_more}
+use Rattle.deb_base.specs.Devices.{AppendsFront, Puts, one_more, write_failures_after}
 use Rattle.deb_base.specs.Lines.{fault_line}
 use Rattle.deb_base.specs.declared.code.Code.TheVariants.{NoColon}
 use Rattle.deb_base.specs.declared.fault.Fault.{Fault}
@@ -54,6 +54,23 @@ abbrev pub Tells : {T E : Type 0} → (T → ℕ) → (E → Option (List ℕ)) 
 Tells wanted held failures old new (Ok answer) status = (status ≡ wanted answer) × (new ≡ old)
 Tells wanted held failures old new (Err fault) status =
     TellsFault held failures old new fault status
+
+-- the fault that is told behind the lines of a path that can't be opened
+abbrev pub fault_behind : Result ⊤ Fault → Fault
+fault_behind (Ok _) = Read
+fault_behind (Err fault) = fault
+
+-- A path that can't be opened is told: lines on `out`, and behind them the fault of a failed read,
+-- or that of a failed write, before which a prefix of the lines was written. The status is 3.
+pub record TellsUnopened {W E : Type 0} (lines : List ℕ) (held : W → Option (List ℕ))
+    (writes : W → ℕ) (out new : W) (held_err : E → Option (List ℕ)) (tells : E → ℕ)
+    (err err_after : E) (ended : ℕ) : Type 0 where
+  pub answer : Result ⊤ Fault
+  pub written : Puts (held out) (held new) answer lines
+  pub counted : writes new ≡ write_failures_after (writes out) answer
+  pub fault : IfErr answer (λ fault. fault ≡ Write)
+  pub told : TellsFault held_err tells err err_after (fault_behind answer) ended
+  pub status : ended ≡ 3
 
 status_of_refusal : status_of (Refused (record { code = NoColon; line = 1 })) ≡ 2
 status_of_refusal = refl

@@ -2,15 +2,16 @@
 
 ghost use Rattle.std.specs.Prelude.{◌≡◌, ◌<◌, ℕ, List, [], ◌∷◌, map, IfErr, Ok, Result};
 ghost use Rattle.deb_base.specs.Devices.{failures_after, write_failures_after, Puts};
-ghost use Rattle.deb_base.specs.declared.device.Failed.{Failed};
 ghost use Rattle.deb_base.specs.declared.fault.Fault.{Fault};
-ghost use Rattle.debctl_jobs.specs.AuditJob.{answer_line, answer_status, audit_line, AnswersOpened, Audits};
+ghost use Rattle.debctl_jobs.specs.AuditJob.{answer_line, answer_status, audit_line, outcome_line, outcome_status, AnswersOpened, Audits};
 ghost use Rattle.debctl_jobs.specs.DocumentJobs.{ok_line};
-ghost use Rattle.debctl_jobs.specs.Telling.{Tells};
+ghost use Rattle.debctl_jobs.specs.Telling.{Tells, TellsUnopened};
+ghost use Rattle.debctl_jobs.specs.declared.unopened.Unopened.{Unopened};
 
 use crate::opens::Opens;
-use crate::tell::{status_of, tell};
-use deb_base::{Failed, Fault, Sink, put_pieces};
+use crate::tell::{FAULT_STATUS, status_of, tell, tell_unopened};
+use crate::unopened::Unopened;
+use deb_base::{Fault, Sink, put_pieces};
 use deb_control::check;
 use deb_field::Doc;
 use itoa::Buffer;
@@ -21,7 +22,8 @@ use std::alloc::Global;
 ///
 /// The line of a file is its path as it is given, `: `, and `ok N` for its N paragraphs, the
 /// refusal, or the fault; each with a newline. A file that can't be opened has the fault of one
-/// that can't be read. A file that is refused, or has a fault, doesn't end the job.
+/// that can't be read, and behind it why. A file that is refused, or has a fault, doesn't end the
+/// job.
 ///
 /// - 0: each file is accepted.
 /// - 2: some file is refused, and none has a fault.
@@ -60,6 +62,23 @@ pub fn run_audit<F: Opens, W: Sink, E: Sink>(
     }
 }
 
+/// Writes on `out`, as the line of a file, that the list of the paths can't be opened, and why, and
+/// tells on `err` the fault of a file that can't be read. Answers the status, which is 3.
+///
+/// Where a write on `out` failed, a prefix of the line was written, and that fault is told.
+pub(crate) fn run_without_list<W: Sink, E: Sink>(
+    path: &[u8],
+    why: Unopened,
+    out: &mut W,
+    err: &mut E,
+) -> u8
+    ensures told { TellsUnopened (audit_line path.now (Err why)) W.held W.failures out.old out.new
+        E.held E.failures err.old err.new result }
+{
+    let written = put_audit_line(out, path, &Err(why));
+    tell_unopened(&written, err)
+}
+
 /// Checks the files of some paths one after the other, and writes the line of each. Answers the
 /// worst of their statuses, or the fault of a write.
 fn audit<F: Opens, W: Sink>(
@@ -93,22 +112,37 @@ fn audit_file<F: Opens, W: Sink>(
         (W.failures out.old) (W.failures out.new) (path.now ∷ []) result }
     ensures stays { F.text files.new ≡ F.text files.old }
 {
-    let answer = check_path(alloc, doc, path, files);
-    put_audit_line(out, path, &answer)?;
-    Ok(answer_status(&answer))
+    let outcome = check_path(alloc, doc, path, files);
+    put_audit_line(out, path, &outcome)?;
+    Ok(outcome_status(&outcome))
 }
 
-/// Opens the file of a path, and checks it.
-fn check_path<F: Opens>(alloc: Global, doc: Doc, path: &[u8], files: &mut F) -> Result<u64, Fault>
-    ensures answers { (opened : Result F.Reader Failed)
+/// Opens the file of a path, and checks it, or answers why it can't be opened.
+fn check_path<F: Opens>(
+    alloc: Global,
+    doc: Doc,
+    path: &[u8],
+    files: &mut F,
+) -> Result<Result<u64, Fault>, Unopened>
+    ensures answers { (opened : Result F.Reader Unopened)
         × AnswersOpened F.Reader.left F.Reader.failures doc (F.text files.old path.now) opened
         result
         × (F.failures files.new ≡ failures_after (F.failures files.old) opened) }
     ensures stays { F.text files.new ≡ F.text files.old }
 {
     match files.open(path) {
-        Ok(mut reader) => check(alloc, doc, &mut reader),
-        Err(Failed) => Err(Fault::Read),
+        Ok(mut reader) => Ok(check(alloc, doc, &mut reader)),
+        Err(why) => Err(why),
+    }
+}
+
+/// The status of what became of a file.
+fn outcome_status(outcome: &Result<Result<u64, Fault>, Unopened>) -> u8
+    ensures { result ≡ outcome_status outcome.now }
+{
+    match outcome {
+        Ok(answer) => answer_status(answer),
+        Err(_) => FAULT_STATUS,
     }
 }
 
@@ -122,20 +156,35 @@ fn answer_status(answer: &Result<u64, Fault>) -> u8
     }
 }
 
-/// Writes the line of what is answered of a file, behind its path.
+/// Writes the line of what became of a file, behind its path.
 #[tactic(auto, using(deb_base::proofs::Writes::put_steps))]
 fn put_audit_line<W: Sink>(
     out: &mut W,
     path: &[u8],
-    answer: &Result<u64, Fault>,
+    outcome: &Result<Result<u64, Fault>, Unopened>,
 ) -> Result<(), Fault>
     ensures written { Puts (W.held out.old) (W.held out.new) result
-        (audit_line path.now answer.now) }
+        (audit_line path.now outcome.now) }
     ensures fault { IfErr result (λ fault. fault ≡ Fault.Write) }
     ensures counted { W.failures out.new ≡ write_failures_after (W.failures out.old) result }
 {
     put_pieces(out, &[path, b": "])?;
-    put_answer_line(out, answer)
+    put_outcome_line(out, outcome)
+}
+
+/// Writes the line of what became of a file.
+fn put_outcome_line<W: Sink>(
+    out: &mut W,
+    outcome: &Result<Result<u64, Fault>, Unopened>,
+) -> Result<(), Fault>
+    ensures written { Puts (W.held out.old) (W.held out.new) result (outcome_line outcome.now) }
+    ensures fault { IfErr result (λ fault. fault ≡ Fault.Write) }
+    ensures counted { W.failures out.new ≡ write_failures_after (W.failures out.old) result }
+{
+    match outcome {
+        Ok(answer) => put_answer_line(out, answer),
+        Err(why) => why.write_line(out),
+    }
 }
 
 /// Writes the line of what is answered of a file.

@@ -1,17 +1,18 @@
 //! The jobs of `explain`.
 
-ghost use Rattle.std.specs.Prelude.{◌≡◌, ◌<◌, Bool, ⊤, Result};
+ghost use Rattle.std.specs.Prelude.{◌≡◌, ◌<◌, Bool, ⊤, IfErr, Result};
 ghost use Rattle.deb_base.specs.Devices.{write_failures_after, Puts};
 ghost use Rattle.deb_base.specs.declared.fault.Fault.{Fault};
 ghost use Rattle.deb_explain.specs.Telling.{rule_text};
 ghost use Rattle.debctl_jobs.specs.DocumentJobs.{WritesOk};
-ghost use Rattle.debctl_jobs.specs.ExplainJob.{explain_status, Explains, WritesExplanation, WritesRule};
-ghost use Rattle.debctl_jobs.specs.Telling.{done_status, Tells};
+ghost use Rattle.debctl_jobs.specs.ExplainJob.{explain_status, unopened_text, Explains, WritesExplanation, WritesRule};
+ghost use Rattle.debctl_jobs.specs.Telling.{done_status, Tells, TellsUnopened};
 
 use crate::document_jobs::ok_line;
-use crate::tell::tell;
+use crate::tell::{tell, tell_unopened};
+use crate::unopened::Unopened;
 use deb_base::{Code, Fault, Sink, put_all};
-use deb_explain::{Explained, explain, write_rule_of};
+use deb_explain::{Explained, explain, write_rule_of, write_shown};
 use deb_field::Doc;
 use std::alloc::Global;
 
@@ -74,6 +75,30 @@ fn write_explanation<W: Sink>(
             Ok(false)
         }
     }
+}
+
+/// Writes on `out` that the file of a path can't be opened, and why, in lines `key: value`, and
+/// tells on `err` the fault of a file that can't be read. Answers the status, which is 3.
+///
+/// Where a write on `out` failed, a prefix of the lines was written, and that fault is told.
+pub fn run_unopened<W: Sink, E: Sink>(path: &[u8], why: Unopened, out: &mut W, err: &mut E) -> u8
+    ensures told { TellsUnopened (unopened_text path.now why) W.held W.failures out.old out.new
+        E.held E.failures err.old err.new result }
+{
+    let written = write_unopened(path, why, out);
+    tell_unopened(&written, err)
+}
+
+/// Writes that the file of a path can't be opened, and why.
+#[tactic(auto, using(deb_base::proofs::Writes::put_steps))]
+fn write_unopened<W: Sink>(path: &[u8], why: Unopened, out: &mut W) -> Result<(), Fault>
+    ensures written { Puts (W.held out.old) (W.held out.new) result
+        (unopened_text path.now why) }
+    ensures fault { IfErr result (λ fault. fault ≡ Fault.Write) }
+    ensures counted { W.failures out.new ≡ write_failures_after (W.failures out.old) result }
+{
+    write_shown(b"file: ", path, out)?;
+    why.write_behind(b"fault: read\nreason: ", out)
 }
 
 /// Writes on `out` what a code means, and answers the status.

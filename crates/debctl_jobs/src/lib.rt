@@ -3,8 +3,8 @@
 //!
 //! - [`run`] does a job over readers and writers, tells on one of them why it wasn't done, and
 //!   answers the status. It reads no path and knows no stream of the system.
-//! - [`run_explain`] tells why a text is refused, [`run_rule`] what a code means, and [`run_audit`]
-//!   of each of many files whether it is accepted.
+//! - [`run_explain`] tells why a text is refused, [`run_unopened`] why a file can't be opened,
+//!   [`run_rule`] what a code means, and [`run_audit`] of each of many files whether it is accepted.
 //! - [`run_program`] does what the program's words ask for: it opens the paths, hands these
 //!   the files and the standard streams, and flushes what was written.
 #![tactic(auto)]
@@ -21,11 +21,13 @@ mod same_job;
 mod sort_job;
 mod streams;
 mod tell;
+mod unopened;
 mod version_jobs;
 mod writer;
 
 pub use audit_job::run_audit;
 pub use command::run;
-pub use explain_job::{run_explain, run_rule};
+pub use explain_job::{run_explain, run_rule, run_unopened};
 pub use opens::Opens;
 pub use streams::run_program;
+pub use unopened::Unopened;

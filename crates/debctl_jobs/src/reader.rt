@@ -3,7 +3,8 @@
 ghost use Rattle.std.specs.Prelude.{None};
 
 use crate::opens::Opens;
-use deb_base::{Failed, Fault, Input};
+use crate::unopened::Unopened;
+use deb_base::Input;
 use std::fs::File;
 use std::io::{self, ErrorKind, Read, Stdin};
 
@@ -26,13 +27,13 @@ impl Read for Reader {
 }
 
 /// The file of a path, or standard input for `-`. A directory can be opened, but not read.
-pub(crate) fn opened(rt: &HostRuntime, path: &str) -> Result<Reader, Fault> {
+pub(crate) fn opened(rt: &HostRuntime, path: &str) -> Result<Reader, Unopened> {
     if path == "-" {
         return Ok(Reader::Standard(rt.stdin()));
     }
     match open_file(rt, path) {
         Ok(file) => Ok(Reader::Opened(file)),
-        Err(_) => Err(Fault::Read),
+        Err(error) => Err(unopened(&error)),
     }
 }
 
@@ -42,6 +43,22 @@ fn open_file(rt: &HostRuntime, path: &str) -> io::Result<File> {
         return Err(io::Error::from(ErrorKind::IsADirectory));
     }
     Ok(file)
+}
+
+/// Why a file can't be opened, by the system's error.
+fn unopened(error: &io::Error) -> Unopened {
+    match error.kind() {
+        ErrorKind::NotFound => Unopened::NotFound,
+        ErrorKind::PermissionDenied => Unopened::PermissionDenied,
+        ErrorKind::NotADirectory => Unopened::NotADirectory,
+        ErrorKind::IsADirectory => Unopened::IsADirectory,
+        ErrorKind::FilesystemLoop => Unopened::FilesystemLoop,
+        ErrorKind::InvalidFilename => Unopened::InvalidFilename,
+        _ => match error.raw_os_error() {
+            Some(number) if number > 0 => Unopened::System(number as u64),
+            _ => Unopened::Other,
+        },
+    }
 }
 
 /// The files of the system. A path that isn't UTF-8 can't be opened.
@@ -65,23 +82,23 @@ impl Opens for SystemFiles<'_> {
 
     ghost failures = { λ files. files.failures };
 
-    fn open(&mut self, path: &[u8]) -> Result<Input<Reader>, Failed> {
+    fn open(&mut self, path: &[u8]) -> Result<Input<Reader>, Unopened> {
         if self.failures == u64::MAX {
-            return Err(Failed);
+            return Err(Unopened::Other);
         }
         match opened_by_bytes(self.rt, path) {
             Ok(reader) => Ok(Input::new(reader)),
-            Err(_) => {
+            Err(why) => {
                 self.failures += 1;
-                Err(Failed)
+                Err(why)
             }
         }
     }
 }
 
-fn opened_by_bytes(rt: &HostRuntime, path: &[u8]) -> Result<Reader, Fault> {
+fn opened_by_bytes(rt: &HostRuntime, path: &[u8]) -> Result<Reader, Unopened> {
     match str::from_utf8(path) {
         Ok(path) => opened(rt, path),
-        Err(_) => Err(Fault::Read),
+        Err(_) => Err(Unopened::NotUtf8),
     }
 }

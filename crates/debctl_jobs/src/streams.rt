@@ -1,13 +1,14 @@
 //! The program's words, files and standard streams, as the system has them.
 
-use crate::audit_job::run_audit;
+use crate::audit_job::{run_audit, run_without_list};
 use crate::command::run;
-use crate::explain_job::{run_explain, run_rule};
+use crate::explain_job::{run_explain, run_rule, run_unopened};
 use crate::listed::listed_paths;
 use crate::reader::{Reader, SystemFiles, opened};
 use crate::tell::{FAULT_STATUS, tell, tell_words};
+use crate::unopened::Unopened;
 use crate::writer::UntilFailure;
-use deb_base::{Fault, Input, Output};
+use deb_base::{Fault, Input, Output, Sink};
 use deb_field::Doc;
 use deb_sort::read_text;
 use debctl_words::{Audit, Call, Explain, Files, Job, Task, UsageFault, job_of};
@@ -92,15 +93,13 @@ fn explain_on_streams(rt: &HostRuntime, wanted: &Explain) -> Result<u8, Fault> {
                 Some(path) => path.as_str(),
                 None => "-",
             };
-            let text = read_whole(rt, path)?;
-            run_explain(
-                rt.alloc(),
+            explain_file(
+                rt,
                 *doc,
-                path.as_bytes(),
-                text.as_slice(),
+                path,
                 &mut Output::new(&mut out),
                 &mut Output::new(&mut err),
-            )
+            )?
         }
         Explain::Rule(code) => run_rule(
             *code,
@@ -109,6 +108,23 @@ fn explain_on_streams(rt: &HostRuntime, wanted: &Explain) -> Result<u8, Fault> {
         ),
     };
     write_out(out, err, status)
+}
+
+/// Tells why the file of a path is refused, or why it can't be opened.
+fn explain_file<W: Sink, E: Sink>(
+    rt: &HostRuntime,
+    doc: Doc,
+    path: &str,
+    out: &mut W,
+    err: &mut E,
+) -> Result<u8, Fault> {
+    match opened(rt, path) {
+        Ok(reader) => {
+            let text = read_text(rt.alloc(), &mut Input::new(reader))?;
+            Ok(run_explain(rt.alloc(), doc, path.as_bytes(), text.as_slice(), out, err))
+        }
+        Err(why) => Ok(run_unopened(path.as_bytes(), why, out, err)),
+    }
 }
 
 /// Audits the files of the paths that the words or a list have.
@@ -121,12 +137,28 @@ fn audit_on_streams(rt: &HostRuntime, audit: &Audit) -> Result<u8, Fault> {
             }
             audit_paths(rt, audit.doc, paths.as_slice())
         }
-        Files::Listed(path) => {
-            let list = read_whole(rt, path.as_str())?;
-            let paths = listed_paths(rt.alloc(), list.as_slice())?;
-            audit_paths(rt, audit.doc, paths.as_slice())
-        }
+        Files::Listed(path) => match opened(rt, path.as_str()) {
+            Ok(reader) => {
+                let list = read_text(rt.alloc(), &mut Input::new(reader))?;
+                let paths = listed_paths(rt.alloc(), list.as_slice())?;
+                audit_paths(rt, audit.doc, paths.as_slice())
+            }
+            Err(why) => tell_without_list(rt, path.as_str(), why),
+        },
     }
+}
+
+/// Tells that the list of the paths can't be opened.
+fn tell_without_list(rt: &HostRuntime, path: &str, why: Unopened) -> Result<u8, Fault> {
+    let mut out = buffered(rt.alloc(), rt.stdout())?;
+    let mut err = buffered(rt.alloc(), rt.stderr())?;
+    let status = run_without_list(
+        path.as_bytes(),
+        why,
+        &mut Output::new(&mut out),
+        &mut Output::new(&mut err),
+    );
+    write_out(out, err, status)
 }
 
 /// Audits the files of some paths, and writes out what is told of them.
@@ -142,12 +174,6 @@ fn audit_paths(rt: &HostRuntime, doc: Doc, paths: &[&[u8]]) -> Result<u8, Fault>
         &mut Output::new(&mut err),
     );
     write_out(out, err, status)
-}
-
-/// The bytes of the file of a path, or of standard input for `-`; of one that is longer than a file
-/// may be, more than it may have.
-fn read_whole(rt: &HostRuntime, path: &str) -> Result<Vec<u8>, Fault> {
-    read_text(rt.alloc(), &mut Input::new(opened(rt, path)?))
 }
 
 /// Writes out what a job has written, and answers the status.
@@ -177,7 +203,7 @@ fn first_reader(rt: &HostRuntime, call: &Call) -> Result<Reader, Fault> {
     match &call.job {
         Job::Check(_) | Job::Normalise(_) | Job::Sort { .. } | Job::Query { .. } =>
             match &call.first {
-                Some(path) => opened(rt, path.as_str()),
+                Some(path) => Ok(opened(rt, path.as_str())?),
                 None => Ok(Reader::Standard(rt.stdin())),
             },
         Job::Same(_) => reader_of(rt, &call.first),
@@ -188,7 +214,7 @@ fn first_reader(rt: &HostRuntime, call: &Call) -> Result<Reader, Fault> {
 /// The file of a path, or nothing to read without one.
 fn reader_of(rt: &HostRuntime, path: &Option<String>) -> Result<Reader, Fault> {
     match path {
-        Some(path) => opened(rt, path.as_str()),
+        Some(path) => Ok(opened(rt, path.as_str())?),
         None => Ok(Reader::Nothing),
     }
 }

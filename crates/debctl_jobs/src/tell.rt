@@ -5,7 +5,7 @@ ghost use Rattle.std.specs.Prelude.{◌≡◌, ◌++◌, ◌∷◌, [], IfErr};
 ghost use Rattle.deb_base.specs.Bodies.{newline};
 ghost use Rattle.deb_base.specs.Devices.{write_failures_after, Puts};
 ghost use Rattle.debctl_jobs.specs.SameJob.{side_line, word_before, TellsSide};
-ghost use Rattle.debctl_jobs.specs.Telling.{status_of, TellsFault};
+ghost use Rattle.debctl_jobs.specs.Telling.{fault_behind, status_of, TellsFault};
 ghost use Rattle.debctl_jobs.specs.WordsTelling.{TellsWords};
 
 use deb_base::{Fault, Sink, put_all};
@@ -22,6 +22,17 @@ pub(crate) fn tell<E: Sink>(fault: &Fault, err: &mut E) -> u8
     match fault.write_line(err) {
         Ok(()) => status_of(fault),
         Err(_) => FAULT_STATUS,
+    }
+}
+
+/// Writes the line of the fault of a file that can't be opened, behind lines that were written of
+/// it, or the line of the fault that these met. Answers the status.
+pub(crate) fn tell_unopened<E: Sink>(written: &Result<(), Fault>, err: &mut E) -> u8
+    ensures { TellsFault E.held E.failures err.old err.new (fault_behind written.now) result }
+{
+    match written {
+        Ok(()) => tell(&Fault::Read, err),
+        Err(fault) => tell(fault, err),
     }
 }
 

@@ -45,7 +45,9 @@ printed in lines `KEY: VALUE`, with those of these keys that it has:
   value    the value of the field
   rule     the rule that is broken, with its section of Debian Policy
   usually  what such a refusal usually comes from
-With `--code N`, what is known of the code alone is printed, and no file is read.
+Of a file that can't be opened `file`, `fault: read` and `reason` are printed: why it
+can't. With `--code N`, what is known of the code alone is printed, and no file is
+read.
 
 Statuses:
   0  accepted, or `--code` is given
@@ -72,6 +74,7 @@ stand there as they are given:
   PATH: ok N               accepted, with N paragraphs
   PATH: line N: CODE NAME  refused, for its first fault
   PATH: fault: read        it can't be read
+  PATH: fault: read: WHY   it can't be opened, and why
 A file that is refused, or can't be read, doesn't end the audit.
 
 Statuses, of which the greatest is answered:

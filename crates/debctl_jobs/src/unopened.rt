@@ -1,0 +1,88 @@
+//! Files that can't be opened.
+
+ghost use Rattle.std.specs.Prelude.{◌≡◌, ◌∷◌, ◌++◌, [], IfErr};
+ghost use Rattle.deb_base.specs.Bodies.{newline};
+ghost use Rattle.deb_base.specs.Devices.{write_failures_after, Puts};
+ghost use Rattle.deb_base.specs.declared.fault.Fault.TheVariants.{Read};
+ghost use Rattle.debctl_jobs.specs.Unopened.{unopened_line, unopened_words};
+
+use deb_base::{Fault, Sink, put_all, put_pieces};
+use itoa::Buffer;
+
+/// Why a file can't be opened, as the system tells it.
+#[derive(Clone, Copy)]
+pub enum Unopened {
+    /// There is no file of that name.
+    NotFound,
+    /// It may not be read.
+    PermissionDenied,
+    /// A part of the path that has others behind it is no directory.
+    NotADirectory,
+    /// It is a directory, which can be opened but has no bytes.
+    IsADirectory,
+    /// Too many symbolic links were met; they may be a loop.
+    FilesystemLoop,
+    /// The path, or a part of it, is too long.
+    InvalidFilename,
+    /// The path isn't UTF-8, and the standard library opens none of that kind.
+    NotUtf8,
+    /// Another error of the system, by its number.
+    System(u64),
+    /// Another error, which isn't the system's.
+    Other,
+}
+
+impl Unopened {
+    /// Writes it in words.
+    fn write_words<W: Sink>(self, out: &mut W) -> Result<(), Fault>
+        ensures written { Puts (W.held out.old) (W.held out.new) result (unopened_words self) }
+        ensures fault { IfErr result (λ fault. fault ≡ Fault.Write) }
+        ensures counted { W.failures out.new ≡ write_failures_after (W.failures out.old) result }
+    {
+        match self {
+            Unopened::NotFound => put_all(out, b"no such file or directory"),
+            Unopened::PermissionDenied => put_all(out, b"permission denied"),
+            Unopened::NotADirectory => put_all(out, b"not a directory"),
+            Unopened::IsADirectory => put_all(out, b"is a directory"),
+            Unopened::FilesystemLoop => put_all(out, b"too many levels of symbolic links"),
+            Unopened::InvalidFilename => put_all(out, b"file name too long"),
+            Unopened::NotUtf8 => put_all(out, b"the path isn't UTF-8"),
+            Unopened::System(number) => {
+                let mut text = Buffer::new();
+                put_pieces(out, &[b"os error ", text.format(number).as_bytes()])
+            }
+            Unopened::Other => put_all(out, b"other error"),
+        }
+    }
+
+    /// Writes it in words behind a front, and the end of the line.
+    #[tactic(auto, using(deb_base::proofs::Writes::put_steps))]
+    pub(crate) fn write_behind<W: Sink>(self, front: &[u8], out: &mut W) -> Result<(), Fault>
+        ensures written { Puts (W.held out.old) (W.held out.new) result
+            (front.now ++ (unopened_words self ++ newline ∷ [])) }
+        ensures fault { IfErr result (λ fault. fault ≡ Fault.Write) }
+        ensures counted { W.failures out.new ≡ write_failures_after (W.failures out.old) result }
+    {
+        put_all(out, front)?;
+        self.write_words(out)?;
+        put_all(out, b"\n")
+    }
+
+    /// Writes the line of the fault with these words.
+    pub(crate) fn write_line<W: Sink>(self, out: &mut W) -> Result<(), Fault>
+        ensures written { Puts (W.held out.old) (W.held out.new) result (unopened_line self) }
+        ensures fault { IfErr result (λ fault. fault ≡ Fault.Write) }
+        ensures counted { W.failures out.new ≡ write_failures_after (W.failures out.old) result }
+    {
+        self.write_behind(b"fault: read: ", out)
+    }
+}
+
+impl From<Unopened> for Fault {
+    ghost from_gives = { λ _ fault. fault ≡ Read };
+
+    /// A file that can't be opened can't be read.
+    fn from(_why: Unopened) -> Fault {
+        Fault::Read
+    }
+}
