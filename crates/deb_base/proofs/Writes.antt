@@ -48,7 +48,7 @@ Puts-stopped a b bs cs (Ok x) is p = cc
 Puts-stopped a b bs cs (Err e) is p = AppendsFront-more a b bs cs p
 
 -- for a function that calls one that puts, and then another: name it there in `#[tactic(auto, using(..))]`
-pub ruleset put_steps = (Puts-then, Puts-stopped)
+pub ruleset puts = (Puts-then, Puts-stopped)
 
 -- the pieces before the one at i, that one, and those behind it
 pub flat_map-split : {X A : Type 0} (f : X → List A) (xs : List X) (i : ℕ) (d : X) → i < length xs → flat_map f xs ≡ (flat_map f (take i xs) ++ f (get_or xs i d)) ++ flat_map f (drop (i + 1) xs)

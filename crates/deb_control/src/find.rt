@@ -1,6 +1,6 @@
 //! The next paragraph of a document, checked.
 
-ghost use Rattle.std.specs.Prelude.{◌≡◌, ◌≤◌, ◌==◌, ◌&&◌, not, ℕ, List, [], Option, None, Some, Ok, Err, false, true, length, IfOk, IfErr, IsTrue, OnOk};
+ghost use Rattle.std.specs.Prelude.{◌≡◌, ◌≤◌, ◌==◌, ◌&&◌, not, [], Option, None, Some, Ok, Err, false, true, length, IfOk, IfErr, IsTrue};
 ghost use Rattle.deb_base.specs.Faults.{RefusedOrMemory};
 ghost use Rattle.deb_syntax.specs.Paragraphs.{state_of, seen_of};
 ghost use Rattle.deb_field.specs.Kinds.{is_single as is_one};

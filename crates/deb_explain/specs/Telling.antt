@@ -56,13 +56,13 @@ place_within (RevisionByte at) = at
 place_within fault = 0
 
 -- the offset of what is wrong in a body
-unfoldable pub place_in_relation : Reason → ℕ → ℕ
-place_in_relation (reason.Version fault) at = at + place_within fault
-place_in_relation why at = at
+unfoldable pub relation_place : Reason → ℕ → ℕ
+relation_place (reason.Version fault) at = at + place_within fault
+relation_place why at = at
 
 unfoldable pub place_of : Cause → ℕ
 place_of (cause.Version fault start) = start + place_within fault
-place_of (cause.Relation why at) = place_in_relation why at
+place_of (cause.Relation why at) = relation_place why at
 
 unfoldable pub version_reason : BadVersion → List ℕ
 version_reason Empty = codes "Empty"
@@ -160,7 +160,7 @@ places : (place_of (cause.Version (UpstreamByte 1) 4) ≡ 5)
     × (place_of (cause.Version RevisionEmpty 4) ≡ 4)
     × (place_of (cause.Relation (reason.Version (RevisionByte 2)) 7) ≡ 9)
     × (place_of (cause.Relation reason.Trailing 3) ≡ 3)
-unfolding place_of place_in_relation place_within
+unfolding place_of relation_place place_within
 places = (refl, refl, refl, refl)
 
 -- a field

@@ -32,7 +32,7 @@ impl Explanation {
     ///
     /// `Fault::Write` alone: a write failed in this call, and a front of the text was written
     /// before it.
-    #[tactic(auto, using(deb_base::proofs::Writes::put_steps))]
+    #[tactic(auto, using(deb_base::proofs::Writes::puts))]
     pub fn write<W: Sink>(&self, file: &[u8], out: &mut W) -> Result<(), Fault>
         ensures written { Puts (W.held out.old) (W.held out.new) result
             (explanation_text file.now (shown_by self.now)) }
@@ -55,7 +55,7 @@ impl Explanation {
 ///
 /// `Fault::Write` alone: a write failed in this call, and a front of the text was written before
 /// it.
-#[tactic(auto, using(deb_base::proofs::Writes::put_steps))]
+#[tactic(auto, using(deb_base::proofs::Writes::puts))]
 pub fn write_rule_of<W: Sink>(code: Code, out: &mut W) -> Result<(), Fault>
     ensures written { Puts (W.held out.old) (W.held out.new) result (rule_text code) }
     ensures fault { IfErr result (λ fault. fault ≡ Fault.Write) }
@@ -98,7 +98,7 @@ fn write_code<W: Sink>(code: Code, out: &mut W) -> Result<(), Fault>
 }
 
 /// Writes the rule that a code stands for, and what its refusal usually is.
-#[tactic(auto, using(deb_base::proofs::Writes::put_steps), unfolding(crate::specs::Telling::rule_lines))]
+#[tactic(auto, using(deb_base::proofs::Writes::puts), unfolding(crate::specs::Telling::rule_lines))]
 fn write_rule<W: Sink>(code: Code, out: &mut W) -> Result<(), Fault>
     ensures written { Puts (W.held out.old) (W.held out.new) result (rule_lines code) }
     ensures fault { IfErr result (λ fault. fault ≡ Fault.Write) }
@@ -148,7 +148,7 @@ fn write_subject<W: Sink>(subject: &Subject, out: &mut W) -> Result<(), Fault>
 }
 
 /// Writes the field of which the value is refused.
-#[tactic(auto, using(deb_base::proofs::Writes::put_steps), unfolding(crate::specs::Telling::field_text))]
+#[tactic(auto, using(deb_base::proofs::Writes::puts), unfolding(crate::specs::Telling::field_text))]
 fn write_field<W: Sink>(field: &RefusedField, out: &mut W) -> Result<(), Fault>
     ensures written { Puts (W.held out.old) (W.held out.new) result
         (field_text field.now.name.items field.now.body.items field.now.cause) }
@@ -183,7 +183,7 @@ fn write_cause<W: Sink>(cause: &Option<Cause>, out: &mut W) -> Result<(), Fault>
 }
 
 /// The offset of what is wrong in a body.
-#[tactic(auto, unfolding(crate::specs::Telling::place_of, crate::specs::Telling::place_in_relation))]
+#[tactic(auto, unfolding(crate::specs::Telling::place_of, crate::specs::Telling::relation_place))]
 fn place_of(cause: &Cause) -> u128
     ensures { result ≡ place_of cause.now }
 {
@@ -258,18 +258,19 @@ fn version_reason(fault: &BadVersion) -> &'static [u8]
 ///
 /// `Fault::Write` alone: a write failed in this call, and a front of the line was written before
 /// it.
-#[tactic(auto, using(deb_base::proofs::Writes::put_steps), unfolding(crate::specs::Telling::shown_line))]
+#[tactic(auto, using(deb_base::proofs::Writes::puts), unfolding(crate::specs::Telling::shown_line))]
 pub fn write_shown<W: Sink>(key: &[u8], text: &[u8], out: &mut W) -> Result<(), Fault>
     ensures written { Puts (W.held out.old) (W.held out.new) result (shown_line key.now text.now) }
     ensures fault { IfErr result (λ fault. fault ≡ Fault.Write) }
     ensures counted { W.failures out.new ≡ write_failures_after (W.failures out.old) result }
+    ensures told { TellsWrites (W.failures out.old) (W.failures out.new) result }
 {
     put_all(out, key)?;
     write_shortened(text, out)
 }
 
 /// Writes a text, or what is shown of it, so that each byte is printable, and the end of its line.
-#[tactic(auto, using(deb_base::proofs::Writes::put_steps), unfolding(crate::specs::Telling::shortened))]
+#[tactic(auto, using(deb_base::proofs::Writes::puts), unfolding(crate::specs::Telling::shortened))]
 fn write_shortened<W: Sink>(text: &[u8], out: &mut W) -> Result<(), Fault>
     ensures written { Puts (W.held out.old) (W.held out.new) result
         (shortened text.now (front_of text.now)) }

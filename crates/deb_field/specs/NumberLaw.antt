@@ -35,8 +35,10 @@ number_law = record {
         value = value_of-digits_of m;
       };
   is_body =
-      λ body m is s. IsBody-graphic (digits_of m) (All-weaker (λ b. IsTrue (is_ascii_digit b)) IsGraphic
-      graphic_digit (digits_of m) (IsDigits-digits_of m));
+      λ body m is s.
+      IsBody-graphic (digits_of m)
+      (All-weaker (λ b. IsTrue (is_ascii_digit b)) IsGraphic graphic_digit (digits_of m)
+      (IsDigits-digits_of m));
   is_short = short;
 }
 

@@ -182,7 +182,8 @@ begins-name (b ∷ name) text h g = not_blank b g.0
 plain_source : (name text : List ℕ) → AllByRecursion IsGraphic name → AllByRecursion IsGraphic text
     → AllByRecursion IsPlain (name ++ (32 ∷ 40 ∷ (text ++ 41 ∷ [])))
 plain_source name text g h =
-    All-append IsPlain name (32 ∷ 40 ∷ (text ++ 41 ∷ [])) (All-weaker IsGraphic IsPlain graphic_plain name g) (
+    All-append IsPlain name (32 ∷ 40 ∷ (text ++ 41 ∷ []))
+    (All-weaker IsGraphic IsPlain graphic_plain name g) (
       (omega arith, omega arith),
       (
         (omega arith, omega arith),
@@ -307,7 +308,8 @@ blanks_newline blanks h =
     each_from_list_all is_blank_byte (λ b. (b == newline) ≡ false) blank_newline blanks h
 
 graphic_newlines : (text : List ℕ) → AllByRecursion IsGraphic text → HasNoNewline text
-graphic_newlines text h = All-weaker IsGraphic (λ b. (b == newline) ≡ false) graphic_no_newline text h
+graphic_newlines text h =
+    All-weaker IsGraphic (λ b. (b == newline) ≡ false) graphic_no_newline text h
 
 versioned_newline : (body name : List ℕ) (v : VersionMeaning) → SpellsVersioned body name v
     → HasNoNewline body

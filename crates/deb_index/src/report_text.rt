@@ -44,7 +44,7 @@ fn write_answers<W: Sink>(answers: &[Answer<'_>], out: &mut W) -> Result<(), Fau
     Ok(())
 }
 
-#[tactic(auto, using(deb_base::proofs::Writes::put_steps))]
+#[tactic(auto, using(deb_base::proofs::Writes::puts))]
 fn write_answer<W: Sink>(answer: &Answer<'_>, out: &mut W) -> Result<(), Fault>
     ensures written { Puts (W.held out.old) (W.held out.new) result
         (answer_text (answer_of answer.now)) }

@@ -163,7 +163,8 @@ tells_end (Err fault) = false
 
 -- A call of a reader without error: what it answers of each text that fits, and how much of it was
 -- taken by then, how often its source failed, and which errors there are. Only the answer that
--- nothing follows ends it, and is then given again and again. After a paragraph no bytes are hidden.
+-- nothing follows ends it, and is then given again and again. After a paragraph no bytes are
+-- hidden.
 pub record Advances (before : Moment) (answer : Result (Option Seen) Fault)
     (after : Moment) : Type 0 where
   pub answers : (text passed : List ℕ) → Fits text passed before.state before.source.bytes

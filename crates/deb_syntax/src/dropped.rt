@@ -1,7 +1,7 @@
 //! A line that is read to its end and not kept (this project's own: a paragraph's lines have a
 //! limit).
 
-ghost use Rattle.std.specs.Prelude.{◌≡◌, ◌+◌, ◌≤◌, ℕ, List, [], length, drop, IfErr, IsFalse};
+ghost use Rattle.std.specs.Prelude.{◌≡◌, ◌+◌, ◌≤◌, [], length, drop, IfErr, IsFalse};
 ghost use Rattle.deb_base.specs.Devices.{read_failures_after};
 ghost use Rattle.deb_base.specs.Faults.{IsReadersFault};
 ghost use Rattle.deb_syntax.specs.Ahead.{room_ahead, IsDropped, SameCounts};

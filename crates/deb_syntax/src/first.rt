@@ -23,8 +23,8 @@ pub(crate) enum First {
     End,
     /// It begins the unread bytes.
     Kept(Begun),
-    /// It is longer than a paragraph may be, its newline counted, and none of its bytes are kept: its
-    /// newline begins the unread bytes, or there are none.
+    /// It is longer than a paragraph may be, its newline counted, and none of its bytes are kept:
+    /// its newline begins the unread bytes, or there are none.
     Dropped(Begun),
 }
 

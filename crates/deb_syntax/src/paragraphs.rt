@@ -1,7 +1,7 @@
 //! The reader of paragraphs (Debian Policy 5.1; deb822(5)).
 
 ghost use Rattle.std.specs.Prelude.{◌≡◌, ◌+◌, ◌≤◌, ◌⊎◌, ℕ, List, [], Some, None, true, false, length, IsTrue, IfErr, IfOk, OnOk};
-ghost use Rattle.deb_syntax.specs.Ahead.{room_ahead, IsAhead, IsNear, KeepsLine};
+ghost use Rattle.deb_syntax.specs.Ahead.{IsAhead, IsNear, KeepsLine};
 ghost use Rattle.deb_syntax.specs.Feeding.{feed_state, buffer_of, piece_limit, had, Takes};
 ghost use Rattle.deb_syntax.specs.Lines.{file_limit};
 ghost use Rattle.deb_syntax.specs.Standing.{HidesLong, stands_within, standing_answer, IsPassed};
@@ -112,8 +112,8 @@ impl Paragraphs {
         if self.finished { self.feed.lines() } else { 0 }
     }
 
-    /// The paragraph that the last `advance` or `next` found, or `None` where it found none or failed,
-    /// or `begins` was called since.
+    /// The paragraph that the last `advance` or `next` found, or `None` where it found none or
+    /// failed, or `begins` was called since.
     pub fn current(&self) -> Option<Raw<'_>>
         ensures { option_map seen_of result ≡ (state_of self.now).current }
     {
@@ -133,8 +133,8 @@ impl Paragraphs {
     ///
     /// After an error every later call answers the same error, and reads nothing.
     ///
-    /// - `Fault::Refused`: the file is too long, and no line of a further paragraph ends within what
-    ///   it may have (`FileTooLong`, at the line that is cut off).
+    /// - `Fault::Refused`: the file is too long, and no line of a further paragraph ends within
+    ///   what it may have (`FileTooLong`, at the line that is cut off).
     /// - `Fault::Memory`: a growth of memory was refused.
     /// - `Fault::Read`: a read of `reader` failed in this call.
     pub fn begins<R: Source>(&mut self, reader: &mut R) -> Result<Option<u64>, Fault>
@@ -163,9 +163,10 @@ impl Paragraphs {
     /// - `Fault::Refused`: the file is refused there, for the first of these. The paragraph's lines
     ///   are too long (`ParagraphTooLong`, at the line with which they are), the file is too long
     ///   and no blank line behind the paragraph was seen before (`FileTooLong`, at the line that is
-    ///   cut off), or a line is refused, the first such one: it isn't UTF-8, begins an armoured message
-    ///   or a comment, continues no field, has no colon, has no field's name before its colon, or one
-    ///   that stood before in its paragraph. Behind the last paragraph: the file is too long.
+    ///   cut off), or a line is refused, the first such one: it isn't UTF-8, begins an armoured
+    ///   message or a comment, continues no field, has no colon, has no field's name before its
+    ///   colon, or one that stood before in its paragraph. Behind the last paragraph: the file is
+    ///   too long.
     /// - `Fault::Memory`: a growth of memory was refused.
     /// - `Fault::Read`: a read of `reader` failed in this call.
     pub fn next<'a, R: Source>(&'a mut self, reader: &mut R) -> Result<Option<Raw<'a>>, Fault>

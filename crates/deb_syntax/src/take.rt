@@ -35,8 +35,8 @@ pub(crate) struct Taken {
     pub(crate) stop: Stop,
 }
 
-/// Takes lines from where a run has come so far, up to a blank one, or to one with which they are too
-/// long for a paragraph, or until no newline follows.
+/// Takes lines from where a run has come so far, up to a blank one, or to one with which they are
+/// too long for a paragraph, or until no newline follows.
 pub(crate) fn take_lines(text: &[u8], run: Run) -> Taken
     requires { CanGoOn text.now run }
     ensures stops { Stops text.now result.stop result.run }

@@ -157,7 +157,7 @@ fn answer_status(answer: &Result<u64, Fault>) -> u8
 }
 
 /// Writes the line of what became of a file, behind its path.
-#[tactic(auto, using(deb_base::proofs::Writes::put_steps))]
+#[tactic(auto, using(deb_base::proofs::Writes::puts))]
 fn put_audit_line<W: Sink>(
     out: &mut W,
     path: &[u8],

@@ -90,7 +90,7 @@ pub fn run_unopened<W: Sink, E: Sink>(path: &[u8], why: Unopened, out: &mut W, e
 }
 
 /// Writes that the file of a path can't be opened, and why.
-#[tactic(auto, using(deb_base::proofs::Writes::put_steps))]
+#[tactic(auto, using(deb_base::proofs::Writes::puts))]
 fn write_unopened<W: Sink>(path: &[u8], why: Unopened, out: &mut W) -> Result<(), Fault>
     ensures written { Puts (W.held out.old) (W.held out.new) result
         (unopened_text path.now why) }

@@ -47,7 +47,7 @@ pub(crate) fn tell_side<E: Sink>(told: SideFault, err: &mut E) -> u8
 }
 
 /// Writes the line of a fault of two files.
-#[tactic(auto, using(deb_base::proofs::Writes::put_steps))]
+#[tactic(auto, using(deb_base::proofs::Writes::puts))]
 fn put_side_line<E: Sink>(told: SideFault, err: &mut E) -> Result<(), Fault>
     ensures written { Puts (E.held err.old) (E.held err.new) result (side_line told) }
     ensures fault { IfErr result (λ fault. fault ≡ Fault.Write) }
@@ -104,7 +104,7 @@ pub(crate) fn tell_words<W: Sink, E: Sink>(fault: &UsageFault, out: &mut W, err:
 }
 
 /// Writes a text and a newline.
-#[tactic(auto, using(deb_base::proofs::Writes::put_steps))]
+#[tactic(auto, using(deb_base::proofs::Writes::puts))]
 fn put_line<W: Sink>(out: &mut W, text: &str) -> Result<(), Fault>
     ensures written { Puts (W.held out.old) (W.held out.new) result (text.now ++ newline ∷ []) }
     ensures fault { IfErr result (λ fault. fault ≡ Fault.Write) }

@@ -56,7 +56,7 @@ impl Unopened {
     }
 
     /// Writes it in words behind a front, and the end of the line.
-    #[tactic(auto, using(deb_base::proofs::Writes::put_steps))]
+    #[tactic(auto, using(deb_base::proofs::Writes::puts))]
     pub(crate) fn write_behind<W: Sink>(self, front: &[u8], out: &mut W) -> Result<(), Fault>
         ensures written { Puts (W.held out.old) (W.held out.new) result
             (front.now ++ (unopened_words self ++ newline ∷ [])) }
