@@ -1,5 +1,5 @@
 -- The refusal of a file: its code, and the line at which it is told.
-use Rattle.deb_control.proofs.Common.{◌≡◌, ℕ, zero, suc, ◌+◌, ◌≤◌, ◌&&◌, inl, inr, not, nat_le, Bool, true, false, cond, List, [], ◌∷◌, ◌++◌, length, drop, Option, None, Some, Result, Ok, Err, refl, sym, ap, ◌∙◌, subst, arith, length-append, and_from, le-leb, AllByRecursion, list_all, All-drop, Line, paragraph_limit, colon, canonical_name, Code, FileTooLong, MissingField, NoParagraph, ParagraphTooLong, TooManyParagraphs, Refusal, Seen, part_within, line_beyond, line_too_long, answer_of_first, paragraphs_within, Field, SpellsField, SpellsFields, IsRun, StandsAmong, Paragraph, lines_of, paragraphs_of, file_limit, Entries, next_answer-refusal, judged-sound, paragraphs_of-IsRun, paragraphs_of-StandsAmong, Doc, paragraph_text, file_text, IsRefusalOfDocument, rules_of, IsRefusalOfFile, RefusalsAreOfTheFile, refusal_or, value_refusal_of, have_names, canonical_entries, refused_or_built, built, within_file, has_some, answer_of_seen, answer_behind, line_behind, next_checked, stopped, followed, outcome_behind, Rules}
+use Rattle.deb_control.proofs.Common.{◌≡◌, ℕ, ◌+◌, ◌≤◌, ◌&&◌, inl, inr, not, nat_le, Bool, true, false, cond, List, [], ◌∷◌, ◌++◌, length, drop, Option, None, Some, Result, Ok, Err, refl, sym, ap, ◌∙◌, subst, arith, length-append, and_from, le-leb, AllByRecursion, list_all, All-drop, Line, paragraph_limit, colon, canonical_name, Code, FileTooLong, MissingField, NoParagraph, ParagraphTooLong, TooManyParagraphs, Refusal, Seen, part_within, line_beyond, line_too_long, answer_of_first, paragraphs_within, Field, SpellsField, SpellsFields, IsRun, StandsAmong, Paragraph, lines_of, paragraphs_of, file_limit, Entries, next_answer-refusal, judged-sound, paragraphs_of-IsRun, paragraphs_of-StandsAmong, Doc, paragraph_text, file_text, IsRefusalOfDocument, rules_of, IsRefusalOfFile, RefusalsAreOfTheFile, refusal_or, value_refusal_of, have_names, canonical_entries, refused_or_built, built, within_file, has_some, answer_of_seen, answer_behind, line_behind, next_checked, stopped, followed, outcome_behind, Rules}
 use Rattle.deb_control.proofs.FollowedParagraphs.{drop_one}
 use Rattle.deb_control.proofs.Limits.{total_length-within}
 use Rattle.deb_control.proofs.PartsWithin.{part-front}

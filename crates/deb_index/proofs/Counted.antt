@@ -1,9 +1,8 @@
 -- The numbers of the packages that pass a test, as they are counted one after another.
-use Rattle.std.proofs.Common.{◌≡◌, ℕ, suc, ◌+◌, ◌-◌, ◌<◌, ◌≤◌, Bool, true, false, cond, ◌||◌, List, [], ◌∷◌, ◌++◌, length, map, take, get_or, refl, sym, ap, ◌∙◌, inl, inr, arith, rules, tests}
+use Rattle.std.proofs.Common.{◌≡◌, ℕ, suc, ◌+◌, ◌-◌, ◌<◌, ◌≤◌, Bool, true, false, cond, List, [], ◌∷◌, ◌++◌, length, map, take, get_or, refl, sym, ap, ◌∙◌, arith, rules, tests}
 use Rattle.std.specs.List.{All, AllByRecursion}
-use Rattle.std.proofs.lemmas.Bool.{cases_Bool}
 use Rattle.std.proofs.lemmas.Grind.{common_steps}
-use Rattle.std.proofs.lemmas.List.{length_push, get_or_push, map-append, take_more}
+use Rattle.std.proofs.lemmas.List.{map-append, take_more}
 use Rattle.std.proofs.lemmas.List.Elements.{All-from_recursion, All-weaker}
 use Rattle.deb_index.specs.Listed.{Listed}
 use Rattle.deb_index.specs.Named.{numbers_from, numbers_of}
@@ -28,21 +27,6 @@ not_last n (x ∷ xs) below =
 
 pub put_above : (n : ℕ) (xs : List ℕ) → All (λ k. k < n) xs → put_last n xs ≡ xs ++ n ∷ []
 put_above n xs below = ap (λ v. cond v xs (xs ++ n ∷ [])) (not_last n xs below)
-
--- what was put is the last
-last-put : (n : ℕ) (xs : List ℕ) → is_last n (xs ++ n ∷ []) ≡ true
-last-put n xs =
-    let long = length_push xs n in
-    let last : get_or (xs ++ n ∷ []) (length (xs ++ n ∷ []) - 1) 0 ≡ n = get_or_push xs n 0 (length (xs ++ n ∷ []) - 1) (omega (arith, long)) in
-    search (rules, tests, long, last)
-
--- so putting it again changes nothing
-pub put_again : (n : ℕ) (xs : List ℕ) → put_last n (put_last n xs) ≡ put_last n xs
-put_again n xs =
-    elim (cases_Bool (is_last n xs)) [
-      | inl last ↦ rw (last, last) refl
-      | inr other ↦ rw (other, last-put n xs) refl
-    ]
 
 -- the numbers of a list with one more package
 numbers_push : (n : ℕ) (test : Listed → Bool) (packages : List Listed) (p : Listed)
@@ -73,13 +57,6 @@ numbers_put k test packages p is =
     numbers_push 1 test packages p
     ∙ ap (λ j. cond (test p) (numbers_of test packages ++ j ∷ []) (numbers_of test packages)) own
     ∙ ap (λ l. cond (test p) l (numbers_of test packages)) (sym (put_above (k + 1) (numbers_of test packages) below))
-
--- where some name is put and then one more
-pub put_more : (n : ℕ) (some one : Bool) (xs : List ℕ) → cond one (put_last n (cond some (put_last n xs) xs)) (cond some (put_last n xs) xs) ≡ cond (some || one) (put_last n xs) xs
-put_more n true true xs = put_again n xs
-put_more n true false xs = refl
-put_more n false true xs = refl
-put_more n false false xs = refl
 
 -- the numbers of a front of a list with one more element
 pub numbers_next : {X : Type 0} (view : X → Listed) (test : Listed → Bool) (xs : List X) (i : ℕ) (x : X) → i < length xs → x ≡ get_or xs i x

@@ -1,9 +1,8 @@
 -- Packages picked by their numbers.
-use Rattle.std.proofs.Common.{◌≡◌, ℕ, zero, suc, ◌+◌, ◌-◌, ◌<◌, ◌≤◌, Bool, true, false, cond, ◌&&◌, List, [], ◌∷◌, ◌++◌, length, map, take, get_or, Some, append_assoc, append-nil, refl, sym, ap, ◌∙◌, arith}
+use Rattle.std.proofs.Common.{◌≡◌, ℕ, ◌+◌, ◌-◌, ◌<◌, ◌≤◌, Bool, true, false, cond, ◌&&◌, List, [], ◌∷◌, ◌++◌, length, Some, append_assoc, refl, sym, ap, ◌∙◌, arith}
 use Rattle.std.specs.List.{All, filter, flat_map, slice_get}
 use Rattle.std.specs.Option.{option_map_or}
-use Rattle.std.proofs.lemmas.List.{length_push, map-append, take_more}
-use Rattle.std.proofs.lemmas.List.Concat.{flat_map-append}
+use Rattle.std.proofs.lemmas.List.{length_push}
 use Rattle.std.proofs.lemmas.List.Elements.{All-from_recursion, All-weaker}
 use Rattle.deb_index.specs.Listed.{Listed}
 use Rattle.deb_index.specs.Named.{numbers_from, numbers_of, passes_at}
@@ -13,12 +12,6 @@ use Rattle.deb_index.proofs.Counted.{numbers-within}
 -- the package of a number, with the number
 abbrev pub picked : List Listed → ℕ → List Numbered
 picked packages k = option_map_or (λ p. (k, p) ∷ []) (slice_get packages (k - 1)) []
-
--- what stands at a place of a list stands there in what it stands for
-pub slice_get-map : {X : Type 0} (view : X → Listed) (xs : List X) (i : ℕ) (x : X) → i < length xs → x ≡ get_or xs i x → slice_get (map view xs) i ≡ Some (view x)
-slice_get-map view [] i x within is = absurd (omega (arith, within))
-slice_get-map view (y ∷ ys) zero x within is = ap (λ z. Some (view z)) (sym is)
-slice_get-map view (y ∷ ys) (suc i) x within is = slice_get-map view ys i x (omega (arith, within)) is
 
 behind : (front : List Listed) (p : Listed) (rest : List Listed) → slice_get (front ++ p ∷ rest) (length front) ≡ Some p
 behind [] p rest = refl
@@ -77,15 +70,3 @@ pub numbers-listed : (test : Listed → Bool) (packages : List Listed) → All (
 numbers-listed test packages =
     All-weaker (λ k. (1 ≤ k) × (k < length packages + 1)) (λ k. (1 ≤ k) × (k ≤ length packages)) (λ k h. (h.0, omega (arith, h.1))) (numbers_of test packages)
     (All-from_recursion (λ k. (1 ≤ k) × (k < length packages + 1)) (numbers_of test packages) (numbers-within 1 1 (length packages + 1) test packages (omega arith) (omega arith)))
-
--- what the elements of a front of a list give, with one more element
-pub flat_map-more : {X Y : Type 0} (f : X → List Y) (xs : List X) (i : ℕ) (d : X) → i < length xs → flat_map f (take (i + 1) xs) ≡ flat_map f (take i xs) ++ f (get_or xs i d)
-flat_map-more f xs i d within =
-    ap (flat_map f) (take_more xs i d within) ∙ flat_map-append f (take i xs) (get_or xs i d ∷ []) ∙ ap (λ l. flat_map f (take i xs) ++ l) (append-nil (f (get_or xs i d)))
-
-pub flat_map-map_more : {X W Y : Type 0} (view : X → W) (f : W → List Y) (xs : List X) (i : ℕ) (x : X) → i < length xs → x ≡ get_or xs i x
-    → flat_map f (map view (take (i + 1) xs)) ≡ flat_map f (map view (take i xs)) ++ f (view x)
-flat_map-map_more view f xs i x within is =
-    ap (λ l. flat_map f (map view l)) (take_more xs i x within ∙ ap (λ y. take i xs ++ y ∷ []) (sym is))
-    ∙ ap (flat_map f) (map-append view (take i xs) (x ∷ []))
-    ∙ flat_map-append f (map view (take i xs)) (view x ∷ []) ∙ ap (λ l. flat_map f (map view (take i xs)) ++ l) (append-nil (f (view x)))

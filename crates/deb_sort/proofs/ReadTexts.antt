@@ -1,5 +1,5 @@
 -- What a file that was read beyond the limit says of the whole file, and how much is taken of one.
-use Rattle.std.proofs.Common.{◌≡◌, ◌+◌, ◌<◌, ◌≤◌, ℕ, List, [], length, length-append, Option, Some, None, inr, refl, sym, ap, ◌∙◌, arith, unwrap_or}
+use Rattle.std.proofs.Common.{◌≡◌, ◌<◌, ◌≤◌, ℕ, List, [], length, length-append, Option, Some, None, inr, refl, sym, ap, ◌∙◌, arith, unwrap_or}
 use Rattle.std.specs.Io.KnownBytes.{Consumes}
 use Rattle.deb_sort.specs.Reading.{ReadsEnough}
 use Rattle.deb_syntax.specs.Ahead.{TakesNoMore}
@@ -12,15 +12,6 @@ read_too_much (Some all) None read consumed long text is = absurd consumed
 read_too_much (Some all) (Some ys) read consumed long text is =
     let same : all ≡ text = ap (λ o. unwrap_or o []) is in
     record { rest = ys; whole = sym same ∙ consumed; enough = inr long }
-
--- what was consumed was taken
-pub consumed_takes : (room : ℕ) (left after : Option (List ℕ)) (bytes : List ℕ) → Consumes left after bytes → length bytes ≤ room + 65536
-    → (text : List ℕ) → left ≡ Some text → TakesNoMore text room after
-consumed_takes room None after bytes consumed short text is = let bad : ⊥ = cc in absurd bad
-consumed_takes room (Some all) None bytes consumed short text is = absurd consumed
-consumed_takes room (Some all) (Some rest) bytes consumed short text is =
-    let same : all ≡ text = ap (λ o. unwrap_or o []) is in
-    record { rest = rest; told = refl; few = omega (arith, short, ap length (sym same ∙ consumed), length-append bytes rest) }
 
 -- one piece more was taken, behind no more bytes than a file may have
 pub piece_takes : (left mid after : Option (List ℕ)) (read : List ℕ) → Consumes left mid read → length read ≤ file_limit

@@ -1,5 +1,5 @@
 -- What the calls of a reader of paragraphs say of a text that fits, from what its walk finds ahead.
-use Rattle.deb_syntax.proofs.Common.{◌≡◌, ◌≢◌, ℕ, ◌+◌, ◌-◌, ◌<◌, ◌≤◌, ◌&&◌, inl, inr, Bool, true, false, List, [], ◌∷◌, ◌++◌, Option, Some, None, Result, Ok, Err, length, take, refl, sym, ap, ◌∙◌, subst, append_assoc, arith, rules, IsTrue, length-append, get_or, IfNone, IfSome, IsSome, Shown, lt-leb, le-leb, leb-true, and_parts, and_from, eqb-true, append_cancel_left, append-nil, Line, newline, pieces_of, HasNoNewline, is_blank, is_all_blank, line_length, ParagraphTooLong, Fault, Refused, Memory, Read, Write, Refusal, Begun, Extent, left_answer, left_begin, room_ahead, IsAhead, IsFirst, IsNear, PassesBlanks, EndsInSight, KeepsLine, HidesLine, TakesNoMore, PassesAll, IsExtentOf, PassesParagraph, IsNextRun, SameCounts, Seen, part_within, paragraphs_within, next_answer, next_begin, seen_from, AreBlank, AreNotBlank, FeedState, PassesOn, feed_state, buffer_of, start_of, piece_limit, left_count, Takes, are_fields, are_numbered, Feed, Place, list_all, length-take-le, judged, lines_of, with_newlines, Paragraph, paragraphs_from, paragraphs_of, total_length, State, state_from, Fits, passed_count, GivesNext, GivesNone, GivesLine, BeginsHere, FindsFirst, Answers, IsRefusalOfText, Moment, Advances, Begins, Passes, tells_end, IsReadersFault, IsFaultOf, fields_at, lies_within, PassesNext, IsPassed, standing_of, stands_within, EndsHidden, HidesLong}
+use Rattle.deb_syntax.proofs.Common.{◌≡◌, ◌≢◌, ℕ, ◌+◌, ◌-◌, ◌<◌, ◌≤◌, ◌&&◌, inl, inr, Bool, true, false, List, [], ◌∷◌, ◌++◌, Option, Some, None, Result, Ok, Err, length, take, refl, sym, ap, ◌∙◌, subst, append_assoc, arith, rules, IsTrue, length-append, get_or, IfNone, IfSome, IsSome, Shown, lt-leb, and_from, append_cancel_left, append-nil, Line, newline, pieces_of, HasNoNewline, is_blank, is_all_blank, line_length, ParagraphTooLong, Fault, Refused, Memory, Read, Write, Refusal, Begun, Extent, left_answer, left_begin, room_ahead, IsAhead, IsFirst, IsNear, PassesBlanks, EndsInSight, KeepsLine, HidesLine, TakesNoMore, PassesAll, IsExtentOf, PassesParagraph, IsNextRun, SameCounts, Seen, part_within, paragraphs_within, next_answer, next_begin, seen_from, AreBlank, AreNotBlank, FeedState, PassesOn, feed_state, buffer_of, start_of, piece_limit, left_count, Takes, are_fields, are_numbered, Feed, Place, list_all, length-take-le, judged, lines_of, with_newlines, Paragraph, paragraphs_from, paragraphs_of, total_length, State, state_from, Fits, passed_count, GivesNext, GivesNone, GivesLine, BeginsHere, FindsFirst, Answers, IsRefusalOfText, Moment, Advances, Begins, Passes, tells_end, IsReadersFault, IsFaultOf, fields_at, lies_within, PassesNext, IsPassed, standing_of, stands_within, EndsHidden, HidesLong}
 use Rattle.deb_base.specs.Bodies.{paragraph_limit}
 use Rattle.std.specs.List.{slice_range}
 use Rattle.deb_syntax.proofs.Feeds.{front_of_unread, unread_within}

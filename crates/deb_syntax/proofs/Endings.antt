@@ -1,5 +1,5 @@
 -- Where a paragraph ends: lines that aren't blank at the front of a text, and a blank line or the end behind them.
-use Rattle.deb_syntax.proofs.Common.{◌≡◌, ◌≢◌, ℕ, ◌+◌, ◌-◌, ◌<◌, ◌≤◌, ◌⊎◌, inl, inr, true, false, nat_le, List, [], ◌∷◌, ◌++◌, Option, Some, Err, length, take, drop, IsTrue, refl, sym, ap, subst, ◌∙◌, append_assoc, arith, length-append, length-drop, drop-length, and_parts, leb-true, false≢true, append-nil, take_all, AllByRecursion, All-append, ParagraphTooLong, FileTooLong, Line, newline, is_blank, is_all_blank, pieces_of, HasNoNewline, left_answer, room_ahead, IsExtentOf, PassesParagraph, IsNextRun, part_within, whole_lines, AreBlank, AreNotBlank, FeedState, piece_limit, lines_of, with_newlines, total_length, ends_line, begins_blank, paragraphs_from, StandInFront, CannotBeBlank, Extent}
+use Rattle.deb_syntax.proofs.Common.{◌≡◌, ◌≢◌, ℕ, ◌+◌, ◌-◌, ◌<◌, ◌≤◌, ◌⊎◌, inl, inr, true, false, nat_le, List, [], ◌∷◌, ◌++◌, Option, Some, Err, length, take, drop, IsTrue, refl, sym, ap, subst, ◌∙◌, append_assoc, arith, length-append, length-drop, drop-length, and_parts, leb-true, false≢true, append-nil, take_all, AllByRecursion, All-append, ParagraphTooLong, FileTooLong, Line, newline, is_blank, is_all_blank, pieces_of, HasNoNewline, left_answer, room_ahead, IsExtentOf, PassesParagraph, IsNextRun, part_within, whole_lines, AreBlank, AreNotBlank, FeedState, piece_limit, lines_of, with_newlines, total_length, begins_blank, paragraphs_from, StandInFront, CannotBeBlank, Extent}
 use Rattle.deb_base.specs.Bodies.{paragraph_limit}
 use Rattle.deb_syntax.proofs.LeftAnswers.{left-run, left-long, left-beyond}
 use Rattle.deb_syntax.proofs.NextParagraph.{ends_blank-append}

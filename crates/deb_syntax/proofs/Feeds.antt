@@ -1,5 +1,5 @@
 -- A file that is read by pieces: slices of its buffer, what a piece leaves of the text, and what is seen of it.
-use Rattle.deb_syntax.proofs.Common.{◌≡◌, ℕ, ◌+◌, ◌-◌, ◌≤◌, List, [], ◌++◌, Option, Some, None, length, take, drop, slice_range, IsTrue, refl, sym, ap, ◌∙◌, append_assoc, arith, length-drop, take-add, drop-take, drop-drop, length-take-le, Consumes, IsAtEnd, FeedState, feed_state, buffer_of, start_of, Comes, Stays, Feed}
+use Rattle.deb_syntax.proofs.Common.{◌≡◌, ℕ, ◌+◌, ◌-◌, ◌≤◌, List, [], ◌++◌, Option, Some, None, length, take, drop, slice_range, IsTrue, refl, sym, ap, ◌∙◌, append_assoc, arith, length-drop, take-add, drop-take, drop-drop, length-take-le, Consumes, IsAtEnd, FeedState, feed_state, buffer_of, start_of, Comes, Feed}
 use Rattle.deb_syntax.specs.Lines.{file_limit}
 use Rattle.deb_syntax.proofs.Slices.{take-slice_range}
 
@@ -62,9 +62,3 @@ at_end_rest rest (Some xs) e h =
 -- the end: the reader has nothing left
 pub comes_end : (before after : FeedState) (rest : List ℕ) (left left_after : Option (List ℕ)) → left_after ≡ Some rest → Comes before left after left_after → IsTrue after.ended → rest ≡ []
 comes_end before after rest left left_after e come ended = at_end_rest rest left_after e (come.at_end ended)
-
--- a reader of which nothing was taken
-pub stays_rest : (before after : FeedState) (rest : List ℕ) (left left_after : Option (List ℕ)) → left ≡ Some rest → Stays before left after left_after → left_after ≡ Some rest
-stays_rest before after rest left left_after e stay =
-    let next = consumed_rest rest [] left left_after e stay.kept in
-    next.1 ∙ ap (λ zs. Some zs) (sym next.2)

@@ -1,5 +1,5 @@
 -- What passes of a text: blank lines, a paragraph, or all that is left.
-use Rattle.deb_syntax.proofs.Common.{◌≡◌, ◌≢◌, ℕ, ◌+◌, ◌⊎◌, inl, inr, true, List, [], ◌∷◌, ◌++◌, length, refl, sym, ap, ◌∙◌, append_assoc, arith, length-append, append-nil, Line, newline, AreBlank, AreNotBlank, lines_of, with_newlines, ends_line, ends_blank, IsClosed, Paragraph, paragraphs_from, paragraphs_of, StandInFront}
+use Rattle.deb_syntax.proofs.Common.{◌≡◌, ◌≢◌, ℕ, ◌+◌, ◌⊎◌, inl, inr, true, List, [], ◌∷◌, ◌++◌, length, refl, sym, ap, ◌∙◌, append_assoc, arith, length-append, append-nil, Line, newline, AreBlank, AreNotBlank, lines_of, with_newlines, ends_line, ends_blank, IsClosed, paragraphs_from, paragraphs_of, StandInFront}
 use Rattle.deb_syntax.proofs.Boundaries.{lines_of-append, ends_line-both, ends_line-append}
 use Rattle.deb_syntax.proofs.LinesLawsTexts.{lines_of-with_newlines}
 use Rattle.deb_syntax.proofs.NextParagraph.{paragraphs_from-append, no_paragraph, next_paragraph, blank-ends, ends_blank-append}

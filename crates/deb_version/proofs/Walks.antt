@@ -1,6 +1,5 @@
 -- One step of a walk over the cuts of a component, or of two components at once.
-use Rattle.deb_version.proofs.Common.{◌≡◌, ◌≢◌, ℕ, List, [], ◌∷◌, true, false, refl, ap, ◌∙◌, is_ne, ordering_then, Ordering, Less, Equal, Greater, digits_of, cuts_after, component_writes, component_cmp, empty_part, part_cmp, Cut, Part, cuts_of, part_of, parts_of, parts_of_cuts, value_of}
-use Rattle.std.specs.Hash as fed
+use Rattle.deb_version.proofs.Common.{◌≡◌, ℕ, List, [], ◌∷◌, true, false, refl, ap, ◌∙◌, is_ne, ordering_then, Ordering, Less, Equal, Greater, cuts_after, component_cmp, empty_part, part_cmp, Cut, Part, cuts_of, part_of, parts_of, parts_of_cuts}
 
 -- no parts compare as one empty part
 left_end : (ps : List Part) → component_cmp [] ps ≡ component_cmp (empty_part ∷ []) ps
@@ -38,19 +37,3 @@ pub not_ne : (o : Ordering) → is_ne o ≡ false → o ≡ Equal
 not_ne Less e = cc e
 not_ne Equal e = refl
 not_ne Greater e = cc e
-
-pub then-Equal_right : (o : Ordering) → ordering_then o Equal ≡ o
-then-Equal_right Less = refl
-then-Equal_right Equal = refl
-then-Equal_right Greater = refl
-
--- What follows the first cut is fed behind it, or the end.
-
-pub writes-more : (bytes after : List ℕ) (cut : Cut) → cuts_of bytes ≡ cut ∷ cuts_after after → after ≢ []
-    → component_writes (parts_of bytes) ≡ cut.0 ∷ digits_of (value_of cut.1) ∷ component_writes (parts_of after)
-writes-more bytes [] cut is some = absurd (some refl)
-writes-more bytes (b ∷ after) cut is some = ap (λ l. component_writes (parts_of_cuts l)) is
-
-pub writes-last : (bytes after : List ℕ) (cut : Cut) → cuts_of bytes ≡ cut ∷ cuts_after after → after ≡ []
-    → component_writes (parts_of bytes) ≡ cut.0 ∷ digits_of (value_of cut.1) ∷ fed.u8 255
-writes-last bytes after cut is none = ap (λ l. component_writes (parts_of_cuts l)) is ∙ ap (λ l. cut.0 ∷ digits_of (value_of cut.1) ∷ component_writes (parts_of_cuts (cuts_after l))) none
