@@ -81,45 +81,69 @@ IsRefused (Sort reverse) left other held out new err err_after =
 IsRefused (Query arch profiles relation) left other held out new err err_after =
     (new ≡ out) × TellsQueryRefusal (asked arch profiles relation) left err err_after
 
--- Whatever the status: there is an answer to the job, and it is told. (n and n_after are the first
--- reader's counts of failed calls before and after, m and m_after the second one's.)
-abbrev pub Told : {W E : Type 0} → Job → Option (List ℕ) → ℕ → ℕ → Option (List ℕ) → ℕ → ℕ →
-    (W → Option (List ℕ)) → (W → ℕ) → W → W → (E → Option (List ℕ)) → (E → ℕ) → E → E → ℕ → Type 0
-Told (Check doc) left n n_after other m m_after held writes out new held_err tells err err_after
-    status =
+-- a reader before and after a job: the text that it tells before, and its counts of failed calls
+pub record ReaderOfJob : Type 0 where
+  pub text : Option (List ℕ)
+  pub failures : ℕ
+  pub failures_after : ℕ
+
+abbrev pub reader_of : Option (List ℕ) → ℕ → ℕ → ReaderOfJob
+reader_of text failures failures_after =
+    record { text = text; failures = failures; failures_after = failures_after }
+
+-- a writer before and after a job
+pub record WriterOfJob (W : Type 0) : Type 0 where
+  pub held : W → Option (List ℕ)
+  pub failures : W → ℕ
+  pub old : W
+  pub new : W
+
+abbrev pub writer_of : {W : Type 0} → (W → Option (List ℕ)) → (W → ℕ) → W → W → WriterOfJob W
+writer_of held failures old new =
+    record { held = held; failures = failures; old = old; new = new }
+
+-- an answer is told on a writer
+abbrev pub TellsOn : {T E : Type 0} → WriterOfJob E → (T → ℕ) → Result T Fault → ℕ → Type 0
+TellsOn err wanted answer status =
+    Tells wanted err.held err.failures err.old err.new answer status
+
+-- Whatever the status: there is an answer to the job, and it is told.
+abbrev pub Told : {W E : Type 0} → Job → ReaderOfJob → ReaderOfJob → WriterOfJob W → WriterOfJob E
+    → ℕ → Type 0
+Told (Check doc) first second out err status =
     (answer : Result ⊤ Fault)
-    × ChecksFile doc left n n_after held writes out new answer
-    × Tells done_status held_err tells err err_after answer status
-Told (Normalise doc) left n n_after other m m_after held writes out new held_err tells err err_after
-    status =
+    × ChecksFile doc first.text first.failures first.failures_after
+    out.held out.failures out.old out.new answer
+    × TellsOn err done_status answer status
+Told (Normalise doc) first second out err status =
     (answer : Result ℕ Fault)
-    × NormalisesFile doc left n n_after held writes out new answer
-    × Tells done_status held_err tells err err_after answer status
-Told (Same doc) left n n_after other m m_after held writes out new held_err tells err err_after
-    status =
+    × NormalisesFile doc first.text first.failures first.failures_after
+    out.held out.failures out.old out.new answer
+    × TellsOn err done_status answer status
+Told (Same doc) first second out err status =
     (answer : Result Bool SideFault)
-    × ComparesFiles doc left other n n_after m m_after answer
-    × TellsComparison held writes out new held_err tells err err_after answer status
-Told (Compare a operator b) left n n_after other m m_after held writes out new held_err tells err
-    err_after status =
+    × ComparesFiles doc first.text second.text
+    first.failures first.failures_after second.failures second.failures_after answer
+    × TellsComparison out.held out.failures out.old out.new err.held err.failures err.old err.new
+    answer status
+Told (Compare left operator right) first second out err status =
     (answer : Result Bool Fault)
-    × Compares (string_bytes a) operator (string_bytes b) answer × (new ≡ out)
-    × Tells verdict_status held_err tells err err_after answer status
-Told (CanonVersion version) left n n_after other m m_after held writes out new held_err tells err
-    err_after status =
+    × Compares (string_bytes left) operator (string_bytes right) answer × (out.new ≡ out.old)
+    × TellsOn err verdict_status answer status
+Told (CanonVersion version) first second out err status =
     (answer : Result ⊤ Fault)
-    × Canonicalises (string_bytes version) held writes out new answer
-    × Tells done_status held_err tells err err_after answer status
-Told (Sort reverse) left n n_after other m m_after held writes out new held_err tells err err_after
-    status =
+    × Canonicalises (string_bytes version) out.held out.failures out.old out.new answer
+    × TellsOn err done_status answer status
+Told (Sort reverse) first second out err status =
     (answer : Result ⊤ Fault)
-    × SortsFile reverse left n n_after held writes out new answer
-    × Tells done_status held_err tells err err_after answer status
-Told (Query arch profiles relation) left n n_after other m m_after held writes out new held_err
-    tells err err_after status =
+    × SortsFile reverse first.text first.failures first.failures_after
+    out.held out.failures out.old out.new answer
+    × TellsOn err done_status answer status
+Told (Query arch profiles relation) first second out err status =
     (answer : Result Bool Fault)
-    × QueriesFile (asked arch profiles relation) left n n_after held writes out new answer
-    × Tells verdict_status held_err tells err err_after answer status
+    × QueriesFile (asked arch profiles relation) first.text first.failures first.failures_after
+    out.held out.failures out.old out.new answer
+    × TellsOn err verdict_status answer status
 
 -- A job that reads no file leaves the first reader as it was.
 abbrev pub IfUnread : Job → Type 0 → Type 0

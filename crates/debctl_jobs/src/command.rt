@@ -2,7 +2,7 @@
 
 ghost use Rattle.std.specs.Prelude.{◌≡◌, ◌<◌};
 ghost use Rattle.deb_base.specs.Devices.{one_more};
-ghost use Rattle.debctl_jobs.specs.Running.{Done, IfCompare, IfRefusedWords, IfSecondUnread, IfUnread, IsRefused, SaysNo, Told};
+ghost use Rattle.debctl_jobs.specs.Running.{Done, IfCompare, IfRefusedWords, IfSecondUnread, IfUnread, IsRefused, SaysNo, Told, reader_of, writer_of};
 ghost use Rattle.debctl_jobs.specs.Taking.{TakesFile};
 
 use crate::document_jobs::{run_check, run_normalise};
@@ -67,9 +67,11 @@ pub fn run<R: Source, S: Source, W: Sink, E: Sink>(
         (result ≡ 3 → E.failures err.new ≡ one_more (E.failures err.old)) }
 
     // Whatever the status: there is an answer to the job, and that is told.
-    ensures told { Told job.now (R.left first.old) (R.failures first.old) (R.failures first.new)
-        (S.left second.old) (S.failures second.old) (S.failures second.new)
-        W.held W.failures out.old out.new E.held E.failures err.old err.new result }
+    ensures told { Told job.now
+        (reader_of (R.left first.old) (R.failures first.old) (R.failures first.new))
+        (reader_of (S.left second.old) (S.failures second.old) (S.failures second.new))
+        (writer_of W.held W.failures out.old out.new)
+        (writer_of E.held E.failures err.old err.new) result }
 {
     match job {
         Job::Check(doc) => run_check(alloc, *doc, first, out, err),
