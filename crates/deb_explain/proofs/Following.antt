@@ -7,7 +7,7 @@ use Rattle.deb_syntax.specs.Answers.{Seen, next_answer}
 use Rattle.deb_syntax.specs.Lines.{paragraphs_of}
 use Rattle.deb_syntax.specs.Meaning.{Entries}
 use Rattle.deb_syntax.specs.Paragraphs.{advance_answer}
-use Rattle.deb_syntax.specs.Reading.{State, Moment, Fits, Passes, Advances, passed_count}
+use Rattle.deb_syntax.specs.Reading.{State, Moment, Fits, KeepsErrors, Advances, passed_count}
 use Rattle.deb_syntax.proofs.Callers.{goes-from_passes, sound-from_passes}
 use Rattle.deb_field.specs.declared.kind.Doc.{Doc}
 use Rattle.deb_control.specs.Checking.{Passing, CheckedState, FitsChecked, GivesPassing}
@@ -39,7 +39,7 @@ none_passes text passed new left answer is none current =
     }
 
 -- What the reader of paragraphs shows of its answer.
-pub shows_next : (text passed : List ℕ) (before after : Moment) (answer : Result (Option Seen) Fault) → before.state.fault ≡ None → Fits text passed before.state before.source.bytes → Passes Advances before answer after → IsTold answer → ShowsNext text passed after.state after.source.bytes
+pub shows_next : (text passed : List ℕ) (before after : Moment) (answer : Result (Option Seen) Fault) → before.state.fault ≡ None → Fits text passed before.state before.source.bytes → KeepsErrors Advances before answer after → IsTold answer → ShowsNext text passed after.state after.source.bytes
 shows_next text passed before after (Ok None) sound fits passes told =
     let goes = goes-from_passes Advances before after (Ok None) sound passes in
     none_passes text passed after.state after.source.bytes (Ok None) (goes.answers text passed fits).answer refl goes.current

@@ -1,5 +1,5 @@
 -- What the calls of a reader of paragraphs say of a text that fits, from what its walk finds ahead.
-use Rattle.deb_syntax.proofs.Common.{◌≡◌, ◌≢◌, ℕ, ◌+◌, ◌-◌, ◌<◌, ◌≤◌, ◌&&◌, inl, inr, Bool, true, false, List, [], ◌∷◌, ◌++◌, Option, Some, None, Result, Ok, Err, length, take, refl, sym, ap, ◌∙◌, subst, append_assoc, arith, rules, IsTrue, length-append, get_or, IfNone, IfSome, IsSome, Shown, lt-leb, and_from, append_cancel_left, append-nil, Line, newline, pieces_of, HasNoNewline, is_blank, is_all_blank, line_length, ParagraphTooLong, Fault, Refused, Memory, Read, Write, Refusal, Begun, Extent, left_answer, left_begin, room_ahead, IsAhead, IsFirst, IsNear, PassesBlanks, EndsInSight, KeepsLine, HidesLine, TakesNoMore, PassesAll, IsExtentOf, PassesParagraph, IsNextRun, SameCounts, Seen, part_within, paragraphs_within, next_answer, next_begin, seen_from, AreBlank, AreNotBlank, FeedState, PassesOn, feed_state, buffer_of, start_of, piece_limit, left_count, Takes, are_fields, are_numbered, Feed, Place, list_all, length-take-le, judged, lines_of, with_newlines, Paragraph, paragraphs_from, paragraphs_of, total_length, State, state_from, Fits, passed_count, GivesNext, GivesNone, GivesLine, BeginsHere, FindsFirst, Answers, IsRefusalOfText, Moment, Advances, Begins, Passes, tells_end, IsReadersFault, IsFaultOf, fields_at, lies_within, PassesNext, IsPassed, standing_of, stands_within, EndsHidden, HidesLong}
+use Rattle.deb_syntax.proofs.Common.{◌≡◌, ◌≢◌, ℕ, ◌+◌, ◌-◌, ◌<◌, ◌≤◌, ◌&&◌, inl, inr, Bool, true, false, List, [], ◌∷◌, ◌++◌, Option, Some, None, Result, Ok, Err, length, take, refl, sym, ap, ◌∙◌, subst, append_assoc, arith, rules, IsTrue, length-append, get_or, IfNone, IfSome, IsSome, Shown, lt-leb, and_from, append_cancel_left, append-nil, Line, newline, pieces_of, HasNoNewline, is_blank, is_all_blank, line_length, ParagraphTooLong, Fault, Refused, Memory, Read, Write, Refusal, Begun, Extent, left_answer, left_begin, room_ahead, IsAhead, IsFirst, IsNear, PassesBlanks, EndsInSight, KeepsLine, HidesLine, TakesNoMore, PassesAll, IsExtentOf, PassesParagraph, IsNextRun, SameCounts, Seen, part_within, paragraphs_within, next_answer, next_begin, seen_from, AreBlank, AreNotBlank, FeedState, PassesOn, feed_state, buffer_of, start_of, piece_limit, left_count, Takes, are_fields, are_numbered, Feed, Place, list_all, length-take-le, judged, lines_of, with_newlines, Paragraph, paragraphs_from, paragraphs_of, total_length, State, state_from, Fits, passed_count, GivesNext, GivesNone, GivesLine, BeginsHere, FindsFirst, Answers, IsRefusalOfText, Moment, Advances, Begins, KeepsErrors, tells_end, IsReadersFault, IsFaultOf, fields_at, lies_within, PassesNext, IsPassed, standing_of, stands_within, EndsHidden, HidesLong}
 use Rattle.deb_base.specs.Bodies.{paragraph_limit}
 use Rattle.std.specs.List.{slice_range}
 use Rattle.deb_syntax.proofs.Feeds.{front_of_unread, unread_within}
@@ -382,14 +382,14 @@ if_seen None P p = tt
 if_seen (Some s) P p = p
 
 -- a call that fails keeps its error
-pub advance_err : (before : Moment) (after other : State) (source : Shown) (e : Fault) → ((f : Fault) → before.state.fault ≡ Some f → ⊥) → Advances before (Err e) (record { state = after; source = source }) → other.fault ≡ Some e → other.current ≡ after.current → other.finished ≡ after.finished → Passes Advances before (Err e) (record { state = other; source = source })
+pub advance_err : (before : Moment) (after other : State) (source : Shown) (e : Fault) → ((f : Fault) → before.state.fault ≡ Some f → ⊥) → Advances before (Err e) (record { state = after; source = source }) → other.fault ≡ Some e → other.current ≡ after.current → other.finished ≡ after.finished → KeepsErrors Advances before (Err e) (record { state = other; source = source })
 advance_err before after other source e none a kept current finished = record {
   goes = if_none before.state.fault _ (record { answers = a.answers; taken = a.taken; counted = a.counted; fault = a.fault; current = current ∙ a.current; finished = finished ∙ a.finished; ended = a.ended; unhidden = tt });
   keeps = if_none before.state.fault _ kept;
   repeats = if_some before.state.fault _ none;
 }
 
-pub begins_err : (before : Moment) (after other : State) (source : Shown) (e : Fault) → ((f : Fault) → before.state.fault ≡ Some f → ⊥) → Begins before (Err e) (record { state = after; source = source }) → other.fault ≡ Some e → other.current ≡ after.current → other.finished ≡ after.finished → Passes Begins before (Err e) (record { state = other; source = source })
+pub begins_err : (before : Moment) (after other : State) (source : Shown) (e : Fault) → ((f : Fault) → before.state.fault ≡ Some f → ⊥) → Begins before (Err e) (record { state = after; source = source }) → other.fault ≡ Some e → other.current ≡ after.current → other.finished ≡ after.finished → KeepsErrors Begins before (Err e) (record { state = other; source = source })
 begins_err before after other source e none a kept current finished = record {
   goes = if_none before.state.fault _ (record { answers = a.answers; taken = a.taken; counted = a.counted; fault = a.fault; current = current ∙ a.current; finished = finished ∙ a.finished; ended = a.ended; line = tt });
   keeps = if_none before.state.fault _ kept;

@@ -63,7 +63,7 @@ pub use Rattle.deb_syntax.specs.Meaning.{Accepted, Entries, HaveMeanings, Means,
 pub use Rattle.deb_syntax.specs.Paragraphs.{state_of}
 pub use Rattle.deb_syntax.specs.Places.{IsFaultOf, Keeps, LastGoesOn, StandsAt, begun_at, begun_fields, ends_before, field_at, fields_at, has_stood, is_kept, is_marked, lies_within, mark_of, name_at, pieces_behind}
 pub use Rattle.deb_syntax.specs.Raw.{field_named, fields_of}
-pub use Rattle.deb_syntax.specs.Reading.{Advances, Answers, Begins, BeginsHere, FindsFirst, Fits, GivesLine, GivesNext, GivesNone, IsRefusalOfText, Moment, Passes, State, passed_count, state_from, tells_end}
+pub use Rattle.deb_syntax.specs.Reading.{Advances, Answers, Begins, BeginsHere, FindsFirst, Fits, GivesLine, GivesNext, GivesNone, IsRefusalOfText, Moment, KeepsErrors, State, passed_count, state_from, tells_end}
 pub use Rattle.deb_syntax.specs.Standing.{EndsHidden, HidesLong, IsPassed, PassesNext, standing_of, stands_within}
 pub use Rattle.deb_syntax.specs.Walking.{CanGoOn, CannotBeBlank, Describes, EndsIn, EndsNotBlank, GoesAlong, GoesThroughBlanks, RunStands, SkipsBlanks, StandInFront, Stops}
 pub use Rattle.deb_syntax.specs.declared.begun.AlongLine.{AlongLine}
@@ -80,6 +80,6 @@ pub use Rattle.deb_syntax.specs.declared.folded_name.FoldedName.{FoldedName}
 pub use Rattle.deb_syntax.specs.declared.place.Place.{Place}
 pub use Rattle.deb_syntax.specs.declared.seen_names.Names.{Names}
 pub use Rattle.deb_syntax.specs.declared.skip.Skipped.{Skipped}
-pub use Rattle.deb_syntax.specs.declared.take.Run.{Run}
-pub use Rattle.deb_syntax.specs.declared.take.Stop.{Stop}
-pub use Rattle.deb_syntax.specs.declared.take.Stop.TheVariants.{Blank, Open, TooLong}
+pub use Rattle.deb_syntax.specs.declared.line_run.Run.{Run}
+pub use Rattle.deb_syntax.specs.declared.line_run.Stop.{Stop}
+pub use Rattle.deb_syntax.specs.declared.line_run.Stop.TheVariants.{Blank, Open, TooLong}

@@ -15,7 +15,7 @@ use Rattle.deb_syntax.specs.Feeding.{FeedState, piece_limit}
 use Rattle.deb_syntax.specs.Lines.{Paragraph, lines_of, with_newlines, paragraphs_from, total_length, file_limit}
 use Rattle.deb_syntax.specs.Walking.{Describes, StandInFront}
 use Rattle.deb_syntax.specs.declared.begun.Begun.{Begun}
-use Rattle.deb_syntax.specs.declared.take.Run.{Run}
+use Rattle.deb_syntax.specs.declared.line_run.Run.{Run}
 use Rattle.deb_syntax.specs.declared.dropped.DroppedLine.{DroppedLine}
 use Rattle.deb_syntax.specs.declared.ending.Extent.{Extent}
 use Rattle.deb_syntax.specs.declared.first.First.{First}

@@ -195,8 +195,8 @@ pub record Begins (before : Moment) (answer : Result (Option ℕ) Fault)
 
 -- A call of a reader: without an error it goes on, and keeps the error that it then answers; with
 -- one it answers that error, and neither reads nor changes.
-pub record Passes {A : Type 0} (Goes : Moment → Result A Fault → Moment → Type 0) (before : Moment)
-    (answer : Result A Fault) (after : Moment) : Type 0 where
+pub record KeepsErrors {A : Type 0} (Goes : Moment → Result A Fault → Moment → Type 0)
+    (before : Moment) (answer : Result A Fault) (after : Moment) : Type 0 where
   pub goes : IfNone before.state.fault (Goes before answer after)
   pub keeps : IfNone before.state.fault (MatchResult answer (λ _. after.state.fault ≡ None)
       (λ fault. after.state.fault ≡ Some fault))

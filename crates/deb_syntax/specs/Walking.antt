@@ -9,9 +9,9 @@ use Rattle.deb_syntax.specs.Extents.{AreBlank, AreNotBlank}
 use Rattle.deb_syntax.specs.declared.begun.Begun.{Begun}
 use Rattle.deb_syntax.specs.declared.begun.AlongLine.{AlongLine}
 use Rattle.deb_syntax.specs.declared.skip.Skipped.{Skipped}
-use Rattle.deb_syntax.specs.declared.take.Run.{Run}
-use Rattle.deb_syntax.specs.declared.take.Stop.{Stop}
-use Rattle.deb_syntax.specs.declared.take.Stop.TheVariants.{Open, Blank, TooLong}
+use Rattle.deb_syntax.specs.declared.line_run.Run.{Run}
+use Rattle.deb_syntax.specs.declared.line_run.Stop.{Stop}
+use Rattle.deb_syntax.specs.declared.line_run.Stop.TheVariants.{Open, Blank, TooLong}
 
 -- whole lines, each with its newline, stand at the front of a text, and this behind them
 pub record StandInFront (whole : List ℕ) (passed : List Line) (rest : List ℕ) : Type 0 where

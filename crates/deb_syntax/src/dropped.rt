@@ -12,7 +12,7 @@ ghost use Rattle.deb_syntax.specs.Walking.{Describes};
 
 use crate::begun::{Begun, along};
 use crate::feed::{Feed, Tail};
-use crate::take::Run;
+use crate::line_run::Run;
 use deb_base::{Code, Fault, PARAGRAPH_LIMIT, Refusal, Source};
 
 /// A line of which no bytes are kept but those that came last.
@@ -49,7 +49,7 @@ pub(crate) fn drop_line<R: Source>(
     let mut begun = run.begun;
     'pieces: loop {
         feed.keep(run.bytes);
-        feed.take(reader)?;
+        feed.fill(reader)?;
         let sight = feed.sight(begun.len as u64);
         let tail = sight.tail;
         let next = along(&sight.seen[run.bytes..], begun);

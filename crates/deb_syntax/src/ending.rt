@@ -10,12 +10,12 @@ ghost use Rattle.deb_syntax.specs.Reading.{IsRefusalOfText};
 ghost use Rattle.deb_syntax.specs.Lines.{file_limit};
 ghost use Rattle.deb_syntax.specs.Feeding.{piece_limit, feed_state, had, Takes};
 ghost use Rattle.deb_syntax.specs.Walking.{Stops};
-ghost use Rattle.deb_syntax.specs.declared.take.Stop.TheVariants.{Open};
+ghost use Rattle.deb_syntax.specs.declared.line_run.Stop.TheVariants.{Open};
 
 use crate::begun::Begun;
 use crate::dropped::drop_line;
 use crate::feed::{Feed, Tail};
-use crate::take::{Run, Stop, take_lines};
+use crate::line_run::{Run, Stop, take_lines};
 use deb_base::{Code, Fault, PARAGRAPH_LIMIT, Refusal, Source};
 
 /// Where the paragraph ends that begins the unread bytes.
@@ -74,7 +74,7 @@ pub(crate) fn paragraph_extent<R: Source>(
         }
         match tail {
             Tail::More if is_full => return extent_beyond(feed, run, reader),
-            Tail::More => feed.take(reader)?,
+            Tail::More => feed.fill(reader)?,
             Tail::Nothing => return ended_by_file(feed, run),
             Tail::Beyond => return Err(refused(feed, Code::FileTooLong, run)),
         }

@@ -137,7 +137,7 @@ impl Feed {
     }
 
     /// Takes one piece of the reader behind the unread bytes, which don't end the file yet.
-    pub(crate) fn take<R: Source>(&mut self, reader: &mut R) -> Result<(), Fault>
+    pub(crate) fn fill<R: Source>(&mut self, reader: &mut R) -> Result<(), Fault>
         requires more { IsFalse (feed_state self.old).ended }
         requires short { length (feed_state self.old).unread ≤ PARAGRAPH_LIMIT }
         ensures { TakesPiece (feed_state self.old) (record
@@ -147,7 +147,7 @@ impl Feed {
               failures = R.failures reader.new;
             }) }
     {
-        let count = self.window.take(reader)?;
+        let count = self.window.fill(reader)?;
         self.ended = count == 0;
         Ok(())
     }

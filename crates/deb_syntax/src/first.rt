@@ -12,8 +12,8 @@ ghost use Rattle.deb_syntax.specs.Walking.{Describes};
 use crate::begun::Begun;
 use crate::dropped::drop_line;
 use crate::feed::{Feed, Tail};
+use crate::line_run::Run;
 use crate::skip::skip_blanks;
-use crate::take::Run;
 use deb_base::{Code, Fault, PARAGRAPH_LIMIT, Refusal, Source};
 
 /// The first line ahead that isn't blank.
@@ -58,7 +58,7 @@ pub(crate) fn first_line<R: Source>(feed: &mut Feed, reader: &mut R) -> Result<F
         }
         match tail {
             Tail::More if begun.len >= PARAGRAPH_LIMIT => return drop_first(feed, begun, reader),
-            Tail::More => feed.take(reader)?,
+            Tail::More => feed.fill(reader)?,
             Tail::Nothing => return Ok(last_line(feed, begun)),
             Tail::Beyond => {
                 return Err(Fault::Refused(Refusal {

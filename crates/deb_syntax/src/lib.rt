@@ -24,12 +24,12 @@ mod first;
 mod folded_name;
 mod judge;
 pub mod laws;
+mod line_run;
 mod paragraphs;
 mod place;
 mod raw;
 mod seen_names;
 mod skip;
-mod take;
 mod window;
 
 pub use feed::FILE_LIMIT;

@@ -59,7 +59,7 @@ impl Paragraphs {
     ghost use Rattle.std.specs.Borrow.{sem};
     ghost use Rattle.std.specs.Io.BufRead.{Rests};
     ghost use Rattle.deb_syntax.specs.contracts.paragraphs.Paragraphs.{the_row};
-    ghost use Rattle.deb_syntax.specs.Reading.{moment_of, Fits, Answers, FindsFirst, Passes};
+    ghost use Rattle.deb_syntax.specs.Reading.{moment_of, Fits, Answers, FindsFirst, KeepsErrors};
     ghost use Rattle.deb_syntax.specs.Reading.{Advances, Begins};
     ghost use Rattle.deb_syntax.specs.Paragraphs.{state_of, seen_of, answer_of, advance_answer};
     ghost use Rattle.deb_syntax.specs.Paragraphs.{end_answer, ShowsFirst, IsQuiet};
@@ -138,7 +138,7 @@ impl Paragraphs {
     /// - `Fault::Memory`: a growth of memory was refused.
     /// - `Fault::Read`: a read of `reader` failed in this call.
     pub fn begins<R: Source>(&mut self, reader: &mut R) -> Result<Option<u64>, Fault>
-        ensures passes { Passes Begins (moment_of (state_of self.old) (R.left reader.old)
+        ensures passes { KeepsErrors Begins (moment_of (state_of self.old) (R.left reader.old)
             (R.failures reader.old)) result (moment_of (state_of self.new) (R.left reader.new)
             (R.failures reader.new)) }
         ensures quiet { IsQuiet (state_of self.old) → reader.new ≡ reader.old }
@@ -171,7 +171,7 @@ impl Paragraphs {
     /// - `Fault::Read`: a read of `reader` failed in this call.
     pub fn next<'a, R: Source>(&'a mut self, reader: &mut R) -> Result<Option<Raw<'a>>, Fault>
         ensures* after { sem 𝓛 (Rests the_row self.entry
-            (λ new. Passes Advances (moment_of (state_of self.old) (R.left reader.old)
+            (λ new. KeepsErrors Advances (moment_of (state_of self.old) (R.left reader.old)
             (R.failures reader.old)) (answer_of result) (moment_of (state_of new)
             (R.left reader.new) (R.failures reader.new)))) }
         ensures quiet { IsQuiet (state_of self.old) → reader.new ≡ reader.old }
@@ -186,7 +186,7 @@ impl Paragraphs {
     /// Goes on to the next paragraph, which `current` then gives, and says whether there is one.
     /// The answers, errors among them, are those of `next`.
     pub fn advance<R: Source>(&mut self, reader: &mut R) -> Result<bool, Fault>
-        ensures passes { Passes Advances (moment_of (state_of self.old) (R.left reader.old)
+        ensures passes { KeepsErrors Advances (moment_of (state_of self.old) (R.left reader.old)
             (R.failures reader.old)) (advance_answer (state_of self.new) result)
             (moment_of (state_of self.new) (R.left reader.new) (R.failures reader.new)) }
         ensures found { IfOk result (λ found. IsTrue found ↔ IsSome (state_of self.new).current) }

@@ -96,7 +96,7 @@ impl Window {
     }
 
     /// Takes one piece of the reader behind the unread bytes, and says how many bytes came.
-    pub(crate) fn take<R: Source>(&mut self, reader: &mut R) -> Result<usize, Fault>
+    pub(crate) fn fill<R: Source>(&mut self, reader: &mut R) -> Result<usize, Fault>
         requires { length (unread_of self.old) ≤ PARAGRAPH_LIMIT }
         ensures taken { IfOk result (λ count. Fills self.old (R.left reader.old) count self.new
             (R.left reader.new)) }

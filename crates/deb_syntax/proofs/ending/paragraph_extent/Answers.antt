@@ -73,21 +73,21 @@ returns-in-More-clause-ahead g c = λ text a.
 pub pieces-smaller : goal.pieces-smaller
 pieces-smaller g c =
     let tail = subst (IsTail (feed_state c.pieces.feed) 0) c.in-More-2.is c.sight-sight.ensures.tail in
-    still-less (feed_state c.pieces.feed) _ _ _ (feed_small c.pieces.feed) tail.0 tail.1 c.in_ok-take-in-More-2.ensures.taken
+    still-less (feed_state c.pieces.feed) _ _ _ (feed_small c.pieces.feed) tail.0 tail.1 c.in_ok-fill-in-More-2.ensures.taken
 
 pub pieces-preserved : goal.pieces-preserved
 pieces-preserved g c =
     let state = feed_state c.pieces.feed in
     let tail = subst (IsTail state 0) c.in-More-2.is c.sight-sight.ensures.tail in
-    let takes = takes_then _ _ _ _ (had (feed_state c.take.new.self)) _ _ _ c.pieces.invariant.takes (comes_takes _ _ _ _ c.in_ok-take-in-More-2.ensures.taken) (omega arith) in
+    let takes = takes_then _ _ _ _ (had (feed_state c.fill.new.self)) _ _ _ c.pieces.invariant.takes (comes_takes _ _ _ _ c.in_ok-fill-in-More-2.ensures.taken) (omega arith) in
     record {
-      walks = walks-more (feed_state c.args.feed.now) (g.R.Source.left c.args.reader.now) c.pieces.run c.take_lines-taken.result.run state (feed_state c.take.new.self)
-          (g.R.Source.left c.pieces.reader) (g.R.Source.left c.take.new.reader) c.pieces.invariant.walks
+      walks = walks-more (feed_state c.args.feed.now) (g.R.Source.left c.args.reader.now) c.pieces.run c.take_lines-taken.result.run state (feed_state c.fill.new.self)
+          (g.R.Source.left c.pieces.reader) (g.R.Source.left c.fill.new.reader) c.pieces.invariant.walks
           (unread-stops state c.sight-sight.result c.take_lines-taken.result.stop Open c.take_lines-taken.result.run c.sight-sight.ensures tail.0 c.in-Open.is c.take_lines-taken.ensures.stops)
-          (omega (arith, tail.0)) c.in_ok-take-in-More-2.ensures.taken;
+          (omega (arith, tail.0)) c.in_ok-fill-in-More-2.ensures.taken;
       takes = takes;
-      taken = takes_more _ _ _ _ _ _ takes (omega arith) (more-reach state (feed_state c.take.new.self) (g.R.Source.left c.pieces.reader) (g.R.Source.left c.take.new.reader) (feed_small c.pieces.feed) tail.0 c.in_ok-take-in-More-2.ensures.taken);
-      counted = c.in_ok-take-in-More-2.ensures.counted ∙ c.pieces.invariant.counted;
+      taken = takes_more _ _ _ _ _ _ takes (omega arith) (more-reach state (feed_state c.fill.new.self) (g.R.Source.left c.pieces.reader) (g.R.Source.left c.fill.new.reader) (feed_small c.pieces.feed) tail.0 c.in_ok-fill-in-More-2.ensures.taken);
+      counted = c.in_ok-fill-in-More-2.ensures.counted ∙ c.pieces.invariant.counted;
       quiet = λ e. absurd (false≢true (sym tail.1 ∙ (c.pieces.invariant.quiet e).0));
     }
 
@@ -112,8 +112,8 @@ returns-in-Beyond-clause-ahead g c = λ text a.
     (seen-stops state c.sight-sight.result c.take_lines-taken.result.stop Open c.take_lines-taken.result.run c.sight-sight.ensures c.in-Open.is c.take_lines-taken.ensures.stops)
     (omega (arith, tail)) text (g.R.Source.left c.pieces.reader) c.refused-in-Beyond.result c.refused-in-Beyond.ensures (w.ahead text a))
 
-pub returns-in_err-take-in-More-2-clause-taken : goal.returns-in_err-take-in-More-2-clause-taken
-returns-in_err-take-in-More-2-clause-taken g c = takes_then _ _ _ _ _ _ _ _ c.pieces.invariant.taken (stays_takes _ _ _ _ c.in_err-take-in-More-2.ensures.failed) (omega arith)
+pub returns-in_err-fill-in-More-2-clause-taken : goal.returns-in_err-fill-in-More-2-clause-taken
+returns-in_err-fill-in-More-2-clause-taken g c = takes_then _ _ _ _ _ _ _ _ c.pieces.invariant.taken (stays_takes _ _ _ _ c.in_err-fill-in-More-2.ensures.failed) (omega arith)
 
 pub returns-in-More-clause-taken : goal.returns-in-More-clause-taken
 returns-in-More-clause-taken g c = takes_then _ _ _ _ _ _ _ _ c.pieces.invariant.takes c.extent_beyond.ensures.taken (omega arith)

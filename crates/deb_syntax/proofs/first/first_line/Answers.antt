@@ -33,20 +33,20 @@ pieces-smaller g c =
     let s = stands (feed_state c.args.feed.now) (g.R.Source.left c.args.reader.now) (feed_state c.pieces.feed) (feed_state c.pass.new.self) (g.R.Source.left c.pieces.reader) c.pieces.begun c.sight-sight.result c.skip_blanks-skipped.result (feed_small c.pieces.feed) c.pieces.invariant.walked c.sight-sight.ensures c.skip_blanks-skipped.ensures c.pass.ensures.passes in
     let tail = subst (IsTail (feed_state c.pass.new.self) 0) c.in-More-2.is s.tail in
     let within = skipped-within (feed_state c.pieces.feed) c.pieces.begun c.sight-sight.result c.sight-sight.ensures c.skip_blanks-skipped.result c.skip_blanks-skipped.ensures in
-    subst (λ n. still (feed_state c.take.new.self) < n) (pass-still _ _ _ _ c.pass.ensures.passes within) (still-less _ (feed_state c.take.new.self) _ _ (feed_small c.pass.new.self) tail.0 tail.1 c.in_ok-take-in-More-2.ensures.taken)
+    subst (λ n. still (feed_state c.fill.new.self) < n) (pass-still _ _ _ _ c.pass.ensures.passes within) (still-less _ (feed_state c.fill.new.self) _ _ (feed_small c.pass.new.self) tail.0 tail.1 c.in_ok-fill-in-More-2.ensures.taken)
 
 pub pieces-preserved : goal.pieces-preserved
 pieces-preserved g c =
     let s = stands (feed_state c.args.feed.now) (g.R.Source.left c.args.reader.now) (feed_state c.pieces.feed) (feed_state c.pass.new.self) (g.R.Source.left c.pieces.reader) c.pieces.begun c.sight-sight.result c.skip_blanks-skipped.result (feed_small c.pieces.feed) c.pieces.invariant.walked c.sight-sight.ensures c.skip_blanks-skipped.ensures c.pass.ensures.passes in
     let tail = subst (IsTail (feed_state c.pass.new.self) 0) c.in-More-2.is s.tail in
     let within = skipped-within (feed_state c.pieces.feed) c.pieces.begun c.sight-sight.result c.sight-sight.ensures c.skip_blanks-skipped.result c.skip_blanks-skipped.ensures in
-    let takes = takes_then _ _ _ _ (had (feed_state c.take.new.self)) _ _ _ c.pieces.invariant.takes (comes_takes _ _ _ _ c.in_ok-take-in-More-2.ensures.taken) (omega (arith, pass-had _ _ _ _ c.pass.ensures.passes within)) in
-    let reach = more-reach (feed_state c.pass.new.self) (feed_state c.take.new.self) (g.R.Source.left c.pieces.reader) (g.R.Source.left c.take.new.reader) (feed_small c.pass.new.self) tail.0 c.in_ok-take-in-More-2.ensures.taken in
+    let takes = takes_then _ _ _ _ (had (feed_state c.fill.new.self)) _ _ _ c.pieces.invariant.takes (comes_takes _ _ _ _ c.in_ok-fill-in-More-2.ensures.taken) (omega (arith, pass-had _ _ _ _ c.pass.ensures.passes within)) in
+    let reach = more-reach (feed_state c.pass.new.self) (feed_state c.fill.new.self) (g.R.Source.left c.pieces.reader) (g.R.Source.left c.fill.new.reader) (feed_small c.pass.new.self) tail.0 c.in_ok-fill-in-More-2.ensures.taken in
     record {
-      walked = walked-more _ _ _ _ _ _ s (feed_state c.take.new.self) (g.R.Source.left c.take.new.reader) c.if-skipped.false tail.0 tail.1 c.in_ok-take-in-More-2.ensures.taken;
+      walked = walked-more _ _ _ _ _ _ s (feed_state c.fill.new.self) (g.R.Source.left c.fill.new.reader) c.if-skipped.false tail.0 tail.1 c.in_ok-fill-in-More-2.ensures.taken;
       takes = takes;
       taken = takes_more _ _ _ _ _ _ takes (omega arith) reach;
-      counted = c.in_ok-take-in-More-2.ensures.counted ∙ c.pieces.invariant.counted;
+      counted = c.in_ok-fill-in-More-2.ensures.counted ∙ c.pieces.invariant.counted;
       quiet = λ e. absurd (false≢true (sym tail.1 ∙ s.ended e));
     }
 
@@ -62,8 +62,8 @@ returns-in-Beyond-clause-ahead g c =
     let refusal : ℕ → Refusal = λ n. record { code = FileTooLong; line = n + 1 } in
     stands-beyond _ _ _ _ _ _ s (record { code = FileTooLong; line = c.lines.result + 1 }) c.if-skipped.false (feed_small c.pass.new.self) tail (ap refusal c.lines.ensures)
 
-pub returns-in_err-take-in-More-2-clause-taken : goal.returns-in_err-take-in-More-2-clause-taken
-returns-in_err-take-in-More-2-clause-taken g c = takes_then _ _ _ _ _ _ _ _ c.pieces.invariant.taken (stays_takes _ _ _ _ c.in_err-take-in-More-2.ensures.failed) (omega arith)
+pub returns-in_err-fill-in-More-2-clause-taken : goal.returns-in_err-fill-in-More-2-clause-taken
+returns-in_err-fill-in-More-2-clause-taken g c = takes_then _ _ _ _ _ _ _ _ c.pieces.invariant.taken (stays_takes _ _ _ _ c.in_err-fill-in-More-2.ensures.failed) (omega arith)
 
 pub returns-in-More-clause-taken : goal.returns-in-More-clause-taken
 returns-in-More-clause-taken g c =

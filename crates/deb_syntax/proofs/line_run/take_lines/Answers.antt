@@ -1,7 +1,7 @@
 use Rattle.deb_syntax.proofs.Common.{◌∙◌, ◌+◌, ◌∷◌, ◌≤◌, refl, sym, subst, arith, not-true, not-false, take_rest, newline, GoesAlong}
 use Rattle.deb_base.specs.Bodies.{paragraph_limit}
 use Rattle.deb_syntax.proofs.WalkingRuns.{CanGoOn-within, CanGoOn-few, run-open-from, run-ended-from, run-step}
-use Rattle.deb_syntax.proofs.take.take_lines.Goals as goal
+use Rattle.deb_syntax.proofs.line_run.take_lines.Goals as goal
 
 pub loop-next-init : goal.loop-next-init
 loop-next-init c = record {

@@ -1,6 +1,6 @@
 use Rattle.deb_syntax.proofs.Common.{◌∙◌, ◌+◌, ◌++◌, take, drop, slice_range, ap, arith, rules, length-drop, length-take-le, with_items_is, places}
 use Rattle.deb_syntax.proofs.Feeds.{slice_range-same_front, slice_range-grown}
-use Rattle.deb_syntax.proofs.window.Window.take.Goals as goal
+use Rattle.deb_syntax.proofs.window.Window.fill.Goals as goal
 
 pub returns-in-Ok-clause-taken : goal.returns-in-Ok-clause-taken
 returns-in-Ok-clause-taken g c =

@@ -1,5 +1,5 @@
 use Rattle.deb_syntax.proofs.Common.{◌+◌, ◌-◌, ◌≤◌, length, CanGoOn}
-use Rattle.deb_syntax.proofs.take.take_lines.Given as goal
+use Rattle.deb_syntax.proofs.line_run.take_lines.Given as goal
 
 -- lines can be taken from there on
 abbrev pub invariant-loop-next : goal.invariant-loop-next
