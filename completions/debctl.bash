@@ -1,18 +1,29 @@
 # bash completion for debctl(1)
 
+# Offers files. bash splits a word at colons, and replaces what comes after the last one.
+_debctl_files() {
+    _filedir
+    __ltrim_colon_completions "$cur"
+}
+
 _debctl() {
-    local cur prev words cword
-    _init_completion || return
+    local cur prev words cword split
+    _init_completion -s -n : || return
     local commands='check explain audit normalise same compare canon-version sort query help'
-    local command='' given=0 options='--help' i
+    local command='' given=0 ended='' options='--help' i
     for ((i = 1; i < cword; i++)); do
+        if [[ $ended || ${words[i]} != -?* ]]; then
+            if [[ -z $command ]]; then command=${words[i]}; else ((given++)); fi
+            continue
+        fi
         case ${words[i]} in
-            -k | --kind | --code | --files0-from | --arch | --profiles) ((i++)) ;;
-            -*) ;;
-            *) if [[ -z $command ]]; then command=${words[i]}; else ((given++)); fi ;;
+            --) ended=yes ;;
+            -k | --kind | --files0-from | --arch | --profiles) ((i++)) ;;
+            # The value is in place of a path, as it is if it is a word of its own.
+            --code=* | --relation=* | --version-text=*) ((given++)) ;;
         esac
     done
-    case $prev in
+    case $ended$prev in
         -k | --kind)
             mapfile -t COMPREPLY < <(compgen -W 'packages binary source sources any' -- "$cur")
             return
@@ -22,31 +33,28 @@ _debctl() {
             return
             ;;
         --files0-from)
-            _filedir
+            _debctl_files
             return
             ;;
-        --code | --profiles) return ;;
+        --code | --relation | --version-text | --profiles) return ;;
     esac
+    ! $split || return
     case $command in
         '') options='--help --version' ;;
         check | normalise | same) options='--kind --help' ;;
-        explain) options='--kind --code --help' ;;
-        audit) options='--kind --files0-from --help' ;;
+        explain) options='--kind --code --relation --version-text --help' ;;
+        audit) options='--kind --files0-from --null --help' ;;
         sort) options='--reverse --help' ;;
         query) options='--arch --profiles --help' ;;
     esac
-    if [[ $cur == -* ]]; then
+    if [[ -z $ended && $cur == -* ]]; then
         mapfile -t COMPREPLY < <(compgen -W "$options" -- "$cur")
         return
     fi
-    case $command in
-        '' | help) mapfile -t COMPREPLY < <(compgen -W "$commands" -- "$cur") ;;
-        check | explain | audit | normalise | same | sort) _filedir ;;
-        compare)
-            ((given != 1)) ||
-                mapfile -t COMPREPLY < <(compgen -W 'lt le eq ne ge gt' -- "$cur")
-            ;;
-        query) ((given == 0)) || _filedir ;;
+    case $command:$given in
+        :0 | help:0) mapfile -t COMPREPLY < <(compgen -W "$commands" -- "$cur") ;;
+        check:0 | explain:0 | audit:* | normalise:0 | same:[01] | sort:0 | query:1) _debctl_files ;;
+        compare:1) mapfile -t COMPREPLY < <(compgen -W 'lt le eq ne ge gt' -- "$cur") ;;
     esac
 } &&
     complete -F _debctl debctl

@@ -1,22 +1,71 @@
+# fish completion for debctl(1)
+
+# Prints the command and its arguments before the cursor, without options and their values. The
+# values of --code, --relation and --version-text are in place of a path.
+function __debctl_arguments
+    set -l is_value false
+    set -l is_ended false
+    for word in (commandline -opc)[2..]
+        if $is_value
+            set is_value false
+        else if $is_ended
+            printf '%s\n' $word
+        else
+            switch $word
+                case --
+                    set is_ended true
+                case -k --kind --files0-from --arch --profiles
+                    set is_value true
+                case - '--code=*' '--relation=*' '--version-text=*'
+                    printf '%s\n' $word
+                case '-*'
+                case '*'
+                    printf '%s\n' $word
+            end
+        end
+    end
+end
+
+# Returns whether the command is one of these; without any, whether there is none yet.
+function __debctl_command
+    set -l arguments (__debctl_arguments)
+    if set -q argv[1]
+        contains -- "$arguments[1]" $argv
+    else
+        not set -q arguments[1]
+    end
+end
+
+# Returns whether $argv[1] arguments come before the cursor, and the command is one of the others.
+function __debctl_at
+    set -l arguments (__debctl_arguments)
+    test (count $arguments) -eq (math $argv[1] + 1); and contains -- $arguments[1] $argv[2..]
+end
+
 complete -c debctl -f
-complete -c debctl -n __fish_use_subcommand -a check -d 'Say whether a file is accepted'
-complete -c debctl -n __fish_use_subcommand -a explain -d 'Say why a file is refused, or what a code means'
-complete -c debctl -n __fish_use_subcommand -a audit -d 'Say of each of many files whether it is accepted'
-complete -c debctl -n __fish_use_subcommand -a normalise -d 'Write the canonical text of a file'
-complete -c debctl -n __fish_use_subcommand -a same -d 'Say whether two files mean the same'
-complete -c debctl -n __fish_use_subcommand -a compare -d 'Say how two versions stand to each other'
-complete -c debctl -n __fish_use_subcommand -a canon-version -d 'Write the canonical text of a version'
-complete -c debctl -n __fish_use_subcommand -a sort -d 'Write the lines of a file, each a version, in order'
-complete -c debctl -n __fish_use_subcommand -a query -d 'Say which packages meet a relation'
-complete -c debctl -n __fish_use_subcommand -a help -d 'Print the help'
-complete -c debctl -n __fish_use_subcommand -s V -l version -d 'Print the version'
+complete -c debctl -n __debctl_command -a check -d 'Say whether a file is accepted'
+complete -c debctl -n __debctl_command -a explain -d 'Say why a file is refused, or what a code means'
+complete -c debctl -n __debctl_command -a audit -d 'Say of each of many files whether it is accepted'
+complete -c debctl -n __debctl_command -a normalise -d 'Write the canonical text of a file'
+complete -c debctl -n __debctl_command -a same -d 'Say whether two files mean the same'
+complete -c debctl -n __debctl_command -a compare -d 'Say how two versions stand to each other'
+complete -c debctl -n __debctl_command -a canon-version -d 'Write the canonical text of a version'
+complete -c debctl -n __debctl_command -a sort -d 'Write the lines of a file, each a version, in order'
+complete -c debctl -n __debctl_command -a query -d 'Say which packages meet a relation'
+complete -c debctl -n __debctl_command -a help -d 'Print the help'
+complete -c debctl -n __debctl_command -s V -l version -d 'Print the version'
 complete -c debctl -s h -l help -d 'Print the help'
-complete -c debctl -n '__fish_seen_subcommand_from help' -a 'check explain audit normalise same compare canon-version sort query help'
-complete -c debctl -n '__fish_seen_subcommand_from check explain audit normalise same' -s k -l kind -x -a 'packages binary source sources any' -d 'Kind of file'
-complete -c debctl -n '__fish_seen_subcommand_from check explain audit normalise same sort query' -F
-complete -c debctl -n '__fish_seen_subcommand_from explain' -l code -x -d 'Number of a code'
-complete -c debctl -n '__fish_seen_subcommand_from audit' -l files0-from -r -F -d 'File that lists the paths'
-complete -c debctl -n '__fish_seen_subcommand_from sort' -l reverse -d 'The latest version first'
-complete -c debctl -n '__fish_seen_subcommand_from compare' -a 'lt le eq ne ge gt'
-complete -c debctl -n '__fish_seen_subcommand_from query' -l arch -x -d 'Target architecture'
-complete -c debctl -n '__fish_seen_subcommand_from query' -l profiles -x -d 'Active build profiles'
+complete -c debctl -n '__debctl_at 0 help' -a 'check explain audit normalise same compare canon-version sort query help'
+complete -c debctl -n '__debctl_command check explain audit normalise same' -s k -l kind -x -a 'packages binary source sources any' -d 'Kind of file'
+complete -c debctl -n '__debctl_at 0 check explain normalise same sort' -F
+complete -c debctl -n '__debctl_at 1 same query' -F
+complete -c debctl -n '__debctl_command audit' -F
+complete -c debctl -n '__debctl_command explain' -l code -x -d 'Number of a code'
+complete -c debctl -n '__debctl_command explain' -l relation -x -d 'Text of a relation'
+complete -c debctl -n '__debctl_command explain' -l version-text -x -d 'Text of a version'
+complete -c debctl -n '__debctl_command audit' -l files0-from -r -F -d 'File that lists the paths'
+complete -c debctl -n '__debctl_command audit' -s 0 -l null -d 'End each record with a byte 0'
+complete -c debctl -n '__debctl_command sort' -l reverse -d 'The latest version first'
+complete -c debctl -n '__debctl_at 1 compare' -a 'lt le eq ne ge gt'
+complete -c debctl -n '__debctl_command query' -l arch -x -a '(dpkg-architecture -L 2>/dev/null)' -d 'Target architecture'
+complete -c debctl -n '__debctl_command query' -l profiles -x -d 'Active build profiles'

@@ -122,10 +122,10 @@ struct deb_answer deb_normalise(uint8_t kind, const uint8_t *text, size_t text_l
 /* Writes why a file is refused as a document of a kind, in lines `key: value`: those that the
  * program `debctl explain` writes, but for its first, `file`, since a text has no path. The keys
  * are, in this order and as far as there is something to tell: line, code, name, field, place (the
- * offset in the value of what is wrong there), reason, value, rule and usually. Bytes of the file
- * that aren't printable ASCII are escaped, and of a long value the first 200 are shown. Of a file
- * that is accepted the one line `ok N` is written, for its N paragraphs. Each line ends in a
- * newline.
+ * offset in the value of what is wrong there), at (the same in the file, as LINE:COLUMN, both from
+ * 1), reason, value, rule and usually. Bytes of the file that aren't printable ASCII are escaped,
+ * and of a long value the first 200 are shown. Of a file that is accepted the one line `ok N` is
+ * written, for its N paragraphs. Each line ends in a newline.
  * DEB_REFUSED, with the code and the line that deb_check answers; DEB_YES, with the number of
  * paragraphs: the file is accepted; DEB_NO_ROOM; DEB_NO_MEMORY; DEB_NO_KIND. */
 struct deb_answer deb_explain(uint8_t kind, const uint8_t *text, size_t text_length,

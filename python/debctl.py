@@ -3,7 +3,8 @@ index of packages.
 
 Each function calls one of the library libdebctl and has no rule of its own; what the library
 answers is proved. It is looked for at DEBCTL_LIBRARY, else beside this file, else where the system
-keeps its libraries. Texts are `bytes`, or `str`, which stands for its UTF-8.
+keeps its libraries. A text is a `str`, whose UTF-8 is read, or a bytes-like object, such as `bytes`
+or `memoryview`. A function raises TypeError for an argument of another type.
 
     >>> import debctl
     >>> debctl.compare("1.0~rc1", "1.0")
@@ -17,7 +18,7 @@ keeps its libraries. Texts are `bytes`, or `str`, which stands for its UTF-8.
     debctl.Refused: line 2: 18 BadVersion
     >>> told = debctl.explain("Package: hello\\nVersion: 1-\\n")
     >>> told.text.splitlines()[3:7]
-    [b'field: Version', b'place: 0', b'reason: RevisionEmpty', b'value: 1-']
+    [b'field: Version', b'place: 0', b'at: 2:10', b'reason: RevisionEmpty']
 """
 
 import ctypes
@@ -25,14 +26,14 @@ import enum
 import functools
 import os
 from pathlib import Path
-from typing import Callable, Iterable, NamedTuple, Optional, Tuple, Union
+from typing import Any, Callable, Iterable, NamedTuple, Optional, Tuple, TypeVar, Union
 
 __all__ = [
     "Code", "Explanation", "Refused", "Report", "Version", "canonical", "check", "compare",
     "explain", "normalise", "query", "same",
 ]
 
-Text = Union[bytes, str]
+Text = Union[str, bytes, bytearray, memoryview]
 
 
 class Code(enum.IntEnum):
@@ -77,7 +78,7 @@ class Refused(ValueError):
         self.name = self.code.name
         self.second = second
 
-    def __reduce__(self):
+    def __reduce__(self) -> Tuple[Any, ...]:
         return Refused, (int(self.code), self.line, self.second)
 
 
@@ -100,6 +101,10 @@ class _Text(ctypes.Structure):
 
 
 class _Answer(ctypes.Structure):
+    status: int
+    code: int
+    line: int
+    count: int
     _fields_ = [
         ("status", ctypes.c_uint8), ("code", ctypes.c_uint8),
         ("line", ctypes.c_uint64), ("count", ctypes.c_uint64),
@@ -107,9 +112,13 @@ class _Answer(ctypes.Structure):
 
 
 class _Comparison(ctypes.Structure):
+    status: int
+    code: int
+    order: int
     _fields_ = [("status", ctypes.c_uint8), ("code", ctypes.c_uint8), ("order", ctypes.c_int8)]
 
 
+_AnyAnswer = TypeVar("_AnyAnswer", _Answer, _Comparison)
 _YES, _NO, _REFUSED, _SECOND_REFUSED, _NO_ROOM, _NO_MEMORY, _NO_KIND = range(7)
 _KINDS = {"binary": 0, "packages": 1, "source": 2, "sources": 3, "any": 4}
 _TEXT = [ctypes.c_char_p, ctypes.c_size_t]
@@ -140,11 +149,30 @@ _lib = _library()
 
 def _text(text: Text) -> Tuple[bytes, int]:
     """A text as the library is handed it: its bytes and their number."""
-    data = text.encode() if isinstance(text, str) else bytes(text)
+    if isinstance(text, str):
+        data = str.encode(text)
+    elif type(text) is bytes:
+        data = text
+    else:
+        try:
+            data = bytes(memoryview(text))
+        except TypeError:
+            name = type(text).__name__
+            raise TypeError(f"a text is a str or a bytes-like object, not {name}") from None
     return data, len(data)
 
 
+def _texts(texts: Iterable[Text]) -> "ctypes.Array[_Text]":
+    """Texts as the library is handed them."""
+    if isinstance(texts, (str, bytes, bytearray, memoryview)):
+        raise TypeError(f"profiles are an iterable of texts, not one {type(texts).__name__}")
+    items = [_Text(*_text(text)) for text in texts]
+    return (_Text * len(items))(*items)
+
+
 def _kind(kind: str) -> int:
+    if not isinstance(kind, str):
+        raise TypeError(f"a kind is a str, not {type(kind).__name__}")
     if kind not in _KINDS:
         raise ValueError(f"unknown kind: {kind!r}")
     return _KINDS[kind]
@@ -159,7 +187,7 @@ def _refusal(answer: Union[_Answer, _Comparison]) -> Optional[Refused]:
     return None
 
 
-def _answered(answer: Union[_Answer, _Comparison]) -> Union[_Answer, _Comparison]:
+def _answered(answer: _AnyAnswer) -> _AnyAnswer:
     """The answer of a call, or the exception that it stands for."""
     refusal = _refusal(answer)
     if refusal is not None:
@@ -167,7 +195,7 @@ def _answered(answer: Union[_Answer, _Comparison]) -> Union[_Answer, _Comparison
     return answer
 
 
-def _written(room: int, call: Callable) -> Tuple[_Answer, bytes]:
+def _written(room: int, call: Callable[..., _Answer]) -> Tuple[_Answer, bytes]:
     """The answer of a call that writes to a buffer, and what it wrote: if this room is too little,
     it is called again with as much as it needs."""
     length = ctypes.c_size_t(room)
@@ -178,7 +206,7 @@ def _written(room: int, call: Callable) -> Tuple[_Answer, bytes]:
             return answer, ctypes.string_at(out, length.value)
 
 
-def _given(room: int, call: Callable) -> Tuple[_Answer, bytes]:
+def _given(room: int, call: Callable[..., _Answer]) -> Tuple[_Answer, bytes]:
     """The same, or the exception that the answer stands for."""
     answer, text = _written(room, call)
     return _answered(answer), text
@@ -189,7 +217,8 @@ def compare(left: Text, right: Text) -> int:
 
     Raises Refused where one of them is no version.
     """
-    return _answered(_lib.deb_version_compare(*_text(left), *_text(right))).order
+    answer: _Comparison = _lib.deb_version_compare(*_text(left), *_text(right))
+    return _answered(answer).order
 
 
 def canonical(version: Text) -> bytes:
@@ -210,7 +239,7 @@ class Version:
     """
 
     def __init__(self, text: Text) -> None:
-        self.text = text
+        self.text: Union[str, bytes] = text if isinstance(text, str) else _text(text)[0]
         self.canonical = canonical(text)
 
     def __eq__(self, other: object) -> bool:
@@ -239,7 +268,8 @@ def check(text: Text, kind: str = "packages") -> int:
 
     Raises Refused where it is refused.
     """
-    return _answered(_lib.deb_check(_kind(kind), *_text(text))).count
+    answer: _Answer = _lib.deb_check(_kind(kind), *_text(text))
+    return _answered(answer).count
 
 
 def normalise(text: Text, kind: str = "packages") -> bytes:
@@ -268,18 +298,18 @@ def same(text: Text, other: Text, kind: str = "packages") -> bool:
 
     Raises Refused where one of them is refused; `second` tells which.
     """
-    return _answered(_lib.deb_same(_kind(kind), *_text(text), *_text(other))).status == _YES
+    answer: _Answer = _lib.deb_same(_kind(kind), *_text(text), *_text(other))
+    return _answered(answer).status == _YES
 
 
 def query(relation: Text, index: Text, arch: Text, profiles: Iterable[Text] = ()) -> Report:
     """Which packages of an index meet a relation, for this architecture and these build profiles.
 
-    Raises Refused where one of these is refused.
+    Raises Refused where one of these is refused, and TypeError for profiles that are one text.
     """
-    active = [_text(profile) for profile in profiles]
-    texts = (_Text * len(active))(*active)
+    active = _texts(profiles)
     call = functools.partial(
-        _lib.deb_query, *_text(arch), texts, len(active), *_text(relation), *_text(index)
+        _lib.deb_query, *_text(arch), active, len(active), *_text(relation), *_text(index)
     )
     answer, report = _given(4096, call)
     return Report(answer.status == _YES, report)

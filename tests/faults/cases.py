@@ -18,6 +18,8 @@ from dataclasses import dataclass, field, replace
 from pathlib import Path
 from typing import Dict, List, Optional
 
+# Before all other files the program opens the root directory so often, for streams that are closed.
+STAND_INS = 3
 ESCAPE = re.compile(rb"\\(?:(t)|x([0-9a-f]{2})|(\\))")
 
 
@@ -66,8 +68,9 @@ class Case:
 
     @property
     def opens_before_files(self):
-        """How many files an audit opens before those that it audits: the list of their paths."""
-        return int("--files0-from" in self.words and self.words[-1] != "-")
+        """How many files an audit opens before those that it audits: the list of their paths, and
+        what takes the place of closed streams."""
+        return STAND_INS + int("--files0-from" in self.words and self.words[-1] != "-")
 
     def completed(self, answer):
         """The case with the whole texts that its first run wrote, where only their beginnings are

@@ -1,11 +1,12 @@
 """Faults of a program's calls: runs a case with one, and says what is wrong with the answer."""
 import errno
+import itertools
 import os
 import subprocess
 from dataclasses import dataclass
 from typing import Dict, Optional
 
-from faults.cases import Case
+from faults.cases import STAND_INS, Case
 
 SECONDS = 10
 FAULT_STATUS = 3
@@ -68,6 +69,10 @@ SLOW = [
     Fault("every write moves one byte", "write", is_lasting=True, slow="write"),
     Fault("every write moves 7 bytes", "write", is_lasting=True, slow="write", few=7),
 ]
+
+# Runs on closed streams, and each choice of these.
+CLOSED = Fault("standard streams are closed")
+STREAMS = [it for count in (1, 2, 3) for it in itertools.combinations(range(3), count)]
 
 # Those that are tried at every k. An error of 0 is a write that takes nothing.
 FAULTS = [
@@ -147,6 +152,39 @@ def run(program, library, case: Case, folder, fault: Fault, k=1):
         os.close(stdin)
 
 
+def run_on_streams(program, case: Case, folder, redirections):
+    """Runs a case in the folder of its files, with these redirections of a shell for its streams,
+    and gives what it wrote, and its status."""
+    stdin = os.open(folder / case.stdin if case.stdin else os.devnull, os.O_RDONLY)
+    try:
+        ran = subprocess.run(
+            ["sh", "-c", f'exec "$0" "$@" {redirections}', program, *case.words],
+            stdin=stdin,
+            capture_output=True,
+            cwd=folder,
+            timeout=SECONDS,
+            check=False,
+        )
+        return ran.stdout, ran.stderr, ran.returncode
+    finally:
+        os.close(stdin)
+
+
+def complaint_of_closed(program, case: Case, folder, streams):
+    """Says in some lines what is wrong with a run on closed streams, or None: it has to answer as
+    where they are the root directory, of which each read and write fails."""
+    closed = " ".join(f"{number}<&-" for number in streams)
+    failing = " ".join(f"{number}</" for number in streams)
+    seen = run_on_streams(program, case, folder, closed)
+    wanted = run_on_streams(program, case, folder, failing)
+    if seen == wanted:
+        return None
+    return f"""failed: {case.place}: {case.command[:200]}
+  with {closed} it doesn't answer as with {failing}
+  wanted: {shown(wanted[0])}; {shown(wanted[1])}; status {wanted[2]}
+  seen: {shown(seen[0])}; {shown(seen[1])}; status {seen[2]}"""
+
+
 def is_asked_again(case: Case, fault: Fault, record):
     """Whether std made an interrupted call once more, as if nothing had happened. It does so with
     each open, and with a write that empties the buffer before standard output or standard error,
@@ -166,9 +204,18 @@ def is_asked_for_less(case: Case, fault: Fault, record):
     return record.get("growths", 0) > case.growths.get(fault.pace, 0)
 
 
+def is_gone_without(fault: Fault, record):
+    """Whether the call was one that opens the root directory, without which the program goes on."""
+    return fault.calls == "open" and record.get("opens_at_met", 0) <= STAND_INS
+
+
 def wanted_of(case: Case, fault: Fault, record):
     """The answer that is wanted of a run of which this is the record."""
-    is_made_up_for = is_asked_again(case, fault, record) or is_asked_for_less(case, fault, record)
+    is_made_up_for = (
+        is_asked_again(case, fault, record)
+        or is_asked_for_less(case, fault, record)
+        or is_gone_without(fault, record)
+    )
     if fault.error is None or not record.get("met") or is_made_up_for:
         rules = ["begins" if name in case.open_ended else "all" for name in ("out", "err")]
         return Wanted(case.out, case.err, case.status, *rules)
@@ -263,7 +310,7 @@ def wrong_calls(answer: Answer, case: Case, fault: Fault, is_met):
         "growths": 1,
         "reads": bool(case.inputs) and case.is_job,
         "writes": bool(case.out or case.err),
-        "opens": len(case.paths),
+        "opens": STAND_INS + len(case.paths),
     }
     for name, number in least.items():
         if record[name] < number:

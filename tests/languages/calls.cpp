@@ -37,7 +37,7 @@ int main() {
     failed += normalised("x") != "status 2";
     failed += explained(text) != "0 ok 1\n";
     failed += explained("Package: aa\nVersion: 1_2\n")
-                  .find("2 line: 2\ncode: 18\nname: BadVersion\nfield: Version\nplace: 1\n") != 0;
+                  .find("2 line: 2\ncode: 18\nname: BadVersion\nfield: Version\nplace: 1\nat: 2:11\n") != 0;
     failed += deb_version_compare(bytes("1"), 1, bytes("2"), 1).order >= 0;
     std::printf("cpp: %d passed, %d failed\n", 6 - failed, failed);
     return failed != 0;

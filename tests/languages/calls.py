@@ -1,8 +1,11 @@
 """The Python module: its answers, its exceptions, and versions as keys."""
 
+import array
+import gc
 import pickle
 import sys
 import threading
+from pathlib import Path
 
 import debctl
 from debctl import Code, Refused, Version
@@ -48,6 +51,56 @@ def from_threads():
     for thread in threads:
         thread.join()
     return answers == [CANONICAL] * 800
+
+
+NO_TEXTS = [
+    5, 0, True, None, 1.5, ["1"], ("1",), {"1": "1"}, range(3), Path("1"), Code.NotUtf8,
+    Version("1"),
+]
+TAKE_TEXT = {
+    "compare's first": lambda text: debctl.compare(text, "1"),
+    "compare's second": lambda text: debctl.compare("1", text),
+    "canonical": debctl.canonical,
+    "Version": Version,
+    "check": debctl.check,
+    "normalise": debctl.normalise,
+    "explain": debctl.explain,
+    "same's first": lambda text: debctl.same(text, HELLO),
+    "same's second": lambda text: debctl.same(HELLO, text),
+    "query's relation": lambda text: debctl.query(text, HELLO, "amd64"),
+    "query's index": lambda text: debctl.query("hello", text, "amd64"),
+    "query's arch": lambda text: debctl.query("hello", HELLO, text),
+    "a profile": lambda text: debctl.query("hello", HELLO, "amd64", [text]),
+}
+TAKE_KIND = {
+    "check's kind": lambda kind: debctl.check(HELLO, kind),
+    "normalise's kind": lambda kind: debctl.normalise(HELLO, kind),
+    "explain's kind": lambda kind: debctl.explain(HELLO, kind),
+    "same's kind": lambda kind: debctl.same(HELLO, HELLO, kind),
+}
+BYTES_LIKE = [bytes, bytearray, memoryview, lambda text: array.array("B", text)]
+
+
+def no_type_errors(calls, values):
+    """The calls and values for which no TypeError is raised."""
+    return [(name, it) for name in calls for it in values if error(calls[name], it) is not TypeError]
+
+
+def from_bytes_like():
+    """Whether each bytes-like object is read as its bytes are."""
+    versions = [Version(like(b"01.0")) for like in BYTES_LIKE]
+    return (
+        [debctl.normalise(like(HELLO.encode())) for like in BYTES_LIKE] == [CANONICAL] * 4
+        and [debctl.compare(like(b"1"), like(b"2")) for like in BYTES_LIKE] == [-1] * 4
+        and [(str(it), repr(it)) for it in versions] == [("01.0", "Version(b'01.0')")] * 4
+        and debctl.check(memoryview(HELLO.encode() + b"x")[:-1]) == 1
+    )
+
+
+def with_profiles(profiles):
+    """The report of a query with these profiles, after a collection of garbage."""
+    profiles = (it for it in profiles if gc.collect() >= 0)
+    return debctl.query("hello <!nodoc>", HELLO, "amd64", profiles).text
 
 
 long_index = "\n".join(f"Package: p{at}\nVersion: {at}\nArchitecture: all\n" for at in range(2000))
@@ -105,6 +158,18 @@ TESTS = {
     "unmet": debctl.query("hello", HELLO, "i386") == (False, b"unmet hello\n"),
     "profiles": debctl.query("hello <!nodoc>", HELLO, "amd64", ["stage1", "nodoc"]).text
     == b"ignored hello <!nodoc>\n",
+    "profiles of a generator": with_profiles(f"no{it}" for it in ("check", "doc"))
+    == b"ignored hello <!nodoc>\n",
+    "profiles of bytes-like objects": with_profiles([like(b"nodoc") for like in BYTES_LIKE])
+    == b"ignored hello <!nodoc>\n",
+    "no texts": no_type_errors(TAKE_TEXT, NO_TEXTS) == [],
+    "no kinds": no_type_errors(TAKE_KIND, [5, None, b"packages", ["packages"], Code.NotUtf8]) == [],
+    "one text for the profiles": no_type_errors(
+        {"profiles": lambda it: debctl.query("aa <!nocheck>", "", "amd64", profiles=it)},
+        ["nocheck", "", b"nocheck", b"", bytearray(b"nocheck"), memoryview(b"nocheck"), None, 5],
+    ) == [],
+    "bytes-like objects": from_bytes_like(),
+    "no UTF-8 of a str": error(debctl.check, "A: \udcff\n") is UnicodeEncodeError,
     "long report": debctl.query(" | ".join(f"p{at}" for at in range(2000)), long_index, "amd64")
     .text.count(b"\n") == 2001,
     "bad relation": refusal(debctl.query, "a (", HELLO, "amd64") == (19, 0, "BadRelation", False),

@@ -8,10 +8,12 @@ from typing import Iterator, NamedTuple
 
 from laws.documents import OPERATORS, REQUIRED, VERSIONS
 from laws.documents import alternative, made, mistaken, read, text_of
+from laws.reasons import FIELDS, Fault, fault_of, nearly
 from laws.spelling import respelled, spoiled
 
 SECONDS = 10
 REFUSAL = re.compile(rb"line [1-9][0-9]*: (?:[1-9]|1[0-9]|2[01]) [A-Z][A-Za-z0-9]*\n")
+REASON_LINE = re.compile(rb"^(name|place|reason): (.*)$", re.M)
 GROUP_LINE = re.compile(rb"^(?:met|unmet|ignored) (.+)$", re.M)
 KINDS = tuple(REQUIRED)
 
@@ -95,6 +97,7 @@ class Asked:
     def __init__(self, program: Program, case: Case):
         self.program = program
         self.case = case
+        self.met = set()
 
     def normalise(self, text, piece=0) -> Answer:
         """What `normalise` answers of a file."""
@@ -115,6 +118,7 @@ class Asked:
         if normal.status == 0 and case.kind == "packages":
             yield from self.of_query(normal)
         yield from self.of_bound()
+        yield from self.of_reason()
 
     def of_check(self, normal):
         """`check` and `normalise` agree, and the number of paragraphs is that of the text."""
@@ -206,6 +210,23 @@ class Asked:
         holds = self.program.run(["compare", version, operator, bound], [])
         if met.status not in (0, 1) or met.status != holds.status:
             yield f"{version!r} and {relation!r}: {shown(met)}; compare {shown(holds)}"
+
+    def of_reason(self):
+        """`explain` reports why a version, a source or a relation is refused, and where."""
+        random = self.case.random
+        field = random.choice(FIELDS)
+        body = nearly(random, field)
+        known = b"Package: aa\nArchitecture: all\n" + b"Version: 1\n" * (field != b"Version")
+        answer = self.program.run(["explain"], [known + b"%s: %s\n" % (field, body)])
+        fault = fault_of(field, body)
+        wanted = Fault("ok") if fault is None else fault
+        lines = {key.decode(): text.decode() for key, text in REASON_LINE.findall(answer.out)}
+        if answer.status == 0 and answer.out == b"ok 1\n":
+            lines["name"] = "ok"
+        told = Fault(lines.get("name", ""), lines.get("reason", ""), int(lines.get("place", 0)))
+        if told != wanted or ("place" in lines) != bool(wanted.reason):
+            yield f"{field!r} of {body!r} is to be {wanted}: {shown(answer)}"
+        self.met.add((wanted.name, wanted.reason))
 
     def as_depends(self, groups) -> bytes:
         """The canonical text of a relation, as the field Depends of a paragraph has it."""

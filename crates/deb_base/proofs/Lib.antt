@@ -1,6 +1,7 @@
 pub mod AllElements
 pub mod BodyLemmas
 pub mod CanonicalNames
+mod DocLookups
 pub mod FieldBytes
 pub mod GraphicBodies
 pub mod GraphicNames

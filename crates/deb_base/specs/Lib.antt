@@ -1,6 +1,7 @@
 pub mod Bodies
 pub mod Codes
 pub mod Devices
+pub mod Docs
 pub mod Faults
 pub mod FieldNames
 pub mod Lines

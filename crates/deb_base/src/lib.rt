@@ -1,6 +1,6 @@
 //! The ground that every crate of this repository stands on: the codes of refusals, the faults of a
-//! call, the devices that bytes are read from and written to, names without ASCII case, the bodies
-//! of fields, and the spaces and tabs at their ends.
+//! call, the devices that bytes are read from and written to, names without ASCII case, the kinds of
+//! documents, the bodies of fields, and the spaces and tabs at their ends.
 //!
 //! - A refusal has one of 23 codes and the number of a line, and is printed as
 //!   `line 3: 7 DuplicateField`.
@@ -24,6 +24,7 @@ mod blank;
 mod body;
 mod code;
 mod device;
+mod doc;
 mod fault;
 mod input;
 pub mod laws;
@@ -40,6 +41,7 @@ pub use blank::{
 pub use body::{PARAGRAPH_LIMIT, is_body};
 pub use code::Code;
 pub use device::{Failed, Sink, Source};
+pub use doc::{Doc, is_single};
 pub use fault::Fault;
 pub use input::Input;
 pub use memory::{SliceSource, VecSink};

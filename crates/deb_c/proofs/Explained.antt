@@ -5,7 +5,7 @@ use Rattle.deb_base.specs.declared.refusal.Refusal.{Refusal}
 use Rattle.deb_control.specs.Documents.{refusal_of, rules_of}
 use Rattle.deb_control.specs.Refusals.{outcome}
 use Rattle.deb_explain.specs.Explanations.{Told, explanation_of, paragraph_behind, told_of}
-use Rattle.deb_field.specs.declared.kind.Doc.{Doc}
+use Rattle.deb_base.specs.declared.doc.Doc.{Doc}
 use Rattle.deb_syntax.specs.Answers.{Seen}
 
 told_back : (doc : Doc) (text : List ℕ) (seen : Option Seen) (found : Option Refusal) → option_map (λ told. told.refusal) (option_map (λ refusal. told_of doc text refusal seen) found) ≡ found

@@ -4,11 +4,11 @@
 use Rattle.std.specs.Prelude.{◌≡◌, ◌⊎◌, ℕ, List, [], ◌∷◌, ◌++◌, Some, codes, refl}
 use Rattle.std.specs.Fmt.{decimal, digits}
 use Rattle.deb_base.specs.Bodies.{newline}
-use Rattle.deb_field.specs.declared.kind.Doc.{Doc}
+use Rattle.deb_base.specs.declared.doc.Doc.{Doc}
 use Rattle.deb_control.specs.Calls.{HasParagraphs}
 use Rattle.deb_control.specs.Documents.{refusal_of}
 use Rattle.deb_explain.specs.Explanations.{Told, explanation_of}
-use Rattle.deb_explain.specs.Telling.{code_lines, explanation_text, line_number, rule_lines, shown_line, subject_text}
+use Rattle.deb_explain.specs.Telling.{code_lines, explanation_text, file_line, line_number, rule_lines, subject_text}
 use Rattle.deb_c.specs.Answers.{counting, refusing}
 use Rattle.deb_c.specs.Buffers.{Gives, LacksRoom}
 use Rattle.deb_c.specs.Documents.{kind_number}
@@ -25,11 +25,11 @@ abbrev pub explanation_lines : Told → List ℕ
 explanation_lines told =
     line_number told.refusal.line
     ++ (code_lines told.refusal.code
-    ++ (subject_text told.about ++ rule_lines told.refusal.code))
+    ++ (subject_text told.refusal.line told.about ++ rule_lines told.refusal.code))
 
 -- they are those that stand behind the line of a path, whatever it is
 behind_a_path : (path : List ℕ) (told : Told)
-    → explanation_text path told ≡ shown_line (codes "file: ") path ++ explanation_lines told
+    → explanation_text path told ≡ file_line path ++ explanation_lines told
 behind_a_path path told = refl
 
 lines_of_accepted_files : (ok_line 0 ≡ codes "ok 0\n") × (ok_line 120 ≡ codes "ok 120\n")

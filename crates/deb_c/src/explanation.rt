@@ -38,7 +38,7 @@ fn ok_line(alloc: Global, paragraphs: u64) -> Result<Vec<u8>, AllocError>
 }
 
 /// The lines of an explanation behind the one of the path.
-#[tactic(auto, unfolding(deb_explain::specs::Telling::front_of, deb_explain::specs::Telling::shortened, deb_explain::specs::Telling::shown_line))]
+#[tactic(auto, unfolding(deb_explain::specs::Telling::path_line))]
 fn lines_of(alloc: Global, explanation: &Explanation) -> Result<Vec<u8>, AllocError>
     ensures { IfOk result (λ lines. lines.items ≡ explanation_lines (shown_by explanation.now)) }
 {

@@ -48,8 +48,8 @@ pub use Rattle.deb_field.specs.ValueCodes.{IsCodeOfValues, refusals_are_of_value
 pub use Rattle.deb_field.specs.ValueLaws.{fields_of_any_are_texts, kind_of_canonical_name, value_law, value_refusals}
 pub use Rattle.deb_field.specs.ValueMeanings.{value_meaning}
 pub use Rattle.deb_field.specs.Values.{SpellsKind, SpellsValue, ValueMeaning, kind_refusal, value_refusal, value_text}
-pub use Rattle.deb_field.specs.declared.kind.Doc.{Doc}
-pub use Rattle.deb_field.specs.declared.kind.Doc.TheVariants.{Any}
+pub use Rattle.deb_base.specs.declared.doc.Doc.{Doc}
+pub use Rattle.deb_base.specs.declared.doc.Doc.TheVariants.{Any}
 pub use Rattle.deb_syntax.proofs.Advancing.{reach_limit, taken_none}
 pub use Rattle.deb_syntax.proofs.AnswerLaws.{next_answer-refusal}
 pub use Rattle.deb_syntax.proofs.Boundaries.{lines_of-append}

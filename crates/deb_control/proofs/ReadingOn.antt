@@ -55,6 +55,28 @@ module _ (before now after : Checked) (source source_now source_after : Shown) (
       go (Ok x) same = same ∙ reads.doc
       go (Err fault) same = tt
 
+-- The answer says no more than whether there was a fault, and which.
+pub reads-well : {T : Type 0} {x : T} {before after : Checked} {source source_after : Shown} → ReadsOn before source (Ok x) after source_after → ReadsOn {T = ⊤} before source (Ok tt) after source_after
+reads-well reads = record {
+  files = λ text has. let file = reads.files text has in record { taken = file.taken; refused = tt; given = file.given };
+  failures = reads.failures;
+  fault = tt;
+  sound = reads.sound;
+  doc = reads.doc;
+}
+
+pub reads-fault : {T : Type 0} {fault : Fault} {before after : Checked} {source source_after : Shown} → ReadsOn {T = T} before source (Err fault) after source_after → ReadsOn {T = ⊤} before source (Err fault) after source_after
+reads-fault reads = record {
+  files = λ text has. let file = reads.files text has in record { taken = file.taken; refused = file.refused; given = tt };
+  failures = reads.failures;
+  fault = reads.fault;
+  sound = tt;
+  doc = tt;
+}
+
 -- what it says of a file of which nothing was read before
+pub reads-new : {T : Type 0} {doc : Doc} {result : Result T Fault} {before after : Checked} {source source_after : Shown} (text : List ℕ) → before.doc ≡ doc → FitsChecked doc text [] (checked_state before) source.bytes → ReadsOn before source result after source_after → ReadsFile doc text result (checked_state after) source_after.bytes
+reads-new text same fits reads = rw same at reads.files text (record { before = []; fits = fits })
+
 pub reads-file : {T : Type 0} {doc : Doc} {result : Result T Fault} {before after : Checked} {source source_after : Shown} (text : List ℕ) → before.doc ≡ doc → ((t : List ℕ) → FitsChecked doc t [] (checked_state before) (Some t)) → source.bytes ≡ Some text → ReadsOn before source result after source_after → ReadsFile doc text result (checked_state after) source_after.bytes
 reads-file text same fits told reads = rw same at reads.files text (record { before = []; fits = rw told (fits text) })

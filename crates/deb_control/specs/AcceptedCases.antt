@@ -15,7 +15,7 @@ use Rattle.deb_syntax.specs.Lines.{file_limit}
 use Rattle.deb_version.specs.Faults.{first_fault}
 use Rattle.deb_version.specs.Parts.{Meaning as VersionMeaning, no_revision}
 use Rattle.deb_version.proofs.FaultLemmas.{spells-from_no_fault}
-use Rattle.deb_field.specs.declared.kind.Doc.TheVariants.{Packages, Source}
+use Rattle.deb_base.specs.declared.doc.Doc.TheVariants.{Packages, Source}
 use Rattle.deb_field.specs.Kinds.{kind_of}
 use Rattle.deb_relation.specs.declared.operator.Op.TheVariants.{Equal}
 use Rattle.deb_relation.specs.Meaning.{Relation}

@@ -8,7 +8,7 @@ use Rattle.deb_base.specs.declared.refusal.Refusal.{Refusal}
 use Rattle.deb_syntax.specs.Lines.{IsClosed}
 use Rattle.deb_syntax.specs.Meaning.{Entries}
 use Rattle.deb_syntax.specs.Reading.{passed_count}
-use Rattle.deb_field.specs.declared.kind.Doc.{Doc}
+use Rattle.deb_base.specs.declared.doc.Doc.{Doc}
 use Rattle.deb_control.specs.Canonical.{file_text}
 use Rattle.deb_control.specs.Documents.{rules_of, Meaning, Accepted, canonical_text, refusal_of, out_of}
 use Rattle.deb_control.specs.Refusals.{outcome}

@@ -3,7 +3,7 @@ use Rattle.std.specs.Prelude.{ℕ, List, Option, Result, Ok, Err}
 use Rattle.std.specs.Option.{option_map}
 use Rattle.deb_base.specs.declared.fault.Fault.{Fault}
 use Rattle.deb_syntax.specs.Paragraphs.{state_of, seen_of}
-use Rattle.deb_field.specs.declared.kind.Doc.{Doc}
+use Rattle.deb_base.specs.declared.doc.Doc.{Doc}
 use Rattle.deb_control.specs.Checking.{CheckedMoment, CheckedState, Passing, passing_found, passing_seen}
 use Rattle.deb_control.specs.declared.accepted.Accepted.{Accepted}
 use Rattle.deb_control.specs.declared.checked.Checked.{Checked}

@@ -14,7 +14,7 @@ use Rattle.deb_syntax.specs.Answers.{Seen, next_answer}
 use Rattle.deb_syntax.specs.Lines.{file_limit}
 use Rattle.deb_syntax.specs.Meaning.{Entries}
 use Rattle.deb_syntax.specs.Reading.{State, Fits, passed_count}
-use Rattle.deb_field.specs.declared.kind.Doc.{Doc}
+use Rattle.deb_base.specs.declared.doc.Doc.{Doc}
 use Rattle.deb_control.specs.Canonical.{paragraph_text, file_text}
 use Rattle.deb_control.specs.Documents.{rules_of}
 use Rattle.deb_control.specs.Refusals.{built, next_checked}

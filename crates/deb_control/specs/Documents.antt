@@ -8,10 +8,10 @@ use Rattle.deb_syntax.specs.Lines.{file_limit}
 use Rattle.deb_version.specs.Faults.{first_fault}
 use Rattle.deb_version.specs.Parts.{no_revision}
 use Rattle.deb_base.specs.declared.code.Code.TheVariants.{DuplicateField, NoColon, NoParagraph, TooManyParagraphs, MissingField, NotOneLine, BadName, BadNumber, BadWord, BadArchitecture, BadVersion, BadRelation, AlternativesNotAllowed, ProvidesBound}
-use Rattle.deb_field.specs.declared.kind.Doc.TheVariants.{Binary, Packages, Source}
+use Rattle.deb_base.specs.declared.doc.Doc.TheVariants.{Binary, Packages, Source}
 use Rattle.deb_base.specs.declared.code.Code.{Code}
 use Rattle.deb_base.specs.declared.refusal.Refusal.{Refusal}
-use Rattle.deb_field.specs.declared.kind.Doc.{Doc}
+use Rattle.deb_base.specs.declared.doc.Doc.{Doc}
 use Rattle.deb_field.specs.Kinds.{is_single, kind_of, required}
 use Rattle.deb_field.specs.RelationFieldCases.{told}
 use Rattle.deb_field.specs.Values.{ValueMeaning, NameMeans, VersionMeans, ArchitectureMeans, FoldedMeans, value_text, SpellsValue, value_refusal}

@@ -6,7 +6,7 @@ use Rattle.deb_base.specs.declared.fault.Fault.{Fault}
 use Rattle.deb_syntax.specs.Answers.{Seen}
 use Rattle.deb_syntax.specs.Fields.{Field, are_fields}
 use Rattle.deb_syntax.specs.Raw.{field_named}
-use Rattle.deb_field.specs.declared.kind.Doc.{Doc}
+use Rattle.deb_base.specs.declared.doc.Doc.{Doc}
 use Rattle.deb_field.specs.Values.{ValueMeaning, NameMeans, TextMeans, SpellsValue}
 use Rattle.deb_control.specs.Checking.{CheckedMoment, Passing, ChecksOn}
 use Rattle.deb_control.specs.Finding.{given_answer}

@@ -5,8 +5,8 @@ use Rattle.deb_base.specs.declared.code.Code.TheVariants.{NoParagraph}
 use Rattle.deb_base.specs.declared.refusal.Refusal.{Refusal}
 use Rattle.deb_syntax.specs.Lines.{lines_of}
 use Rattle.deb_syntax.specs.Meaning.{Entries}
-use Rattle.deb_field.specs.declared.kind.Doc.{Doc}
-use Rattle.deb_field.specs.declared.kind.Doc.TheVariants.{Any}
+use Rattle.deb_base.specs.declared.doc.Doc.{Doc}
+use Rattle.deb_base.specs.declared.doc.Doc.TheVariants.{Any}
 use Rattle.deb_field.specs.Values.{value_text}
 use Rattle.deb_control.specs.Calls.{WritesCanonical}
 use Rattle.deb_control.specs.Canonical.{file_text}

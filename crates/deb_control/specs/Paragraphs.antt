@@ -5,7 +5,7 @@ use Rattle.deb_syntax.specs.Fields.{Field}
 use Rattle.deb_syntax.specs.Meaning.{entries_of}
 use Rattle.deb_syntax.specs.Answers.{Seen}
 use Rattle.deb_syntax.specs.Raw.{field_of}
-use Rattle.deb_field.specs.declared.kind.Doc.{Doc}
+use Rattle.deb_base.specs.declared.doc.Doc.{Doc}
 use Rattle.deb_field.specs.Values.{ValueMeaning, value_text, SpellsValue}
 use Rattle.deb_field.specs.ValueMeanings.{value_meaning}
 use Rattle.deb_control.specs.Canonical.{paragraph_text}

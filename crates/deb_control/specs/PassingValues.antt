@@ -4,7 +4,7 @@ use Rattle.std.specs.FinMap.{find}
 use Rattle.deb_base.specs.Names.{canonical_name}
 use Rattle.deb_syntax.specs.Answers.{Seen}
 use Rattle.deb_syntax.specs.Meaning.{byte_order}
-use Rattle.deb_field.specs.declared.kind.Doc.{Doc}
+use Rattle.deb_base.specs.declared.doc.Doc.{Doc}
 use Rattle.deb_field.specs.Values.{ValueMeaning}
 use Rattle.deb_control.specs.Paragraphs.{AreValuesOf}
 use Rattle.deb_control.specs.ValueFiles.{ValueEntries}

@@ -6,7 +6,7 @@ use Rattle.deb_base.specs.Faults.{IsReadersFault}
 use Rattle.deb_base.specs.declared.fault.Fault.{Fault}
 use Rattle.deb_syntax.specs.Ahead.{TakesNoMore}
 use Rattle.deb_syntax.specs.Lines.{file_limit}
-use Rattle.deb_field.specs.declared.kind.Doc.{Doc}
+use Rattle.deb_base.specs.declared.doc.Doc.{Doc}
 use Rattle.deb_control.specs.Calls.{IfRefused}
 use Rattle.deb_control.specs.Checking.{CheckedState, HasChecked, IsRefusalOfDocument}
 use Rattle.deb_control.specs.CheckedStates.{checked_state}

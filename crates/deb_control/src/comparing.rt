@@ -69,13 +69,45 @@ pub fn same<R: Source, S: Source>(
 {
     let mut one = Checked::new(alloc, doc);
     let mut other = Checked::new(alloc, doc);
-    match agree(&mut one, first, &mut other, second) {
+    compare(&mut one, first, &mut other, second)
+}
+
+/// Compares two files as `same` does. Nothing of them has been read before.
+fn compare<R: Source, S: Source>(
+    one: &mut Checked,
+    first: &mut R,
+    other: &mut Checked,
+    second: &mut S,
+) -> Result<bool, SideFault>
+    requires sound { (checked_state one.now).fault ≡ None }
+    requires other_sound { (checked_state other.now).fault ≡ None }
+    requires doc { other.now.doc ≡ one.now.doc }
+    requires none { (checked_state one.now).count ≡ 0 }
+    ensures same { (text text_too : List ℕ)
+        → FitsChecked one.old.doc text [] (checked_state one.old) (R.left first.old)
+        → FitsChecked one.old.doc text_too [] (checked_state other.old) (S.left second.old)
+        → IfOk result (TellsSame one.old.doc text text_too) }
+    ensures refused { (text text_too : List ℕ)
+        → FitsChecked one.old.doc text [] (checked_state one.old) (R.left first.old)
+        → FitsChecked one.old.doc text_too [] (checked_state other.old) (S.left second.old)
+        → IfRefused (of_second result) (RefusesSecond one.old.doc text text_too) }
+
+    ensures first { ReadsOn one.old (shown (R.left first.old) (R.failures first.old))
+        (of_first result) one.new (shown (R.left first.new) (R.failures first.new)) }
+    ensures taken_second { (text : List ℕ)
+        → FitsChecked one.old.doc text [] (checked_state other.old) (S.left second.old)
+        → TakesNoMore text file_limit (S.left second.new) }
+    ensures reads_second { S.failures second.new
+        ≡ read_failures_after (S.failures second.old) (of_second result) }
+    ensures fault { IfErr result (λ told. IsReadersFault told.fault IsRefusalOfDocument) }
+{
+    match agree(one, first, other, second) {
         Ok(true) => Ok(true),
         Ok(false) => {
-            if let Err(fault) = count_rest(&mut one, first) {
+            if let Err(fault) = count_rest(one, first) {
                 return Err(at_first(fault));
             }
-            if let Err(fault) = count_rest(&mut other, second) {
+            if let Err(fault) = count_rest(other, second) {
                 return Err(at_second(fault));
             }
             Ok(false)
@@ -84,7 +116,7 @@ pub fn same<R: Source, S: Source>(
             Side::First => Err(at_first(told.fault)),
             Side::Second => match told.fault {
                 Fault::Refused(refusal) => {
-                    if let Err(fault) = count_rest(&mut one, first) {
+                    if let Err(fault) = count_rest(one, first) {
                         return Err(at_first(fault));
                     }
                     Err(at_second(Fault::Refused(refusal)))

@@ -9,7 +9,7 @@ use Rattle.deb_syntax.specs.Meaning.{Entries}
 use Rattle.deb_syntax.specs.Paragraphs.{advance_answer}
 use Rattle.deb_syntax.specs.Reading.{State, Moment, Fits, KeepsErrors, Advances, passed_count}
 use Rattle.deb_syntax.proofs.Callers.{goes-from_passes, sound-from_passes}
-use Rattle.deb_field.specs.declared.kind.Doc.{Doc}
+use Rattle.deb_base.specs.declared.doc.Doc.{Doc}
 use Rattle.deb_control.specs.Checking.{Passing, CheckedState, FitsChecked, GivesPassing}
 use Rattle.deb_control.specs.Documents.{rules_of}
 use Rattle.deb_control.specs.Refusals.{next_checked}

@@ -15,12 +15,14 @@ use Rattle.deb_relation.specs.declared.fault.Reason.TheVariants.{Trailing}
 use Rattle.deb_field.specs.Kinds.{kind_of}
 use Rattle.deb_field.specs.RelationFieldCases.{told}
 use Rattle.deb_field.specs.Sources.{has_version, is_open, without_last}
-use Rattle.deb_field.specs.declared.kind.Doc.{Doc}
-use Rattle.deb_field.specs.declared.kind.Doc.TheVariants.{Packages}
+use Rattle.deb_base.specs.declared.doc.Doc.{Doc}
+use Rattle.deb_base.specs.declared.doc.Doc.TheVariants.{Packages}
 use Rattle.deb_field.specs.declared.kind.Kind.{Kind}
 use Rattle.deb_field.specs.declared.kind.Kind.TheVariants as kinds
 use Rattle.deb_explain.specs.declared.cause.Cause.{Cause}
 use Rattle.deb_explain.specs.declared.cause.Cause.TheVariants.{Version, Relation}
+use Rattle.deb_explain.specs.declared.cause.Word.{Word}
+use Rattle.deb_explain.specs.declared.cause.Word.TheVariants as words
 
 -- the first fault of a version that stands at an offset of a body
 abbrev pub version_fault : ℕ → List ℕ → Option Cause
@@ -60,6 +62,15 @@ cause_of doc BadVersion name body = version_cause (kind_of doc name) body
 cause_of doc BadRelation name body = relation_cause body
 cause_of doc code name body = None
 
+-- the code of a word of the command line that is refused, and what is wrong in it
+abbrev pub word_code : Word → Code
+word_code words.Relation = BadRelation
+word_code words.Version = BadVersion
+
+abbrev pub word_cause : Word → List ℕ → Option Cause
+word_cause words.Relation word = relation_cause word
+word_cause words.Version word = version_fault 0 word
+
 versions : (cause_of Packages BadVersion (codes "vERSION") (codes "1.0_2")
     ≡ Some (Version (UpstreamByte 3) 0))
     × (cause_of Packages BadVersion (codes "Version") (codes "1-") ≡ Some (Version RevisionEmpty 0))
@@ -77,6 +88,14 @@ relations : (cause_of Packages BadRelation (codes "Depends") (codes "aa bb")
     ≡ Some (Relation Trailing 8))
 unfolding first_fault told
 relations = (refl, refl)
+
+-- in words of the command line
+of_words : (word_cause words.Relation (codes "aa bb") ≡ Some (Relation Trailing 3))
+    × (word_cause words.Relation (codes "aa, bb") ≡ None)
+    × (word_cause words.Version (codes "1_2") ≡ Some (Version (UpstreamByte 1) 0))
+    × (word_cause words.Version (codes "1:2-3") ≡ None)
+unfolding first_fault told
+of_words = (refl, refl, refl, refl)
 
 -- of other refusals there is none
 other_codes : cause_of Packages BadName (codes "Package") (codes "A") ≡ None

@@ -17,8 +17,8 @@ use Rattle.deb_syntax.specs.Meaning.{Entries}
 use Rattle.deb_field.specs.Kinds.{is_single, kind_of, required}
 use Rattle.deb_field.specs.RelationFieldCases.{told}
 use Rattle.deb_field.specs.Values.{value_refusal}
-use Rattle.deb_field.specs.declared.kind.Doc.{Doc}
-use Rattle.deb_field.specs.declared.kind.Doc.TheVariants.{Binary, Packages}
+use Rattle.deb_base.specs.declared.doc.Doc.{Doc}
+use Rattle.deb_base.specs.declared.doc.Doc.TheVariants.{Binary, Packages}
 use Rattle.deb_control.specs.Documents.{rules_of}
 use Rattle.deb_control.specs.Refusals.{Outcome, outcome}
 use Rattle.deb_control.specs.Rules.{Rules}
@@ -80,16 +80,16 @@ tells code line about =
 second_paragraph : explained Packages
     (codes "Package: aa\nVersion: 1\nArchitecture: all\n\nPackage: bb\nvERSION: 1_2\n")
     ≡ tells code.BadVersion 6
-    (AboutField (codes "vERSION") (codes "1_2") (Some (causes.Version (UpstreamByte 1) 0)))
+    (AboutField (codes "vERSION") 10 (codes "1_2") (Some (causes.Version (UpstreamByte 1) 0)))
 unfolding file_limit paragraph_limit is_utf8 chars encode kind_of first_fault
 second_paragraph = refl
 
 -- a relation, and a value that has no parts
 values : (explained Packages (codes "Package: aa\nDepends: bb\n c\nSize: 1k")
     ≡ tells code.BadRelation 2
-    (AboutField (codes "Depends") (codes "bb\n c") (Some (causes.Relation Trailing 4))))
+    (AboutField (codes "Depends") 10 (codes "bb\n c") (Some (causes.Relation Trailing 4))))
     × (explained Packages (codes "Package: aa\nSize: 1k")
-    ≡ tells code.BadNumber 2 (AboutField (codes "Size") (codes "1k") None))
+    ≡ tells code.BadNumber 2 (AboutField (codes "Size") 7 (codes "1k") None))
 unfolding file_limit paragraph_limit is_utf8 chars encode kind_of first_fault told
 values = (refl, refl)
 
@@ -130,7 +130,7 @@ accepted = (refl, refl)
 -- at the rules of the kind itself, of a first paragraph
 of_the_kind : (explanation_of Packages (codes "Package: aa\nVersion: 1_2")
     ≡ tells code.BadVersion 2
-    (AboutField (codes "Version") (codes "1_2") (Some (causes.Version (UpstreamByte 1) 0))))
+    (AboutField (codes "Version") 10 (codes "1_2") (Some (causes.Version (UpstreamByte 1) 0))))
     × (explanation_of Packages (codes "Package: aa\nVersion: 1")
     ≡ tells code.MissingField 1 (AboutMissing (codes "Architecture")))
 unfolding file_limit paragraph_limit is_utf8 chars encode kind_of first_fault

@@ -15,7 +15,7 @@ use Rattle.deb_version.proofs.FaultLemmas.{spells-from_no_fault}
 use Rattle.deb_syntax.specs.Lines.{file_limit}
 use Rattle.deb_field.specs.Kinds.{is_single, kind_of, required}
 use Rattle.deb_field.specs.Values.{NameMeans, VersionMeans, ArchitectureMeans, value_refusal}
-use Rattle.deb_field.specs.declared.kind.Doc.TheVariants.{Packages}
+use Rattle.deb_base.specs.declared.doc.Doc.TheVariants.{Packages}
 use Rattle.deb_control.specs.Documents.{rules_of}
 use Rattle.deb_control.specs.Rules.{Rules}
 use Rattle.deb_control.proofs.DocumentRules.{document_rules}
@@ -82,7 +82,7 @@ version_text =
 second_package : explanation_of Packages index
     ≡ Some (record {
       refusal = record { code = BadVersion; line = 6 };
-      about = AboutField (codes "vERSION") (codes "1_2") (Some (causes.Version (UpstreamByte 1) 0));
+      about = AboutField (codes "vERSION") 10 (codes "1_2") (Some (causes.Version (UpstreamByte 1) 0));
     })
 unfolding file_limit paragraph_limit is_utf8 chars encode kind_of first_fault
 second_package =

@@ -1,5 +1,7 @@
 pub mod Causes
 pub mod Subjects
+pub mod Escapes
+pub mod Paths
 pub mod Telling
 pub mod Explanations
 pub mod KindCases

@@ -13,7 +13,8 @@ about_of Whole = AboutWhole
 about_of (Line line) = AboutLine line.items
 about_of (Name name) = AboutName name.items
 about_of (Missing name) = AboutMissing name.now
-about_of (Field field) = AboutField field.name.items field.body.items field.cause
+about_of (Field field) =
+    AboutField field.name.items field.column field.body.items field.cause
 
 abbrev pub shown_by : Explanation → Told
 shown_by explanation =

@@ -1,8 +1,8 @@
 -- What a refusal is about, and what is wrong there. Debian Policy 5.1 (fields), 5.3 and 5.4
 -- (required fields), 5.6 and 7 (values); which of it is told is this project's own.
-use Rattle.std.specs.Prelude.{ℕ, ◌-◌, ◌==◌, not, List, find, slice_get, Option, Some, None}
-use Rattle.std.specs.List.{before_first}
-use Rattle.deb_base.specs.Bodies.{Line, pieces_of}
+use Rattle.std.specs.Prelude.{◌≡◌, ℕ, ◌+◌, ◌-◌, ◌==◌, not, List, find, slice_get, Option, Some, None, codes, refl}
+use Rattle.std.specs.List.{after_first, before_first, position_or_len, prefix_len}
+use Rattle.deb_base.specs.Bodies.{Line, is_blank_byte, pieces_of}
 use Rattle.deb_base.specs.FieldNames.{colon}
 use Rattle.deb_base.specs.declared.code.Code.{Code}
 use Rattle.deb_base.specs.declared.code.Code.TheVariants as code
@@ -10,7 +10,7 @@ use Rattle.deb_base.specs.declared.refusal.Refusal.{Refusal}
 use Rattle.deb_syntax.specs.Answers.{Seen}
 use Rattle.deb_syntax.specs.Fields.{Field, has_name}
 use Rattle.deb_field.specs.Kinds.{required}
-use Rattle.deb_field.specs.declared.kind.Doc.{Doc}
+use Rattle.deb_base.specs.declared.doc.Doc.{Doc}
 use Rattle.deb_explain.specs.Causes.{cause_of}
 use Rattle.deb_explain.specs.declared.cause.Cause.{Cause}
 use Rattle.deb_explain.specs.declared.topic.Topic.{Topic}
@@ -18,13 +18,13 @@ use Rattle.deb_explain.specs.declared.topic.Topic.TheVariants as topics
 
 -- what a refusal is about: a paragraph or the file as a whole, a line, what stands before the colon
 -- of a line, the name of a required field that is missing, or a field, with its name as spelled,
--- its body and what is wrong in that
+-- the column of its line at which its body begins, its body and what is wrong in that
 pub data About : Type 0 where
   AboutWhole : About
   AboutLine : Line → About
   AboutName : List ℕ → About
   AboutMissing : List ℕ → About
-  AboutField : List ℕ → List ℕ → Option Cause → About
+  AboutField : List ℕ → ℕ → List ℕ → Option Cause → About
 
 -- what a code is about
 abbrev pub topic_of : Code → Topic
@@ -56,6 +56,17 @@ topic_of code.BadEnvironment = topics.Whole
 abbrev pub line_numbered : ℕ → List ℕ → Option Line
 line_numbered number text = slice_get (pieces_of text) (number - 1)
 
+-- the column, counted from 1, at which the body of a line's field begins: after the colon, and
+-- after the spaces and tabs there
+abbrev pub body_column : Line → ℕ
+body_column line =
+    position_or_len (λ b. b == colon) line + 2
+    + prefix_len is_blank_byte (after_first (λ b. b == colon) line)
+
+abbrev pub column_in : Option Line → ℕ
+column_in None = 1
+column_in (Some line) = body_column line
+
 -- the first field that begins at a line; no two do
 abbrev pub field_at : ℕ → List Field → Option Field
 field_at line fields = find (λ field. field.line == line) fields
@@ -80,13 +91,14 @@ about_name number text =
 abbrev pub about_missing : Doc → Seen → About
 about_missing doc seen = about_found AboutMissing (missing_among (required doc) seen.fields)
 
-abbrev pub about_field : Doc → Code → Field → About
-about_field doc code field =
-    AboutField field.name field.body (cause_of doc code field.name field.body)
+abbrev pub about_field : Doc → List ℕ → Refusal → Field → About
+about_field doc text refusal field =
+    AboutField field.name (column_in (line_numbered refusal.line text)) field.body
+    (cause_of doc refusal.code field.name field.body)
 
-abbrev pub about_value : Doc → Refusal → Seen → About
-about_value doc refusal seen =
-    about_found (about_field doc refusal.code) (field_at refusal.line seen.fields)
+abbrev pub about_value : Doc → List ℕ → Refusal → Seen → About
+about_value doc text refusal seen =
+    about_found (about_field doc text refusal) (field_at refusal.line seen.fields)
 
 -- of a refusal by what its code is about, of which this paragraph was refused, where its lines are
 -- no reason to
@@ -96,4 +108,8 @@ about_topic topics.Line doc text refusal paragraph = about_line refusal.line tex
 about_topic topics.Name doc text refusal paragraph = about_name refusal.line text
 about_topic topics.Missing doc text refusal paragraph = about_found (about_missing doc) paragraph
 about_topic topics.Value doc text refusal paragraph =
-    about_found (about_value doc refusal) paragraph
+    about_found (about_value doc text refusal) paragraph
+
+columns : (body_column (codes "Version: 1") ≡ 10) × (body_column (codes "Version:1") ≡ 9)
+    × (body_column (codes "Depends: \t aa : b") ≡ 12) × (body_column (codes "Depends:") ≡ 9)
+columns = (refl, refl, refl, refl)

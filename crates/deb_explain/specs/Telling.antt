@@ -1,7 +1,10 @@
 -- The text that tells why a file is refused, in lines `key: value`. Its form is this project's own.
-use Rattle.std.specs.Prelude.{◌≡◌, ℕ, ◌+◌, ◌-◌, ◌/◌, ◌%◌, ◌==◌, ◌&&◌, cond, nat_le, nat_lt, List, [], ◌∷◌, ◌++◌, length, take, replicate, Option, Some, None, codes, refl}
+use Rattle.std.specs.Prelude.{◌≡◌, ℕ, ◌+◌, ◌==◌, cond, List, [], ◌∷◌, ◌++◌, take, Option, Some, None, codes, refl}
 use Rattle.std.specs.Fmt.{decimal, digits}
-use Rattle.std.specs.List.{concat, flat_map}
+use Rattle.std.specs.List.{concat}
+use Rattle.std.specs.Str.{is_utf8, chars}
+use lib.Utf8.{encode}
+use Rattle.deb_base.specs.Bodies.{newline}
 use Rattle.deb_base.specs.Codes.{number_of, name_of}
 use Rattle.deb_base.specs.declared.code.Code.{Code}
 use Rattle.deb_base.specs.declared.code.Code.TheVariants as code
@@ -9,43 +12,17 @@ use Rattle.deb_version.specs.declared.fault.BadVersion.{BadVersion}
 use Rattle.deb_version.specs.declared.fault.BadVersion.TheVariants.{Empty, EpochEmpty, EpochNotNumber, EpochTooBig, RevisionEmpty, UpstreamEmpty, UpstreamByte, RevisionByte}
 use Rattle.deb_relation.specs.declared.fault.Reason.{Reason}
 use Rattle.deb_relation.specs.declared.fault.Reason.TheVariants as reason
+use Rattle.deb_explain.specs.Causes.{word_code}
+use Rattle.deb_explain.specs.Escapes.{escaped_byte, front_of, shortened, shown_line}
 use Rattle.deb_explain.specs.Explanations.{Told}
+use Rattle.deb_explain.specs.Paths.{has_control, path_byte, shown_path}
 use Rattle.deb_explain.specs.Sentences.{rule_of, usually_of}
 use Rattle.deb_explain.specs.Subjects.{About, AboutWhole, AboutLine, AboutName, AboutMissing, AboutField}
 use Rattle.deb_explain.specs.declared.cause.Cause.{Cause}
 use Rattle.deb_explain.specs.declared.cause.Cause.TheVariants as cause
-
--- ---- bytes that can be shown
-
--- the hexadecimal digit of a number below 16: 48 is `0`, 97 is `a`
-unfoldable pub hex_digit : ℕ → ℕ
-hex_digit n = cond (nat_lt n 10) (48 + n) (97 + (n - 10))
-
--- a byte in printable ASCII (32 to 126), of which a backslash (92) begins what stands for another
-unfoldable pub escaped_byte : ℕ → List ℕ
-escaped_byte b =
-    cond (b == 9) (codes "\\t")
-    (cond (b == 10) (codes "\\n")
-    (cond (b == 92) (codes "\\\\")
-    (cond (nat_le 32 b && nat_le b 126) (b ∷ [])
-    (92 ∷ 120 ∷ hex_digit (b / 16) ∷ hex_digit (b % 16) ∷ []))))
-
--- how many bytes of a text are shown
-abbrev pub most_shown : ℕ
-most_shown = 200
-
--- what is shown of a text that is too long to be shown whole
-unfoldable pub front_of : List ℕ → Option (List ℕ)
-front_of text = cond (nat_le (length text) most_shown) None (Some (take most_shown text))
-
--- a text, or its front, and the end of its line: what is left out is told by three dots
-unfoldable pub shortened : List ℕ → Option (List ℕ) → List ℕ
-shortened text None = flat_map escaped_byte text ++ codes "\n"
-shortened text (Some front) = flat_map escaped_byte front ++ codes "...\n"
-
--- a line of a text behind its key
-unfoldable pub shown_line : List ℕ → List ℕ → List ℕ
-shown_line key text = key ++ shortened text (front_of text)
+use Rattle.deb_explain.specs.declared.cause.Word.{Word}
+use Rattle.deb_explain.specs.declared.cause.Word.TheVariants as words
+use Rattle.deb_explain.specs.declared.spot.Spot.{Spot}
 
 -- ---- what is wrong in a value
 
@@ -91,24 +68,51 @@ unfoldable pub reason_of : Cause → List ℕ
 reason_of (cause.Version fault start) = version_reason fault
 reason_of (cause.Relation why at) = relation_reason why
 
-unfoldable pub cause_text : Option Cause → List ℕ
-cause_text None = []
-cause_text (Some why) =
+-- the spot after a byte of a file: its line, and its number in that line, both counted from 1
+abbrev pub spot_after : Spot → ℕ → Spot
+spot_after spot b =
+    cond (b == newline) (record { line = spot.line + 1; column = 1 })
+    (record { line = spot.line; column = spot.column + 1 })
+
+-- the spot after these bytes, of which the first one stands at a spot
+abbrev pub spot_behind : Spot → List ℕ → Spot
+spot_behind spot [] = spot
+spot_behind spot (b ∷ bs) = spot_behind (spot_after spot b) bs
+
+-- where in the file a value is wrong that begins at this line and column
+abbrev pub wrong_spot : ℕ → ℕ → List ℕ → Cause → Spot
+wrong_spot line column body why =
+    spot_behind (record { line = line; column = column }) (take (place_of why) body)
+
+abbrev pub place_text : Spot → Cause → List ℕ
+place_text spot why =
+    concat (codes "place: " ∷ decimal (place_of why) ∷ codes "\nat: " ∷ decimal spot.line
+    ∷ codes ":" ∷ decimal spot.column ∷ codes "\nreason: " ∷ reason_of why ∷ codes "\n" ∷ [])
+
+unfoldable pub cause_text : ℕ → ℕ → List ℕ → Option Cause → List ℕ
+cause_text line column body None = []
+cause_text line column body (Some why) = place_text (wrong_spot line column body why) why
+
+-- of a word of the command line, which stands in no file
+unfoldable pub word_cause_text : Cause → List ℕ
+word_cause_text why =
     concat (codes "place: " ∷ decimal (place_of why) ∷ codes "\nreason: " ∷ reason_of why
     ∷ codes "\n" ∷ [])
 
 -- ---- what a refusal is about
 
-unfoldable pub field_text : List ℕ → List ℕ → Option Cause → List ℕ
-field_text name body why =
-    shown_line (codes "field: ") name ++ (cause_text why ++ shown_line (codes "value: ") body)
+-- of the line that the refusal has: a field begins there, and its body at a column of it
+unfoldable pub field_text : ℕ → List ℕ → ℕ → List ℕ → Option Cause → List ℕ
+field_text line name column body why =
+    shown_line (codes "field: ") name
+    ++ (cause_text line column body why ++ shown_line (codes "value: ") body)
 
-unfoldable pub subject_text : About → List ℕ
-subject_text AboutWhole = []
-subject_text (AboutLine line) = shown_line (codes "value: ") line
-subject_text (AboutName name) = shown_line (codes "field: ") name
-subject_text (AboutMissing name) = shown_line (codes "field: ") name
-subject_text (AboutField name body why) = field_text name body why
+unfoldable pub subject_text : ℕ → About → List ℕ
+subject_text number AboutWhole = []
+subject_text number (AboutLine line) = shown_line (codes "value: ") line
+subject_text number (AboutName name) = shown_line (codes "field: ") name
+subject_text number (AboutMissing name) = shown_line (codes "field: ") name
+subject_text number (AboutField name column body why) = field_text number name column body why
 
 -- ---- what a code means
 
@@ -134,25 +138,26 @@ rule_text c = code_lines c ++ rule_lines c
 unfoldable pub line_number : ℕ → List ℕ
 line_number n = concat (codes "line: " ∷ decimal n ∷ codes "\n" ∷ [])
 
+-- the line of a path behind its key, which is never shortened
+unfoldable pub path_line : List ℕ → List ℕ → List ℕ
+path_line key path = key ++ (shown_path path ++ codes "\n")
+
+abbrev pub file_line : List ℕ → List ℕ
+file_line path = path_line (codes "file: ") path
+
 abbrev pub explanation_text : List ℕ → Told → List ℕ
 explanation_text file told =
-    shown_line (codes "file: ") file
+    file_line file
     ++ (line_number told.refusal.line
     ++ (code_lines told.refusal.code
-    ++ (subject_text told.about ++ rule_lines told.refusal.code)))
+    ++ (subject_text told.refusal.line told.about ++ rule_lines told.refusal.code)))
 
--- bytes that are shown as they stand, and others
-escapes : (flat_map escaped_byte (codes "a ~\t\n\\") ≡ codes "a ~\\t\\n\\\\")
-    × (flat_map escaped_byte (31 ∷ 127 ∷ 0 ∷ 195 ∷ 188 ∷ []) ≡ codes "\\x1f\\x7f\\x00\\xc3\\xbc")
-unfolding escaped_byte hex_digit
-escapes = (refl, refl)
+-- ---- the text of a word of the command line that is refused for this
 
--- of the 201st byte on, three dots stand for it
-long_texts : (front_of (replicate 200 97) ≡ None)
-    × (front_of (replicate 201 97) ≡ Some (replicate 200 97))
-    × (shortened (codes "abc") (Some (codes "ab")) ≡ codes "ab...\n")
-unfolding front_of shortened escaped_byte
-long_texts = (refl, refl, refl)
+abbrev pub word_text : Word → Cause → List ℕ → List ℕ
+word_text kind why word =
+    code_lines (word_code kind)
+    ++ (word_cause_text why ++ (shown_line (codes "value: ") word ++ rule_lines (word_code kind)))
 
 -- where a value is wrong: a version that stands behind others, one in a relation, and a fault
 -- without a place
@@ -166,18 +171,36 @@ places = (refl, refl, refl, refl)
 -- a field
 worked_field : explanation_text (codes "a\tb") (record {
   refusal = record { code = code.BadVersion; line = 12 };
-  about = AboutField (codes "vERSION") (codes "1_2") (Some (cause.Version (UpstreamByte 1) 0));
+  about = AboutField (codes "vERSION") 10 (codes "1_2") (Some (cause.Version (UpstreamByte 1) 0));
 })
     ≡ codes "file: a\\tb\nline: 12\ncode: 18\nname: BadVersion\nfield: vERSION\nplace: 1\n"
-    ++ (codes "reason: UpstreamByte\nvalue: 1_2\n" ++ rule_lines code.BadVersion)
-unfolding digits shown_line shortened front_of escaped_byte line_number code_lines subject_text
-    field_text cause_text place_of place_within reason_of version_reason
+    ++ (codes "at: 12:11\nreason: UpstreamByte\nvalue: 1_2\n" ++ rule_lines code.BadVersion)
+unfolding digits shown_line shortened front_of escaped_byte path_line is_utf8 chars encode
+    has_control path_byte line_number code_lines subject_text field_text cause_text place_of
+    place_within reason_of version_reason
 worked_field = refl
 
+-- in a folded value: the third byte of the second line is wrong
+worked_spot : (wrong_spot 5 10 (codes "bb,\n cc dd") (cause.Relation reason.Trailing 8)
+    ≡ record { line = 6; column = 5 })
+    × (wrong_spot 5 10 (codes "\n 1_") (cause.Version Empty 0) ≡ record { line = 5; column = 10 })
+    × (wrong_spot 5 9 (codes "1-") (cause.Version RevisionEmpty 0) ≡ record { line = 5; column = 9 })
+unfolding place_of relation_place place_within
+worked_spot = (refl, refl, refl)
+
+-- a word of the command line
+worked_word : word_text words.Relation (cause.Relation reason.Trailing 3) (codes "aa bb")
+    ≡ codes "code: 19\nname: BadRelation\nplace: 3\nreason: Trailing\nvalue: aa bb\n"
+    ++ rule_lines code.BadRelation
+unfolding digits shown_line shortened front_of escaped_byte code_lines word_cause_text place_of
+    relation_place reason_of relation_reason
+worked_word = refl
+
 -- a line, a name that is missing, and a file as a whole
-worked_others : (subject_text (AboutLine (codes " x")) ≡ codes "value:  x\n")
-    × (subject_text (AboutMissing (codes "Version")) ≡ codes "field: Version\n")
-    × (subject_text (AboutName (codes "A")) ≡ codes "field: A\n") × (subject_text AboutWhole ≡ [])
+worked_others : (subject_text 1 (AboutLine (codes " x")) ≡ codes "value:  x\n")
+    × (subject_text 1 (AboutMissing (codes "Version")) ≡ codes "field: Version\n")
+    × (subject_text 1 (AboutName (codes "A")) ≡ codes "field: A\n")
+    × (subject_text 1 AboutWhole ≡ [])
 unfolding shown_line shortened front_of escaped_byte subject_text
 worked_others = (refl, refl, refl, refl)
 

@@ -4,7 +4,7 @@ ghost use Rattle.std.specs.Prelude.{◌≡◌, ◌+◌, ◌≤◌, length, Some,
 ghost use Rattle.std.specs.List.{position_or_len, prefix_len};
 ghost use Rattle.deb_base.specs.Bodies.{is_blank_byte};
 ghost use Rattle.deb_field.specs.Sources.{is_open, without_last};
-ghost use Rattle.deb_explain.specs.Causes.{cause_of, relation_cause, source_cause, version_cause, version_fault};
+ghost use Rattle.deb_explain.specs.Causes.{cause_of, relation_cause, source_cause, version_cause, version_fault, word_cause};
 
 use deb_base::{Code, is_blank_byte, trimmed};
 use deb_field::{Doc, Kind, kind_of};
@@ -22,6 +22,30 @@ pub enum Cause {
     /// The reading of a relation stops for this reason at the offset `at` of the body (Debian
     /// Policy 7.1).
     Relation { reason: Reason, at: usize },
+}
+
+/// What a word of the command line is taken for.
+#[derive(Clone, Copy, Debug, PartialEq, Eq)]
+pub enum Word {
+    /// A relation (Debian Policy 7.1).
+    Relation,
+    /// A version (Debian Policy 5.6.12).
+    Version,
+}
+
+/// Finds what is wrong in a word of the command line: nothing exactly where it is a relation, or a
+/// version.
+///
+/// # Errors
+///
+/// Out of memory alone, and only for a relation.
+pub fn explain_word(alloc: Global, word: Word, text: &[u8]) -> Result<Option<Cause>, AllocError>
+    ensures { IfOk result (λ cause. cause ≡ word_cause word text.now) }
+{
+    match word {
+        Word::Relation => relation_cause(alloc, text),
+        Word::Version => Ok(version_fault(0, text)),
+    }
 }
 
 /// What is wrong in a body that is refused with this code in the field of this name: of a version
@@ -72,7 +96,7 @@ fn without_last(text: &[u8]) -> &[u8]
 }
 
 /// How many spaces and tabs come first.
-fn leading_blanks(text: &[u8]) -> usize
+pub(crate) fn leading_blanks(text: &[u8]) -> usize
     ensures value { result ≡ prefix_len is_blank_byte text.now }
     ensures bound { result ≤ length text.now }
 {

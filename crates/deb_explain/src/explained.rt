@@ -44,6 +44,8 @@ pub enum Subject {
 pub struct RefusedField {
     /// The name as it is spelled.
     pub name: Vec<u8>,
+    /// The column of its line at which the body begins, counted from 1.
+    pub column: usize,
     /// The body, without the spaces and tabs at its ends. Line ends within it stay.
     pub body: Vec<u8>,
     /// What is wrong in the body, of a version and of a relation.

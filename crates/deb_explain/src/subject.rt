@@ -6,13 +6,13 @@ ghost use Rattle.deb_base.specs.FieldNames.{colon};
 ghost use Rattle.deb_syntax.specs.Fields.{has_name};
 ghost use Rattle.deb_syntax.specs.Paragraphs.{seen_of};
 ghost use Rattle.deb_syntax.specs.Raw.{field_of, fields_of};
-ghost use Rattle.deb_explain.specs.Subjects.{about_field, about_line, about_missing, about_name, about_topic, about_value, field_at, line_numbered, missing_among, topic_of};
+ghost use Rattle.deb_explain.specs.Subjects.{about_field, about_line, about_missing, about_name, about_topic, about_value, body_column, column_in, field_at, line_numbered, missing_among, topic_of};
 ghost use Rattle.deb_explain.specs.Shown.{about_of};
 
-use crate::cause::cause_of;
+use crate::cause::{cause_of, leading_blanks};
 use crate::explained::{RefusedField, Subject};
 use crate::topic::{Topic, topic_of};
-use deb_base::{Code, Refusal};
+use deb_base::Refusal;
 use deb_field::{Doc, required};
 use deb_syntax::{Raw, RawField};
 use std::alloc::{AllocError, Global};
@@ -33,7 +33,7 @@ pub(crate) fn subject_of(
         (Topic::Line, _) => line_subject(alloc, text, refusal.line),
         (Topic::Name, _) => name_subject(alloc, text, refusal.line),
         (Topic::Missing, Some(paragraph)) => Ok(missing_subject(doc, &paragraph)),
-        (Topic::Value, Some(paragraph)) => value_subject(alloc, doc, refusal, &paragraph),
+        (Topic::Value, Some(paragraph)) => value_subject(alloc, doc, text, refusal, &paragraph),
         (Topic::Whole, _) | (Topic::Missing | Topic::Value, None) => Ok(Subject::Whole),
     }
 }
@@ -112,14 +112,15 @@ fn lacks_field(paragraph: &Raw<'_>, name: &[u8]) -> bool
 fn value_subject(
     alloc: Global,
     doc: Doc,
+    text: &[u8],
     refusal: Refusal,
     paragraph: &Raw<'_>,
 ) -> Result<Subject, AllocError>
     ensures { IfOk result
-        (λ subject. about_of subject ≡ about_value doc refusal (seen_of paragraph.now)) }
+        (λ subject. about_of subject ≡ about_value doc text.now refusal (seen_of paragraph.now)) }
 {
     match field_at(paragraph, refusal.line) {
-        Some(field) => Ok(Subject::Field(refused_field(alloc, doc, refusal.code, &field)?)),
+        Some(field) => Ok(Subject::Field(refused_field(alloc, doc, text, refusal, &field)?)),
         None => Ok(Subject::Whole),
     }
 }
@@ -135,15 +136,38 @@ fn field_at<'a>(paragraph: &Raw<'a>, line: u64) -> Option<RawField<'a>>
 fn refused_field(
     alloc: Global,
     doc: Doc,
-    code: Code,
+    text: &[u8],
+    refusal: Refusal,
     field: &RawField<'_>,
 ) -> Result<RefusedField, AllocError>
-    ensures { IfOk result
-        (λ refused. about_of (Subject.Field refused) ≡ about_field doc code (field_of field.now)) }
+    ensures { IfOk result (λ refused. about_of (Subject.Field refused)
+        ≡ about_field doc text.now refusal (field_of field.now)) }
 {
     Ok(RefusedField {
         name: field.name.to_vec(alloc)?,
+        column: column_in(line_numbered(text, refusal.line)),
         body: field.body.to_vec(alloc)?,
-        cause: cause_of(alloc, doc, code, field.name, field.body)?,
+        cause: cause_of(alloc, doc, refusal.code, field.name, field.body)?,
     })
+}
+
+/// The column, counted from 1, at which the body of a line's field begins.
+fn column_in(line: Option<&[u8]>) -> usize
+    ensures { result ≡ column_in (option_map (λ line. line.now) line.entry) }
+{
+    match line {
+        Some(line) => body_column(line),
+        None => 1,
+    }
+}
+
+/// The same of a line: after its first colon, and after the spaces and tabs there.
+fn body_column(line: &[u8]) -> usize
+    ensures { result ≡ body_column line.now }
+{
+    let colon = colon_at(line);
+    if colon == line.len() {
+        return colon.saturating_add(2);
+    }
+    colon + 2 + leading_blanks(&line[colon + 1..])
 }

@@ -5,11 +5,15 @@ ghost use Rattle.std.specs.List.{flat_map};
 ghost use Rattle.deb_base.specs.Devices.{write_failures_after, Puts, TellsWrites};
 ghost use Rattle.deb_explain.specs.Sentences.{usually_of};
 ghost use Rattle.deb_explain.specs.Shown.{about_of, shown_by};
-ghost use Rattle.deb_explain.specs.Telling.{cause_text, code_lines, escaped_byte, explanation_text, field_text, front_of, hex_digit, line_number, place_of, place_within, reason_of, rule_line, rule_lines, rule_text, shortened, shown_line, subject_text, usually_line, version_reason};
+ghost use Rattle.deb_explain.specs.Causes.{word_code};
+ghost use Rattle.deb_explain.specs.Escapes.{escaped_byte, front_of, hex_digit, shortened, shown_line};
+ghost use Rattle.deb_explain.specs.Telling.{cause_text, code_lines, explanation_text, field_text, line_number, place_of, place_text, place_within, reason_of, rule_line, rule_lines, rule_text, subject_text, usually_line, version_reason, word_cause_text, word_text, wrong_spot};
 
-use crate::cause::Cause;
+use crate::cause::{Cause, Word};
 use crate::explained::{Explanation, RefusedField, Subject};
+use crate::paths::write_file_line;
 use crate::sentences::{rule, usually};
+use crate::spot::{Spot, spot_behind};
 use deb_base::{Code, Fault, Sink, put_all, put_pieces};
 use deb_relation::Reason;
 use deb_version::BadVersion;
@@ -23,10 +27,11 @@ impl Explanation {
     ///
     /// The keys are, in this order and as far as there is something to tell: `file`, `line`,
     /// `code`, `name`, `field`, `place` (the offset in the value of the first byte that is wrong,
-    /// or of the version that is, where its fault has no place), `reason`, `value`, `rule` and
-    /// `usually`. Bytes that aren't printable ASCII stand there as `\n`, `\t` or `\xNN`, a
-    /// backslash as `\\`, and of texts of more than 200 bytes the first 200, with `...` behind
-    /// them.
+    /// or of the version that is, where its fault has no place), `at` (the same in the file, as
+    /// `LINE:COLUMN`, both counted from 1), `reason`, `value`, `rule` and `usually`. Bytes that
+    /// aren't printable ASCII stand there as `\n`, `\t` or `\xNN`, a backslash as `\\`, and of
+    /// texts of more than 200 bytes the first 200, with `...` behind them. The path is written as
+    /// [`write_path`](crate::write_path) writes it.
     ///
     /// # Errors
     ///
@@ -40,10 +45,10 @@ impl Explanation {
         ensures counted { W.failures out.new ≡ write_failures_after (W.failures out.old) result }
         ensures told { TellsWrites (W.failures out.old) (W.failures out.new) result }
     {
-        write_shown(b"file: ", file, out)?;
+        write_file_line(file, out)?;
         write_line_number(self.refusal.line, out)?;
         write_code(self.refusal.code, out)?;
-        write_subject(&self.subject, out)?;
+        write_subject(self.refusal.line, &self.subject, out)?;
         write_rule(self.refusal.code, out)
     }
 }
@@ -132,54 +137,136 @@ fn write_usually<W: Sink>(code: Code, out: &mut W) -> Result<(), Fault>
 
 /// Writes what a refusal is about.
 #[tactic(auto, unfolding(crate::specs::Telling::subject_text))]
-fn write_subject<W: Sink>(subject: &Subject, out: &mut W) -> Result<(), Fault>
+fn write_subject<W: Sink>(line: u64, subject: &Subject, out: &mut W) -> Result<(), Fault>
     ensures written { Puts (W.held out.old) (W.held out.new) result
-        (subject_text (about_of subject.now)) }
+        (subject_text line (about_of subject.now)) }
     ensures fault { IfErr result (λ fault. fault ≡ Fault.Write) }
     ensures counted { W.failures out.new ≡ write_failures_after (W.failures out.old) result }
 {
     match subject {
         Subject::Whole => Ok(()),
-        Subject::Line(line) => write_shown(b"value: ", line, out),
+        Subject::Line(text) => write_shown(b"value: ", text, out),
         Subject::Name(name) => write_shown(b"field: ", name, out),
         Subject::Missing(name) => write_shown(b"field: ", name, out),
-        Subject::Field(field) => write_field(field, out),
+        Subject::Field(field) => write_field(line, field, out),
     }
 }
 
-/// Writes the field of which the value is refused.
+/// Writes the field at a line of which the value is refused.
 #[tactic(auto, using(deb_base::proofs::Writes::puts), unfolding(crate::specs::Telling::field_text))]
-fn write_field<W: Sink>(field: &RefusedField, out: &mut W) -> Result<(), Fault>
+fn write_field<W: Sink>(line: u64, field: &RefusedField, out: &mut W) -> Result<(), Fault>
     ensures written { Puts (W.held out.old) (W.held out.new) result
-        (field_text field.now.name.items field.now.body.items field.now.cause) }
+        (field_text line field.now.name.items field.now.column field.now.body.items
+        field.now.cause) }
     ensures fault { IfErr result (λ fault. fault ≡ Fault.Write) }
     ensures counted { W.failures out.new ≡ write_failures_after (W.failures out.old) result }
 {
     write_shown(b"field: ", &field.name, out)?;
-    write_cause(&field.cause, out)?;
+    write_cause(line, field, out)?;
     write_shown(b"value: ", &field.body, out)
 }
 
 /// Writes where a value is wrong, and why, if that is known.
 #[tactic(auto, unfolding(crate::specs::Telling::cause_text))]
-fn write_cause<W: Sink>(cause: &Option<Cause>, out: &mut W) -> Result<(), Fault>
-    ensures written { Puts (W.held out.old) (W.held out.new) result (cause_text cause.now) }
+fn write_cause<W: Sink>(line: u64, field: &RefusedField, out: &mut W) -> Result<(), Fault>
+    ensures written { Puts (W.held out.old) (W.held out.new) result
+        (cause_text line field.now.column field.now.body.items field.now.cause) }
     ensures fault { IfErr result (λ fault. fault ≡ Fault.Write) }
     ensures counted { W.failures out.new ≡ write_failures_after (W.failures out.old) result }
 {
-    match cause {
+    match &field.cause {
         None => Ok(()),
-        Some(cause) => put_pieces(
+        Some(cause) => write_place(
+            wrong_spot(line, field.column, &field.body, cause),
+            cause,
             out,
-            &[
-                b"place: ",
-                Buffer::new().format(place_of(cause)).as_bytes(),
-                b"\nreason: ",
-                reason_of(cause),
-                b"\n",
-            ],
         ),
     }
+}
+
+/// Writes where a value is wrong, that spot of the file too, and why.
+fn write_place<W: Sink>(spot: Spot, cause: &Cause, out: &mut W) -> Result<(), Fault>
+    ensures written { Puts (W.held out.old) (W.held out.new) result (place_text spot cause.now) }
+    ensures fault { IfErr result (λ fault. fault ≡ Fault.Write) }
+    ensures counted { W.failures out.new ≡ write_failures_after (W.failures out.old) result }
+{
+    put_pieces(
+        out,
+        &[
+            b"place: ",
+            Buffer::new().format(place_of(cause)).as_bytes(),
+            b"\nat: ",
+            Buffer::new().format(spot.line).as_bytes(),
+            b":",
+            Buffer::new().format(spot.column).as_bytes(),
+            b"\nreason: ",
+            reason_of(cause),
+            b"\n",
+        ],
+    )
+}
+
+/// Where in the file a value is wrong that begins at a line and a column.
+fn wrong_spot(line: u64, column: usize, body: &[u8], cause: &Cause) -> Spot
+    ensures { result ≡ wrong_spot line column body.now cause.now }
+{
+    let place = place_of(cause).min(body.len() as u128) as usize;
+    spot_behind(line, column, &body[..place])
+}
+
+/// Writes why a word of the command line is refused, without memory, in lines `key: value`: `code`,
+/// `name`, `place`, `reason`, `value`, `rule` and, if something is usual, `usually`.
+///
+/// # Errors
+///
+/// `Fault::Write` alone: a write failed in this call, and a prefix of the text was written before
+/// it.
+#[tactic(auto, using(deb_base::proofs::Writes::puts))]
+pub fn write_refused_word<W: Sink>(
+    word: Word,
+    cause: &Cause,
+    text: &[u8],
+    out: &mut W,
+) -> Result<(), Fault>
+    ensures written { Puts (W.held out.old) (W.held out.new) result
+        (word_text word cause.now text.now) }
+    ensures fault { IfErr result (λ fault. fault ≡ Fault.Write) }
+    ensures counted { W.failures out.new ≡ write_failures_after (W.failures out.old) result }
+    ensures told { TellsWrites (W.failures out.old) (W.failures out.new) result }
+{
+    write_code(word_code(word), out)?;
+    write_word_cause(cause, out)?;
+    write_shown(b"value: ", text, out)?;
+    write_rule(word_code(word), out)
+}
+
+/// The code of a word of the command line that is refused.
+fn word_code(word: Word) -> Code
+    ensures { result ≡ word_code word }
+{
+    match word {
+        Word::Relation => Code::BadRelation,
+        Word::Version => Code::BadVersion,
+    }
+}
+
+/// Writes where a word of the command line is wrong, and why.
+#[tactic(auto, unfolding(crate::specs::Telling::word_cause_text))]
+fn write_word_cause<W: Sink>(cause: &Cause, out: &mut W) -> Result<(), Fault>
+    ensures written { Puts (W.held out.old) (W.held out.new) result (word_cause_text cause.now) }
+    ensures fault { IfErr result (λ fault. fault ≡ Fault.Write) }
+    ensures counted { W.failures out.new ≡ write_failures_after (W.failures out.old) result }
+{
+    put_pieces(
+        out,
+        &[
+            b"place: ",
+            Buffer::new().format(place_of(cause)).as_bytes(),
+            b"\nreason: ",
+            reason_of(cause),
+            b"\n",
+        ],
+    )
 }
 
 /// The offset of what is wrong in a body.
@@ -251,26 +338,19 @@ fn version_reason(fault: &BadVersion) -> &'static [u8]
     }
 }
 
-/// Writes a line of a text behind its key, with its bytes made printable and shortened, as
-/// `Explanation::write` writes those of a file. Takes no memory.
-///
-/// # Errors
-///
-/// `Fault::Write` alone: a write failed in this call, and a front of the line was written before
-/// it.
-#[tactic(auto, using(deb_base::proofs::Writes::puts), unfolding(crate::specs::Telling::shown_line))]
-pub fn write_shown<W: Sink>(key: &[u8], text: &[u8], out: &mut W) -> Result<(), Fault>
+/// Writes a line of a text after its key, with its bytes made printable and shortened.
+#[tactic(auto, using(deb_base::proofs::Writes::puts), unfolding(crate::specs::Escapes::shown_line))]
+fn write_shown<W: Sink>(key: &[u8], text: &[u8], out: &mut W) -> Result<(), Fault>
     ensures written { Puts (W.held out.old) (W.held out.new) result (shown_line key.now text.now) }
     ensures fault { IfErr result (λ fault. fault ≡ Fault.Write) }
     ensures counted { W.failures out.new ≡ write_failures_after (W.failures out.old) result }
-    ensures told { TellsWrites (W.failures out.old) (W.failures out.new) result }
 {
     put_all(out, key)?;
     write_shortened(text, out)
 }
 
 /// Writes a text, or what is shown of it, so that each byte is printable, and the end of its line.
-#[tactic(auto, using(deb_base::proofs::Writes::puts), unfolding(crate::specs::Telling::shortened))]
+#[tactic(auto, using(deb_base::proofs::Writes::puts), unfolding(crate::specs::Escapes::shortened))]
 fn write_shortened<W: Sink>(text: &[u8], out: &mut W) -> Result<(), Fault>
     ensures written { Puts (W.held out.old) (W.held out.new) result
         (shortened text.now (front_of text.now)) }
@@ -290,7 +370,7 @@ fn write_shortened<W: Sink>(text: &[u8], out: &mut W) -> Result<(), Fault>
 }
 
 /// What is shown of a text that is too long to be shown whole.
-#[tactic(auto, unfolding(crate::specs::Telling::front_of))]
+#[tactic(auto, unfolding(crate::specs::Escapes::front_of))]
 fn front_of(text: &[u8]) -> Option<&[u8]>
     ensures { option_map (λ front. front.now) result ≡ front_of text.now }
 {
@@ -314,8 +394,9 @@ fn write_escaped<W: Sink>(text: &[u8], out: &mut W) -> Result<(), Fault>
     Ok(())
 }
 
-#[tactic(auto, unfolding(crate::specs::Telling::escaped_byte))]
-fn write_byte<W: Sink>(byte: u8, out: &mut W) -> Result<(), Fault>
+/// Writes a byte so that it is printable.
+#[tactic(auto, unfolding(crate::specs::Escapes::escaped_byte))]
+pub(crate) fn write_byte<W: Sink>(byte: u8, out: &mut W) -> Result<(), Fault>
     ensures written { Puts (W.held out.old) (W.held out.new) result (escaped_byte byte) }
     ensures fault { IfErr result (λ fault. fault ≡ Fault.Write) }
     ensures counted { W.failures out.new ≡ write_failures_after (W.failures out.old) result }
@@ -333,7 +414,7 @@ fn write_byte<W: Sink>(byte: u8, out: &mut W) -> Result<(), Fault>
 }
 
 /// The hexadecimal digit of a number.
-#[tactic(auto, unfolding(crate::specs::Telling::hex_digit))]
+#[tactic(auto, unfolding(crate::specs::Escapes::hex_digit))]
 fn hex_digit(n: u8) -> u8
     requires { n < 16 }
     ensures { result ≡ hex_digit n }

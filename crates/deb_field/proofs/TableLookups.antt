@@ -1,5 +1,5 @@
--- Look-ups in the two tables, one row after another.
-use Rattle.std.proofs.Common.{[], ◌∷◌, ◌==◌, refl, ◌≡◌, ℕ, Bor, codes, ◌+◌, ◌<◌, Bool, true, false, cond, List, length, map, drop, get_or, Some, ap, sym, ◌∙◌}
+-- Look-ups in the table of fields, one row after another.
+use Rattle.std.proofs.Common.{[], ◌∷◌, ◌==◌, refl, ◌≡◌, ℕ, Bor, codes, ◌+◌, ◌<◌, Bool, true, false, cond, List, length, map, drop, get_or, ap, sym, ◌∙◌}
 use Rattle.std.proofs.lemmas.Bool.Decides.{Decides-eqb, not_from_Decides, same_from_decides}
 use Rattle.std.proofs.lemmas.List.{drop_more, length-map}
 use Rattle.std.proofs.lemmas.Slice.Eq.{bytes_eq-Decides}
@@ -7,9 +7,9 @@ use Rattle.std.specs.Bool.{Decides}
 use Rattle.std.specs.Char.{to_ascii_lowercase}
 use Rattle.std.specs.Str.{bytes_eq}
 use Rattle.deb_base.specs.Names.{folded}
-use Rattle.deb_field.specs.Kinds.{FieldRow, document, kind_among, kind_of, named_among}
+use Rattle.deb_base.specs.declared.doc.Doc.{Doc}
+use Rattle.deb_field.specs.Kinds.{FieldRow, document, kind_among, kind_of}
 use Rattle.deb_field.specs.Tables.{row_in, rows_of_length}
-use Rattle.deb_field.specs.declared.kind.Doc.{Doc}
 use Rattle.deb_field.specs.declared.kind.Kind.{Kind}
 
 -- the test of a name, as the code has it
@@ -32,12 +32,6 @@ module _ (rows : List (Bor (List ℕ) × Kind)) (name : List ℕ) (i : ℕ) (d :
 pub kind_of-row : (doc : Doc) (name : List ℕ) (t : Bool) → Decides t (folded (codes "Architecture") ≡ folded name) → kind_of doc name ≡ cond t (document doc).architecture (kind_among (document doc).fields (folded name))
 unfolding kind_of
 kind_of-row doc name t decides = ap (λ u. cond u (document doc).architecture (kind_among (document doc).fields (folded name))) (same_test (codes "Architecture") name t decides)
-
--- a kind of document that has another word is passed
-pub word-passed : (docs : List Doc) (word : List ℕ) (i : ℕ) (d : Doc) → i < length docs → bytes_eq (document (get_or docs i d)).word word ≡ false → named_among (drop i docs) word ≡ named_among (drop (i + 1) docs) word
-word-passed docs word i d within is =
-    ap (λ rest. named_among rest word) (drop_more docs i d within)
-    ∙ ap (λ u. cond u (Some (get_or docs i d)) (named_among (drop (i + 1) docs) word)) is
 
 told_false : {P : Type 0} (t : Bool) → Decides t P → (P → ⊥) → t ≡ false
 told_false true decides not = absurd (not (decides.0 refl))

@@ -1,14 +1,15 @@
--- The kinds of documents, and which field has which kind of value, each as a table. Debian Policy
--- 5.1 (names are found without case), 5.3 (binary packages), 5.4 (source packages), 5.6 (the
--- fields), 7.1 to 7.8 (relationship fields); the words, and that unknown fields are text, are this
+-- What documents of each kind hold, and which field has which kind of value, each as a table.
+-- Debian Policy 5.1 (names are found without case), 5.3 (binary packages), 5.4 (source packages),
+-- 5.6 (the fields), 7.1 to 7.8 (relationship fields); that unknown fields are text is this
 -- project's own.
-use Rattle.std.specs.Prelude.{◌≡◌, ℕ, Bool, true, false, cond, List, [], ◌∷◌, map, Option, None, Some, codes, refl}
+use Rattle.std.specs.Prelude.{◌≡◌, ℕ, Bool, true, false, cond, List, [], ◌∷◌, map, codes, refl}
 use Rattle.std.specs.Str.{bytes_eq}
 use Rattle.deb_base.specs.Codes.{number_of, name_of}
+pub use Rattle.deb_base.specs.Docs.{doc_named, is_single}
 use Rattle.deb_base.specs.Names.{folded, canonical_name}
 use Rattle.deb_base.specs.declared.code.Code.TheVariants as code
-use Rattle.deb_field.specs.declared.kind.Doc.{Doc}
-use Rattle.deb_field.specs.declared.kind.Doc.TheVariants as docs
+use Rattle.deb_base.specs.declared.doc.Doc.{Doc}
+use Rattle.deb_base.specs.declared.doc.Doc.TheVariants as docs
 use Rattle.deb_field.specs.declared.kind.Kind.{Kind}
 use Rattle.deb_field.specs.declared.kind.Kind.TheVariants.{Name, Source, Version, Architecture, ArchitectureWords, Flag, MultiArch, Number, Line, Folded, Relation, Text}
 use Rattle.deb_field.specs.declared.kind.Relationship.{Relationship}
@@ -71,10 +72,6 @@ field_kinds =
 
 -- a row of the table of documents
 pub record DocumentKind : Type 0 where
-  -- the word for the kind
-  pub word : List ℕ
-  -- whether such a document has exactly one paragraph
-  pub single : Bool
   -- the fields that each paragraph has to have
   pub required : List (List ℕ)
   -- what Architecture holds
@@ -84,48 +81,30 @@ pub record DocumentKind : Type 0 where
 
 abbrev pub document : Doc → DocumentKind
 document docs.Binary = record {
-  word = codes "binary";
-  single = true;
   required = codes "Package" ∷ codes "Version" ∷ codes "Architecture" ∷ [];
   architecture = Architecture;
   fields = field_kinds;
 }
 document docs.Packages = record {
-  word = codes "packages";
-  single = false;
   required = codes "Package" ∷ codes "Version" ∷ codes "Architecture" ∷ [];
   architecture = Architecture;
   fields = field_kinds;
 }
 document docs.Source = record {
-  word = codes "source";
-  single = true;
   required = codes "Format" ∷ codes "Source" ∷ codes "Version" ∷ [];
   architecture = ArchitectureWords;
   fields = field_kinds;
 }
 document docs.Sources = record {
-  word = codes "sources";
-  single = false;
   required = codes "Package" ∷ codes "Version" ∷ [];
   architecture = ArchitectureWords;
   fields = field_kinds;
 }
 document docs.Any = record {
-  word = codes "any";
-  single = false;
   required = [];
   architecture = Text;
   fields = [];
 }
-
--- all kinds of documents
-abbrev pub documents : List Doc
-documents = docs.Binary ∷ docs.Packages ∷ docs.Source ∷ docs.Sources ∷ docs.Any ∷ []
-
--- whether a document of the kind has exactly one paragraph
-abbrev pub is_single : Doc → Bool
-is_single doc = (document doc).single
 
 -- the fields that each paragraph has to have
 abbrev pub required : Doc → List (List ℕ)
@@ -141,16 +120,6 @@ unfoldable pub kind_of : Doc → List ℕ → Kind
 kind_of doc name =
     kind_among ((codes "Architecture", (document doc).architecture) ∷ (document doc).fields)
     (folded name)
-
--- the first of these kinds of documents that has the word
-abbrev pub named_among : List Doc → List ℕ → Option Doc
-named_among [] word = None
-named_among (doc ∷ docs) word =
-    cond (bytes_eq (document doc).word word) (Some doc) (named_among docs word)
-
--- the kind of document that a word names
-abbrev pub doc_named : List ℕ → Option Doc
-doc_named = named_among documents
 
 -- The kind of a field goes by its name without case alone.
 abbrev pub KindGoesByName : Type 0
@@ -277,22 +246,6 @@ required_fields : (required docs.Binary
     × (required docs.Sources ≡ codes "Package" ∷ codes "Version" ∷ [])
     × (required docs.Any ≡ [])
 required_fields = (refl, refl, refl, refl, refl)
-
-single_paragraphs : (is_single docs.Binary ≡ true) × (is_single docs.Packages ≡ false)
-    × (is_single docs.Source ≡ true) × (is_single docs.Sources ≡ false)
-    × (is_single docs.Any ≡ false)
-single_paragraphs = (refl, refl, refl, refl, refl)
-
--- words have one case
-words : (doc_named (codes "binary") ≡ Some docs.Binary)
-    × (doc_named (codes "packages") ≡ Some docs.Packages)
-    × (doc_named (codes "source") ≡ Some docs.Source)
-    × (doc_named (codes "sources") ≡ Some docs.Sources)
-    × (doc_named (codes "any") ≡ Some docs.Any)
-    × (doc_named (codes "Source") ≡ None)
-    × (doc_named (codes "sourc") ≡ None)
-    × (doc_named [] ≡ None)
-words = (refl, refl, refl, refl, refl, refl, refl, refl)
 
 -- the codes of refusals, which go from the text of a file over its paragraphs and values to words
 numbers_of_codes : map number_of

@@ -15,8 +15,6 @@ rows_of_length n rows = filter (λ row. length row.0 == n) rows
 
 abbrev pub document_in : Document → DocumentKind
 document_in row = record {
-  word = row.word.now;
-  single = row.single;
   required = map (λ name. name.now) row.required.now;
   architecture = row.architecture;
   fields = cond row.judged field_kinds [];

@@ -22,6 +22,7 @@ use Rattle.deb_field.specs.Sources.{SourceMeaning, SpellsSource, source_text, so
 use Rattle.deb_field.specs.TextLaws.{itself_law, text_refusals, line_refusals, name_refusals, architecture_refusals}
 use Rattle.deb_field.specs.Texts.{text_itself, is_any_text, is_one_line, SpellsText, text_refusal, SpellsLine, one_line_refusal, SpellsName, name_refusal, SpellsArchitecture, architecture_refusal}
 use Rattle.deb_base.specs.PackageNames.{is_package_name, is_arch_name}
+use Rattle.deb_base.specs.declared.doc.Doc.{Doc}
 use Rattle.deb_field.specs.Values.{ValueMeaning, NameMeans, SourceMeans, VersionMeans, ArchitectureMeans, ArchitecturesMean, FlagMeans, MultiArchMeans, NumberMeans, LineMeans, FoldedMeans, RelationMeans, TextMeans, value_text, SpellsKind, kind_refusal, SpellsValue, value_refusal}
 use Rattle.deb_field.specs.VersionLaw.{version_law, version_refusals}
 use Rattle.deb_field.specs.Versions.{version_refusal}
@@ -29,7 +30,6 @@ use Rattle.deb_field.specs.WordLaws.{folded_law, folded_refusals, architectures_
 use Rattle.deb_field.specs.Words.{words_text, SpellsFolded, folded_refusal, SpellsArchitectures, architectures_refusal}
 use Rattle.deb_field.specs.declared.flag.Flag.{Flag as FlagWord}
 use Rattle.deb_field.specs.declared.flag.MultiArch.{MultiArch as MultiArchWord}
-use Rattle.deb_field.specs.declared.kind.Doc.{Doc}
 use Rattle.deb_field.specs.declared.kind.Kind.{Kind as FieldKind}
 use Rattle.deb_field.specs.declared.kind.Kind.TheVariants.{Name, Source, Version, Architecture, ArchitectureWords, Flag, MultiArch, Number, Line, Folded, Relation, Text}
 

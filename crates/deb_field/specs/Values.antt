@@ -2,6 +2,7 @@
 -- and 7.
 use Rattle.std.specs.Prelude.{ℕ, List, Option}
 use Rattle.deb_base.specs.declared.code.Code.{Code}
+use Rattle.deb_base.specs.declared.doc.Doc.{Doc}
 use Rattle.deb_version.specs.Parts.{Meaning as VersionMeaning}
 use Rattle.deb_version.specs.Grammar.{SpellsVersion}
 use Rattle.deb_version.specs.Canonical.{version_text, digits_of}
@@ -18,7 +19,6 @@ use Rattle.deb_field.specs.Versions.{version_refusal}
 use Rattle.deb_field.specs.Words.{words_text, SpellsFolded, folded_refusal, SpellsArchitectures, architectures_refusal}
 use Rattle.deb_field.specs.declared.flag.Flag.{Flag as FlagWord}
 use Rattle.deb_field.specs.declared.flag.MultiArch.{MultiArch as MultiArchWord}
-use Rattle.deb_field.specs.declared.kind.Doc.{Doc}
 use Rattle.deb_field.specs.declared.kind.Kind.{Kind as FieldKind}
 use Rattle.deb_field.specs.declared.kind.Kind.TheVariants.{Name, Source, Version, Architecture, ArchitectureWords, Flag, MultiArch, Number, Line, Folded, Relation, Text}
 

@@ -1,22 +1,6 @@
-//! The kinds of documents, and the kinds of values that their fields have.
+//! The kinds of values that fields have.
 
 ghost use Rattle.std.specs.Prelude.{◌≡◌};
-
-/// A kind of document.
-#[derive(Clone, Copy, Debug, PartialEq, Eq)]
-pub enum Doc {
-    /// The control file of a binary package: one paragraph (Debian Policy 5.3).
-    Binary,
-    /// An index of binary packages: any number of paragraphs, none included.
-    Packages,
-    /// The description of a source package, without signature: one paragraph (Debian Policy 5.4).
-    Source,
-    /// An index of source packages: any number of paragraphs, none included.
-    Sources,
-    /// Any control data: any number of paragraphs, none included, of which no field is required and
-    /// no value is judged, as each is a text.
-    Any,
-}
 
 /// A kind of value: what a field's body may be, and what it means.
 #[derive(Clone, Copy, Debug, PartialEq, Eq)]

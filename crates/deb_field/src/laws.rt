@@ -1,6 +1,7 @@
 //! Laws of values. Each function does nothing, and its contract is the law.
 
 ghost use Rattle.std.specs.Prelude.{ℕ, List};
+ghost use Rattle.deb_base.specs.declared.doc.Doc.{Doc};
 ghost use Rattle.deb_version.specs.Canonical.{digits_of, version_text};
 ghost use Rattle.deb_version.specs.Grammar.{SpellsVersion};
 ghost use Rattle.deb_version.specs.Parts.{Meaning as VersionMeaning};
@@ -18,7 +19,6 @@ ghost use Rattle.deb_field.specs.Values.{ValueMeaning, SpellsKind, SpellsValue, 
 ghost use Rattle.deb_field.specs.Words.{words_text, SpellsArchitectures, SpellsFolded};
 ghost use Rattle.deb_field.specs.declared.flag.Flag.{Flag as FlagWord};
 ghost use Rattle.deb_field.specs.declared.flag.MultiArch.{MultiArch as MultiArchWord};
-ghost use Rattle.deb_field.specs.declared.kind.Doc.{Doc};
 ghost use Rattle.deb_field.specs.declared.kind.Kind.{Kind as FieldKind};
 ghost use Rattle.deb_field.specs.declared.kind.Relationship.{Relationship};
 

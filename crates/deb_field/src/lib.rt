@@ -33,14 +33,15 @@ mod version;
 mod words;
 
 pub use canon::Canon;
+pub use deb_base::{Doc, is_single};
 pub use flag::{Flag, MultiArch};
 pub use folded::{ArchitectureWords, Folded};
-pub use kind::{Doc, Kind, Relationship};
+pub use kind::{Kind, Relationship};
 pub use names::{ArchitectureName, PackageName};
 pub use number::Number;
 pub use relation::RelationField;
 pub use source::SourceName;
-pub use tables::{is_single, kind_of, required};
+pub use tables::{kind_of, required};
 pub use text::{Line, Text};
 pub use value::{Value, ValueFault};
 pub use words::Words;

@@ -1,22 +1,16 @@
-//! The two tables: what a document of each kind is, and which kind of value a field has.
+//! The two tables: what a document of each kind holds, and which kind of value a field has.
 
 ghost use Rattle.std.specs.Prelude.{◌≡◌, ◌↔◌, IsTrue, map};
 ghost use Rattle.deb_base.specs.Names.{folded};
-ghost use Rattle.deb_field.specs.Kinds.{doc_named, document, field_kinds, is_single, kind_among, kind_of, required};
+ghost use Rattle.deb_field.specs.Kinds.{document, field_kinds, kind_among, kind_of, required};
 ghost use Rattle.deb_field.specs.Tables.{document_in, row_in, rows_of_length};
 
-use crate::kind::{Doc, Kind, Relationship};
-use deb_base::same_name;
+use crate::kind::{Kind, Relationship};
+use deb_base::{Doc, same_name};
 
-/// A row of the table of documents: what a document of a kind is.
+/// A row of the table of documents: what a document of a kind holds.
 #[derive(Clone, Copy)]
 struct Document {
-    /// The word for the kind.
-    word: &'static str,
-    /// What such a document is, in a few words.
-    about: &'static str,
-    /// Whether it has exactly one paragraph.
-    single: bool,
     /// The fields that each paragraph has to have.
     required: &'static [&'static [u8]],
     /// What Architecture holds.
@@ -35,53 +29,31 @@ fn row_of(doc: Doc) -> Document
 {
     match doc {
         Doc::Binary => Document {
-            word: "binary",
-            about: "the control file of a binary package",
-            single: true,
             required: &[b"Package", b"Version", b"Architecture"],
             architecture: Kind::Architecture,
             judged: true,
         },
         Doc::Packages => Document {
-            word: "packages",
-            about: "an index of binary packages",
-            single: false,
             required: &[b"Package", b"Version", b"Architecture"],
             architecture: Kind::Architecture,
             judged: true,
         },
         Doc::Source => Document {
-            word: "source",
-            about: "the description of a source package",
-            single: true,
             required: &[b"Format", b"Source", b"Version"],
             architecture: Kind::ArchitectureWords,
             judged: true,
         },
         Doc::Sources => Document {
-            word: "sources",
-            about: "an index of source packages",
-            single: false,
             required: &[b"Package", b"Version"],
             architecture: Kind::ArchitectureWords,
             judged: true,
         },
         Doc::Any => Document {
-            word: "any",
-            about: "any control data, of which no value is judged",
-            single: false,
             required: &[],
             architecture: Kind::Text,
             judged: false,
         },
     }
-}
-
-/// Whether a document of this kind has exactly one paragraph.
-pub fn is_single(doc: Doc) -> bool
-    ensures { result ≡ is_single doc }
-{
-    row_of(doc).single
 }
 
 /// The names of the fields that each paragraph of a document of this kind has to have.
@@ -174,39 +146,4 @@ fn is_named(field: &[u8], name: &[u8]) -> bool
     ensures { IsTrue result ↔ (folded field.now ≡ folded name.now) }
 {
     field == name || same_name(field, name)
-}
-
-impl Doc {
-    /// All kinds of documents.
-    pub const ALL: &'static [Doc] = &[
-        Doc::Binary,
-        Doc::Packages,
-        Doc::Source,
-        Doc::Sources,
-        Doc::Any,
-    ];
-
-    /// The word for the kind.
-    pub fn word(self) -> &'static str
-        ensures { result.now ≡ (document self).word }
-    {
-        row_of(self).word
-    }
-
-    /// What such a document is, in a few words.
-    pub fn about(self) -> &'static str {
-        row_of(self).about
-    }
-
-    /// The kind that a word names, if it names one.
-    pub fn named(word: &str) -> Option<Doc>
-        ensures { result ≡ doc_named word.now }
-    {
-        for doc in Doc::ALL {
-            if doc.word() == word {
-                return Some(*doc);
-            }
-        }
-        None
-    }
 }

@@ -2,7 +2,7 @@
 
 use crate::flag::{Flag, MultiArch};
 use crate::folded::{ArchitectureWords, Folded};
-use crate::kind::{Doc, Kind};
+use crate::kind::Kind;
 use crate::names::{ArchitectureName, PackageName};
 use crate::number::Number;
 use crate::relation::RelationField;
@@ -10,7 +10,7 @@ use crate::source::SourceName;
 use crate::tables::kind_of;
 use crate::text::{Line, Text};
 use crate::version::parse_version;
-use deb_base::Code;
+use deb_base::{Code, Doc};
 use deb_version::Version;
 use std::alloc::Global;
 

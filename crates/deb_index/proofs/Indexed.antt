@@ -4,7 +4,7 @@ use Rattle.deb_syntax.specs.Answers.{Seen}
 use Rattle.deb_syntax.specs.Meaning.{Entries, entries_of}
 use Rattle.deb_field.specs.ValueLaws.{value_law}
 use Rattle.deb_field.specs.Values.{ValueMeaning, value_text, SpellsValue}
-use Rattle.deb_field.specs.declared.kind.Doc.TheVariants.{Packages}
+use Rattle.deb_base.specs.declared.doc.Doc.TheVariants.{Packages}
 use Rattle.deb_control.specs.Checking.{CheckedState, FitsChecked, HasChecked, GivesPassing, GivesEnd, Passing}
 use Rattle.deb_control.specs.Documents.{rules_of, Meaning}
 use Rattle.deb_control.specs.Pairs.{Pairwise}

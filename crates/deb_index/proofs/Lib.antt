@@ -10,3 +10,5 @@ pub mod Merged
 pub mod Picked
 pub mod Joined
 pub mod Meetings
+pub mod Neighbours
+pub mod ProvidedOrder

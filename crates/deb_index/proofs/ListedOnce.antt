@@ -10,7 +10,7 @@ use Rattle.deb_relation.proofs.SpelledGroups.{one_relation}
 use Rattle.deb_field.specs.ValueLaws.{value_law}
 use Rattle.deb_field.specs.Values.{ValueMeaning, value_text, SpellsValue, MultiArchMeans, RelationMeans}
 use Rattle.deb_field.specs.declared.flag.MultiArch.{MultiArch}
-use Rattle.deb_field.specs.declared.kind.Doc.TheVariants.{Packages}
+use Rattle.deb_base.specs.declared.doc.Doc.TheVariants.{Packages}
 use Rattle.deb_control.specs.Documents.{Meaning, Accepted, canonical_text, rules_of}
 use Rattle.deb_control.specs.Pairs.{Pairwise}
 use Rattle.deb_control.specs.ValueFiles.{ValueEntries}

@@ -15,7 +15,7 @@ use Rattle.deb_field.specs.Kinds.{kind_of, required}
 use Rattle.deb_field.specs.ValueLaws.{value_law}
 use Rattle.deb_field.specs.Values.{ValueMeaning, NameMeans, VersionMeans, ArchitectureMeans, MultiArchMeans, RelationMeans, value_text, SpellsValue}
 use Rattle.deb_field.specs.declared.flag.MultiArch.{MultiArch}
-use Rattle.deb_field.specs.declared.kind.Doc.TheVariants.{Packages}
+use Rattle.deb_base.specs.declared.doc.Doc.TheVariants.{Packages}
 use Rattle.deb_control.specs.Acceptance.{has_values}
 use Rattle.deb_control.specs.Checking.{is_judged}
 use Rattle.deb_control.specs.Documents.{rules_of}
@@ -158,7 +158,7 @@ pub record ListsKept (kept : KeptFields) (seen : Seen) : Type 0 where
   pub name_is : option_map bytes_in kept.name ≡ Some name
   pub version_is : option_map kept_version kept.version ≡ Some version
   pub architecture_is : option_map bytes_in kept.architecture ≡ Some architecture
-  pub lists : SeenLists seen (record { name = name; version = version; architecture = architecture; multi_arch = kept.multi_arch; provisions = map provision_of kept.provisions.items })
+  pub lists : SeenLists seen (record { name = name; version = version; architecture = architecture; multi_arch = kept.multi_arch; provisions = map provision_of kept.provisions.entries.items })
 
 pub lists-kept : (kept : KeptFields) (seen : Seen) → KeepsValues KeepsFields kept Packages seen → ListsKept kept seen
 lists-kept kept seen keeps =
@@ -177,7 +177,7 @@ lists-kept kept seen keeps =
       version_is = keeps.kept.version.tells (Some version.0) version.1;
       architecture_is = keeps.kept.architecture.tells (Some architecture.0) architecture.1;
       lists =
-          lists-read seen name.0 version.0 architecture.0 kept.multi_arch (map provision_of kept.provisions.items)
+          lists-read seen name.0 version.0 architecture.0 kept.multi_arch (map provision_of kept.provisions.entries.items)
           (subst (HasValue Packages seen (codes "Package")) name.1 (keeps.are (codes "Package")))
           (subst (HasValue Packages seen (codes "Version")) version.1 (keeps.are (codes "Version")))
           (subst (HasValue Packages seen (codes "Architecture")) architecture.1 (keeps.are (codes "Architecture")))

@@ -11,7 +11,7 @@ use Rattle.deb_index.specs.Meeting.{meets, meets_bound, meets_by_name, meets_qua
 use Rattle.deb_index.specs.Named.{has_name, provides}
 use Rattle.deb_index.proofs.Joined.{asked}
 
-and-first : (a b : Bool) → (a && b) ≡ true → a ≡ true
+pub and-first : (a b : Bool) → (a && b) ≡ true → a ≡ true
 and-first true b h = refl
 and-first false b h = absurd (false≢true h)
 

@@ -17,7 +17,7 @@ listed_of p =
       version = kept_version p.version;
       architecture = p.architecture.items;
       multi_arch = p.multi_arch;
-      provisions = map provision_of p.provisions.items;
+      provisions = map provision_of p.provisions.entries.items;
     }
 
 -- what an entry provides, if there is one

@@ -29,8 +29,8 @@ pub record KeepsFields (kept : KeptFields) (shown : ShownValues) : Type 0 where
   pub architecture : Tells ArchitectureMeans itself (option_map bytes_in kept.architecture)
       (shown (codes "Architecture"))
   pub multi_arch : Tells MultiArchMeans itself kept.multi_arch (shown (codes "Multi-Arch"))
-  pub provisions : Tells RelationMeans provisions_in (map provision_of kept.provisions.items)
-      (shown (codes "Provides"))
+  pub provisions : Tells RelationMeans provisions_in
+      (map provision_of kept.provisions.entries.items) (shown (codes "Provides"))
 
 -- With the value of one more field it still is, unless memory is wanting.
 abbrev pub KeepsMore : {T E : Type 0} → KeptFields → KeptFields → Result T E → List ℕ

@@ -6,6 +6,7 @@ pub mod ReportText
 pub mod Kept
 pub mod KeptFields
 pub mod Named
+pub mod ProvidedNames
 pub mod Maps
 pub mod Listing
 pub mod Indexes

@@ -9,7 +9,7 @@ use Rattle.deb_version.specs.Places.{version_in}
 use Rattle.deb_relation.specs.Meaning.{Relation}
 use Rattle.deb_field.specs.Values.{ValueMeaning, NameMeans, VersionMeans, ArchitectureMeans, MultiArchMeans, RelationMeans}
 use Rattle.deb_field.specs.declared.flag.MultiArch.TheVariants.{Foreign}
-use Rattle.deb_field.specs.declared.kind.Doc.TheVariants.{Packages}
+use Rattle.deb_base.specs.declared.doc.Doc.TheVariants.{Packages}
 use Rattle.deb_control.specs.Documents.{Meaning, Accepted}
 use Rattle.deb_control.specs.Pairs.{Pairwise}
 use Rattle.deb_control.specs.Paragraphs.{AreValuesOf}

@@ -22,6 +22,7 @@ mod names;
 mod package;
 mod paragraph;
 mod provision;
+mod provisions;
 mod report;
 mod report_text;
 mod verdict;

@@ -40,7 +40,7 @@ impl Names {
     {
         let mut names = Names::new(alloc);
         for (index, package) in packages.iter().enumerate() {
-            names.put_provided(alloc, &package.provisions, index as u64 + 1)?;
+            names.put_provided(alloc, &package.provisions.entries, index as u64 + 1)?;
         }
         Ok(names)
     }

@@ -8,7 +8,8 @@ ghost use Rattle.deb_relation.specs.Views.{alternative_of};
 ghost use Rattle.deb_version.specs.Canonical.{version_text};
 ghost use Rattle.deb_index.specs.Meeting.{effective, is_allowed, is_foreign, meets, meets_by_name, meets_qualifier, multi_arch_or_no};
 
-use crate::provision::{Provision, meets_bound, some_provision_meets};
+use crate::provision::meets_bound;
+use crate::provisions::Provisions;
 use deb_field::MultiArch;
 use deb_relation::{Alternative, Env};
 use deb_version::CanonicalVersion;
@@ -20,7 +21,7 @@ pub struct Package {
     pub(crate) version: CanonicalVersion,
     pub(crate) architecture: Vec<u8>,
     pub(crate) multi_arch: Option<MultiArch>,
-    pub(crate) provisions: Vec<Provision>,
+    pub(crate) provisions: Provisions,
 }
 
 impl Package {
@@ -63,7 +64,7 @@ impl Package {
     {
         (self.name.as_slice() == alternative.name()
             && meets_bound(alternative.bound(), &self.version))
-            || some_provision_meets(&self.provisions, alternative)
+            || self.provisions.meet(alternative)
     }
 
     /// Whether this is of the architecture that a qualifier asks, or of a Multi-Arch that serves.

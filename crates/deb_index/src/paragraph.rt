@@ -12,7 +12,7 @@ ghost use Rattle.deb_index.specs.KeptFields.{KeepsFields, KeepsMore};
 ghost use Rattle.deb_index.specs.Listing.{SeenLists};
 
 use crate::package::Package;
-use crate::provision::{Provision, provisions_of};
+use crate::provisions::Provisions;
 use deb_base::same_name;
 use deb_control::Keep;
 use deb_field::{ArchitectureName, Doc, MultiArch, PackageName, RelationField, Value};
@@ -29,7 +29,7 @@ pub(crate) struct KeptFields {
     version: Option<CanonicalVersion>,
     architecture: Option<Vec<u8>>,
     multi_arch: Option<MultiArch>,
-    provisions: Vec<Provision>,
+    provisions: Provisions,
 }
 
 impl KeptFields {
@@ -41,7 +41,7 @@ impl KeptFields {
             version: None,
             architecture: None,
             multi_arch: None,
-            provisions: Vec::new(alloc),
+            provisions: Provisions::none(alloc),
         }
     }
 
@@ -56,7 +56,7 @@ impl KeptFields {
             version: self.version.take()?,
             architecture: self.architecture.take()?,
             multi_arch: self.multi_arch,
-            provisions: mem::replace(&mut self.provisions, Vec::new(self.alloc)),
+            provisions: mem::replace(&mut self.provisions, Provisions::none(self.alloc)),
         })
     }
 
@@ -119,7 +119,7 @@ impl KeptFields {
         }
         match value.relation(self.alloc) {
             Ok(relation) => {
-                self.provisions = provisions_of(self.alloc, &relation)?;
+                self.provisions = Provisions::of(self.alloc, &relation)?;
                 Ok(())
             }
             Err(RelationFault::Memory) => Err(AllocError),
@@ -136,7 +136,7 @@ impl Keep for KeptFields {
         self.version = None;
         self.architecture = None;
         self.multi_arch = None;
-        self.provisions = Vec::new(self.alloc);
+        self.provisions = Provisions::none(self.alloc);
     }
 
     fn keep(&mut self, name: &[u8], value: &Value<'_>) -> Result<(), AllocError> {

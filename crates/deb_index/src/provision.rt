@@ -5,15 +5,18 @@ ghost use Rattle.std.specs.List.{list_any};
 ghost use Rattle.std.specs.Option.{option_map};
 ghost use Rattle.deb_relation.specs.Relations.{relation_of};
 ghost use Rattle.deb_relation.specs.Groups.{group_of};
+ghost use Rattle.deb_relation.specs.Sets.{byte_cmp};
 ghost use Rattle.deb_relation.specs.Views.{alternative_of, lent_bound_of};
 ghost use Rattle.deb_version.specs.Kept.{kept_version};
 ghost use Rattle.deb_index.specs.Kept.{entry_provisions, provision_of};
 ghost use Rattle.deb_index.specs.Listed.{is_plain, provided_by, provision_in, provisions_of};
 ghost use Rattle.deb_index.specs.Meeting.{meets_bound, provided_meets_bound, provision_meets};
+ghost use Rattle.deb_index.specs.ProvidedNames.{name_of};
 
 use deb_relation::{Alternative, Group, Op, Relation};
 use deb_version::{CanonicalVersion, Version};
 use std::alloc::{AllocError, Global};
+use std::cmp::Ordering;
 
 /// A name that a package provides, with its version, if one is told (Debian Policy 7.5).
 #[derive(Debug, Drop)]
@@ -44,9 +47,16 @@ impl Provision {
         self.name.as_slice() == alternative.name()
             && provided_meets_bound(alternative.bound(), &self.version)
     }
+
+    /// The byte order of the name and another.
+    pub(crate) fn compare_name(&self, name: &[u8]) -> Ordering
+        ensures { result ≡ byte_cmp (name_of self.now) name.now }
+    {
+        self.name.as_slice().cmp(name)
+    }
 }
 
-/// What the field Provides provides: the entries that are a name alone or with a version.
+/// The entries of a relation that are a name alone or with a version.
 pub(crate) fn provisions_of(
     alloc: Global,
     relation: &Relation<'_>,
@@ -107,15 +117,8 @@ pub(crate) fn meets_bound(bound: Option<(Op, &Version<'_>)>, version: &Canonical
     }
 }
 
-/// Whether some provided name meets an alternative.
-pub(crate) fn some_provision_meets(provisions: &[Provision], alternative: &Alternative<'_>) -> bool
-    ensures { result ≡ list_any (provision_meets (alternative_of alternative.now))
-        (map provision_of provisions.now) }
-{
-    some_meets(provisions, alternative)
-}
-
-fn some_meets(provisions: &[Provision], alternative: &Alternative<'_>) -> bool
+/// Whether some entry meets an alternative.
+pub(crate) fn some_meets(provisions: &[Provision], alternative: &Alternative<'_>) -> bool
     ensures { result ≡ list_any
         (λ p. provision_meets (alternative_of alternative.now) (provision_of p)) provisions.now }
 {

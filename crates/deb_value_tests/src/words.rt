@@ -16,7 +16,7 @@ fn words(alloc: Global, line: &str) -> Result<Vec<String>, AllocError> {
 }
 
 /// A command line, and the task or the fault that it has.
-const LINES: [(&str, &str); 16] = [
+const LINES: [(&str, &str); 20] = [
     (
         "check",
         "Ok(Run(Call { job: Check(Packages), first: None, second: None }))",
@@ -59,11 +59,21 @@ const LINES: [(&str, &str); 16] = [
     ("explain --code 18", "Ok(Explain(Rule(BadVersion)))"),
     (
         "audit y --kind any - x",
-        "Ok(Audit(Audit { doc: Any, files: Paths([\"y\", \"-\", \"x\"]) }))",
+        "Ok(Audit(Audit { doc: Any, files: Paths([\"y\", \"-\", \"x\"]), end: Newline }))",
     ),
     (
         "audit --files0-from -",
-        "Ok(Audit(Audit { doc: Packages, files: Listed(\"-\") }))",
+        "Ok(Audit(Audit { doc: Packages, files: Listed(\"-\"), end: Newline }))",
+    ),
+    (
+        "audit -0 x",
+        "Ok(Audit(Audit { doc: Packages, files: Paths([\"x\"]), end: Nul }))",
+    ),
+    ("explain --relation aa|", "Ok(Explain(Relation(\"aa|\")))"),
+    ("explain --version-text=1-", "Ok(Explain(Version(\"1-\")))"),
+    (
+        "explain --relation aa --code 1",
+        "Err(Usage(\"usage: explain takes one file, code, relation or version\"))",
     ),
     ("explain --code 24", "Err(Usage(\"usage: unknown code\"))"),
     (

@@ -11,10 +11,11 @@ use Rattle.std.specs.List.{flat_map, fold}
 use Rattle.deb_base.specs.Devices.{AppendsFront, failures_after, write_failures_after}
 use Rattle.deb_base.specs.declared.fault.Fault.{Fault}
 use Rattle.deb_base.specs.declared.fault.Fault.TheVariants.{Write}
-use Rattle.deb_field.specs.declared.kind.Doc.{Doc}
+use Rattle.deb_base.specs.declared.doc.Doc.{Doc}
 use Rattle.deb_base.proofs.Writes.{AppendsFront-then}
-use Rattle.debctl_jobs.specs.AuditJob.{outcome_status, audit_line, worst, AnswersOpened, Audited, Audits, IsAnswered}
+use Rattle.debctl_jobs.specs.AuditJob.{outcome_status, audit_record, worst, AnswersOpened, Audited, Audits, IsAnswered}
 use Rattle.debctl_jobs.specs.declared.unopened.Unopened.{Unopened}
+use Rattle.debctl_words.specs.declared.jobs.LineEnd.{LineEnd}
 
 -- the worst of some statuses and of others is the worse of the two
 fold-max : (a : ℕ) (ns : List ℕ) → fold max a ns ≡ max a (fold max 0 ns)
@@ -30,9 +31,9 @@ worst-append ns ms = fold-append max 0 ns ms ∙ fold-max (worst ns) ms
 worst_of_one : (n : ℕ) → n ≡ worst (n ∷ [])
 worst_of_one n = omega arith
 
-module _ {R : Type 0} (left : R → Option (List ℕ)) (failures : R → ℕ) (doc : Doc) (text : List ℕ → Option (List ℕ)) where
+module _ {R : Type 0} (left : R → Option (List ℕ)) (failures : R → ℕ) (doc : Doc) (end : LineEnd) (text : List ℕ → Option (List ℕ)) where
   -- no file
-  pub audits_none : (n : ℕ) (out : Option (List ℕ)) (m : ℕ) → Audits left failures doc text n n out out m m [] (Ok 0)
+  pub audits_none : (n : ℕ) (out : Option (List ℕ)) (m : ℕ) → Audits left failures doc end text n n out out m m [] (Ok 0)
   audits_none n out m = record {
     files = [];
     behind = [];
@@ -52,39 +53,39 @@ module _ {R : Type 0} (left : R → Option (List ℕ)) (failures : R → ℕ) (d
     each_one : Rattle.std.specs.List.All (IsAnswered left failures doc text) (file ∷ [])
     each_one = All-cons (IsAnswered left failures doc text) file [] answers (All-nil (IsAnswered left failures doc text))
 
-    pub audits_one : (n n_after : ℕ) (out out_after : Option (List ℕ)) (m m_after : ℕ) → n_after ≡ failures_after n opened → Appends out out_after (audit_line path outcome) → m_after ≡ m
-        → (status : ℕ) → status ≡ outcome_status outcome → Audits left failures doc text n n_after out out_after m m_after (path ∷ []) (Ok status)
+    pub audits_one : (n n_after : ℕ) (out out_after : Option (List ℕ)) (m m_after : ℕ) → n_after ≡ failures_after n opened → Appends out out_after (audit_record end path outcome) → m_after ≡ m
+        → (status : ℕ) → status ≡ outcome_status outcome → Audits left failures doc end text n n_after out out_after m m_after (path ∷ []) (Ok status)
     audits_one n n_after out out_after m m_after opens told writes status is = record {
       files = file ∷ [];
       behind = [];
       whole = refl;
       each = each_one;
-      told = subst (Appends out out_after) (sym (append-nil (audit_line path outcome))) told;
+      told = subst (Appends out out_after) (sym (append-nil (audit_record end path outcome))) told;
       ends = (refl, is ∙ worst_of_one (outcome_status outcome));
       opens = opens;
       writes = writes;
     }
 
-    pub audits_unwritten : (n n_after : ℕ) (out out_after : Option (List ℕ)) (m m_after : ℕ) → n_after ≡ failures_after n opened → AppendsFront out out_after (audit_line path outcome)
-        → (fault : Fault) → fault ≡ Write → m_after ≡ write_failures_after {T = ⊤} m (Err fault) → Audits left failures doc text n n_after out out_after m m_after (path ∷ []) (Err fault)
+    pub audits_unwritten : (n n_after : ℕ) (out out_after : Option (List ℕ)) (m m_after : ℕ) → n_after ≡ failures_after n opened → AppendsFront out out_after (audit_record end path outcome)
+        → (fault : Fault) → fault ≡ Write → m_after ≡ write_failures_after {T = ⊤} m (Err fault) → Audits left failures doc end text n n_after out out_after m m_after (path ∷ []) (Err fault)
     audits_unwritten n n_after out out_after m m_after opens told fault is writes = rw is (record {
       files = file ∷ [];
       behind = [];
       whole = refl;
       each = each_one;
-      told = subst (AppendsFront out out_after) (sym (append-nil (audit_line path outcome))) told;
+      told = subst (AppendsFront out out_after) (sym (append-nil (audit_record end path outcome))) told;
       ends = refl;
       opens = opens;
       writes = rw is at writes;
     })
 
   -- more files behind those that were told
-  module _ (n₀ n₁ n₂ : ℕ) (out₀ out₁ out₂ : Option (List ℕ)) (m₀ m₁ m₂ : ℕ) (paths more : List (List ℕ)) (status : ℕ) (front : Audits left failures doc text n₀ n₁ out₀ out₁ m₀ m₁ paths (Ok status)) where
+  module _ (n₀ n₁ n₂ : ℕ) (out₀ out₁ out₂ : Option (List ℕ)) (m₀ m₁ m₂ : ℕ) (paths more : List (List ℕ)) (status : ℕ) (front : Audits left failures doc end text n₀ n₁ out₀ out₁ m₀ m₁ paths (Ok status)) where
     abbrev path_of : Audited R → List ℕ
     path_of file = file.path
 
     abbrev line_of : Audited R → List ℕ
-    line_of file = audit_line file.path file.outcome
+    line_of file = audit_record end file.path file.outcome
 
     abbrev status_of : Audited R → ℕ
     status_of file = outcome_status file.outcome
@@ -103,7 +104,7 @@ module _ {R : Type 0} (left : R → Option (List ℕ)) (failures : R → ℕ) (d
         is ∙ ap (λ n. fold failures_after n (map opened_of files)) front.opens
         ∙ sym (fold-append failures_after n₀ (map opened_of front.files) (map opened_of files)) ∙ ap (fold failures_after n₀) (sym (map-append opened_of front.files files))
 
-    pub audits_more : (last : ℕ) → Audits left failures doc text n₁ n₂ out₁ out₂ m₁ m₂ more (Ok last) → Audits left failures doc text n₀ n₂ out₀ out₂ m₀ m₂ (paths ++ more) (Ok (max last status))
+    pub audits_more : (last : ℕ) → Audits left failures doc end text n₁ n₂ out₁ out₂ m₁ m₂ more (Ok last) → Audits left failures doc end text n₀ n₂ out₀ out₂ m₀ m₂ (paths ++ more) (Ok (max last status))
     audits_more last next = record {
       files = front.files ++ next.files;
       behind = next.behind;
@@ -115,7 +116,7 @@ module _ {R : Type 0} (left : R → Option (List ℕ)) (failures : R → ℕ) (d
       writes = next.writes ∙ front.writes;
     }
 
-    pub audits_stopped : (rest : List (List ℕ)) (fault : Fault) → Audits left failures doc text n₁ n₂ out₁ out₂ m₁ m₂ more (Err fault) → Audits left failures doc text n₀ n₂ out₀ out₂ m₀ m₂ ((paths ++ more) ++ rest) (Err fault)
+    pub audits_stopped : (rest : List (List ℕ)) (fault : Fault) → Audits left failures doc end text n₁ n₂ out₁ out₂ m₁ m₂ more (Err fault) → Audits left failures doc end text n₀ n₂ out₀ out₂ m₀ m₂ ((paths ++ more) ++ rest) (Err fault)
     audits_stopped rest fault next = record {
       files = front.files ++ next.files;
       behind = next.behind ++ rest;

@@ -1,40 +1,68 @@
--- What the job of `audit` answers and writes: a line for each file, and the worst status. The lines
--- and statuses are this project's own; acceptance and refusals are those of documents of a kind
--- (Debian Policy 5.1 and 5.3 to 5.6).
+-- What the job of `audit` answers and writes: a record for each file, and the worst status. The
+-- records and statuses are this project's own; acceptance and refusals are those of documents of a
+-- kind (Debian Policy 5.1 and 5.3 to 5.6).
 use Rattle.std.specs.Prelude.{◌≡◌, ℕ, max, List, [], ◌∷◌, ◌++◌, map, Option, Some, Result, Ok, Err, IfOk, IfErr, MatchResult, codes, refl}
-use Rattle.std.specs.Fmt.{digits}
-use Rattle.std.specs.List.{All, flat_map, fold}
+use Rattle.std.specs.Fmt.{decimal, digits}
+use Rattle.std.specs.List.{All, concat, flat_map, fold}
+use Rattle.std.specs.Str.{is_utf8, chars}
+use lib.Utf8.{encode}
+use Rattle.deb_base.specs.Bodies.{newline}
+use Rattle.deb_base.specs.Codes.{number_of, name_of}
 use Rattle.deb_base.specs.Devices.{failures_after, read_failures_after, write_failures_after, Puts}
 use Rattle.deb_base.specs.Faults.{IsReadersFault}
 use Rattle.deb_base.specs.Lines.{fault_line}
 use Rattle.deb_base.specs.declared.code.Code.TheVariants.{NoColon}
 use Rattle.deb_base.specs.declared.fault.Fault.{Fault}
 use Rattle.deb_base.specs.declared.fault.Fault.TheVariants.{Refused, Memory, Read, Write}
-use Rattle.deb_field.specs.declared.kind.Doc.{Doc}
+use Rattle.deb_base.specs.declared.doc.Doc.{Doc}
 use Rattle.deb_control.specs.Calls.{HasParagraphs, IfRefused}
 use Rattle.deb_control.specs.Checking.{IsRefusalOfDocument}
 use Rattle.deb_control.specs.Documents.{refusal_of}
+use Rattle.deb_explain.specs.Escapes.{escaped_byte}
+use Rattle.deb_explain.specs.Paths.{has_control, path_byte, shown_path}
 use Rattle.debctl_jobs.specs.DocumentJobs.{ok_line}
 use Rattle.debctl_jobs.specs.Telling.{status_of}
-use Rattle.debctl_jobs.specs.Unopened.{unopened_line}
+use Rattle.debctl_jobs.specs.Unopened.{unopened_words}
 use Rattle.debctl_jobs.specs.declared.unopened.Unopened.{Unopened}
 use Rattle.debctl_jobs.specs.declared.unopened.Unopened.TheVariants.{NotFound, NotUtf8}
+use Rattle.debctl_words.specs.declared.jobs.LineEnd.{LineEnd}
+use Rattle.debctl_words.specs.declared.jobs.LineEnd.TheVariants.{Newline, Nul}
 
--- ---- lines and statuses
+-- ---- records and statuses
 
--- the line of what `check` answers of a file
-abbrev pub answer_line : Result ℕ Fault → List ℕ
-answer_line (Ok n) = ok_line n
-answer_line (Err fault) = fault_line fault
+-- a fault, as its line has it
+abbrev pub fault_words : Fault → List ℕ
+fault_words (Refused refusal) =
+    concat (codes "line " ∷ decimal refusal.line ∷ codes ": " ∷ decimal (number_of refusal.code)
+    ∷ codes " " ∷ name_of refusal.code ∷ [])
+fault_words Memory = codes "fault: memory"
+fault_words Read = codes "fault: read"
+fault_words Write = codes "fault: write"
 
--- the line of a file: of one that couldn't be opened, with why
-abbrev pub outcome_line : Result (Result ℕ Fault) Unopened → List ℕ
-outcome_line (Ok answer) = answer_line answer
-outcome_line (Err why) = unopened_line why
+-- what `check` answers of a file
+abbrev pub answer_words : Result ℕ Fault → List ℕ
+answer_words (Ok n) = concat (codes "ok " ∷ decimal n ∷ [])
+answer_words (Err fault) = fault_words fault
 
--- that line behind the file's path
-abbrev pub audit_line : List ℕ → Result (Result ℕ Fault) Unopened → List ℕ
-audit_line path outcome = path ++ codes ": " ++ outcome_line outcome
+-- what became of a file: of one that couldn't be opened, with why
+abbrev pub outcome_words : Result (Result ℕ Fault) Unopened → List ℕ
+outcome_words (Ok answer) = answer_words answer
+outcome_words (Err why) = codes "fault: read: " ++ unopened_words why
+
+-- a record is a line, with the path as it can be shown; or it ends with the byte 0, and has the
+-- path as it is
+abbrev pub audit_path : LineEnd → List ℕ → List ℕ
+audit_path Newline path = shown_path path
+audit_path Nul path = path
+
+abbrev pub record_end : LineEnd → ℕ
+record_end Newline = newline
+record_end Nul = 0
+
+-- the record of a file
+abbrev pub audit_record : LineEnd → List ℕ → Result (Result ℕ Fault) Unopened → List ℕ
+audit_record end path outcome =
+    audit_path end path ++ (codes ": " ++ (outcome_words outcome ++ record_end end ∷ []))
 
 -- the status of what is answered: 0 where a file is accepted, 2 where it is refused, else 3
 abbrev pub answer_status : Result ℕ Fault → ℕ
@@ -86,47 +114,63 @@ abbrev pub IsAnswered : {R : Type 0} → (R → Option (List ℕ)) → (R → �
 IsAnswered left failures doc text file =
     AnswersOpened left failures doc (text file.path) file.opened file.outcome
 
--- The files of some paths are answered, and told one by one in the order of the paths. The status
--- is the worst of theirs; or a write failed, and no path behind that one was opened. (n and n_after
--- are the counts of failed openings before and after, m and m_after those of failed writes.)
+-- The files of some paths are answered, and told one by one in the order of the paths, by records
+-- that end so. The status is the worst of theirs; or a write failed, and no path after that one was
+-- opened. (n and n_after are the counts of failed openings before and
+-- after, m and m_after those of failed writes.)
 pub record Audits {R : Type 0} (left : R → Option (List ℕ)) (failures : R → ℕ) (doc : Doc)
-    (text : List ℕ → Option (List ℕ)) (n n_after : ℕ) (out out_after : Option (List ℕ))
-    (m m_after : ℕ) (paths : List (List ℕ)) (status : Result ℕ Fault) : Type 0 where
+    (end : LineEnd) (text : List ℕ → Option (List ℕ)) (n n_after : ℕ)
+    (out out_after : Option (List ℕ)) (m m_after : ℕ) (paths : List (List ℕ))
+    (status : Result ℕ Fault) : Type 0 where
   pub files : List (Audited R)
   pub behind : List (List ℕ)
   pub whole : paths ≡ map (λ file. file.path) files ++ behind
   pub each : All (IsAnswered left failures doc text) files
-  pub told : Puts out out_after status (flat_map (λ file. audit_line file.path file.outcome) files)
+  pub told : Puts out out_after status
+      (flat_map (λ file. audit_record end file.path file.outcome) files)
   pub ends : MatchResult status
       (λ status. (behind ≡ []) × (status ≡ worst (map (λ file. outcome_status file.outcome) files)))
       (λ fault. fault ≡ Write)
   pub opens : n_after ≡ fold failures_after n (map (λ file. file.opened) files)
   pub writes : m_after ≡ write_failures_after m status
 
-line_of_accepted : audit_line (codes "a/b") (Ok (Ok 2)) ≡ codes "a/b: ok 2\n"
-unfolding digits
+line_of_accepted : audit_record Newline (codes "a/b") (Ok (Ok 2)) ≡ codes "a/b: ok 2\n"
+unfolding digits is_utf8 chars encode has_control path_byte escaped_byte
 line_of_accepted = refl
 
-line_of_refused :
-    audit_line (codes "b") (Ok (Err (Refused (record { code = NoColon; line = 1 }))))
-    ≡ codes "b: line 1: 6 NoColon\n"
+-- a refusal, and a fault, as the line of each has it
+words_are_of_lines :
+    (fault_line (Refused (record { code = NoColon; line = 1 }))
+    ≡ fault_words (Refused (record { code = NoColon; line = 1 })) ++ newline ∷ [])
+    × (fault_words (Refused (record { code = NoColon; line = 1 })) ≡ codes "line 1: 6 NoColon")
+    × (fault_line Memory ≡ fault_words Memory ++ newline ∷ [])
+    × (fault_line Read ≡ fault_words Read ++ newline ∷ [])
+    × (fault_line Write ≡ fault_words Write ++ newline ∷ [])
+    × (ok_line 120 ≡ answer_words (Ok 120) ++ newline ∷ [])
 unfolding digits
+words_are_of_lines = (refl, refl, refl, refl, refl, refl)
+
+line_of_refused :
+    audit_record Newline (codes "b") (Ok (Err (Refused (record { code = NoColon; line = 1 }))))
+    ≡ codes "b: line 1: 6 NoColon\n"
+unfolding digits is_utf8 chars encode has_control path_byte escaped_byte
 line_of_refused = refl
 
-line_of_unread : audit_line (codes "a") (Ok (Err Read)) ≡ codes "a: fault: read\n"
-line_of_unread = refl
-
-line_of_unopened : audit_line (codes "missing") (Err NotFound)
+line_of_unopened : audit_record Newline (codes "missing") (Err NotFound)
     ≡ codes "missing: fault: read: no such file or directory\n"
+unfolding is_utf8 chars encode has_control path_byte escaped_byte
 line_of_unopened = refl
 
-line_of_memory : audit_line (codes "c") (Ok (Err Memory)) ≡ codes "c: fault: memory\n"
+line_of_memory : audit_record Newline (codes "c") (Ok (Err Memory)) ≡ codes "c: fault: memory\n"
+unfolding is_utf8 chars encode has_control path_byte escaped_byte
 line_of_memory = refl
 
--- a path stands as it is given, with a newline or without any byte
-line_of_odd_paths : (audit_line (codes "a\nb") (Ok (Err Read)) ≡ codes "a\nb: fault: read\n")
-    × (audit_line [] (Err NotUtf8) ≡ codes ": fault: read: the path isn't UTF-8\n")
-line_of_odd_paths = (refl, refl)
+-- a path with a newline is one line, or a record with the newline in it; a path may have no byte
+odd_paths : (audit_record Newline (codes "a\nb") (Ok (Err Read)) ≡ codes "a\\nb: fault: read\n")
+    × (audit_record Nul (codes "a\nb") (Ok (Err Read)) ≡ codes "a\nb: fault: read" ++ 0 ∷ [])
+    × (audit_record Newline [] (Err NotUtf8) ≡ codes ": fault: read: the path isn't UTF-8\n")
+unfolding is_utf8 chars encode has_control path_byte escaped_byte
+odd_paths = (refl, refl, refl)
 
 status_of_each : (outcome_status (Ok (Ok 1)) ≡ 0)
     × (outcome_status (Ok (Err (Refused (record { code = NoColon; line = 1 })))) ≡ 2)

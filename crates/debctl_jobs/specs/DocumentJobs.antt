@@ -9,7 +9,7 @@ use Rattle.deb_base.specs.Faults.{MatchFault}
 use Rattle.deb_base.specs.Lines.{refusal_line}
 use Rattle.deb_base.specs.declared.fault.Fault.{Fault}
 use Rattle.deb_base.specs.declared.refusal.Refusal.{Refusal}
-use Rattle.deb_field.specs.declared.kind.Doc.{Doc}
+use Rattle.deb_base.specs.declared.doc.Doc.{Doc}
 use Rattle.deb_control.specs.Calls.{HasParagraphs, IfCutOff, IfRefused, IfWriteFailed, WritesCanonical, WritesRead, WritesRefused}
 use Rattle.deb_control.specs.Checking.{IsRefusalOfDocument}
 use Rattle.deb_control.specs.Documents.{out_of, refusal_of}

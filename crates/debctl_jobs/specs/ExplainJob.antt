@@ -1,14 +1,21 @@
 -- What the jobs of `explain` answer. The form of what is told is this project's own.
-use Rattle.std.specs.Prelude.{◌≡◌, ◌⊎◌, ℕ, Bool, true, false, List, [], ◌∷◌, ◌++◌, Option, Some, Result, ⊤, IfOk, IfErr, codes, refl}
+use Rattle.std.specs.Prelude.{◌≡◌, ◌⊎◌, ℕ, Bool, true, false, List, [], ◌∷◌, ◌++◌, Option, Some, None, Result, ⊤, IfOk, IfErr, codes, refl}
 use Rattle.std.specs.Io.KnownBytes.{Appends}
+use Rattle.std.specs.Str.{is_utf8, chars}
+use lib.Utf8.{encode}
 use Rattle.deb_base.specs.Bodies.{newline}
 use Rattle.deb_base.specs.Devices.{AppendsFront, Puts, write_failures_after}
 use Rattle.deb_base.specs.Faults.{MatchFault}
 use Rattle.deb_base.specs.declared.code.Code.{Code}
 use Rattle.deb_base.specs.declared.fault.Fault.{Fault}
 use Rattle.deb_explain.specs.Explanations.{Told, explanation_of}
-use Rattle.deb_explain.specs.Telling.{escaped_byte, explanation_text, front_of, rule_text, shortened, shown_line}
-use Rattle.deb_field.specs.declared.kind.Doc.{Doc}
+use Rattle.deb_explain.specs.Causes.{word_cause}
+use Rattle.deb_explain.specs.Escapes.{escaped_byte}
+use Rattle.deb_explain.specs.Paths.{has_control, path_byte}
+use Rattle.deb_explain.specs.Telling.{explanation_text, file_line, path_line, rule_text, word_text}
+use Rattle.deb_explain.specs.declared.cause.Cause.{Cause}
+use Rattle.deb_explain.specs.declared.cause.Word.{Word}
+use Rattle.deb_base.specs.declared.doc.Doc.{Doc}
 use Rattle.debctl_jobs.specs.DocumentJobs.{WritesOk, WritesFrontOfOk}
 use Rattle.debctl_jobs.specs.Unopened.{unopened_words}
 use Rattle.debctl_jobs.specs.declared.unopened.Unopened.{Unopened}
@@ -61,13 +68,33 @@ pub record WritesRule {W : Type 0} (code : Code) (held : W → Option (List ℕ)
   pub written : Puts (held old) (held new) answer (rule_text code)
   pub writes : failures new ≡ write_failures_after (failures old) answer
 
+-- what is written of a word of the command line: that it is good, or why it is refused
+abbrev pub word_answer : Word → List ℕ → Option Cause → List ℕ
+word_answer kind word None = codes "ok\n"
+word_answer kind word (Some why) = word_text kind why word
+
+-- whether it is good
+abbrev pub is_good : Option Cause → Bool
+is_good None = true
+is_good (Some why) = false
+
+-- The answer to a word of the command line, and what it wrote; no memory was found before that, or
+-- a write failed.
+pub record ExplainsWord {W : Type 0} (kind : Word) (word : List ℕ) (held : W → Option (List ℕ))
+    (failures : W → ℕ) (old new : W) (answer : Result Bool Fault) : Type 0 where
+  pub ok : IfOk answer (λ good. (good ≡ is_good (word_cause kind word))
+      × Appends (held old) (held new) (word_answer kind word (word_cause kind word)))
+  pub fault : IfErr answer (IsMemoryOrWrite (new ≡ old)
+      (AppendsFront (held old) (held new) (word_answer kind word (word_cause kind word))))
+  pub writes : failures new ≡ write_failures_after (failures old) answer
+
 -- what is written of a file that can't be opened
 abbrev pub unopened_text : List ℕ → Unopened → List ℕ
 unopened_text path why =
-    shown_line (codes "file: ") path
+    file_line path
     ++ (codes "fault: read\nreason: " ++ (unopened_words why ++ newline ∷ []))
 
 text_of_unopened : unopened_text (codes "a\tb") NotFound
     ≡ codes "file: a\\tb\nfault: read\nreason: no such file or directory\n"
-unfolding shown_line shortened front_of escaped_byte
+unfolding path_line is_utf8 chars encode has_control path_byte escaped_byte
 text_of_unopened = refl

@@ -18,7 +18,7 @@ use Rattle.deb_relation.specs.Targets.{is_environment}
 use Rattle.deb_relation.specs.Tests.{some_wildcard}
 use Rattle.deb_relation.specs.declared.environment.Env.{Env}
 use Rattle.deb_relation.specs.declared.relation.Relation.{Relation as Groups}
-use Rattle.deb_field.specs.declared.kind.Doc.TheVariants.{Packages}
+use Rattle.deb_base.specs.declared.doc.Doc.TheVariants.{Packages}
 use Rattle.deb_control.specs.Calls.{IfRefused, IfWriteFailed}
 use Rattle.deb_control.specs.Checking.{IsRefusalOfDocument}
 use Rattle.deb_control.specs.Documents.{refusal_of}

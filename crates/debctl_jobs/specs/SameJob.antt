@@ -10,7 +10,7 @@ use Rattle.deb_base.specs.declared.code.Code.TheVariants.{BadNumber}
 use Rattle.deb_base.specs.declared.fault.Fault.{Fault}
 use Rattle.deb_base.specs.declared.fault.Fault.TheVariants.{Refused, Memory, Read, Write}
 use Rattle.deb_base.specs.declared.refusal.Refusal.{Refusal}
-use Rattle.deb_field.specs.declared.kind.Doc.{Doc}
+use Rattle.deb_base.specs.declared.doc.Doc.{Doc}
 use Rattle.deb_control.specs.Calls.{IfRefused}
 use Rattle.deb_control.specs.Checking.{IsRefusalOfDocument}
 use Rattle.deb_control.specs.Comparing.{RefusesSecond, TellsSame}

@@ -1,28 +1,39 @@
 //! The job on many files: `audit`.
 
-ghost use Rattle.std.specs.Prelude.{◌≡◌, ◌<◌, ℕ, List, [], ◌∷◌, map, IfErr, Ok, Result};
+ghost use Rattle.std.specs.Prelude.{◌≡◌, ◌<◌, ℕ, List, [], ◌∷◌, ◌++◌, map, IfErr, Ok, Result};
 ghost use Rattle.deb_base.specs.Devices.{failures_after, write_failures_after, Puts};
 ghost use Rattle.deb_base.specs.declared.fault.Fault.{Fault};
-ghost use Rattle.debctl_jobs.specs.AuditJob.{answer_line, answer_status, audit_line, outcome_line, outcome_status, AnswersOpened, Audits};
-ghost use Rattle.debctl_jobs.specs.DocumentJobs.{ok_line};
+ghost use Rattle.debctl_jobs.specs.AuditJob.{answer_status, answer_words, audit_path, audit_record, fault_words, outcome_status, outcome_words, record_end, AnswersOpened, Audits};
 ghost use Rattle.debctl_jobs.specs.Telling.{Tells, TellsUnopened};
 ghost use Rattle.debctl_jobs.specs.declared.unopened.Unopened.{Unopened};
 
 use crate::opens::Opens;
 use crate::tell::{FAULT_STATUS, status_of, tell, tell_unopened};
 use crate::unopened::Unopened;
-use deb_base::{Fault, Sink, put_pieces};
+use deb_base::{Fault, Sink, put_all, put_pieces};
 use deb_control::check;
+use deb_explain::write_path;
 use deb_field::Doc;
+use debctl_words::LineEnd;
 use itoa::Buffer;
 use std::alloc::Global;
+
+/// How an audit reads files and tells of them.
+#[derive(Clone, Copy)]
+pub struct AuditOptions {
+    /// The kind of document that each file is read as.
+    pub doc: Doc,
+    /// What ends each record, and so how it has the path.
+    pub end: LineEnd,
+}
 
 /// Writes on `out` of each file, in the order of their paths, whether it is accepted as a document
 /// of a kind, and answers the worst status.
 ///
-/// The line of a file is its path as it is given, `: `, and `ok N` for its N paragraphs, the
-/// refusal, or the fault; each with a newline. A file that can't be opened has the fault of one
-/// that can't be read, and behind it why. A file that is refused, or has a fault, doesn't end the
+/// The record of a file is its path as `deb_explain::write_path` writes it, `: `, and `ok N` for
+/// its N paragraphs, the refusal, or the fault; and a newline. With `LineEnd::Nul` it has the path as
+/// it is given, and the byte 0 in place of the newline. A file that can't be opened has the fault of one
+/// that can't be read, and after it why. A file that is refused, or has a fault, doesn't end the
 /// job.
 ///
 /// - 0: each file is accepted.
@@ -32,7 +43,7 @@ use std::alloc::Global;
 ///   prefix of it, where a write on `err` failed. In all other cases nothing was written there.
 pub fn run_audit<F: Opens, W: Sink, E: Sink>(
     alloc: Global,
-    doc: Doc,
+    options: AuditOptions,
     paths: &[&[u8]],
     files: &mut F,
     out: &mut W,
@@ -40,7 +51,7 @@ pub fn run_audit<F: Opens, W: Sink, E: Sink>(
 ) -> u8
     // Below 3: each file was told, and nothing on `err`.
     ensures audited { result < 3 → (err.new ≡ err.old)
-        × Audits F.Reader.left F.Reader.failures doc (F.text files.old)
+        × Audits F.Reader.left F.Reader.failures options.doc options.end (F.text files.old)
         (F.failures files.old) (F.failures files.new) (W.held out.old) (W.held out.new)
         (W.failures out.old) (W.failures out.new) (map (λ path. path.now) paths.now)
         (Ok result) }
@@ -51,31 +62,32 @@ pub fn run_audit<F: Opens, W: Sink, E: Sink>(
 
     // Whatever the status: there is an answer, and that is told.
     ensures told { (answer : Result ℕ Fault)
-        × Audits F.Reader.left F.Reader.failures doc (F.text files.old)
+        × Audits F.Reader.left F.Reader.failures options.doc options.end (F.text files.old)
         (F.failures files.old) (F.failures files.new) (W.held out.old) (W.held out.new)
         (W.failures out.old) (W.failures out.new) (map (λ path. path.now) paths.now) answer
         × Tells (λ status. status) E.held E.failures err.old err.new answer result }
 {
-    match audit(alloc, doc, paths, files, out) {
+    match audit(alloc, options, paths, files, out) {
         Ok(status) => status,
         Err(fault) => tell(&fault, err),
     }
 }
 
-/// Writes on `out`, as the line of a file, that the list of the paths can't be opened, and why, and
+/// Writes on `out`, as the record of a file, that the list of the paths can't be opened, and why, and
 /// tells on `err` the fault of a file that can't be read. Answers the status, which is 3.
 ///
 /// Where a write on `out` failed, a prefix of the line was written, and that fault is told.
 pub(crate) fn run_without_list<W: Sink, E: Sink>(
+    end: LineEnd,
     path: &[u8],
     why: Unopened,
     out: &mut W,
     err: &mut E,
 ) -> u8
-    ensures told { TellsUnopened (audit_line path.now (Err why)) W.held W.failures out.old out.new
+    ensures told { TellsUnopened (audit_record end path.now (Err why)) W.held W.failures out.old out.new
         E.held E.failures err.old err.new result }
 {
-    let written = put_audit_line(out, path, &Err(why));
+    let written = put_audit_record(end, path, &Err(why), out);
     tell_unopened(&written, err)
 }
 
@@ -83,18 +95,18 @@ pub(crate) fn run_without_list<W: Sink, E: Sink>(
 /// worst of their statuses, or the fault of a write.
 fn audit<F: Opens, W: Sink>(
     alloc: Global,
-    doc: Doc,
+    options: AuditOptions,
     paths: &[&[u8]],
     files: &mut F,
     out: &mut W,
 ) -> Result<u8, Fault>
-    ensures { Audits F.Reader.left F.Reader.failures doc (F.text files.old)
+    ensures { Audits F.Reader.left F.Reader.failures options.doc options.end (F.text files.old)
         (F.failures files.old) (F.failures files.new) (W.held out.old) (W.held out.new)
         (W.failures out.old) (W.failures out.new) (map (λ path. path.now) paths.now) result }
 {
     let mut status = 0;
     for path in paths {
-        status = audit_file(alloc, doc, path, files, out)?.max(status);
+        status = audit_file(alloc, options, path, files, out)?.max(status);
     }
     Ok(status)
 }
@@ -102,18 +114,18 @@ fn audit<F: Opens, W: Sink>(
 /// Checks the file of a path, and writes its line. Answers its status, or the fault of a write.
 fn audit_file<F: Opens, W: Sink>(
     alloc: Global,
-    doc: Doc,
+    options: AuditOptions,
     path: &[u8],
     files: &mut F,
     out: &mut W,
 ) -> Result<u8, Fault>
-    ensures audits { Audits F.Reader.left F.Reader.failures doc (F.text files.old)
+    ensures audits { Audits F.Reader.left F.Reader.failures options.doc options.end (F.text files.old)
         (F.failures files.old) (F.failures files.new) (W.held out.old) (W.held out.new)
         (W.failures out.old) (W.failures out.new) (path.now ∷ []) result }
     ensures stays { F.text files.new ≡ F.text files.old }
 {
-    let outcome = check_path(alloc, doc, path, files);
-    put_audit_line(out, path, &outcome)?;
+    let outcome = check_path(alloc, options.doc, path, files);
+    put_audit_record(options.end, path, &outcome, out)?;
     Ok(outcome_status(&outcome))
 }
 
@@ -156,55 +168,112 @@ fn answer_status(answer: &Result<u64, Fault>) -> u8
     }
 }
 
-/// Writes the line of what became of a file, behind its path.
+/// Writes the record of what became of a file, after its path.
 #[tactic(auto, using(deb_base::proofs::Writes::puts))]
-fn put_audit_line<W: Sink>(
-    out: &mut W,
+fn put_audit_record<W: Sink>(
+    end: LineEnd,
     path: &[u8],
     outcome: &Result<Result<u64, Fault>, Unopened>,
+    out: &mut W,
 ) -> Result<(), Fault>
     ensures written { Puts (W.held out.old) (W.held out.new) result
-        (audit_line path.now outcome.now) }
+        (audit_record end path.now outcome.now) }
     ensures fault { IfErr result (λ fault. fault ≡ Fault.Write) }
     ensures counted { W.failures out.new ≡ write_failures_after (W.failures out.old) result }
 {
-    put_pieces(out, &[path, b": "])?;
-    put_outcome_line(out, outcome)
+    put_audit_path(end, path, out)?;
+    put_after_path(b": ", outcome, end, out)
 }
 
-/// Writes the line of what became of a file.
-fn put_outcome_line<W: Sink>(
-    out: &mut W,
+/// Writes what stands after the path in a record.
+#[tactic(auto, using(deb_base::proofs::Writes::puts))]
+fn put_after_path<W: Sink>(
+    colon: &[u8],
     outcome: &Result<Result<u64, Fault>, Unopened>,
+    end: LineEnd,
+    out: &mut W,
 ) -> Result<(), Fault>
-    ensures written { Puts (W.held out.old) (W.held out.new) result (outcome_line outcome.now) }
+    ensures written { Puts (W.held out.old) (W.held out.new) result
+        (colon.now ++ (outcome_words outcome.now ++ record_end end ∷ [])) }
+    ensures fault { IfErr result (λ fault. fault ≡ Fault.Write) }
+    ensures counted { W.failures out.new ≡ write_failures_after (W.failures out.old) result }
+{
+    put_all(out, colon)?;
+    put_outcome(outcome, out)?;
+    put_all(out, &[record_end(end)])
+}
+
+/// Writes a path, so that it can be shown or as it is.
+fn put_audit_path<W: Sink>(end: LineEnd, path: &[u8], out: &mut W) -> Result<(), Fault>
+    ensures written { Puts (W.held out.old) (W.held out.new) result (audit_path end path.now) }
+    ensures fault { IfErr result (λ fault. fault ≡ Fault.Write) }
+    ensures counted { W.failures out.new ≡ write_failures_after (W.failures out.old) result }
+{
+    match end {
+        LineEnd::Newline => write_path(path, out),
+        LineEnd::Nul => put_all(out, path),
+    }
+}
+
+/// The byte that ends a record.
+pub(crate) fn record_end(end: LineEnd) -> u8
+    ensures { result ≡ record_end end }
+{
+    match end {
+        LineEnd::Newline => b'\n',
+        LineEnd::Nul => 0,
+    }
+}
+
+/// Writes what became of a file.
+fn put_outcome<W: Sink>(
+    outcome: &Result<Result<u64, Fault>, Unopened>,
+    out: &mut W,
+) -> Result<(), Fault>
+    ensures written { Puts (W.held out.old) (W.held out.new) result (outcome_words outcome.now) }
     ensures fault { IfErr result (λ fault. fault ≡ Fault.Write) }
     ensures counted { W.failures out.new ≡ write_failures_after (W.failures out.old) result }
 {
     match outcome {
-        Ok(answer) => put_answer_line(out, answer),
-        Err(why) => why.write_line(out),
+        Ok(answer) => put_answer(answer, out),
+        Err(why) => why.write_after(b"fault: read: ", out),
     }
 }
 
-/// Writes the line of what is answered of a file.
-fn put_answer_line<W: Sink>(out: &mut W, answer: &Result<u64, Fault>) -> Result<(), Fault>
-    ensures written { Puts (W.held out.old) (W.held out.new) result (answer_line answer.now) }
+/// Writes what is answered of a file.
+fn put_answer<W: Sink>(answer: &Result<u64, Fault>, out: &mut W) -> Result<(), Fault>
+    ensures written { Puts (W.held out.old) (W.held out.new) result (answer_words answer.now) }
     ensures fault { IfErr result (λ fault. fault ≡ Fault.Write) }
     ensures counted { W.failures out.new ≡ write_failures_after (W.failures out.old) result }
 {
     match answer {
-        Ok(paragraphs) => put_ok_line(out, *paragraphs),
-        Err(fault) => fault.write_line(out),
+        Ok(paragraphs) => {
+            put_pieces(out, &[b"ok ", Buffer::new().format(*paragraphs).as_bytes()])
+        }
+        Err(fault) => put_fault(fault, out),
     }
 }
 
-/// Writes the line of a file that is accepted.
-fn put_ok_line<W: Sink>(out: &mut W, paragraphs: u64) -> Result<(), Fault>
-    ensures written { Puts (W.held out.old) (W.held out.new) result (ok_line paragraphs) }
+/// Writes a fault as its line has it.
+fn put_fault<W: Sink>(fault: &Fault, out: &mut W) -> Result<(), Fault>
+    ensures written { Puts (W.held out.old) (W.held out.new) result (fault_words fault.now) }
     ensures fault { IfErr result (λ fault. fault ≡ Fault.Write) }
     ensures counted { W.failures out.new ≡ write_failures_after (W.failures out.old) result }
 {
-    let mut number = Buffer::new();
-    put_pieces(out, &[b"ok ", number.format(paragraphs).as_bytes(), b"\n"])
+    match fault {
+        Fault::Refused(refusal) => put_pieces(
+            out,
+            &[
+                b"line ",
+                Buffer::new().format(refusal.line).as_bytes(),
+                b": ",
+                Buffer::new().format(refusal.number()).as_bytes(),
+                b" ",
+                refusal.code.name(),
+            ],
+        ),
+        Fault::Memory => put_all(out, b"fault: memory"),
+        Fault::Read => put_all(out, b"fault: read"),
+        Fault::Write => put_all(out, b"fault: write"),
+    }
 }

@@ -1,6 +1,7 @@
 //! The jobs on files: `check` and `normalise`.
 
-ghost use Rattle.std.specs.Prelude.{◌≡◌, ◌<◌, ℕ, List, Some, Result, ⊤, IfOk, string_bytes};
+ghost use Rattle.std.specs.Prelude.{◌≡◌, ◌<◌, ℕ, List, Some, Result, ⊤, IfErr};
+ghost use Rattle.deb_base.specs.Devices.{write_failures_after, Puts};
 ghost use Rattle.deb_base.specs.declared.fault.Fault.{Fault};
 ghost use Rattle.deb_control.specs.Calls.{WritesCanonical};
 ghost use Rattle.debctl_jobs.specs.DocumentJobs.{ok_line, ChecksFile, NormalisesFile, TellsRefusal, TellsRefusalBehind, WritesOk};
@@ -8,10 +9,11 @@ ghost use Rattle.debctl_jobs.specs.Taking.{TakesFile};
 ghost use Rattle.debctl_jobs.specs.Telling.{done_status, Tells};
 
 use crate::tell::tell;
-use deb_base::{Fault, Sink, Source, put_all};
+use deb_base::{Fault, Sink, Source, put_pieces};
 use deb_control::{check, normalise};
 use deb_field::Doc;
-use std::alloc::{AllocError, Global};
+use itoa::Buffer;
+use std::alloc::Global;
 
 /// Writes on `out` that a file is accepted as a document of a kind, and answers the status.
 ///
@@ -102,13 +104,15 @@ fn write_verdict<R: Source, W: Sink>(
     ensures taken { TakesFile (R.left first.old) (R.left first.new) }
 {
     let paragraphs = check(alloc, doc, first)?;
-    let line = ok_line(alloc, paragraphs)?;
-    put_all(out, line.as_bytes())
+    put_ok_line(paragraphs, out)
 }
 
-/// The line that a file of so many paragraphs is accepted.
-pub(crate) fn ok_line(alloc: Global, paragraphs: u64) -> Result<String, AllocError>
-    ensures { IfOk result (λ line. string_bytes line ≡ ok_line paragraphs) }
+/// Writes the line that a file of so many paragraphs is accepted. Takes no memory.
+pub(crate) fn put_ok_line<W: Sink>(paragraphs: u64, out: &mut W) -> Result<(), Fault>
+    ensures written { Puts (W.held out.old) (W.held out.new) result (ok_line paragraphs) }
+    ensures fault { IfErr result (λ fault. fault ≡ Fault.Write) }
+    ensures counted { W.failures out.new ≡ write_failures_after (W.failures out.old) result }
 {
-    format!(in alloc; "ok {paragraphs}\n")
+    let mut number = Buffer::new();
+    put_pieces(out, &[b"ok ", number.format(paragraphs).as_bytes(), b"\n"])
 }

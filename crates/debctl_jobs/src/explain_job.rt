@@ -5,14 +5,16 @@ ghost use Rattle.deb_base.specs.Devices.{write_failures_after, Puts};
 ghost use Rattle.deb_base.specs.declared.fault.Fault.{Fault};
 ghost use Rattle.deb_explain.specs.Telling.{rule_text};
 ghost use Rattle.debctl_jobs.specs.DocumentJobs.{WritesOk};
-ghost use Rattle.debctl_jobs.specs.ExplainJob.{explain_status, unopened_text, Explains, WritesExplanation, WritesRule};
+ghost use Rattle.debctl_jobs.specs.ExplainJob.{explain_status, unopened_text, Explains, ExplainsWord, WritesExplanation, WritesRule};
 ghost use Rattle.debctl_jobs.specs.Telling.{done_status, Tells, TellsUnopened};
 
-use crate::document_jobs::ok_line;
+use crate::document_jobs::put_ok_line;
 use crate::tell::{tell, tell_unopened};
 use crate::unopened::Unopened;
 use deb_base::{Code, Fault, Sink, put_all};
-use deb_explain::{Explained, explain, write_rule_of, write_shown};
+use deb_explain::{
+    Explained, Word, explain, explain_word, write_file_line, write_refused_word, write_rule_of,
+};
 use deb_field::Doc;
 use std::alloc::Global;
 
@@ -66,8 +68,7 @@ fn write_explanation<W: Sink>(
 {
     match explain(alloc, doc, text)? {
         Explained::Accepted(paragraphs) => {
-            let line = ok_line(alloc, paragraphs)?;
-            put_all(out, line.as_bytes())?;
+            put_ok_line(paragraphs, out)?;
             Ok(true)
         }
         Explained::Refused(explanation) => {
@@ -97,8 +98,51 @@ fn write_unopened<W: Sink>(path: &[u8], why: Unopened, out: &mut W) -> Result<()
     ensures fault { IfErr result (λ fault. fault ≡ Fault.Write) }
     ensures counted { W.failures out.new ≡ write_failures_after (W.failures out.old) result }
 {
-    write_shown(b"file: ", path, out)?;
+    write_file_line(path, out)?;
     why.write_behind(b"fault: read\nreason: ", out)
+}
+
+/// Writes on `out` that a word of the command line is a relation or a version, or why it is none,
+/// and answers the status.
+///
+/// - 0: it is one. `ok` with a newline was written.
+/// - 2: it is none. Where and why was written, in lines `key: value`.
+/// - 3: out of memory, or a write failed. `err` has the fault's line; where a write on `err` failed,
+///   a prefix of its line.
+///
+/// But for status 3 nothing was written on `err`.
+pub fn run_word<W: Sink, E: Sink>(
+    alloc: Global,
+    word: Word,
+    text: &str,
+    out: &mut W,
+    err: &mut E,
+) -> u8
+    ensures told { (answer : Result Bool Fault)
+        × ExplainsWord word text.now W.held W.failures out.old out.new answer
+        × Tells explain_status E.held E.failures err.old err.new answer result }
+{
+    match write_word(alloc, word, text.as_bytes(), out) {
+        Ok(true) => 0,
+        Ok(false) => 2,
+        Err(fault) => tell(&fault, err),
+    }
+}
+
+/// Writes that a word is good, or why it is refused, and answers which of these.
+fn write_word<W: Sink>(alloc: Global, word: Word, text: &[u8], out: &mut W) -> Result<bool, Fault>
+    ensures { ExplainsWord word text.now W.held W.failures out.old out.new result }
+{
+    match explain_word(alloc, word, text)? {
+        None => {
+            put_all(out, b"ok\n")?;
+            Ok(true)
+        }
+        Some(cause) => {
+            write_refused_word(word, &cause, text, out)?;
+            Ok(false)
+        }
+    }
 }
 
 /// Writes on `out` what a code means, and answers the status.

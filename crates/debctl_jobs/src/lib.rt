@@ -4,7 +4,7 @@
 //! - [`run`] does a job over readers and writers, tells on one of them why it wasn't done, and
 //!   answers the status. It reads no path and knows no stream of the system.
 //! - [`run_explain`] tells why a text is refused, [`run_unopened`] why a file can't be opened,
-//!   [`run_rule`] what a code means, and [`run_audit`] of each of many files whether it is
+//!   [`run_word`] why a relation or a version is none, [`run_rule`] what a code means, and [`run_audit`] of each of many files whether it is
 //!   accepted.
 //! - [`run_program`] does what the program's words ask for: it opens the paths, hands these
 //!   the files and the standard streams, and flushes what was written.
@@ -14,6 +14,7 @@ mod audit_job;
 mod command;
 mod document_jobs;
 mod explain_job;
+mod explained_text;
 mod listed;
 mod opens;
 mod query_job;
@@ -26,9 +27,9 @@ mod unopened;
 mod version_jobs;
 mod writer;
 
-pub use audit_job::run_audit;
+pub use audit_job::{AuditOptions, run_audit};
 pub use command::run;
-pub use explain_job::{run_explain, run_rule, run_unopened};
+pub use explain_job::{run_explain, run_rule, run_unopened, run_word};
 pub use opens::Opens;
 pub use streams::run_program;
 pub use unopened::Unopened;

@@ -1,27 +1,43 @@
 //! The program's words, files and standard streams, as the system has them.
 
-use crate::audit_job::{run_audit, run_without_list};
+use crate::audit_job::{AuditOptions, record_end, run_audit, run_without_list};
 use crate::command::run;
-use crate::explain_job::{run_explain, run_rule, run_unopened};
+use crate::explain_job::{run_explain, run_rule, run_unopened, run_word};
+use crate::explained_text::read_to_refusal;
 use crate::listed::listed_paths;
 use crate::reader::{Reader, SystemFiles, opened};
 use crate::tell::{FAULT_STATUS, tell, tell_words};
 use crate::unopened::Unopened;
-use crate::writer::UntilFailure;
+use crate::writer::{Records, Streams, write_out};
 use deb_base::{Fault, Input, Output, Sink};
+use deb_explain::Word;
 use deb_field::Doc;
 use deb_sort::read_text;
-use debctl_words::{Audit, Call, Explain, Files, Job, Task, UsageFault, job_of};
-use std::alloc::Global;
+use debctl_words::{Audit, Call, Explain, Files, Job, LineEnd, Task, UsageFault, job_of};
 use std::env;
-use std::io::{BufWriter, ErrorKind, Write};
+use std::fs::File;
+use std::io::{self, ErrorKind};
 
 /// Does what the program's words ask for, and answers the status.
+///
+/// A standard stream that is closed fails at each call, whichever files are opened.
 pub fn run_program(rt: &HostRuntime) -> u8 {
+    let _stand_ins = stand_ins(rt);
     match task_of(rt) {
         Ok(task) => answer(rt, &task),
         Err(fault) => tell_fault(rt, &fault),
     }
+}
+
+/// Opens the root directory three times, so that it takes the numbers of closed standard streams,
+/// which the system would else give to the first files of the job. It can be neither read nor
+/// written. Where it can't be opened, the program goes on without it.
+fn stand_ins(rt: &HostRuntime) -> [io::Result<File>; 3] {
+    [
+        File::open(rt, "/"),
+        File::open(rt, "/"),
+        File::open(rt, "/"),
+    ]
 }
 
 /// What the program's words ask for.
@@ -68,46 +84,61 @@ fn answer(rt: &HostRuntime, task: &Task) -> u8 {
 
 /// Opens the files of a call, does its job and writes out what it has written.
 fn run_on_streams(rt: &HostRuntime, call: &Call) -> Result<u8, Fault> {
-    let mut first = Input::new(first_reader(rt, call)?);
-    let mut second = Input::new(reader_of(rt, &call.second)?);
-    let mut out = buffered(rt.alloc(), rt.stdout())?;
-    let mut err = buffered(rt.alloc(), rt.stderr())?;
+    let first = first_reader(rt, call)?;
+    run_with_first(rt, call, first)
+}
+
+/// Does the same behind the opening of its first file.
+fn run_with_first(rt: &HostRuntime, call: &Call, first: Reader) -> Result<u8, Fault> {
+    let second = reader_of(rt, &call.second)?;
+    run_with_both(rt, &call.job, first, second)
+}
+
+/// Does a job over files that are open, and writes out what it has written.
+fn run_with_both(rt: &HostRuntime, job: &Job, first: Reader, second: Reader) -> Result<u8, Fault> {
+    let Streams { mut out, mut err } = Streams::new(rt)?;
     let status = run(
         rt.alloc(),
-        &call.job,
-        &mut first,
-        &mut second,
+        job,
+        &mut Input::new(first),
+        &mut Input::new(second),
         &mut Output::new(&mut out),
         &mut Output::new(&mut err),
     );
     write_out(out, err, status)
 }
 
-/// Tells why a file is refused, or what a code means.
+/// Tells why a file or a word is refused, or what a code means.
 fn explain_on_streams(rt: &HostRuntime, wanted: &Explain) -> Result<u8, Fault> {
-    let mut out = buffered(rt.alloc(), rt.stdout())?;
-    let mut err = buffered(rt.alloc(), rt.stderr())?;
-    let status = match wanted {
-        Explain::File { doc, path } => {
-            let path = match path {
-                Some(path) => path.as_str(),
-                None => "-",
-            };
-            explain_file(
-                rt,
-                *doc,
-                path,
-                &mut Output::new(&mut out),
-                &mut Output::new(&mut err),
-            )?
-        }
-        Explain::Rule(code) => run_rule(
-            *code,
-            &mut Output::new(&mut out),
-            &mut Output::new(&mut err),
-        ),
-    };
+    let Streams { mut out, mut err } = Streams::new(rt)?;
+    let status = explain_by(
+        rt,
+        wanted,
+        &mut Output::new(&mut out),
+        &mut Output::new(&mut err),
+    )?;
     write_out(out, err, status)
+}
+
+/// Tells that on two sinks, and answers the status.
+fn explain_by<W: Sink, E: Sink>(
+    rt: &HostRuntime,
+    wanted: &Explain,
+    out: &mut W,
+    err: &mut E,
+) -> Result<u8, Fault> {
+    match wanted {
+        Explain::File {
+            doc,
+            path: Some(path),
+        } => explain_file(rt, *doc, path.as_str(), out, err),
+        Explain::File { doc, path: None } => explain_file(rt, *doc, "-", out, err),
+        Explain::Rule(code) => Ok(run_rule(*code, out, err)),
+        Explain::Relation(text) => {
+            Ok(run_word(rt.alloc(), Word::Relation, text.as_str(), out, err))
+        }
+        Explain::Version(text) => Ok(run_word(rt.alloc(), Word::Version, text.as_str(), out, err)),
+    }
 }
 
 /// Tells why the file of a path is refused, or why it can't be opened.
@@ -120,7 +151,7 @@ fn explain_file<W: Sink, E: Sink>(
 ) -> Result<u8, Fault> {
     match opened(rt, path) {
         Ok(reader) => {
-            let text = read_text(rt.alloc(), &mut Input::new(reader))?;
+            let text = read_to_refusal(rt.alloc(), &mut Input::new(reader))?;
             Ok(run_explain(rt.alloc(), doc, path.as_bytes(), text.as_slice(), out, err))
         }
         Err(why) => Ok(run_unopened(path.as_bytes(), why, out, err)),
@@ -129,30 +160,52 @@ fn explain_file<W: Sink, E: Sink>(
 
 /// Audits the files of the paths that the words or a list have.
 fn audit_on_streams(rt: &HostRuntime, audit: &Audit) -> Result<u8, Fault> {
+    let options = AuditOptions {
+        doc: audit.doc,
+        end: audit.end,
+    };
     match &audit.files {
-        Files::Paths(words) => {
-            let mut paths = Vec::new(rt.alloc());
-            for word in words {
-                paths.push(word.as_bytes())?;
-            }
-            audit_paths(rt, audit.doc, paths.as_slice())
-        }
-        Files::Listed(path) => match opened(rt, path.as_str()) {
-            Ok(reader) => {
-                let list = read_text(rt.alloc(), &mut Input::new(reader))?;
-                let paths = listed_paths(rt.alloc(), list.as_slice())?;
-                audit_paths(rt, audit.doc, paths.as_slice())
-            }
-            Err(why) => tell_without_list(rt, path.as_str(), why),
-        },
+        Files::Paths(words) => audit_words(rt, options, words),
+        Files::Listed(path) => audit_listed(rt, options, path.as_str()),
     }
 }
 
+/// Audits the files of the paths that stand among the words.
+fn audit_words(rt: &HostRuntime, options: AuditOptions, words: &[String]) -> Result<u8, Fault> {
+    let mut paths = Vec::new(rt.alloc());
+    for word in words {
+        paths.push(word.as_bytes())?;
+    }
+    audit_paths(rt, options, paths.as_slice())
+}
+
+/// Audits the files of the paths that a file lists.
+fn audit_listed(rt: &HostRuntime, options: AuditOptions, path: &str) -> Result<u8, Fault> {
+    match opened(rt, path) {
+        Ok(reader) => {
+            let list = read_text(rt.alloc(), &mut Input::new(reader))?;
+            audit_list(rt, options, list.as_slice())
+        }
+        Err(why) => tell_without_list(rt, options.end, path, why),
+    }
+}
+
+/// Audits the files of the paths that a list has.
+fn audit_list(rt: &HostRuntime, options: AuditOptions, list: &[u8]) -> Result<u8, Fault> {
+    let paths = listed_paths(rt.alloc(), list)?;
+    audit_paths(rt, options, paths.as_slice())
+}
+
 /// Tells that the list of the paths can't be opened.
-fn tell_without_list(rt: &HostRuntime, path: &str, why: Unopened) -> Result<u8, Fault> {
-    let mut out = buffered(rt.alloc(), rt.stdout())?;
-    let mut err = buffered(rt.alloc(), rt.stderr())?;
+fn tell_without_list(
+    rt: &HostRuntime,
+    end: LineEnd,
+    path: &str,
+    why: Unopened,
+) -> Result<u8, Fault> {
+    let Streams { mut out, mut err } = Streams::new(rt)?;
     let status = run_without_list(
+        end,
         path.as_bytes(),
         why,
         &mut Output::new(&mut out),
@@ -161,40 +214,19 @@ fn tell_without_list(rt: &HostRuntime, path: &str, why: Unopened) -> Result<u8, 
     write_out(out, err, status)
 }
 
-/// Audits the files of some paths, and writes out what is told of them.
-fn audit_paths(rt: &HostRuntime, doc: Doc, paths: &[&[u8]]) -> Result<u8, Fault> {
-    let mut out = buffered(rt.alloc(), rt.stdout())?;
-    let mut err = buffered(rt.alloc(), rt.stderr())?;
+/// Audits the files of some paths, and writes out what is told of each.
+fn audit_paths(rt: &HostRuntime, options: AuditOptions, paths: &[&[u8]]) -> Result<u8, Fault> {
+    let Streams { out, mut err } = Streams::new(rt)?;
+    let mut records = Records::new(out, record_end(options.end));
     let status = run_audit(
         rt.alloc(),
-        doc,
+        options,
         paths,
         &mut SystemFiles::new(rt),
-        &mut Output::new(&mut out),
+        &mut Output::new(&mut records),
         &mut Output::new(&mut err),
     );
-    write_out(out, err, status)
-}
-
-/// Writes out what a job has written, and answers the status.
-///
-/// The line that the job tells is kept back until its output is written out: where that fails,
-/// `Fault::Write` is to be told in its place, so that there is one line in every case.
-fn write_out<W: Write + Drop, E: Write + Drop>(
-    mut out: BufWriter<W>,
-    mut err: BufWriter<E>,
-    status: u8,
-) -> Result<u8, Fault> {
-    let is_written = out.flush().is_ok();
-    // What couldn't be written is dropped, and not tried again.
-    let _ = out.into_parts();
-    if !is_written {
-        let _ = err.into_parts();
-        return Err(Fault::Write);
-    }
-    let is_told = err.flush().is_ok();
-    let _ = err.into_parts();
-    Ok(if is_told { status } else { FAULT_STATUS })
+    write_out(records.into_buffer(), err, status)
 }
 
 /// The file that the job reads first: that of the path, or else standard input, which `same` never
@@ -217,13 +249,4 @@ fn reader_of(rt: &HostRuntime, path: &Option<String>) -> Result<Reader, Fault> {
         Some(path) => Ok(opened(rt, path.as_str())?),
         None => Ok(Reader::Nothing),
     }
-}
-
-/// A buffer before a stream, which isn't asked again once a write has failed: not by the flush of
-/// what was kept back then, either.
-fn buffered<W: Write + Drop>(
-    alloc: Global,
-    stream: W,
-) -> Result<BufWriter<UntilFailure<W>>, Fault> {
-    BufWriter::new(alloc, UntilFailure::new(stream)).map_err(|_| Fault::Memory)
 }

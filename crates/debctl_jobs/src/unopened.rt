@@ -4,7 +4,7 @@ ghost use Rattle.std.specs.Prelude.{◌≡◌, ◌∷◌, ◌++◌, [], IfErr};
 ghost use Rattle.deb_base.specs.Bodies.{newline};
 ghost use Rattle.deb_base.specs.Devices.{write_failures_after, Puts};
 ghost use Rattle.deb_base.specs.declared.fault.Fault.TheVariants.{Read};
-ghost use Rattle.debctl_jobs.specs.Unopened.{unopened_line, unopened_words};
+ghost use Rattle.debctl_jobs.specs.Unopened.{unopened_words};
 
 use deb_base::{Fault, Sink, put_all, put_pieces};
 use itoa::Buffer;
@@ -55,6 +55,18 @@ impl Unopened {
         }
     }
 
+    /// Writes it in words after others.
+    #[tactic(auto, using(deb_base::proofs::Writes::puts))]
+    pub(crate) fn write_after<W: Sink>(self, words: &[u8], out: &mut W) -> Result<(), Fault>
+        ensures written { Puts (W.held out.old) (W.held out.new) result
+            (words.now ++ unopened_words self) }
+        ensures fault { IfErr result (λ fault. fault ≡ Fault.Write) }
+        ensures counted { W.failures out.new ≡ write_failures_after (W.failures out.old) result }
+    {
+        put_all(out, words)?;
+        self.write_words(out)
+    }
+
     /// Writes it in words behind a front, and the end of the line.
     #[tactic(auto, using(deb_base::proofs::Writes::puts))]
     pub(crate) fn write_behind<W: Sink>(self, front: &[u8], out: &mut W) -> Result<(), Fault>
@@ -66,15 +78,6 @@ impl Unopened {
         put_all(out, front)?;
         self.write_words(out)?;
         put_all(out, b"\n")
-    }
-
-    /// Writes the line of the fault with these words.
-    pub(crate) fn write_line<W: Sink>(self, out: &mut W) -> Result<(), Fault>
-        ensures written { Puts (W.held out.old) (W.held out.new) result (unopened_line self) }
-        ensures fault { IfErr result (λ fault. fault ≡ Fault.Write) }
-        ensures counted { W.failures out.new ≡ write_failures_after (W.failures out.old) result }
-    {
-        self.write_behind(b"fault: read: ", out)
     }
 }
 

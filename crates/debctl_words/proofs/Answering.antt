@@ -13,7 +13,7 @@ use Rattle.clap.specs.Walk.{Row, Text}
 use Rattle.clap.specs.declared.error.Error.{Error}
 use Rattle.clap.specs.declared.error.kind.ErrorKind.{ErrorKind}
 use Rattle.clap.specs.declared.error.kind.ErrorKind.TheVariants.{OutOfMemory}
-use Rattle.debctl_words.specs.Asked.{Asked, Request, asked_in, asked_of, asks, asks_help, unknown_kind, unknown_operator, unknown_command, unknown_code, standard_input_twice, code_beside_file, paths_or_list, has_mistake, has_request, is_request_kind, request_of, Answers, AreMistakes, AreRequests, AnswersMet, MeansError, TellsKind}
+use Rattle.debctl_words.specs.Asked.{Asked, Request, asked_in, asked_of, asks, asks_help, unknown_kind, unknown_operator, unknown_command, unknown_code, standard_input_twice, explain_takes_one, paths_or_list, has_mistake, has_request, is_request_kind, request_of, Answers, AreMistakes, AreRequests, AnswersMet, MeansError, TellsKind}
 use Rattle.debctl_words.specs.Commands.{debctl_app}
 use Rattle.debctl_words.specs.declared.jobs.Task.{Task}
 use Rattle.debctl_words.specs.declared.words.UsageFault.{UsageFault}
@@ -60,7 +60,7 @@ asked_is_met (Some asked) request (Err (Usage text)) answers is = go asked answe
     go unknown_command answers is = cc
     go unknown_code answers is = cc
     go standard_input_twice answers is = cc
-    go code_beside_file answers is = cc
+    go explain_takes_one answers is = cc
     go paths_or_list answers is = cc
 asked_is_met (Some asked) request (Err (Help text)) answers is = cc
 asked_is_met (Some asked) request (Err Memory) answers is = refl

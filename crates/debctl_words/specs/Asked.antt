@@ -13,9 +13,9 @@ use Rattle.debctl_words.specs.Commands.{debctl_app, audit_word, check_word, expl
 use Rattle.deb_base.specs.Codes.{number_of}
 use Rattle.deb_base.specs.declared.code.Code.{Code}
 use Rattle.deb_base.specs.declared.code.Code.TheVariants as code
-use Rattle.deb_field.specs.declared.kind.Doc.{Doc}
-use Rattle.deb_field.specs.declared.kind.Doc.TheVariants.{Packages}
-use Rattle.deb_field.specs.Kinds.{doc_named}
+use Rattle.deb_base.specs.Docs.{doc_named}
+use Rattle.deb_base.specs.declared.doc.Doc.{Doc}
+use Rattle.deb_base.specs.declared.doc.Doc.TheVariants.{Packages}
 use Rattle.debctl_words.specs.declared.jobs.Cmp.{Cmp}
 use Rattle.debctl_words.specs.declared.jobs.Cmp.TheVariants as cmp
 use Rattle.debctl_words.specs.declared.jobs.Explain.TheVariants as explain
@@ -23,6 +23,8 @@ use Rattle.debctl_words.specs.declared.jobs.Files.{Files}
 use Rattle.debctl_words.specs.declared.jobs.Files.TheVariants as files
 use Rattle.debctl_words.specs.declared.jobs.Job.{Job}
 use Rattle.debctl_words.specs.declared.jobs.Job.TheVariants as job
+use Rattle.debctl_words.specs.declared.jobs.LineEnd.{LineEnd}
+use Rattle.debctl_words.specs.declared.jobs.LineEnd.TheVariants.{Newline, Nul}
 use Rattle.debctl_words.specs.declared.jobs.Task.{Task}
 use Rattle.debctl_words.specs.declared.jobs.Task.TheVariants as task
 use Rattle.debctl_words.specs.declared.words.UsageFault.{UsageFault}
@@ -74,10 +76,15 @@ abbrev pub profiles_asked : Option Text → List Text
 profiles_asked None = []
 profiles_asked (Some word) = comma_pieces word
 
--- whether the reverse order is asked for: `clap` reads a flag that is given as `true`
-abbrev pub reverse_asked : Option Text → Bool
-reverse_asked None = false
-reverse_asked (Some word) = bytes_eq word (codes "true")
+-- whether a flag is given: `clap` reads one that is given as `true`
+abbrev pub flag_asked : Option Text → Bool
+flag_asked None = false
+flag_asked (Some word) = bytes_eq word (codes "true")
+
+-- what ends each record of an audit: a byte 0 where that is asked for
+abbrev pub end_asked : Bool → LineEnd
+end_asked false = Newline
+end_asked true = Nul
 
 -- the word names a command
 abbrev pub is_command : Text → Bool
@@ -111,7 +118,9 @@ pub data Wanted : Type 0 where
   queries : Text → List Text → Text → Wanted
   explains : Doc → Wanted
   tells_rule : Code → Wanted
-  audits : Doc → Audited → Wanted
+  explains_relation : Text → Wanted
+  explains_version : Text → Wanted
+  audits : Doc → Audited → LineEnd → Wanted
 
 -- what is wanted, and the paths of the files, two at most, that it reads if it is no audit
 pub record Request : Type 0 where
@@ -145,8 +154,16 @@ request_of (task.Explain (explain.File kind path)) =
     record { wanted = explains kind; first = option_map string_bytes path; second = None }
 request_of (task.Explain (explain.Rule code)) =
     record { wanted = tells_rule code; first = None; second = None }
+request_of (task.Explain (explain.Relation text)) =
+    record { wanted = explains_relation (string_bytes text); first = None; second = None }
+request_of (task.Explain (explain.Version text)) =
+    record { wanted = explains_version (string_bytes text); first = None; second = None }
 request_of (task.Audit audit) =
-    record { wanted = audits audit.doc (audited_of audit.files); first = None; second = None }
+    record {
+      wanted = audits audit.doc (audited_of audit.files) audit.end;
+      first = None;
+      second = None;
+    }
 
 -- ---- what is asked
 
@@ -160,7 +177,7 @@ pub data Asked : Type 0 where
   unknown_command : Asked
   unknown_code : Asked
   standard_input_twice : Asked
-  code_beside_file : Asked
+  explain_takes_one : Asked
   paths_or_list : Asked
 
 -- a word that a command has to have; `clap` refuses words without it
@@ -190,19 +207,42 @@ same_asked rows = option_map_or
     }))
     (kind_asked (first_of (codes "kind") rows)) unknown_kind
 
--- the rule of the code that a word names, beside which neither a kind nor a path may stand
+-- a kind or a path is given: the words of `explain` are about a file
+abbrev pub names_file : List Row → Bool
+names_file rows = is_some (first_of (codes "kind") rows) || is_some (first_of (codes "path") rows)
+
+-- `explain --version-text`, with a text and nothing else
+abbrev pub version_asked : List Row → Text → Asked
+version_asked rows text =
+    if names_file rows then explain_takes_one
+    else asks (record { wanted = explains_version text; first = None; second = None })
+
+-- `explain --relation`, with a text and nothing else
+abbrev pub relation_asked : List Row → Text → Asked
+relation_asked rows text =
+    if names_file rows || is_some (first_of (codes "version-text") rows) then explain_takes_one
+    else asks (record { wanted = explains_relation text; first = None; second = None })
+
+-- `explain --code`, with the word for a code and nothing else
 abbrev pub rule_asked : List Row → Text → Asked
 rule_asked rows word =
-    if is_some (first_of (codes "kind") rows) || is_some (first_of (codes "path") rows)
-    then code_beside_file
+    if names_file rows || is_some (first_of (codes "relation") rows)
+    || is_some (first_of (codes "version-text") rows) then explain_takes_one
     else option_map_or
     (λ code. asks (record { wanted = tells_rule code; first = None; second = None }))
     (code_named word) unknown_code
 
--- `explain`, of a code or of a file
+-- `explain`, of a relation, of a version or of a file
+abbrev pub text_asked : List Row → Asked
+text_asked rows =
+    option_map_or (relation_asked rows) (first_of (codes "relation") rows)
+    (option_map_or (version_asked rows) (first_of (codes "version-text") rows)
+    (document_asked explains rows))
+
+-- `explain`, of a code or of what else it tells of
 abbrev pub explain_asked : List Row → Asked
 explain_asked rows =
-    option_map_or (rule_asked rows) (first_of (codes "code") rows) (document_asked explains rows)
+    option_map_or (rule_asked rows) (first_of (codes "code") rows) (text_asked rows)
 
 -- the files of `audit`, of which its words name either paths or a list
 abbrev pub audited_by : Option (List Text) → Option Text → Option Audited
@@ -216,17 +256,17 @@ abbrev pub has_standard_input_twice : Audited → Bool
 has_standard_input_twice (paths given) = nat_lt 1 (count_by is_standard_input given)
 has_standard_input_twice (listed path) = false
 
--- an audit of files of this kind
-abbrev pub files_asked : Option Audited → Doc → Asked
-files_asked None kind = paths_or_list
-files_asked (Some audited) kind =
+-- an audit of files of this kind, with this end of each record
+abbrev pub files_asked : LineEnd → Option Audited → Doc → Asked
+files_asked end None kind = paths_or_list
+files_asked end (Some audited) kind =
     if has_standard_input_twice audited then standard_input_twice
-    else asks (record { wanted = audits kind audited; first = None; second = None })
+    else asks (record { wanted = audits kind audited end; first = None; second = None })
 
 -- `audit`
 abbrev pub audit_asked : List Row → Asked
 audit_asked rows = option_map_or
-    (files_asked
+    (files_asked (end_asked (flag_asked (first_of (codes "null") rows)))
     (audited_by (all_of (codes "path") rows) (first_of (codes "files0-from") rows)))
     (kind_asked (first_of (codes "kind") rows)) unknown_kind
 
@@ -251,7 +291,7 @@ canon_version_asked rows =
 abbrev pub sort_asked : List Row → Asked
 sort_asked rows =
     asks (record {
-      wanted = sorts (reverse_asked (first_of (codes "reverse") rows));
+      wanted = sorts (flag_asked (first_of (codes "reverse") rows));
       first = first_of (codes "path") rows;
       second = None;
     })
@@ -301,7 +341,8 @@ IsUsage unknown_operator text = text ≡ codes "usage: unknown operator"
 IsUsage unknown_command text = text ≡ codes "usage: unknown command"
 IsUsage unknown_code text = text ≡ codes "usage: unknown code"
 IsUsage standard_input_twice text = text ≡ codes "usage: standard input twice"
-IsUsage code_beside_file text = text ≡ codes "usage: explain takes a code or a file"
+IsUsage explain_takes_one text =
+    text ≡ codes "usage: explain takes one file, code, relation or version"
 IsUsage paths_or_list text = text ≡ codes "usage: audit takes paths, or --files0-from"
 IsUsage (asks _) text = ⊥
 IsUsage asks_help text = ⊥

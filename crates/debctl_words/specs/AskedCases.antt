@@ -6,11 +6,12 @@ use Rattle.clap.specs.Faults.{fault_of}
 use Rattle.clap.specs.Takes.{takes}
 use Rattle.clap.specs.Walk.{Text}
 use Rattle.clap.specs.declared.error.kind.ErrorKind.TheVariants as kind
-use Rattle.debctl_words.specs.Asked.{asked_of, asks, asks_help, audits, code_beside_file, code_named, explains, listed, paths, paths_or_list, tells_rule, unknown_code, canonicalises, checks, comma_pieces, compares, kind_asked, normalises, profiles_asked, queries, sorts, tells_same, unknown_command, unknown_kind, unknown_operator, standard_input_twice, operator_named, Asked}
+use Rattle.debctl_words.specs.Asked.{asked_of, asks, asks_help, audits, code_named, explain_takes_one, explains, explains_relation, explains_version, listed, paths, paths_or_list, tells_rule, unknown_code, canonicalises, checks, comma_pieces, compares, kind_asked, normalises, profiles_asked, queries, sorts, tells_same, unknown_command, unknown_kind, unknown_operator, standard_input_twice, operator_named, Asked}
 use Rattle.debctl_words.specs.Commands.{debctl_app}
 use Rattle.deb_base.specs.declared.code.Code.TheVariants as code
-use Rattle.deb_field.specs.declared.kind.Doc.TheVariants.{Any, Binary, Packages, Source, Sources}
+use Rattle.deb_base.specs.declared.doc.Doc.TheVariants.{Any, Binary, Packages, Source, Sources}
 use Rattle.debctl_words.specs.declared.jobs.Cmp.TheVariants as cmp
+use Rattle.debctl_words.specs.declared.jobs.LineEnd.TheVariants.{Newline, Nul}
 
 -- words behind the program's name
 abbrev line : List Text → List Text
@@ -216,22 +217,72 @@ unfolding clap_on_literals digits
 unknown_code_word = refl
 
 code_beside_a_path : asked_of (line (codes "explain" ∷ codes "--code" ∷ codes "1" ∷ codes "-" ∷ []))
-    ≡ Some code_beside_file
+    ≡ Some explain_takes_one
 unfolding clap_on_literals
 code_beside_a_path = refl
 
 code_beside_a_kind : asked_of
     (line (codes "explain" ∷ codes "--kind=foo" ∷ codes "--code=24" ∷ []))
-    ≡ Some code_beside_file
+    ≡ Some explain_takes_one
 unfolding clap_on_literals
 code_beside_a_kind = refl
+
+explain_a_relation : asked_of
+    (line (codes "explain" ∷ codes "--relation" ∷ codes "bb cc" ∷ []))
+    ≡ Some (asks (record {
+      wanted = explains_relation (codes "bb cc");
+      first = None;
+      second = None;
+    }))
+unfolding clap_on_literals
+explain_a_relation = refl
+
+explain_a_version : asked_of (line (codes "explain" ∷ codes "--version-text=-1" ∷ []))
+    ≡ Some (asks (record { wanted = explains_version (codes "-1"); first = None; second = None }))
+unfolding clap_on_literals
+explain_a_version = refl
+
+-- each of the three is given alone
+relation_beside_a_path : asked_of
+    (line (codes "explain" ∷ codes "--relation" ∷ codes "aa" ∷ codes "-" ∷ []))
+    ≡ Some explain_takes_one
+unfolding clap_on_literals
+relation_beside_a_path = refl
+
+version_beside_a_kind : asked_of
+    (line (codes "explain" ∷ codes "-k" ∷ codes "any" ∷ codes "--version-text" ∷ codes "1" ∷ []))
+    ≡ Some explain_takes_one
+unfolding clap_on_literals
+version_beside_a_kind = refl
+
+version_beside_a_relation : asked_of
+    (line (codes "explain" ∷ codes "--version-text=1" ∷ codes "--relation=aa" ∷ []))
+    ≡ Some explain_takes_one
+unfolding clap_on_literals
+version_beside_a_relation = refl
+
+relation_beside_a_code : asked_of
+    (line (codes "explain" ∷ codes "--relation=aa" ∷ codes "--code=1" ∷ []))
+    ≡ Some explain_takes_one
+unfolding clap_on_literals
+relation_beside_a_code = refl
+
+version_beside_a_code : asked_of
+    (line (codes "explain" ∷ codes "--code=1" ∷ codes "--version-text=1" ∷ []))
+    ≡ Some explain_takes_one
+unfolding clap_on_literals
+version_beside_a_code = refl
 
 -- ---- `audit`
 
 -- the paths that an audit of packages is asked of
 abbrev audits_paths : List Text → Option Asked
 audits_paths given =
-    Some (asks (record { wanted = audits Packages (paths given); first = None; second = None }))
+    Some (asks (record {
+      wanted = audits Packages (paths given) Newline;
+      first = None;
+      second = None;
+    }))
 
 audit_of_one : asked_of (line (codes "audit" ∷ codes "x" ∷ []))
     ≡ audits_paths (codes "x" ∷ [])
@@ -247,7 +298,7 @@ audit_in_order = refl
 kind_between_paths : asked_of
     (line (codes "audit" ∷ codes "x" ∷ codes "--kind" ∷ codes "any" ∷ codes "y" ∷ []))
     ≡ Some (asks (record {
-      wanted = audits Any (paths (codes "x" ∷ codes "y" ∷ []));
+      wanted = audits Any (paths (codes "x" ∷ codes "y" ∷ [])) Newline;
       first = None;
       second = None;
     }))
@@ -264,12 +315,28 @@ path_with_hyphen = refl
 audit_of_a_list : asked_of
     (line (codes "audit" ∷ codes "-ksource" ∷ codes "--files0-from" ∷ codes "-" ∷ []))
     ≡ Some (asks (record {
-      wanted = audits Source (listed (codes "-"));
+      wanted = audits Source (listed (codes "-")) Newline;
       first = None;
       second = None;
     }))
 unfolding clap_on_literals kind_asked
 audit_of_a_list = refl
+
+audit_with_bytes_0 : asked_of
+    (line (codes "audit" ∷ codes "x" ∷ codes "--null" ∷ codes "y" ∷ []))
+    ≡ Some (asks (record {
+      wanted = audits Packages (paths (codes "x" ∷ codes "y" ∷ [])) Nul;
+      first = None;
+      second = None;
+    }))
+unfolding clap_on_literals kind_asked
+audit_with_bytes_0 = refl
+
+short_null : asked_of
+    (line (codes "audit" ∷ codes "-0kany" ∷ codes "--files0-from" ∷ codes "x" ∷ []))
+    ≡ Some (asks (record { wanted = audits Any (listed (codes "x")) Nul; first = None; second = None }))
+unfolding clap_on_literals kind_asked
+short_null = refl
 
 audit_of_nothing : asked_of (line (codes "audit" ∷ [])) ≡ Some paths_or_list
 unfolding clap_on_literals kind_asked

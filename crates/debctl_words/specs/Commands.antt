@@ -29,10 +29,27 @@ profiles_rule =
 abbrev pub code_rule : Rule
 code_rule = record (new_rule (codes "code")) { long = Some (codes "code"); value_names = 1 }
 
+-- `--relation TEXT`
+abbrev pub relation_rule : Rule
+relation_rule =
+    record (new_rule (codes "relation")) { long = Some (codes "relation"); value_names = 1 }
+
+-- `--version-text TEXT`
+abbrev pub version_rule : Rule
+version_rule =
+    record (new_rule (codes "version-text"))
+    { long = Some (codes "version-text"); value_names = 1 }
+
 -- `--files0-from PATH`
 abbrev pub list_rule : Rule
 list_rule =
     record (new_rule (codes "files0-from")) { long = Some (codes "files0-from"); value_names = 1 }
+
+-- `--null`, or `-0` (0 is 48), which takes no value
+abbrev pub null_rule : Rule
+null_rule =
+    record (new_rule (codes "null"))
+    { short = Some 48; long = Some (codes "null"); action = Some SetTrue }
 
 -- paths, of which there may be any number
 abbrev pub paths_rule : Rule
@@ -87,15 +104,18 @@ help_word = codes "help"
 abbrev pub document_app : Text → App
 document_app name = with_rule (with_rule (new_app name) kind_rule) (optional_rule (codes "path"))
 
--- `explain [--kind K] [PATH]` and `explain --code N`
+-- `explain [--kind K] [PATH]`, `explain --code N`, `explain --relation TEXT` and
+-- `explain --version-text TEXT`
 abbrev pub explain_app : App
 explain_app =
-    with_rule (with_rule (with_rule (new_app explain_word) kind_rule) code_rule)
-    (optional_rule (codes "path"))
+    with_rule (with_rule (with_rule (with_rule (with_rule (new_app explain_word) kind_rule)
+    code_rule) relation_rule) version_rule) (optional_rule (codes "path"))
 
--- `audit [--kind K] PATH ..` and `audit [--kind K] --files0-from PATH`
+-- `audit [--kind K] [--null] PATH ..` and `audit [--kind K] [--null] --files0-from PATH`
 abbrev pub audit_app : App
-audit_app = with_rule (with_rule (with_rule (new_app audit_word) kind_rule) list_rule) paths_rule
+audit_app =
+    with_rule (with_rule (with_rule (with_rule (new_app audit_word) kind_rule) list_rule)
+    null_rule) paths_rule
 
 -- `same [--kind K] PATH PATH`
 abbrev pub same_app : App

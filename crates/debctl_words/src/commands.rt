@@ -1,8 +1,9 @@
 //! The commands as `clap` knows them: their names, options and words.
 
 ghost use Rattle.std.specs.Prelude.{◌≡◌, IfOk, false};
+ghost use Rattle.clap.specs.Simple.{App, with_subcommand};
 ghost use Rattle.clap.specs.Words.{rule_of};
-ghost use Rattle.debctl_words.specs.Commands.{arch_rule, audit_app, bare_app, code_rule, explain_app, list_rule, paths_rule, canon_version_app, check_word, normalise_word, compare_app, debctl_app, document_app, help_app, kind_rule, optional_rule, profiles_rule, query_app, required_rule, reverse_rule, same_app, sort_app, IsShaped};
+ghost use Rattle.debctl_words.specs.Commands.{arch_rule, audit_app, bare_app, code_rule, explain_app, list_rule, paths_rule, canon_version_app, check_word, normalise_word, compare_app, debctl_app, document_app, help_app, kind_rule, null_rule, optional_rule, profiles_rule, query_app, relation_rule, required_rule, reverse_rule, same_app, sort_app, version_rule, IsShaped};
 
 use crate::helps::{
     ARCH_HELP, AUDIT_HELP, CANON_VERSION_HELP, CHECK_HELP, CODE_HELP, COMPARE_HELP, DEBCTL_HELP,
@@ -10,7 +11,7 @@ use crate::helps::{
     SORT_HELP,
 };
 use clap::{Arg, ArgAction, Command};
-use deb_field::{Doc, is_single};
+use deb_base::{Doc, is_single};
 use std::alloc::{AllocError, Global};
 
 /// The help of `--kind`: a line for each kind of document.
@@ -32,17 +33,31 @@ pub(crate) fn kinds_help(alloc: Global) -> Result<String, AllocError> {
 pub(crate) fn debctl_command<'a>(alloc: Global, kinds: &'a str) -> Result<Command<'a>, AllocError>
     ensures { IfOk result (IsShaped debctl_app) }
 {
-    bare_command(alloc)
-        .subcommand(check_command(alloc, kinds)?)?
-        .subcommand(explain_command(alloc, kinds)?)?
-        .subcommand(audit_command(alloc, kinds)?)?
-        .subcommand(normalise_command(alloc, kinds)?)?
-        .subcommand(same_command(alloc, kinds)?)?
-        .subcommand(compare_command(alloc)?)?
-        .subcommand(canon_version_command(alloc)?)?
-        .subcommand(sort_command(alloc)?)?
-        .subcommand(query_command(alloc)?)?
-        .subcommand(help_command(alloc)?)
+    let with_check = with_command(Ok(bare_command(alloc)), check_command(alloc, kinds));
+    let with_explain = with_command(with_check, explain_command(alloc, kinds));
+    let with_audit = with_command(with_explain, audit_command(alloc, kinds));
+    let with_normalise = with_command(with_audit, normalise_command(alloc, kinds));
+    let with_same = with_command(with_normalise, same_command(alloc, kinds));
+    let with_compare = with_command(with_same, compare_command(alloc));
+    let with_canon_version = with_command(with_compare, canon_version_command(alloc));
+    let with_sort = with_command(with_canon_version, sort_command(alloc));
+    let with_query = with_command(with_sort, query_command(alloc));
+    with_command(with_query, help_command(alloc))
+}
+
+/// A command with one more below it, if both were made. It takes `Result`s, so that its caller
+/// owns few values where it could return early.
+fn with_command<'a>(
+    to: Result<Command<'a>, AllocError>,
+    below: Result<Command<'a>, AllocError>,
+) -> Result<Command<'a>, AllocError>
+    ensures { (above under : App) → IfOk to.entry (IsShaped above)
+        → IfOk below.entry (IsShaped under)
+        → IfOk result (IsShaped (with_subcommand above under.top)) }
+{
+    let command = to?;
+    let added = below?;
+    command.subcommand(added)
 }
 
 /// The program without its commands.
@@ -70,7 +85,8 @@ pub(crate) fn check_command<'a>(alloc: Global, kinds: &'a str) -> Result<Command
     )
 }
 
-/// `explain [--kind K] [PATH]` and `explain --code N`
+/// `explain [--kind K] [PATH]`, `explain --code N`, `explain --relation TEXT` and
+/// `explain --version-text TEXT`
 pub(crate) fn explain_command<'a>(alloc: Global, kinds: &'a str) -> Result<Command<'a>, AllocError>
     ensures { IfOk result (IsShaped explain_app) }
 {
@@ -79,6 +95,8 @@ pub(crate) fn explain_command<'a>(alloc: Global, kinds: &'a str) -> Result<Comma
         .after_help(EXPLAIN_HELP)
         .arg(kind_option(alloc, kinds))?
         .arg(code_option(alloc))?
+        .arg(relation_option(alloc))?
+        .arg(version_option(alloc))?
         .arg(optional_word(
             alloc,
             "path",
@@ -87,7 +105,7 @@ pub(crate) fn explain_command<'a>(alloc: Global, kinds: &'a str) -> Result<Comma
         ))
 }
 
-/// `audit [--kind K] PATH ..` and `audit [--kind K] --files0-from PATH`
+/// `audit [--kind K] [--null] PATH ..` and `audit [--kind K] [--null] --files0-from PATH`
 pub(crate) fn audit_command<'a>(alloc: Global, kinds: &'a str) -> Result<Command<'a>, AllocError>
     ensures { IfOk result (IsShaped audit_app) }
 {
@@ -96,6 +114,7 @@ pub(crate) fn audit_command<'a>(alloc: Global, kinds: &'a str) -> Result<Command
         .after_help(AUDIT_HELP)
         .arg(kind_option(alloc, kinds))?
         .arg(list_option(alloc))?
+        .arg(null_option(alloc))?
         .arg(paths(alloc))
 }
 
@@ -257,6 +276,28 @@ fn code_option<'a>(alloc: Global) -> Arg<'a>
         .help(CODE_HELP)
 }
 
+/// `--relation TEXT`
+fn relation_option<'a>(alloc: Global) -> Arg<'a>
+    ensures rule { rule_of result ≡ relation_rule }
+    ensures local { result.global ≡ false }
+{
+    Arg::new(alloc, "relation")
+        .long("relation")
+        .value_name("TEXT")
+        .help("Explain this relation, as `query` takes it, alone")
+}
+
+/// `--version-text TEXT`
+fn version_option<'a>(alloc: Global) -> Arg<'a>
+    ensures rule { rule_of result ≡ version_rule }
+    ensures local { result.global ≡ false }
+{
+    Arg::new(alloc, "version-text")
+        .long("version-text")
+        .value_name("TEXT")
+        .help("Explain this version alone")
+}
+
 /// `--files0-from PATH`
 fn list_option<'a>(alloc: Global) -> Arg<'a>
     ensures rule { rule_of result ≡ list_rule }
@@ -266,6 +307,18 @@ fn list_option<'a>(alloc: Global) -> Arg<'a>
         .long("files0-from")
         .value_name("PATH")
         .help(FILES_HELP)
+}
+
+/// `--null` or `-0`
+fn null_option<'a>(alloc: Global) -> Arg<'a>
+    ensures rule { rule_of result ≡ null_rule }
+    ensures local { result.global ≡ false }
+{
+    Arg::new(alloc, "null")
+        .short('0')
+        .long("null")
+        .help("End each line with a byte 0, and print paths as they are")
+        .action(ArgAction::SetTrue)
 }
 
 /// `PATH ..`

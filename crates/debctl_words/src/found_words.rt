@@ -2,11 +2,12 @@
 
 ghost use Rattle.std.specs.Prelude.{◌≡◌, nat_lt, count_by, map, codes, string_bytes, option_map, IfOk, option_copied};
 ghost use Rattle.clap.specs.Words.{all_of, first_of, found_of, rows_of};
-ghost use Rattle.debctl_words.specs.Asked.{comma_pieces, is_standard_input, kind_asked, profiles_asked, reverse_asked, word_in, MeansKind};
+ghost use Rattle.debctl_words.specs.Asked.{comma_pieces, end_asked, flag_asked, is_standard_input, kind_asked, names_file, profiles_asked, word_in, MeansKind};
 
+use crate::jobs::LineEnd;
 use crate::words::{UsageFault, usage};
 use clap::ArgMatches;
-use deb_field::Doc;
+use deb_base::Doc;
 use std::alloc::{AllocError, Global};
 
 /// The kind of document that `--kind` names, or a list of packages without it.
@@ -24,14 +25,33 @@ pub(crate) fn kind_in(alloc: Global, found: &ArgMatches<'_>) -> Result<Doc, Usag
     }
 }
 
-/// Whether `--reverse` is given.
-pub(crate) fn reverse_in(found: &ArgMatches<'_>) -> bool
-    ensures { result ≡ reverse_asked (first_of (codes "reverse") (rows_of (found_of found.now))) }
+/// Whether a flag is given.
+pub(crate) fn flag_in(found: &ArgMatches<'_>, id: &str) -> bool
+    ensures { result ≡ flag_asked (first_of id.now (rows_of (found_of found.now))) }
 {
-    match given(found, "reverse") {
+    match given(found, id) {
         Some(word) => word == "true",
         None => false,
     }
+}
+
+/// What ends each record of an audit: a byte 0 if `--null` is given.
+pub(crate) fn end_in(found: &ArgMatches<'_>) -> LineEnd
+    ensures { result
+        ≡ end_asked (flag_asked (first_of (codes "null") (rows_of (found_of found.now)))) }
+{
+    if flag_in(found, "null") {
+        LineEnd::Nul
+    } else {
+        LineEnd::Newline
+    }
+}
+
+/// Whether `--kind` or a path is given.
+pub(crate) fn names_file(found: &ArgMatches<'_>) -> bool
+    ensures { result ≡ names_file (rows_of (found_of found.now)) }
+{
+    given(found, "kind").is_some() || given(found, "path").is_some()
 }
 
 /// The profiles that `--profiles` names, or none without it.

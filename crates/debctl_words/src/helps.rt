@@ -35,19 +35,24 @@ pub(crate) const EXPLAIN_HELP: &str = "\
 The file is read as by `check`, and is held in memory whole. If it is accepted,
 `ok N` is printed, for a file of N paragraphs. If it is refused, its first fault is
 printed in lines `KEY: VALUE`, with those of these keys that it has:
-  file     the path, as it is given
+  file     the path, with control characters escaped
   line     the line of the file, from 1
   code     the number of the code
   name     the name of the code
   field    the name of the field
   place    where in the value of the field the fault is, in bytes from 0
+  at       the same in the file, as LINE:COLUMN in bytes, both from 1
   reason   what is wrong there
   value    the value of the field
   rule     the rule that is broken, with its section of Debian Policy
   usually  what such a refusal usually comes from
 Of a file that can't be opened `file`, `fault: read` and `reason` are printed: why it
-can't. With `--code N`, what is known of the code alone is printed, and no file is
-read.
+can't.
+
+With one of these options no file is read:
+  --code N             what is known of the code alone is printed
+  --relation TEXT      this relation is explained, as `query` takes it
+  --version-text TEXT  this version is explained
 
 Statuses:
   0  accepted, or `--code` is given
@@ -62,6 +67,7 @@ Example:
   name: BadRelation
   field: Depends
   place: 3
+  at: 2:13
   reason: Trailing
   value: bb cc
   rule: The value is a list of packages, with versions in parentheses (Debian Policy 7.1).
@@ -69,13 +75,15 @@ Example:
   2";
 
 pub(crate) const AUDIT_HELP: &str = "\
-Each file is read as by `check`, and has one line, in the order of the paths, which
-stand there as they are given:
+Each file is read as by `check`, and one line is printed for it, in the order of the
+paths:
   PATH: ok N               accepted, with N paragraphs
   PATH: line N: CODE NAME  refused, for its first fault
   PATH: fault: read        it can't be read
   PATH: fault: read: WHY   it can't be opened, and why
-A file that is refused, or can't be read, doesn't end the audit.
+A newline or another control character of a path is printed escaped, as `\\n`. With
+`--null` each line ends with a byte 0 in place of a newline, and paths are printed as
+they are. A file that is refused, or can't be read, doesn't end the audit.
 
 Statuses, of which the greatest is answered:
   0  each file is accepted
@@ -192,6 +200,8 @@ one line is printed:
 Below a line `met GROUP`, each package that meets it has a line
 ` NUMBER PACKAGE VERSION ARCHITECTURE`, with its place in the index, from 1.
 The former operators `<` and `>` of a bound mean `<=` and `>=`.
+/var/lib/dpkg/status lists packages that were removed, too: filter these out first,
+with `grep-dctrl -F Status 'ok installed' /var/lib/dpkg/status | debctl query ..`.
 
 Statuses:
   0  no group is unmet

@@ -1,7 +1,6 @@
 //! What the program can be asked to do.
 
-use deb_base::Code;
-use deb_field::Doc;
+use deb_base::{Code, Doc};
 
 /// What the program is asked to do.
 #[derive(Debug, PartialEq, Eq, Drop)]
@@ -75,13 +74,27 @@ pub enum Explain {
     File { doc: Doc, path: Option<String> },
     /// `--code N`: the rule of a code.
     Rule(Code),
+    /// `--relation TEXT`: the refusal of a relation, as `query` takes it. Any text may be one.
+    Relation(String),
+    /// `--version-text TEXT`: the refusal of a version. Any text may be one.
+    Version(String),
 }
 
-/// The files that `audit` reads, each of this kind.
+/// The files that `audit` reads, each of this kind, and what ends each record that it prints.
 #[derive(Debug, PartialEq, Eq, Drop)]
 pub struct Audit {
     pub doc: Doc,
     pub files: Files,
+    pub end: LineEnd,
+}
+
+/// What ends each record that `audit` prints.
+#[derive(Clone, Copy, Debug, PartialEq, Eq)]
+pub enum LineEnd {
+    /// A newline; paths are printed with escapes.
+    Newline,
+    /// `--null`: a byte 0; paths are printed as they are.
+    Nul,
 }
 
 /// Which files `audit` reads.

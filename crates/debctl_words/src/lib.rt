@@ -21,5 +21,5 @@ mod jobs;
 mod operator_word;
 mod words;
 
-pub use jobs::{Audit, Call, Cmp, Explain, Files, Job, Task};
+pub use jobs::{Audit, Call, Cmp, Explain, Files, Job, LineEnd, Task};
 pub use words::{UsageFault, job_of};

@@ -2,7 +2,7 @@
 
 ghost use Rattle.std.specs.Prelude.{◌≡◌, [], Some, None, map, true, codes, string_bytes, option_map, IfOk, IfErr, option_copied};
 ghost use Rattle.clap.specs.Words.{fault_of, first_of, found_of, has_subcommand, kind_of, rows_of, subcommand_rows_of, takes};
-ghost use Rattle.debctl_words.specs.Asked.{asked_by, asked_in, asked_of, asks, audit_asked, canon_version_asked, checks, compare_asked, document_asked, explain_asked, help_asked, normalises, query_asked, request_of, rule_asked, same_asked, sort_asked, word_in, Answers, AnswersError, AnswersMet, IsHelp, MeansError, Request, TellsKind, UsesText};
+ghost use Rattle.debctl_words.specs.Asked.{asked_by, asked_in, asked_of, asks, audit_asked, canon_version_asked, checks, compare_asked, document_asked, explain_asked, help_asked, normalises, query_asked, relation_asked, request_of, rule_asked, same_asked, sort_asked, text_asked, version_asked, word_in, Answers, AnswersError, AnswersMet, IsHelp, MeansError, Request, TellsKind, UsesText};
 ghost use Rattle.debctl_words.specs.Commands.{debctl_app};
 
 use crate::code_word::code_named;
@@ -12,14 +12,17 @@ use crate::commands::{
     sort_command,
 };
 use crate::found_words::{
-    given, is_standard_input_twice, kind_in, owned_paths, path_in, paths_in, profiles_in,
-    reverse_in, word_in,
+    end_in, flag_in, given, is_standard_input_twice, kind_in, names_file, owned_paths, path_in,
+    paths_in, profiles_in, word_in,
 };
 use crate::jobs::{Audit, Call, Explain, Files, Job, Task};
 use crate::operator_word::operator_named;
 use clap::error::{Error, ErrorKind};
 use clap::{ArgMatches, Command};
 use std::alloc::{AllocError, Global};
+
+/// The text for an `explain` of two things.
+const EXPLAIN_ONE: &str = "usage: explain takes one file, code, relation or version";
 
 /// The text for an audit of neither paths nor a list, and for one of both.
 const PATHS_OR_LIST: &str = "usage: audit takes paths, or --files0-from";
@@ -51,25 +54,26 @@ impl From<AllocError> for UsageFault {
 /// The task that the program's words ask for; the first word is the program's name.
 ///
 /// `check [--kind K] [PATH]`, `explain [--kind K] [PATH]`, `explain --code N`,
-/// `normalise [--kind K] [PATH]`, `same [--kind K] PATH PATH`, `compare V OP V`,
-/// `canon-version V`, `sort [--reverse] [PATH]` and
-/// `query --arch A [--profiles P,P] RELATION [PATH]` ask for a task, `audit [--kind K] PATH ..` and
-/// `audit [--kind K] --files0-from PATH` for an audit. `help [COMMAND]` asks for help, and so do
-/// `--help` and `--version`.
+/// `explain --relation TEXT`, `explain --version-text TEXT`, `normalise [--kind K] [PATH]`,
+/// `same [--kind K] PATH PATH`, `compare V OP V`, `canon-version V`, `sort [--reverse] [PATH]` and
+/// `query --arch A [--profiles P,P] RELATION [PATH]` ask for a task,
+/// `audit [--kind K] [--null] PATH ..` and `audit [--kind K] [--null] --files0-from PATH` for an
+/// audit. `help [COMMAND]` asks for help, and so do `--help` and `--version`.
 ///
 /// The profiles of `query` are what stands between the commas of its P,P; without it there are
 /// none. Of a version, an architecture, a profile and a relation any text is taken: whether it is
 /// one is judged by the job.
 ///
-/// `-k` stands for `--kind`. Where a path is `-`, it is answered as it is: the program reads
-/// standard input there. N is the number of a code, from 1 to 23, in decimal.
+/// `-k` is short for `--kind`, and `-0` for `--null`. Where a path is `-`, it is answered as it is:
+/// the program reads standard input there. N is the number of a code, from 1 to 23, in decimal.
 ///
 /// - `UsageFault::Usage`: an argument is bad, or one is missing. Of a K, an OP, a COMMAND or an N
 ///   that isn't known the text is `usage: unknown kind`, `usage: unknown operator`,
 ///   `usage: unknown command` or `usage: unknown code`; of `same - -`, and of an audit with two
-///   paths `-`, `usage: standard input twice`; of a kind or a path beside a code
-///   `usage: explain takes a code or a file`; of an audit with neither paths nor a list, or with
-///   both, `usage: audit takes paths, or --files0-from`; of all else it is `clap`'s.
+///   paths `-`, `usage: standard input twice`; of an `explain` with two of a code, a relation, a
+///   version and a file, which a kind or a path names,
+///   `usage: explain takes one file, code, relation or version`; of an audit with neither paths nor
+///   a list, or with both, `usage: audit takes paths, or --files0-from`; of all else it is `clap`'s.
 /// - `UsageFault::Help`: the words ask for help or for the version.
 /// - `UsageFault::Memory`: a growth of memory was refused.
 pub fn job_of(alloc: Global, words: &[String]) -> Result<Task, UsageFault>
@@ -166,17 +170,53 @@ fn explain_task(alloc: Global, found: &ArgMatches<'_>) -> Result<Task, UsageFaul
     if let Some(word) = given(found, "code") {
         return rule_task(alloc, found, word);
     }
+    text_task(alloc, found)
+}
+
+/// `explain` without `--code`.
+fn text_task(alloc: Global, found: &ArgMatches<'_>) -> Result<Task, UsageFault>
+    ensures { Answers (text_asked (rows_of (found_of found.now))) result }
+{
+    if let Some(text) = given(found, "relation") {
+        return relation_task(alloc, found, text);
+    }
+    if let Some(text) = given(found, "version-text") {
+        return version_task(alloc, found, text);
+    }
     let doc = kind_in(alloc, found)?;
     let path = path_in(alloc, found)?;
     Ok(Task::Explain(Explain::File { doc, path }))
+}
+
+/// `explain --relation`, with the relation.
+fn relation_task(alloc: Global, found: &ArgMatches<'_>, text: &str) -> Result<Task, UsageFault>
+    ensures { Answers (relation_asked (rows_of (found_of found.now)) text.now) result }
+{
+    if names_file(found) || given(found, "version-text").is_some() {
+        return Err(usage(alloc, EXPLAIN_ONE));
+    }
+    Ok(Task::Explain(Explain::Relation(String::from_str(alloc, text)?)))
+}
+
+/// `explain --version-text`, with the version.
+fn version_task(alloc: Global, found: &ArgMatches<'_>, text: &str) -> Result<Task, UsageFault>
+    ensures { Answers (version_asked (rows_of (found_of found.now)) text.now) result }
+{
+    if names_file(found) {
+        return Err(usage(alloc, EXPLAIN_ONE));
+    }
+    Ok(Task::Explain(Explain::Version(String::from_str(alloc, text)?)))
 }
 
 /// `explain --code`, with the word for the code.
 fn rule_task(alloc: Global, found: &ArgMatches<'_>, word: &str) -> Result<Task, UsageFault>
     ensures { Answers (rule_asked (rows_of (found_of found.now)) word.now) result }
 {
-    if given(found, "kind").is_some() || given(found, "path").is_some() {
-        return Err(usage(alloc, "usage: explain takes a code or a file"));
+    if names_file(found)
+        || given(found, "relation").is_some()
+        || given(found, "version-text").is_some()
+    {
+        return Err(usage(alloc, EXPLAIN_ONE));
     }
     match code_named(word) {
         Some(code) => Ok(Task::Explain(Explain::Rule(code))),
@@ -197,7 +237,11 @@ fn audit_task(alloc: Global, found: &ArgMatches<'_>) -> Result<Task, UsageFault>
         (None, None) => return Err(usage(alloc, PATHS_OR_LIST)),
         (Some(_), Some(_)) => return Err(usage(alloc, PATHS_OR_LIST)),
     };
-    Ok(Task::Audit(Audit { doc, files }))
+    Ok(Task::Audit(Audit {
+        doc,
+        files,
+        end: end_in(found),
+    }))
 }
 
 fn normalise_task(alloc: Global, found: &ArgMatches<'_>) -> Result<Task, UsageFault>
@@ -257,7 +301,7 @@ fn canon_version_task(alloc: Global, found: &ArgMatches<'_>) -> Result<Task, Usa
 fn sort_task(alloc: Global, found: &ArgMatches<'_>) -> Result<Task, UsageFault>
     ensures { Answers (sort_asked (rows_of (found_of found.now))) result }
 {
-    let reverse = reverse_in(found);
+    let reverse = flag_in(found, "reverse");
     Ok(Task::Run(Call {
         job: Job::Sort { reverse },
         first: path_in(alloc, found)?,

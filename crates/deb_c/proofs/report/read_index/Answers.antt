@@ -1,7 +1,7 @@
 use Rattle.std.proofs.Common.{◌≡◌, Some, subst}
 use Rattle.deb_base.specs.Faults.{MatchFault}
 use Rattle.deb_control.specs.Documents.{refusal_of}
-use Rattle.deb_field.specs.declared.kind.Doc.TheVariants.{Packages}
+use Rattle.deb_base.specs.declared.doc.Doc.TheVariants.{Packages}
 use Rattle.deb_c.proofs.report.read_index.Goals as goal
 
 pub returns-in-Err-Refused-clause-fault : goal.returns-in-Err-Refused-clause-fault

@@ -1,6 +1,6 @@
 use Rattle.std.proofs.lemmas.Result.{err_from_is_err_and}
 use Rattle.deb_base.proofs.Writes.{AppendsFront-pieces}
-use Rattle.deb_explain.specs.Telling.{escaped_byte}
+use Rattle.deb_explain.specs.Escapes.{escaped_byte}
 use Rattle.deb_explain.proofs.telling.write_escaped.Goals as goal
 
 pub returns-in_err-write_byte-clause-written : goal.returns-in_err-write_byte-clause-written

@@ -1,7 +1,7 @@
 use Rattle.std.proofs.Common.{◌≡◌, take}
 use Rattle.std.specs.List.{flat_map}
 use Rattle.std.specs.Io.KnownBytes.{Appends}
-use Rattle.deb_explain.specs.Telling.{escaped_byte}
+use Rattle.deb_explain.specs.Escapes.{escaped_byte}
 use Rattle.deb_explain.proofs.telling.write_escaped.Given as goal
 
 abbrev pub invariant-loop-byte : goal.invariant-loop-byte

@@ -22,7 +22,7 @@ texts_split paths i below =
 
 pub loop-path-init : goal.loop-path-init
 loop-path-init g c = record {
-  told = audits_none g.F.Reader.Source.left g.F.Reader.Source.failures c.args.doc (g.F.Opens.text c.args.files.now) _ _ _;
+  told = audits_none g.F.Reader.Source.left g.F.Reader.Source.failures c.args.options.doc c.args.options.end (g.F.Opens.text c.args.files.now) _ _ _;
   stays = refl;
 }
 
@@ -32,7 +32,7 @@ loop-path-preserved g c =
     let next = rw c.loop-path.invariant.stays at c.in_ok-audit_file.ensures.audits in
     record {
       told = rw (texts_more c.args.paths.now i c.loop-path-test.true, c.max-status.ensures)
-          (audits_more g.F.Reader.Source.left g.F.Reader.Source.failures c.args.doc (g.F.Opens.text c.args.files.now) _ _ _ _ _ _ _ _ _ _ _ _ c.loop-path.invariant.told _ next);
+          (audits_more g.F.Reader.Source.left g.F.Reader.Source.failures c.args.options.doc c.args.options.end (g.F.Opens.text c.args.files.now) _ _ _ _ _ _ _ _ _ _ _ _ c.loop-path.invariant.told _ next);
       stays = c.audit_file.ensures.stays ∙ c.loop-path.invariant.stays;
     }
 
@@ -42,4 +42,4 @@ returns-in_err-audit_file g c =
     let i = c.loop-path.path-index in
     let next = rw c.loop-path.invariant.stays at c.in_err-audit_file.ensures.audits in
     rw (p.1, p.2, texts_split c.args.paths.now i c.loop-path-test.true)
-    (audits_stopped g.F.Reader.Source.left g.F.Reader.Source.failures c.args.doc (g.F.Opens.text c.args.files.now) _ _ _ _ _ _ _ _ _ _ _ _ c.loop-path.invariant.told _ _ next)
+    (audits_stopped g.F.Reader.Source.left g.F.Reader.Source.failures c.args.options.doc c.args.options.end (g.F.Opens.text c.args.files.now) _ _ _ _ _ _ _ _ _ _ _ _ c.loop-path.invariant.told _ _ next)

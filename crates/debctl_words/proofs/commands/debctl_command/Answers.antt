@@ -1,16 +1,16 @@
-use Rattle.std.proofs.lemmas.Result.{IfOk-weaker}
-use Rattle.debctl_words.proofs.Shapes.{shaped_with}
+use Rattle.std.specs.Prelude.{IfOk}
+use Rattle.debctl_words.specs.Commands.{bare_app, IsShaped}
 use Rattle.debctl_words.proofs.commands.debctl_command.Goals as goal
 
 pub returns : goal.returns
 returns c =
-    let one = shaped_with _ _ _ _ _ c.bare_command.ensures c.in_ok-check_command.ensures c.in_ok-subcommand.ensures in
-    let two = shaped_with _ _ _ _ _ one c.in_ok-explain_command.ensures c.in_ok-subcommand-2.ensures in
-    let three = shaped_with _ _ _ _ _ two c.in_ok-audit_command.ensures c.in_ok-subcommand-3.ensures in
-    let four = shaped_with _ _ _ _ _ three c.in_ok-normalise_command.ensures c.in_ok-subcommand-4.ensures in
-    let five = shaped_with _ _ _ _ _ four c.in_ok-same_command.ensures c.in_ok-subcommand-5.ensures in
-    let six = shaped_with _ _ _ _ _ five c.in_ok-compare_command.ensures c.in_ok-subcommand-6.ensures in
-    let seven = shaped_with _ _ _ _ _ six c.in_ok-canon_version_command.ensures c.in_ok-subcommand-7.ensures in
-    let eight = shaped_with _ _ _ _ _ seven c.in_ok-sort_command.ensures c.in_ok-subcommand-8.ensures in
-    let nine = shaped_with _ _ _ _ _ eight c.in_ok-query_command.ensures c.in_ok-subcommand-9.ensures in
-    IfOk-weaker c.subcommand-10.result _ _ (λ m adds. shaped_with _ _ _ _ _ nine c.in_ok-help_command.ensures adds) c.subcommand-10.ensures
+    let s0 = c.with_command-with_check.ensures _ _ c.bare_command.ensures c.check_command.ensures in
+    let s1 = c.with_command-with_explain.ensures _ _ s0 c.explain_command.ensures in
+    let s2 = c.with_command-with_audit.ensures _ _ s1 c.audit_command.ensures in
+    let s3 = c.with_command-with_normalise.ensures _ _ s2 c.normalise_command.ensures in
+    let s4 = c.with_command-with_same.ensures _ _ s3 c.same_command.ensures in
+    let s5 = c.with_command-with_compare.ensures _ _ s4 c.compare_command.ensures in
+    let s6 = c.with_command-with_canon_version.ensures _ _ s5 c.canon_version_command.ensures in
+    let s7 = c.with_command-with_sort.ensures _ _ s6 c.sort_command.ensures in
+    let s8 = c.with_command-with_query.ensures _ _ s7 c.query_command.ensures in
+    c.with_command.ensures _ _ s8 c.help_command.ensures

@@ -1,5 +1,5 @@
 use Rattle.std.proofs.Common.{◌≡◌, ℕ, List, None, Some, map}
-use Rattle.deb_field.specs.declared.kind.Doc.TheVariants.{Packages}
+use Rattle.deb_base.specs.declared.doc.Doc.TheVariants.{Packages}
 use Rattle.deb_control.specs.CheckedStates.{checked_state}
 use Rattle.deb_index.specs.Kept.{listed_of}
 use Rattle.deb_index.proofs.Indexed.{HasListed}

@@ -19,4 +19,4 @@ pub returns : goal.returns
 returns c = λ seen keeps.
     let kept = lists-kept c.args.self.now seen keeps in
     lists-same seen _ _ _ _ _ _ _ _ _ (some-taken bytes_in _ _ _ _ c.in_ok-take.was c.take.ensures.value kept.name_is) (some-taken kept_version _ _ _ _ c.in_ok-take-2.was c.take-2.ensures.value kept.version_is) (some-taken bytes_in _ _ _ _ c.in_ok-take-3.was c.take-3.ensures.value kept.architecture_is)
-    (ap (λ provisions. map provision_of provisions.items) (sym c.replace.ensures.value)) kept.lists
+    (ap (λ provisions. map provision_of provisions.entries.items) (sym c.replace.ensures.value)) kept.lists

@@ -1,0 +1,95 @@
+//! The text of a path.
+
+ghost use Rattle.std.specs.Prelude.{◌≡◌, IfErr};
+ghost use Rattle.deb_base.specs.Devices.{write_failures_after, Puts, TellsWrites};
+ghost use Rattle.deb_explain.specs.Paths.{has_control, is_plain, path_byte, shown_path};
+ghost use Rattle.deb_explain.specs.Telling.{file_line, path_line};
+
+use crate::telling::write_byte;
+use deb_base::{Fault, Sink, put_all};
+
+/// Writes the line of a file's path, which is never shortened. Takes no memory.
+///
+/// # Errors
+///
+/// `Fault::Write` alone: a write failed in this call, and a prefix of the line was written before
+/// it.
+pub fn write_file_line<W: Sink>(path: &[u8], out: &mut W) -> Result<(), Fault>
+    ensures written { Puts (W.held out.old) (W.held out.new) result (file_line path.now) }
+    ensures fault { IfErr result (λ fault. fault ≡ Fault.Write) }
+    ensures counted { W.failures out.new ≡ write_failures_after (W.failures out.old) result }
+    ensures told { TellsWrites (W.failures out.old) (W.failures out.new) result }
+{
+    write_path_line(b"file: ", path, out)
+}
+
+/// Writes the line of a path after its key.
+#[tactic(auto, using(deb_base::proofs::Writes::puts), unfolding(crate::specs::Telling::path_line))]
+fn write_path_line<W: Sink>(key: &[u8], path: &[u8], out: &mut W) -> Result<(), Fault>
+    ensures written { Puts (W.held out.old) (W.held out.new) result (path_line key.now path.now) }
+    ensures fault { IfErr result (λ fault. fault ≡ Fault.Write) }
+    ensures counted { W.failures out.new ≡ write_failures_after (W.failures out.old) result }
+    ensures told { TellsWrites (W.failures out.old) (W.failures out.new) result }
+{
+    put_all(out, key)?;
+    write_path(path, out)?;
+    put_all(out, b"\n")
+}
+
+/// Writes a path so that it can be shown in a line: a control character and a backslash as `\n`,
+/// `\t`, `\\` or `\xNN`, all other text as it is. Where the path isn't UTF-8, or holds a control
+/// character from U+0080 to U+009F, each byte beyond ASCII is written as `\xNN`. Takes no memory.
+///
+/// # Errors
+///
+/// `Fault::Write` alone: a write failed in this call, and a prefix of that was written before it.
+pub fn write_path<W: Sink>(path: &[u8], out: &mut W) -> Result<(), Fault>
+    ensures written { Puts (W.held out.old) (W.held out.new) result (shown_path path.now) }
+    ensures fault { IfErr result (λ fault. fault ≡ Fault.Write) }
+    ensures counted { W.failures out.new ≡ write_failures_after (W.failures out.old) result }
+    ensures told { TellsWrites (W.failures out.old) (W.failures out.new) result }
+{
+    let plain = is_plain(path);
+    for byte in path {
+        write_path_byte(plain, *byte, out)?;
+    }
+    Ok(())
+}
+
+/// Whether a path is UTF-8 without control characters beyond ASCII.
+fn is_plain(path: &[u8]) -> bool
+    ensures { result ≡ is_plain path.now }
+{
+    match str::from_utf8(path) {
+        Ok(_) => !has_control(path),
+        Err(_) => false,
+    }
+}
+
+/// Whether a text in UTF-8 holds a control character from U+0080 to U+009F.
+#[tactic(auto, unfolding(crate::specs::Paths::has_control))]
+fn has_control(text: &[u8]) -> bool
+    ensures { result ≡ has_control 0 text.now }
+{
+    let mut before = 0;
+    for byte in text {
+        if before == 0xc2 && *byte < 0xa0 {
+            return true;
+        }
+        before = *byte;
+    }
+    false
+}
+
+#[tactic(auto, unfolding(crate::specs::Paths::path_byte))]
+fn write_path_byte<W: Sink>(plain: bool, byte: u8, out: &mut W) -> Result<(), Fault>
+    ensures written { Puts (W.held out.old) (W.held out.new) result (path_byte plain byte) }
+    ensures fault { IfErr result (λ fault. fault ≡ Fault.Write) }
+    ensures counted { W.failures out.new ≡ write_failures_after (W.failures out.old) result }
+{
+    if plain && byte >= 0x80 {
+        put_all(out, &[byte])
+    } else {
+        write_byte(byte, out)
+    }
+}
