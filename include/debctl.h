@@ -18,7 +18,7 @@
  * function may be called from a signal's handler, or from the child of a process with threads
  * between fork and exec.
  *
- * The rules, and what each code means, are in docs/FORMAT.md; examples are in README.md. */
+ * The rules, and what each code means, are in docs/FORMAT.md; examples are in docs/LIBRARIES.md. */
 #ifndef DEBCTL_H
 #define DEBCTL_H
 
