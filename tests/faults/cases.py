@@ -181,7 +181,8 @@ def read_cases(folder):
         cases += Reading(path).read()
     if not cases:
         raise Malformed(f"{folder}: there is no file of cases")
-    return [*cases, *many_fields(), *long_paragraph(), *many_groups(), *several_writes()]
+    long = [*many_fields(), *long_paragraph(), *many_groups(), *several_writes()]
+    return [*cases, *long, *lengths()]
 
 
 P3 = b"Package: aa\nVersion: 1\nArchitecture: all\n"
@@ -245,3 +246,59 @@ def many_groups():
         Case("200 groups", ["normalise"], files, "groups", written),
         Case("200 groups", query, files, None, report, b"", 1),
     ]
+
+
+# Lengths of a name at which a text that is made of a paragraph or a relation outgrows its room, each
+# at another part of it, since the room doubles; in canonical spelling, and in another one.
+LENGTHS = (
+    ("normalise", True, (16, 25, 26, 34, 47, 51, 53)), ("normalise", False, (15,)),
+    ("query", True, (2, 4, 12, 15, 32, 38)), ("query", False, (6,)),
+)
+
+
+def lengths():
+    """Paragraphs and relations with all parts, and names of these lengths."""
+    return [
+        normalised(b"a" * length, is_canonical) if command == "normalise"
+        else queried(b"a" * length, is_canonical)
+        for command, is_canonical, lengths in LENGTHS
+        for length in lengths
+    ]
+
+
+def spelled(name, is_canonical):
+    """A relation that names a package of this name."""
+    if is_canonical:
+        return (
+            name + b":any (>= 1:2.3-4) [amd64 i386] <!aa bb> <cc> | " + name
+            + b" (= 1a) [!arm64 !armel], zz <dd>"
+        )
+    return (
+        b"zz<dd>," + name + b":any(>=01:2.3-4)[ i386 amd64 ]<bb !aa><cc>|" + name
+        + b"(=01a) [!armel !arm64]"
+    )
+
+
+def queried(name, is_canonical):
+    """A query for it, which nothing meets."""
+    words = ["query", "--arch", "amd64", spelled(name, is_canonical).decode()]
+    group = spelled(name, True).partition(b",")[0]
+    report = b"unmet " + group + b"\nignored zz <dd>\n"
+    return Case(f"a name of {len(name)} bytes", words, {"it": P3}, "it", report, b"", 1)
+
+
+def normalised(name, is_canonical):
+    """A paragraph with it, as it is spelled."""
+    fields = (
+        b"Architecture: all\nDepends: %s\nInstalled-Size: 7\nPackage: %s\nProvides: %s (= 2)\n"
+        b"Source: %s (2.3)\nUploaders: a b c d, e\nVersion: 1:2.3~rc1-4\n"
+    )
+    wanted = text = fields % (spelled(name, True), name, name, name)
+    if not is_canonical:
+        text = fields % (spelled(name, False), name, name, name)
+        for part, other in (
+            (b"Size: 7", b"Size: 007"), (b" (= 2)", b"(=02)"), (b" (2.3)", b"(02.3)"),
+            (b"a b c d, e", b" a  b\n c   d,  e"), (b"rc1-4", b"rc01-04"),
+        ):
+            text = text.replace(part, other)
+    return Case(f"a name of {len(name)} bytes", ["normalise"], {"it": text}, "it", wanted)

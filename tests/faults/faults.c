@@ -12,6 +12,8 @@
  *   FAULTS_BYTES    how many bytes a few are at most; without it 1
  *   FAULTS_RECORD   the number of an open descriptor, on which the record is written: one line of
  *                   NAME=NUMBER, of all names in `write_record`
+ *   FAULTS_STACK    the number of an open descriptor, to which the stack of the first growth that is
+ *                   refused is written, from the address to which that call returns
  *
  * growth: malloc, calloc, realloc, aligned_alloc, memalign and posix_memalign; their errno is
  * always ENOMEM. read: read, readv and pread. write: write, writev and pwrite. open: open and
@@ -30,6 +32,7 @@
 #include <stdio.h>
 #include <stdlib.h>
 #include <string.h>
+#include <sys/auxv.h>
 #include <sys/stat.h>
 #include <sys/syscall.h>
 #include <sys/uio.h>
@@ -113,10 +116,10 @@ __attribute__((destructor)) static void write_record(void)
     length = snprintf(line, sizeof line,
                       "growths=%ld reads=%ld writes=%ld opens=%ld stats=%ld met=%ld "
                       "met_on_stderr=%ld opens_at_met=%ld bytes_read=%ld "
-                      "asked_after_failure=%ld asked_after_end=%ld\n",
+                      "asked_after_failure=%ld asked_after_end=%ld entry=%lu\n",
                       calls[GROWTH], calls[READ], calls[WRITE], calls[OPEN], calls[STAT], met,
                       met_on_stderr, opens_at_met, bytes_read, asked_after_failure,
-                      asked_after_end);
+                      asked_after_end, getauxval(AT_ENTRY));
     syscall(SYS_write, descriptor, line, (size_t)length);
 }
 
@@ -136,43 +139,56 @@ static enum fate fate_of(int kind)
     return is_failing ? FAILS : MOVES_FEW_BYTES;
 }
 
-/* The answer of a growth. */
-static int is_refused(void)
+/* Writes the stack above a frame of this library: of its caller, and of all those before it, up to
+ * the environment that the system has put there. */
+static void write_stack(const char *frame)
+{
+    const char *from = frame + sizeof frame;
+    int descriptor = (int)number_in("FAULTS_STACK", -1);
+
+    if (descriptor >= 0)
+        syscall(SYS_write, descriptor, from, (size_t)((const char *)environ - from));
+}
+
+/* The answer of a growth that is asked for in this frame. */
+static int is_refused(const char *frame)
 {
     if (fate_of(GROWTH) != FAILS)
         return 0;
+    if (met == 1)
+        write_stack(frame);
     errno = ENOMEM;
     return 1;
 }
 
 void *malloc(size_t size)
 {
-    return is_refused() ? NULL : __libc_malloc(size);
+    return is_refused(__builtin_frame_address(0)) ? NULL : __libc_malloc(size);
 }
 
 void *calloc(size_t count, size_t size)
 {
-    return is_refused() ? NULL : __libc_calloc(count, size);
+    return is_refused(__builtin_frame_address(0)) ? NULL : __libc_calloc(count, size);
 }
 
 void *realloc(void *old, size_t size)
 {
-    return is_refused() ? NULL : __libc_realloc(old, size);
+    return is_refused(__builtin_frame_address(0)) ? NULL : __libc_realloc(old, size);
 }
 
 void *memalign(size_t alignment, size_t size)
 {
-    return is_refused() ? NULL : __libc_memalign(alignment, size);
+    return is_refused(__builtin_frame_address(0)) ? NULL : __libc_memalign(alignment, size);
 }
 
 void *aligned_alloc(size_t alignment, size_t size)
 {
-    return is_refused() ? NULL : __libc_memalign(alignment, size);
+    return is_refused(__builtin_frame_address(0)) ? NULL : __libc_memalign(alignment, size);
 }
 
 int posix_memalign(void **place, size_t alignment, size_t size)
 {
-    void *memory = is_refused() ? NULL : __libc_memalign(alignment, size);
+    void *memory = is_refused(__builtin_frame_address(0)) ? NULL : __libc_memalign(alignment, size);
 
     if (memory == NULL)
         return ENOMEM;

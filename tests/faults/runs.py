@@ -104,12 +104,14 @@ FAULTS = [
 
 @dataclass(frozen=True)
 class Answer:
-    """What a run wrote, its status, and the library's record, empty where there is none."""
+    """What a run wrote, its status, and the library's record, empty where there is none, with the stack
+    of the first growth that was refused."""
 
     out: bytes
     err: bytes
     status: Optional[int]
     record: Dict[str, int]
+    stack: bytes = b""
 
 
 @dataclass(frozen=True)
@@ -126,9 +128,9 @@ class Wanted:
 
 def run(program, library, case: Case, folder, fault: Fault, k=1):
     """Runs a case in the folder that holds its files, with a fault at a call."""
-    record = os.memfd_create("record")
+    record, stack = os.memfd_create("record"), os.memfd_create("stack")
     stdin = os.open(folder / case.stdin if case.stdin else os.devnull, os.O_RDONLY)
-    asked = {"LD_PRELOAD": library, "FAULTS_RECORD": str(record), **fault.environment(k)}
+    asked = {"LD_PRELOAD": library, "FAULTS_RECORD": str(record), "FAULTS_STACK": str(stack)}
     try:
         ran = subprocess.run(
             # The name of the program takes memory too: so the counts are the same wherever it lies.
@@ -137,19 +139,20 @@ def run(program, library, case: Case, folder, fault: Fault, k=1):
             stdin=stdin,
             capture_output=True,
             cwd=folder,
-            env=asked,
-            pass_fds=[record],
+            env={**asked, **fault.environment(k)},
+            pass_fds=[record, stack],
             timeout=SECONDS,
             check=False,
         )
         pairs = os.pread(record, 4096, 0).decode().split()
         numbers = {name: int(number) for name, _, number in (it.partition("=") for it in pairs)}
-        return Answer(ran.stdout, ran.stderr, ran.returncode, numbers)
+        refused = os.pread(stack, os.fstat(stack).st_size, 0)
+        return Answer(ran.stdout, ran.stderr, ran.returncode, numbers, refused)
     except subprocess.TimeoutExpired as late:
         return Answer(late.stdout or b"", late.stderr or b"", None, {})
     finally:
-        os.close(record)
-        os.close(stdin)
+        for descriptor in (record, stack, stdin):
+            os.close(descriptor)
 
 
 def run_on_streams(program, case: Case, folder, redirections):
@@ -197,9 +200,11 @@ def is_asked_again(case: Case, fault: Fault, record):
 
 def is_asked_for_less(case: Case, fault: Fault, record):
     """Whether std asked once more for memory, for less of it. It does so in `collect`, by which
-    `sort` gathers its lines and `audit` the paths of a list: where the room for all that may come
-    is refused, it asks for that of one. Then there are more growths than where nothing fails."""
-    if fault.calls != "growth" or fault.is_lasting or case.words[0] not in ("sort", "audit"):
+    `sort` gathers its lines, `audit` the paths of a list, and clap the letters of a word that may be
+    similar to a wrong one: where the room for all that may come is refused, it asks for that of one.
+    Then there are more growths than where nothing fails."""
+    has_collect = case.words[0] in ("sort", "audit") or b"\n  tip: a similar " in case.err
+    if fault.calls != "growth" or fault.is_lasting or not has_collect:
         return False
     return record.get("growths", 0) > case.growths.get(fault.pace, 0)
 
