@@ -2,7 +2,7 @@
 -- the spaces and tabs at its ends; and the blank lines that can't stand within one. Debian Policy
 -- 5.1; deb822(5), "Syntax".
 use Rattle.std.specs.Prelude.{◌≡◌, ℕ, ◌+◌, ◌==◌, ◌&&◌, ◌||◌, Bool, true, false, cond, not, IsTrue, List, [], ◌∷◌, length, drop, nat_le, codes, refl}
-use Rattle.std.specs.List.{list_all, join_with_byte, AllByRecursion}
+use Rattle.std.specs.List.{list_all, filter, join_with_byte, range_with_len, AllByRecursion}
 use Rattle.std.specs.Str.{IsUtf8, is_utf8, chars}
 use lib.Utf8.{encode}
 
@@ -96,6 +96,10 @@ joined_pieces = refl
 
 blank_bytes : list_all is_blank_byte (32 ∷ 9 ∷ []) ≡ true
 blank_bytes = refl
+
+-- of all bytes the tab and the space alone
+all_blank_bytes : filter is_blank_byte (range_with_len 0 256) ≡ 9 ∷ 32 ∷ []
+all_blank_bytes = refl
 
 -- neither a newline, nor a carriage return, nor a vertical tab, nor the byte of no-break spaces is
 -- blank

@@ -3,6 +3,7 @@
 -- of std.
 use Rattle.std.specs.Prelude.{◌≡◌, ℕ, ◌+◌, ◌-◌, ◌^◌, ◌<◌, ◌≤◌, ◌↔◌, min, List, ◌++◌, length, IfOk, IsErrOf, Result, Ok, Err, Option, MatchResult, refl}
 use Rattle.std.specs.Io.KnownBytes.{Appends}
+use Rattle.deb_base.specs.declared.code.Code.TheVariants.{NoColon}
 use Rattle.deb_base.specs.declared.fault.Fault.{Fault}
 use Rattle.deb_base.specs.declared.fault.Fault.TheVariants.{Refused, Memory, Read, Write}
 
@@ -76,9 +77,24 @@ count_rises = refl
 count_stays_at_its_last_value : one_more last_count ≡ 18446744073709551615
 count_stays_at_its_last_value = refl
 
-count_of_read_fault : read_failures_after {T = ℕ} 3 (Err Read) ≡ 4
-count_of_read_fault = refl
+-- each failed call of a device counts, whatever its error
+count_of_a_call : (failures_after {T = ℕ} {E = ℕ} 3 (Ok 7) ≡ 3)
+    × (failures_after {T = ℕ} {E = ℕ} 3 (Err 7) ≡ 4)
+    × (failures_after {T = ℕ} {E = ℕ} last_count (Err 7) ≡ last_count)
+count_of_a_call = (refl, refl, refl)
 
-count_of_other_faults : (read_failures_after {T = ℕ} 3 (Err Memory) ≡ 3)
+-- of the answers of a call that reads, Read alone counts
+count_of_reads : (read_failures_after {T = ℕ} 3 (Err Read) ≡ 4)
+    × (read_failures_after {T = ℕ} 3 (Ok 7) ≡ 3)
+    × (read_failures_after {T = ℕ} 3 (Err (Refused (record { code = NoColon; line = 2 }))) ≡ 3)
+    × (read_failures_after {T = ℕ} 3 (Err Memory) ≡ 3)
+    × (read_failures_after {T = ℕ} 3 (Err Write) ≡ 3)
+count_of_reads = (refl, refl, refl, refl, refl)
+
+-- and of one that writes, Write alone
+count_of_writes : (write_failures_after {T = ℕ} 3 (Err Write) ≡ 4)
+    × (write_failures_after {T = ℕ} 3 (Ok 7) ≡ 3)
+    × (write_failures_after {T = ℕ} 3 (Err (Refused (record { code = NoColon; line = 2 }))) ≡ 3)
     × (write_failures_after {T = ℕ} 3 (Err Memory) ≡ 3)
-count_of_other_faults = (refl, refl)
+    × (write_failures_after {T = ℕ} 3 (Err Read) ≡ 3)
+count_of_writes = (refl, refl, refl, refl, refl)

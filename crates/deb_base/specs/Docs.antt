@@ -13,6 +13,14 @@ word_of docs.Source = codes "source"
 word_of docs.Sources = codes "sources"
 word_of docs.Any = codes "any"
 
+-- what a document of the kind is, in a few words
+abbrev pub about_of : Doc → List ℕ
+about_of docs.Binary = codes "the control file of a binary package"
+about_of docs.Packages = codes "an index of binary packages"
+about_of docs.Source = codes "the description of a source package"
+about_of docs.Sources = codes "an index of source packages"
+about_of docs.Any = codes "any control data, of which no value is judged"
+
 -- whether a document of the kind has exactly one paragraph
 abbrev pub is_single : Doc → Bool
 is_single docs.Binary = true
@@ -41,6 +49,13 @@ single_paragraphs : (is_single docs.Binary ≡ true) × (is_single docs.Packages
     × (is_single docs.Source ≡ true) × (is_single docs.Sources ≡ false)
     × (is_single docs.Any ≡ false)
 single_paragraphs = (refl, refl, refl, refl, refl)
+
+descriptions : (about_of docs.Binary ≡ codes "the control file of a binary package")
+    × (about_of docs.Packages ≡ codes "an index of binary packages")
+    × (about_of docs.Source ≡ codes "the description of a source package")
+    × (about_of docs.Sources ≡ codes "an index of source packages")
+    × (about_of docs.Any ≡ codes "any control data, of which no value is judged")
+descriptions = (refl, refl, refl, refl, refl)
 
 -- words have one case
 words : (doc_named (codes "binary") ≡ Some docs.Binary)

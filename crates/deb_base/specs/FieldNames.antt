@@ -1,6 +1,6 @@
 -- The names of fields as they may be spelled. Debian Policy 5.1; deb822(5), "Syntax".
-use Rattle.std.specs.Prelude.{◌≡◌, ℕ, ◌==◌, ◌&&◌, Bool, true, false, not, List, [], ◌∷◌, nat_le, codes, refl}
-use Rattle.std.specs.List.{list_all}
+use Rattle.std.specs.Prelude.{◌≡◌, ℕ, ◌==◌, ◌&&◌, Bool, true, false, not, List, [], ◌∷◌, ◌++◌, nat_le, codes, refl}
+use Rattle.std.specs.List.{list_all, filter, range_with_len}
 
 -- the byte between a name and a body
 abbrev pub colon : ℕ
@@ -33,3 +33,13 @@ no_name = (refl, refl, refl)
 other_byte_in_name : (is_name (codes "Package ") ≡ false) × (is_name (codes "a:b") ≡ false)
     × (is_name (97 ∷ 127 ∷ []) ≡ false) × (is_name (97 ∷ 195 ∷ 169 ∷ []) ≡ false)
 other_byte_in_name = (refl, refl, refl, refl)
+
+-- of all bytes those that a name may have: from `!` to `~`, but not the colon
+bytes_of_names : filter is_name_byte (range_with_len 0 256)
+    ≡ codes "!\"#$%&'()*+,-./0123456789;<=>?@ABCDEFGHIJKLMNOPQRSTUVWXYZ[\\]^_`"
+    ++ codes "abcdefghijklmnopqrstuvwxyz{|}~"
+bytes_of_names = refl
+
+-- and those that may not begin one
+bytes_not_first : filter (λ b. not (may_begin_name b)) (range_with_len 0 256) ≡ codes "#-"
+bytes_not_first = refl

@@ -1,7 +1,7 @@
 -- The names that values are made of: of packages (Debian Policy 5.6.1), of architectures and
 -- qualifiers (5.6.8, 7.1; 11.1 for wildcards), and of build profiles (this project's own).
 use Rattle.std.specs.Prelude.{◌≡◌, ℕ, ◌==◌, ◌&&◌, ◌||◌, Bool, true, false, List, [], ◌∷◌, length, nat_le, codes, refl}
-use Rattle.std.specs.List.{list_all, list_any, slice_split}
+use Rattle.std.specs.List.{list_all, list_any, filter, range_with_len, slice_split}
 use Rattle.std.specs.Str.{bytes_eq}
 
 -- `a` to `z`, and `0` to `9`
@@ -44,6 +44,19 @@ is_any part = bytes_eq part (codes "any")
 -- an architecture wildcard: `any` is among the parts of the name
 abbrev pub is_wildcard : List ℕ → Bool
 is_wildcard name = is_arch_name name && list_any is_any (hyphen_parts name)
+
+-- of all bytes those that may come first, and those that a name of each sort may have
+first_bytes : filter is_small_or_digit (range_with_len 0 256)
+    ≡ codes "0123456789abcdefghijklmnopqrstuvwxyz"
+first_bytes = refl
+
+bytes_of_packages : filter is_package_byte (range_with_len 0 256)
+    ≡ codes "+-.0123456789abcdefghijklmnopqrstuvwxyz"
+bytes_of_packages = refl
+
+bytes_of_architectures : filter is_arch_byte (range_with_len 0 256)
+    ≡ codes "-0123456789abcdefghijklmnopqrstuvwxyz"
+bytes_of_architectures = refl
 
 package_names : (is_package_name (codes "g++") ≡ true) × (is_package_name (codes "0ad") ≡ true)
     × (is_package_name (codes "az09") ≡ true) × (is_package_name (codes "lib-x.y+z") ≡ true)

@@ -1,7 +1,7 @@
 //! The kinds of documents: their words, and which of them have one paragraph alone.
 
 ghost use Rattle.std.specs.Prelude.{◌≡◌};
-ghost use Rattle.deb_base.specs.Docs.{doc_named, is_single, word_of};
+ghost use Rattle.deb_base.specs.Docs.{about_of, doc_named, is_single, word_of};
 
 /// A kind of document.
 #[derive(Clone, Copy, Debug, PartialEq, Eq)]
@@ -43,7 +43,9 @@ impl Doc {
     }
 
     /// What such a document is, in a few words.
-    pub fn about(self) -> &'static str {
+    pub fn about(self) -> &'static str
+        ensures { result.now ≡ about_of self }
+    {
         match self {
             Doc::Binary => "the control file of a binary package",
             Doc::Packages => "an index of binary packages",

@@ -1,6 +1,6 @@
 //! The ground that every crate of this repository stands on: the codes of refusals, the faults of a
-//! call, the devices that bytes are read from and written to, names without ASCII case, the kinds of
-//! documents, the bodies of fields, and the spaces and tabs at their ends.
+//! call, the devices that bytes are read from and written to, names without ASCII case, the kinds
+//! of documents, the bodies of fields, and the spaces and tabs at their ends.
 //!
 //! - A refusal has one of 23 codes and the number of a line, and is printed as
 //!   `line 3: 7 DuplicateField`.
