@@ -44,7 +44,7 @@ pub is_none-none : (o : Option BadVersion) → is_none o ≡ true → o ≡ None
 is_none-none None e = refl
 is_none-none (Some fault) e = absurd cc
 
-epoch-fact : (e : Option (List ℕ)) → some_passes is_empty e ≡ false → some_passes (list_any is_no_digit) e ≡ false → IfSome e IsEpoch
+pub epoch-fact : (e : Option (List ℕ)) → some_passes is_empty e ≡ false → some_passes (list_any is_no_digit) e ≡ false → IfSome e IsEpoch
 epoch-fact None some digits = tt
 epoch-fact (Some epoch) some digits = (empty-fact epoch some, none_fails-fact is_ascii_digit epoch digits)
 

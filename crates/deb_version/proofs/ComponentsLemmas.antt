@@ -45,7 +45,7 @@ no_hyphen : (upstream : List ℕ) → list_any is_hyphen upstream ≡ false → 
 no_hyphen upstream none =
     (ap (λ v. cond v (before_last is_hyphen upstream) upstream) none, ap (λ v. cond v (Some (after_last is_hyphen upstream)) None) none)
 
-with_hyphen : (upstream revision : List ℕ) → list_any is_hyphen revision ≡ false
+pub with_hyphen : (upstream revision : List ℕ) → list_any is_hyphen revision ≡ false
     → (upstream_in (upstream ++ 45 ∷ revision) ≡ upstream) × (revision_in (upstream ++ 45 ∷ revision) ≡ Some revision)
 with_hyphen upstream revision none = (
   ap (λ v. cond v (before_last is_hyphen (upstream ++ 45 ∷ revision)) (upstream ++ 45 ∷ revision)) (list_any-at is_hyphen upstream 45 revision refl) ∙ before_last-at is_hyphen upstream 45 revision none refl,
@@ -75,7 +75,7 @@ pub components_made : (text rest : List ℕ) (e : Option (List ℕ)) (u : List �
 components_made text rest e u r is_e is_rest is_u is_r = cc
 
 -- the components of a text that an epoch and a rest join to
-with_epoch : (e : Option (List ℕ)) (rest upstream : List ℕ) (revision : Option (List ℕ)) → IfSome e IsEpoch → (is_some e ≡ false → list_any is_colon rest ≡ false) → upstream_in rest ≡ upstream → revision_in rest ≡ revision
+pub with_epoch : (e : Option (List ℕ)) (rest upstream : List ℕ) (revision : Option (List ℕ)) → IfSome e IsEpoch → (is_some e ≡ false → list_any is_colon rest ≡ false) → upstream_in rest ≡ upstream → revision_in rest ≡ revision
     → components_in (epoch_text e ++ rest) ≡ record { epoch = e; upstream = upstream; revision = revision }
 with_epoch None rest upstream revision is_epoch no_colons is_upstream is_revision =
     let n = no_colon rest (no_colons refl) in

@@ -90,3 +90,9 @@ module _ {X : Type 0} (p : X → Bool) where
       let before : before_last p xs ≡ s.0 = ap (before_last p) s.3 ∙ before_last-at s.0 s.1 s.2 s.4 s.5 in
       let after : after_last p xs ≡ s.2 = ap (after_last p) s.3 ∙ after_last-at s.0 s.1 s.2 s.4 s.5 in
       (s.1, s.5, s.3 ∙ ap (λ l. l ++ s.1 ∷ s.2) (sym before) ∙ ap (λ l. before_last p xs ++ s.1 ∷ l) (sym after))
+
+  -- after the last one no element passes
+  pub none_after_last : (xs : List X) → list_any p xs ≡ true → list_any p (after_last p xs) ≡ false
+  none_after_last xs some =
+      let s = split_last xs some in
+      ap (list_any p) (ap (after_last p) s.3 ∙ after_last-at s.0 s.1 s.2 s.4 s.5) ∙ s.4

@@ -6,6 +6,7 @@ pub mod MeaningLemmas
 pub mod FaultLemmas
 pub mod ValueLemmas
 pub mod AllowedLemmas
+mod BadBytes
 pub mod ParseLemmas
 pub mod KeptVersions
 pub mod FirstPlace

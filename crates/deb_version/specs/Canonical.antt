@@ -3,7 +3,7 @@
 use Rattle.std.specs.Prelude.{◌≡◌, ℕ, zero, suc, ◌+◌, ◌-◌, ◌==◌, ◌&&◌, Bool, true, false, not, cond, List, [], ◌∷◌, ◌++◌, map, length, slice_get, Option, Some, None, refl, codes}
 use Rattle.std.specs.Char.{is_ascii_alphabetic}
 use Rattle.std.specs.Int.Digits.{digits_of as digits_in_base}
-use Rattle.std.specs.List.{list_any}
+use Rattle.std.specs.List.{filter, list_any, range_with_len}
 use Rattle.std.specs.Option.{option_map_or}
 use Rattle.deb_version.specs.Parts.{Part, Meaning, no_revision}
 use Rattle.deb_version.specs.Grammar.{Components, spelling, meaning_of_components}
@@ -133,6 +133,11 @@ worked-no_letters : map ends_in_letter
     (codes "@" ∷ codes "[" ∷ codes "`" ∷ codes "{" ∷ codes "~" ∷ []) ≡ false ∷ false ∷ false ∷ false
     ∷ false ∷ []
 worked-no_letters = refl
+
+-- of all bytes those after which a last zero is left out
+worked-all_letters : filter (λ b. ends_in_letter (b ∷ [])) (range_with_len 0 256)
+    ≡ codes "ABCDEFGHIJKLMNOPQRSTUVWXYZabcdefghijklmnopqrstuvwxyz"
+worked-all_letters = refl
 
 worked-inner_zero : canonical_text_of None (codes "1a0b0") None ≡ codes "1a0b"
 worked-inner_zero = refl

@@ -39,6 +39,11 @@ worked-revision_empty : first_fault (codes "1-") ≡ Some RevisionEmpty
 unfolding first_fault
 worked-revision_empty = refl
 
+-- also where the upstream version has a byte that isn't allowed
+worked-revision_before_byte : first_fault (codes "1_-") ≡ Some RevisionEmpty
+unfolding first_fault
+worked-revision_before_byte = refl
+
 worked-upstream_empty : first_fault (codes "1:") ≡ Some UpstreamEmpty
 unfolding first_fault
 worked-upstream_empty = refl
@@ -54,6 +59,28 @@ worked-revision_byte = refl
 worked-revision_colon : first_fault (codes "1:2-3:4") ≡ Some (RevisionByte 5)
 unfolding first_fault
 worked-revision_colon = refl
+
+-- The epoch ends at the first colon, whatever comes before it.
+worked-hyphen_in_epoch : first_fault (codes "1-2:3") ≡ Some EpochNotNumber
+unfolding first_fault
+worked-hyphen_in_epoch = refl
+
+worked-digit_in_epoch : first_fault (codes "1a:3") ≡ Some EpochNotNumber
+unfolding first_fault
+worked-digit_in_epoch = refl
+
+-- If several bytes aren't allowed, the first one is reported.
+worked-first_upstream_byte : first_fault (codes "1_2/3_") ≡ Some (UpstreamByte 1)
+unfolding first_fault
+worked-first_upstream_byte = refl
+
+worked-first_revision_byte : first_fault (codes "1-2/3_4") ≡ Some (RevisionByte 3)
+unfolding first_fault
+worked-first_revision_byte = refl
+
+worked-first_revision_colon : first_fault (codes "1:2-3:4_") ≡ Some (RevisionByte 5)
+unfolding first_fault
+worked-first_revision_colon = refl
 
 -- Of two faults the one that is judged first is answered.
 worked-epoch_then_revision : first_fault (codes ":-") ≡ Some EpochEmpty

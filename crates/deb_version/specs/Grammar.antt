@@ -1,6 +1,6 @@
 -- What spells a version, and which one. Debian Policy 5.6.12; deb-version(7).
 use Rattle.std.specs.Prelude.{◌≡◌, ℕ, ◌+◌, ◌==◌, ◌&&◌, ◌||◌, not, Bool, true, false, List, [], ◌∷◌, ◌++◌, length, Option, Some, None, is_some, IsTrue, if◌then◌else◌, codes, refl}
-use Rattle.std.specs.List.{list_any, list_all, position}
+use Rattle.std.specs.List.{list_any, list_all, filter, position, range_with_len}
 use Rattle.std.specs.Option.{is_none, option_and_then, option_map, option_map_or, option_or}
 use Rattle.std.specs.Char.{is_ascii_digit, is_ascii_alphanumeric}
 use Rattle.deb_version.specs.declared.fault.BadVersion.{BadVersion}
@@ -171,6 +171,23 @@ worked-no_upstream_bytes : list_any (is_upstream_byte true)
     (codes " !,/@[\\]^_`{|}" ++ 0 ∷ 9 ∷ 10 ∷ 127 ∷ 128 ∷ 255 ∷ []) ≡ false
 worked-no_upstream_bytes = refl
 
+-- of all bytes those that are allowed in a revision, and in an upstream version without an epoch
+-- and with one
+worked-all_revision_bytes : filter is_revision_byte (range_with_len 0 256)
+    ≡ codes "+.0123456789ABCDEFGHIJKLMNOPQRSTUVWXYZabcdefghijklmnopqrstuvwxyz~"
+worked-all_revision_bytes = refl
+
+worked-all_upstream_bytes : filter (is_upstream_byte false) (range_with_len 0 256)
+    ≡ codes "+-.0123456789ABCDEFGHIJKLMNOPQRSTUVWXYZabcdefghijklmnopqrstuvwxyz~"
+worked-all_upstream_bytes = refl
+
+worked-all_upstream_bytes_with_epoch : filter (is_upstream_byte true) (range_with_len 0 256)
+    ≡ codes "+-.0123456789:ABCDEFGHIJKLMNOPQRSTUVWXYZabcdefghijklmnopqrstuvwxyz~"
+worked-all_upstream_bytes_with_epoch = refl
+
+worked-all_digits : filter (λ b. not (is_no_digit b)) (range_with_len 0 256) ≡ codes "0123456789"
+worked-all_digits = refl
+
 -- an empty epoch, one that isn't digits, an empty upstream version, an empty revision, and one with
 -- a hyphen
 worked-empty_epoch : are_components (components_with (Some []) (codes "1") None) ≡ false
@@ -188,6 +205,17 @@ worked-empty_revision = refl
 worked-hyphen_in_revision : are_components (components_with None (codes "1") (Some (codes "1-1")))
     ≡ false
 worked-hyphen_in_revision = refl
+
+-- each component that is there is spelled, empty or not
+worked-spelling : spelling (components_with (Some (codes "1")) (codes "2:3-4") (Some (codes "5")))
+    ≡ codes "1:2:3-4-5"
+worked-spelling = refl
+
+worked-spelling_alone : spelling (components_with None (codes "2") None) ≡ codes "2"
+worked-spelling_alone = refl
+
+worked-spelling_of_empty : spelling (components_with (Some []) [] (Some [])) ≡ codes ":-"
+worked-spelling_of_empty = refl
 
 -- 1-2 and 1-0
 worked-revision : meaning_of_components (components_with None (codes "1") (Some (codes "2")))

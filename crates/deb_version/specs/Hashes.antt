@@ -20,3 +20,9 @@ worked-writes : version_writes
     ≡ codes "0" ∷ [] ∷ codes "1" ∷ codes "." ∷ codes "1" ∷ (255 ∷ []) ∷ [] ∷ codes "0" ∷ (255 ∷ [])
     ∷ []
 worked-writes = refl
+
+-- 1:a2-03
+worked-writes_of_revision : version_writes
+    (record { epoch = 1; upstream = parts_of (codes "a2"); revision = parts_of (codes "03") })
+    ≡ codes "1" ∷ codes "a" ∷ codes "2" ∷ (255 ∷ []) ∷ [] ∷ codes "3" ∷ (255 ∷ []) ∷ []
+worked-writes_of_revision = refl

@@ -3,7 +3,9 @@ pub mod Order
 pub mod Grammar
 pub mod Places
 pub mod Faults
+pub mod Lent
 pub mod GrammarLaws
+pub mod PlaceLaws
 pub mod OrderLaws
 pub mod Version
 pub mod Pieces

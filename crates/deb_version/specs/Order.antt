@@ -1,7 +1,8 @@
 -- Debian's order of versions: which of two versions is later.
 -- deb-version(7), "Sorting algorithm"; Debian Policy 5.6.12.
-use Rattle.std.specs.Prelude.{◌≡◌, ℕ, ◌+◌, ◌==◌, cond, List, [], ◌∷◌, map, refl, codes}
+use Rattle.std.specs.Prelude.{◌≡◌, ℕ, ◌+◌, ◌==◌, cond, List, [], ◌∷◌, ◌++◌, map, refl, codes}
 use Rattle.std.specs.Char.{is_ascii_alphabetic}
+use Rattle.std.specs.List.{range_with_len}
 use Rattle.std.specs.Ordering.{nat_cmp, ordering_then}
 use Rattle.std.specs.declared.cmp.Ordering.{Ordering}
 use Rattle.std.specs.declared.cmp.Ordering.TheVariants.{Less, Equal}
@@ -80,6 +81,12 @@ worked-beside_letters = refl
 
 worked-ranks : map rank_of (codes "~AZaz+") ≡ 0 ∷ 66 ∷ 91 ∷ 98 ∷ 123 ∷ 300 ∷ []
 worked-ranks = refl
+
+-- each byte of an upstream version that is no digit, ascending by its rank
+worked-all_ranks : map rank_of
+    (codes "~ABCDEFGHIJKLMNOPQRSTUVWXYZabcdefghijklmnopqrstuvwxyz+-.:")
+    ≡ 0 ∷ range_with_len 66 26 ++ (range_with_len 98 26 ++ 300 ∷ 302 ∷ 303 ∷ 315 ∷ [])
+worked-all_ranks = refl
 
 worked-same : text_cmp (codes "a+") (codes "a+") ≡ Equal
 worked-same = refl

@@ -6,6 +6,7 @@ use Rattle.std.specs.Cmp.{IsTotalOrder}
 use Rattle.std.specs.Ordering.{is_ge, is_le, ordering_reverse}
 use Rattle.std.specs.declared.cmp.Ordering.TheVariants.{Less, Equal}
 use Rattle.deb_version.specs.Grammar.{SpellsVersion}
+use Rattle.deb_version.specs.Hashes.{version_writes}
 use Rattle.deb_version.specs.Order.{text_cmp, version_cmp}
 use Rattle.deb_version.specs.Parts.{HasParts, Meaning}
 
@@ -63,6 +64,12 @@ abbrev pub EqualOnlyIfSameSpelled : Type 0
 EqualOnlyIfSameSpelled =
     (s t : List ℕ) (a b : Meaning) → SpellsVersion s a → SpellsVersion t b
     → (version_cmp a b ≡ Equal) ↔ (a ≡ b)
+
+-- Versions that are spelled and equal feed a hasher alike.
+abbrev pub EqualVersionsHashEqually : Type 0
+EqualVersionsHashEqually =
+    (s t : List ℕ) (m n : Meaning) → SpellsVersion s m → SpellsVersion t n
+    → version_cmp m n ≡ Equal → version_writes m ≡ version_writes n
 
 -- Where two texts first differ, a tilde stands before all, also before the end of a text; then
 -- comes the end, then letters by their code, then all other bytes by their code.

@@ -114,3 +114,7 @@ worked-digits = refl
 
 worked-no_digits : parts_of (codes "/:") ≡ (codes "/:", 0) ∷ []
 worked-no_digits = refl
+
+cuts_joined : (joined [] ≡ [])
+    × (joined ((codes "a", codes "1") ∷ (codes ".", codes "02") ∷ []) ≡ codes "a1.02")
+cuts_joined = (refl, refl)

@@ -1,7 +1,7 @@
 -- Where the epoch, the upstream version and the revision of a text stand, allowed or not.
 -- Debian Policy 5.6.12: the epoch ends at the first colon; the revision follows the last hyphen
 -- after that.
-use Rattle.std.specs.Prelude.{◌≡◌, ℕ, ◌==◌, Bool, List, Option, Some, None, if◌then◌else◌, codes, refl}
+use Rattle.std.specs.Prelude.{◌≡◌, ℕ, ◌==◌, Bool, List, [], ◌∷◌, Option, Some, None, if◌then◌else◌, codes, refl}
 use Rattle.std.specs.List.{list_any, before_first, after_first, before_last, after_last}
 use Rattle.deb_version.specs.Grammar.{Components, meaning_of_components}
 use Rattle.deb_version.specs.Parts.{Meaning}
@@ -53,3 +53,16 @@ worked-plain = refl
 worked-colons : components_in (codes "1:2-3:4")
     ≡ record { epoch = Some (codes "1"); upstream = codes "2"; revision = Some (codes "3:4") }
 worked-colons = refl
+
+-- `1_-` has an empty revision, and the hyphen of `1-2:3` is within its epoch
+worked-empty_revision : components_in (codes "1_-")
+    ≡ record { epoch = None; upstream = codes "1_"; revision = Some [] }
+worked-empty_revision = refl
+
+worked-hyphen_in_epoch : components_in (codes "1-2:3")
+    ≡ record { epoch = Some (codes "1-2"); upstream = codes "3"; revision = None }
+worked-hyphen_in_epoch = refl
+
+worked-version : version_in (codes "01:1.02-3")
+    ≡ record { epoch = 1; upstream = ([], 1) ∷ (codes ".", 2) ∷ []; revision = ([], 3) ∷ [] }
+worked-version = refl

@@ -3,14 +3,12 @@
 //! Each function here does nothing: its contract is a law, which holds of all texts, or of the
 //! meanings of all versions.
 
-ghost use Rattle.std.specs.Prelude.{◌≡◌, IsTrue, fold};
-ghost use Rattle.std.specs.Hash.DefaultHasher as sip;
 ghost use Rattle.deb_version.specs.CanonicalLaws.{CanonicalTextSpells, CanonicalTextDecides, CanonicalTextStays, CanonicalTextIsShort, EqualVersionsHaveOneText};
 ghost use Rattle.deb_version.specs.GrammarLaws.{SpellsOneVersion, SpellsWhereFaultless, HasOneListOfParts, ComponentsSpell, AllowedComponentsStand, EpochHasAnySize, VersionSpells};
-ghost use Rattle.deb_version.specs.OrderLaws.{EqualCompareAlike, EqualOnlyIfSame, EqualOnlyIfSameSpelled, EqualTransitive, FirstDifferenceDecides, GreaterOrEqualTransitive, LessOrEqualTransitive, LessTransitive, Reflexive, Reversed, Total, TotalOrder};
+ghost use Rattle.deb_version.specs.OrderLaws.{EqualCompareAlike, EqualOnlyIfSame, EqualOnlyIfSameSpelled, EqualTransitive, EqualVersionsHashEqually, FirstDifferenceDecides, GreaterOrEqualTransitive, LessOrEqualTransitive, LessTransitive, Reflexive, Reversed, Total, TotalOrder};
+ghost use Rattle.deb_version.specs.PlaceLaws.{RevisionBytesStop, UpstreamBytesStop};
 
 use crate::version::Version;
-use std::hash::{DefaultHasher, Hash, Hasher};
 
 /// A text spells at most one version.
 pub fn spells_one_version()
@@ -37,6 +35,14 @@ pub fn components_stand()
 /// An epoch may have any size: no text has the fault `EpochTooBig`.
 pub fn epoch_has_any_size()
     ensures { EpochHasAnySize }
+{}
+
+/// What comes before a byte that `UpstreamByte` or `RevisionByte` reports can be continued to a
+/// version. No version begins with that and the byte, unless the byte is a colon in the revision
+/// and a hyphen follows later.
+pub fn bad_bytes_stop()
+    ensures upstream { UpstreamBytesStop }
+    ensures revision { RevisionBytesStop }
 {}
 
 /// Each `Version`, however it was made, spells a text with its meaning: the text of its components.
@@ -76,26 +82,10 @@ pub fn equal_versions_mean_the_same()
     ensures spelled { EqualOnlyIfSameSpelled }
 {}
 
-/// Equal versions hash equally.
-pub fn equal_versions_hash_equally(a: &Version<'_>, b: &Version<'_>) -> bool
-    ensures { IsTrue result }
-{
-    equal_hash_equally(a, b)
-}
-
-fn equal_hash_equally<T: Hash>(a: &T, b: &T) -> bool
-    ensures { IsTrue result }
-{
-    *a != *b || hash_of(a) == hash_of(b)
-}
-
-fn hash_of<T: Hash>(value: &T) -> u64
-    ensures { result ≡ sip.finish (fold sip.write sip.initial (T.hash_input value.now)) }
-{
-    let mut state = DefaultHasher::new();
-    value.hash(&mut state);
-    state.finish()
-}
+/// Equal versions feed a hasher alike, so they hash equally by each hasher.
+pub fn equal_versions_hash_equally()
+    ensures { EqualVersionsHashEqually }
+{}
 
 /// Where two texts without digits first differ, tilde stands first, before the end of a text, then
 /// the end, then letters, then all other bytes (deb-version(7), "Sorting algorithm").
