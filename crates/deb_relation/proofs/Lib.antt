@@ -1,5 +1,8 @@
 pub mod Ascending
 pub mod AscendingSets
+pub mod BegunLists
+pub mod BegunParts
+pub mod BegunRelation
 pub mod Bytes
 pub mod CanonicalBody
 pub mod CanonicalRelation

@@ -190,7 +190,7 @@ not_true : (b : Bool) → not b ≡ false → b ≡ true
 not_true true e = refl
 not_true false e = cc
 
-architecture_took : (negated : Bool) (rest : List ℕ) (q : List ℕ × List ℕ) → next_architecture negated rest ≡ Ok (Some q) → TookItem (signed_text negated) 93 (λ name. IsTrue (is_arch_name name)) rest q
+pub architecture_took : (negated : Bool) (rest : List ℕ) (q : List ℕ × List ℕ) → next_architecture negated rest ≡ Ok (Some q) → TookItem (signed_text negated) 93 (λ name. IsTrue (is_arch_name name)) rest q
 unfolding next_architecture
 architecture_took negated rest q e =
     let here = behind_white rest in
@@ -206,7 +206,7 @@ architecture_took negated rest q e =
       stops = behind_run-stops (is_before 93) here;
     }))))
 
-restriction_took : (rest : List ℕ) (q : Item × List ℕ) → next_restriction rest ≡ Ok (Some q) → TookItem item_text 62 (λ item. IsTrue (is_profile_name item.1)) rest q
+pub restriction_took : (rest : List ℕ) (q : Item × List ℕ) → next_restriction rest ≡ Ok (Some q) → TookItem item_text 62 (λ item. IsTrue (is_profile_name item.1)) rest q
 unfolding next_restriction
 restriction_took rest q e =
     let here = behind_white rest in
@@ -293,7 +293,7 @@ architectures_took text q e =
           };
         })
 
-list_piece : (text : List ℕ) (q : Restrictions × List ℕ) → next_restrictions (behind_white text) ≡ Ok (Some q) → TookWhite SpellsRestrictions text q
+pub list_piece : (text : List ℕ) (q : Restrictions × List ℕ) → next_restrictions (behind_white text) ≡ Ok (Some q) → TookWhite SpellsRestrictions text q
 unfolding next_restrictions
 list_piece text q e =
     either (begins 60 (behind_white text)) _ _ _ e

@@ -104,14 +104,14 @@ operator_known run op e =
     none_some : (op : Op) → None ≡ Some op → ⊥
     none_some op e = cc
 
-record TookOperator (text : List ℕ) (q : Op × List ℕ) : Type 0 where
-  operator : List ℕ
-  between : List ℕ
-  split : text ≡ operator ++ (between ++ q.1)
-  spells : SpellsOperator operator q.0
-  white : IsWhite between
+pub record TookOperator (text : List ℕ) (q : Op × List ℕ) : Type 0 where
+  pub operator : List ℕ
+  pub between : List ℕ
+  pub split : text ≡ operator ++ (between ++ q.1)
+  pub spells : SpellsOperator operator q.0
+  pub white : IsWhite between
 
-operator_took : (text : List ℕ) (q : Op × List ℕ) → read_operator text ≡ Ok q → TookOperator text q
+pub operator_took : (text : List ℕ) (q : Op × List ℕ) → read_operator text ≡ Ok q → TookOperator text q
 unfolding read_operator
 operator_took text q e = from (operator_of (run_of is_in_operator text)) refl e
   where
@@ -125,14 +125,14 @@ operator_took text q e = from (operator_of (run_of is_in_operator text)) refl e
       white = run_of-passes is_white (behind_run is_in_operator text);
     })
 
-record TookVersion (text : List ℕ) (q : Version × List ℕ) : Type 0 where
-  version : List ℕ
-  behind : List ℕ
-  split : text ≡ version ++ (behind ++ q.1)
-  spells : SpellsVersion version q.0
-  white : IsWhite behind
+pub record TookVersion (text : List ℕ) (q : Version × List ℕ) : Type 0 where
+  pub version : List ℕ
+  pub behind : List ℕ
+  pub split : text ≡ version ++ (behind ++ q.1)
+  pub spells : SpellsVersion version q.0
+  pub white : IsWhite behind
 
-version_took : (text : List ℕ) (q : Version × List ℕ) → read_version text ≡ Ok q → TookVersion text q
+pub version_took : (text : List ℕ) (q : Version × List ℕ) → read_version text ≡ Ok q → TookVersion text q
 unfolding read_version
 version_took text q e = from (first_fault (run_of (is_before 41) text)) refl e
   where

@@ -70,12 +70,12 @@ record TookMore (rest : List ℕ) (all : Group) (q : Group × List ℕ) : Type 0
   are : are_more group rest q.1
   set : q.0 ≡ all ++ group
 
-record TookAlternative (rest : List ℕ) (q : Alternative × List ℕ) : Type 0 where
-  piece : List ℕ
-  split : rest ≡ 124 ∷ (piece ++ q.1)
-  spelled : SpellsAlternative piece q.0
+pub record TookAlternative (rest : List ℕ) (q : Alternative × List ℕ) : Type 0 where
+  pub piece : List ℕ
+  pub split : rest ≡ 124 ∷ (piece ++ q.1)
+  pub spelled : SpellsAlternative piece q.0
 
-next_took : (rest : List ℕ) (q : Alternative × List ℕ) → next_alternative rest ≡ Ok (Some q) → TookAlternative rest q
+pub next_took : (rest : List ℕ) (q : Alternative × List ℕ) → next_alternative rest ≡ Ok (Some q) → TookAlternative rest q
 unfolding next_alternative
 next_took rest q e =
     either (begins 124 rest) _ _ _ e
@@ -149,7 +149,7 @@ group_piece text group rest q t e =
     by_end true is ends = let none = at_end_is rest is in inr (t.split ∙ ap (λ r. t.piece ++ r) none ∙ append-nil t.piece, ap (drop 1) none)
     by_end false is ends = inl (t.split ∙ ap (λ r. t.piece ++ r) (begins_is 44 rest ends))
 
-piece_took : (text : List ℕ) (q : Option Group × List ℕ) → next_piece text ≡ Ok (Some q) → TookPiece text q
+pub piece_took : (text : List ℕ) (q : Option Group × List ℕ) → next_piece text ≡ Ok (Some q) → TookPiece text q
 unfolding next_piece
 piece_took text q e =
     either (is_at_end (behind_white text)) _ _ _ e (λ _ x. absurd (none_some _ x)) (λ _ e1.

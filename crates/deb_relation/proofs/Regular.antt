@@ -1,8 +1,8 @@
 -- What is spelled is regular: its names are names, its lists aren't empty, its sets ascend, its versions have a
 -- canonical text that spells them.
-use Rattle.std.proofs.Common.{◌≢◌, ℕ, Bool, List, [], ◌∷◌, IsTrue, Option, Some, None, IfSome, sym, subst}
+use Rattle.std.proofs.Common.{ℕ, Bool, List, [], ◌∷◌, IsTrue, Option, Some, None, IfSome, sym, subst}
 use Rattle.std.specs.List.{AllByRecursion}
-use Rattle.deb_base.specs.PackageNames.{is_package_name, is_arch_name, is_profile_name}
+use Rattle.deb_base.specs.PackageNames.{is_arch_name, is_profile_name}
 use Rattle.deb_version.specs.Parts.{Meaning as Version}
 use Rattle.deb_version.specs.Grammar.{SpellsVersion}
 use Rattle.deb_version.specs.Canonical.{version_text}
@@ -10,38 +10,13 @@ use Rattle.deb_version.proofs.CanonicalTexts.{canonical_text_spells}
 use Rattle.deb_relation.specs.declared.operator.Op.{Op}
 use Rattle.deb_relation.specs.Grammar.{SpellBetween, SpellInTurn, SpellsQualifier, SpellsBound, SpellsArchitectures, SpellsRestrictions, SpellsAlternative, SpellsGroup, SpellsPiece, groups_of, SpellsRelation}
 use Rattle.deb_relation.specs.Laws.{Ascends}
+pub use Rattle.deb_relation.specs.Regular.{IsNames, IsItems, IsRegular, IsRegularGroup, IsRegularRelation}
 use Rattle.deb_relation.specs.Meaning.{Restrictions, Alternative, Group, Relation}
 use Rattle.deb_relation.specs.Sets.{itself}
 use Rattle.deb_relation.specs.Texts.{item_text, restrictions_text, group_text}
 use Rattle.deb_version.specs.PartsLemmas.{cons_not_nil}
 use Rattle.deb_relation.proofs.SetLemmas.{all-set_with, ascends-set_with}
 use Rattle.deb_relation.proofs.SpelledLists.{set_of-some}
-
-pub record IsNames (names : List (List ℕ)) : Type 0 where
-  pub some : names ≢ []
-  pub ascend : Ascends itself names
-  pub are_names : AllByRecursion (λ name. IsTrue (is_arch_name name)) names
-
-pub record IsItems (items : Restrictions) : Type 0 where
-  pub some : items ≢ []
-  pub ascend : Ascends item_text items
-  pub are_profiles : AllByRecursion (λ item. IsTrue (is_profile_name item.1)) items
-
-pub record IsRegular (a : Alternative) : Type 0 where
-  pub name : IsTrue (is_package_name a.name)
-  pub qualifier : IfSome a.qualifier (λ q. IsTrue (is_arch_name q))
-  pub bound : IfSome a.bound (λ b. SpellsVersion (version_text b.1) b.1)
-  pub architectures : IfSome a.architectures (λ list. IsNames list.1)
-  pub lists : AllByRecursion IsItems a.formula
-  pub ascend : Ascends restrictions_text a.formula
-
-pub record IsRegularGroup (group : Group) : Type 0 where
-  pub some : group ≢ []
-  pub each : AllByRecursion IsRegular group
-
-pub record IsRegularRelation (m : Relation) : Type 0 where
-  pub groups : AllByRecursion IsRegularGroup m
-  pub ascend : Ascends group_text m
 
 qualifier_regular : (text : List ℕ) (q : Option (List ℕ)) → SpellsQualifier text q → IfSome q (λ q. IsTrue (is_arch_name q))
 qualifier_regular text None is = tt

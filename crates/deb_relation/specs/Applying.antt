@@ -77,6 +77,12 @@ worked-lists : map with_list
     ∷ Some (false, codes "linux-any" ∷ []) ∷ []) ≡ true ∷ true ∷ false ∷ false ∷ true ∷ false ∷ []
 worked-lists = refl
 
+-- a wildcard is compared as a name, with `!` too
+worked-wildcards : map with_list
+    (Some (true, codes "any" ∷ []) ∷ Some (true, codes "linux-any" ∷ codes "amd64" ∷ [])
+    ∷ Some (false, codes "any" ∷ codes "amd64" ∷ []) ∷ []) ≡ true ∷ false ∷ true ∷ []
+worked-wildcards = refl
+
 abbrev with_formula : List Restrictions → Bool
 with_formula lists = formula_applies lists (codes "nocheck" ∷ [])
 

@@ -1,5 +1,6 @@
 -- What the lists of a formula stand for while they are ordered.
-use Rattle.std.specs.Prelude.{ℕ, List}
+use Rattle.std.proofs.Common.{◌≡◌, ℕ, true, false, List, [], ◌∷◌, codes, ap}
+use Rattle.deb_version.specs.Lent.{lent}
 use Rattle.deb_relation.specs.declared.spelled_list.SpelledList.{SpelledList}
 use Rattle.deb_relation.specs.Meaning.{Restrictions}
 use Rattle.deb_relation.specs.Texts.{restrictions_text}
@@ -11,3 +12,14 @@ spelled_of list = items_of list.items.items
 
 abbrev pub spelled_key : SpelledList → List ℕ
 spelled_key list = restrictions_text (spelled_of list)
+
+-- `<!b a>`, whose items keep their order here
+worked-items : (list : SpelledList)
+    → list.items.items ≡ (true, lent (codes "b")) ∷ (false, lent (codes "a")) ∷ []
+    → spelled_of list ≡ (true, codes "b") ∷ (false, codes "a") ∷ []
+worked-items list = ap items_of
+
+worked-key : (list : SpelledList)
+    → list.items.items ≡ (true, lent (codes "b")) ∷ (false, lent (codes "a")) ∷ []
+    → spelled_key list ≡ codes "<!b a>"
+worked-key list = ap (λ items. restrictions_text (items_of items))

@@ -2,7 +2,7 @@
 -- any reading of them. Debian Policy 7.1; restriction formulas are this project's own, after dpkg's
 -- build profiles.
 use Rattle.std.specs.Prelude.{◌≡◌, ◌≢◌, ℕ, ◌==◌, ◌||◌, Bool, List, [], ◌∷◌, ◌++◌, map, Option, Some}
-use Rattle.std.specs.Prelude.{None, IsTrue, codes, ◌⊎◌}
+use Rattle.std.specs.Prelude.{None, IsTrue, codes, refl, ◌⊎◌}
 use Rattle.std.specs.List.{AllByRecursion}
 use Rattle.deb_base.specs.PackageNames.{is_package_name, is_arch_name, is_profile_name}
 use Rattle.deb_version.specs.Parts.{Meaning as Version}
@@ -172,3 +172,17 @@ pub record SpellsRelation (text : List ℕ) (m : Relation) : Type 0 where
   pub pieces : List (Option Group)
   pub spell_pieces : SpellBetween 44 SpellsPiece text pieces
   pub set : m ≡ set_of group_text (groups_of pieces)
+
+-- members that come twice or out of order, and those that are put to a set
+worked-set_of : set_of itself (codes "b" ∷ codes "ab" ∷ codes "b" ∷ codes "a" ∷ [])
+    ≡ codes "a" ∷ codes "ab" ∷ codes "b" ∷ []
+worked-set_of = refl
+
+worked-set_with : set_with itself (codes "c" ∷ codes "a" ∷ []) (codes "a" ∷ codes "b" ∷ [])
+    ≡ codes "a" ∷ codes "b" ∷ codes "c" ∷ []
+worked-set_with = refl
+
+-- the groups in the order of their pieces, repeats kept
+worked-groups_of : (a b : Group) → groups_of (None ∷ Some b ∷ None ∷ Some a ∷ Some b ∷ [])
+    ≡ b ∷ a ∷ b ∷ []
+worked-groups_of a b = refl

@@ -8,7 +8,9 @@ pub mod Groups
 pub mod KeptTexts
 pub mod Laws
 pub mod Meaning
+pub mod PlaceLaws
 pub mod Reading
+pub mod Regular
 pub mod RelationTexts
 pub mod Relations
 pub mod Rows
@@ -16,6 +18,7 @@ pub mod Sets
 pub mod Spelled
 pub mod Stops
 pub mod Summaries
+pub mod SummaryCases
 pub mod SummaryViews
 pub mod Targets
 pub mod Tests

@@ -1,15 +1,22 @@
 -- What relations of the code stand for, and what is asked of them.
-use Rattle.std.specs.Prelude.{◌≡◌, ℕ, map, Option, Some, Result, Ok, Err}
+use Rattle.std.proofs.Common.{◌≡◌, ℕ, [], ◌∷◌, map, Option, Some, Result, Ok, Err, ap}
+use Rattle.deb_relation.specs.declared.group.Group.{Group as Alternatives}
 use Rattle.deb_relation.specs.declared.fault.Reason.{Reason}
 use Rattle.deb_relation.specs.declared.fault.RelationFault.{RelationFault}
 use Rattle.deb_relation.specs.declared.fault.RelationFault.TheVariants.{Bad, Memory}
 use Rattle.deb_relation.specs.declared.relation.Relation.{Relation as Groups}
+use Rattle.deb_relation.specs.Grammar.{SpellsRelation}
 use Rattle.deb_relation.specs.Meaning.{Relation}
 use Rattle.deb_relation.specs.Groups.{group_of}
+use Rattle.deb_relation.specs.Texts.{relation_text}
 
 -- a relation's meaning: its set of groups
 abbrev pub relation_of : Groups → Relation
 relation_of relation = map group_of relation.groups.items
+
+worked-relation : (relation : Groups) (a b : Alternatives) → relation.groups.items ≡ a ∷ b ∷ []
+    → relation_of relation ≡ group_of a ∷ group_of b ∷ []
+worked-relation relation a b = ap (map group_of)
 
 -- The fault is the first of the text; want of memory says nothing of it.
 abbrev pub Tells : Option (Reason × ℕ) → RelationFault → Type 0
@@ -21,3 +28,8 @@ abbrev pub IsRead : Result Groups RelationFault → Relation → Type 0
 IsRead (Ok relation) m = relation_of relation ≡ m
 IsRead (Err (Bad reason at)) m = ⊥
 IsRead (Err Memory) m = Unit {0}
+
+-- A relation, however it was made, is spelled by its canonical text.
+abbrev pub RelationSpells : Groups → Type 0
+RelationSpells relation =
+    SpellsRelation (relation_text (relation_of relation)) (relation_of relation)

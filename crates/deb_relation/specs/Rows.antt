@@ -1,6 +1,8 @@
 -- Worked cases of the reading of relations: the first step that fails, or the canonical text of
 -- what is meant. Debian Policy 7.1.
-use Rattle.std.specs.Prelude.{◌≡◌, ℕ, List, Some, Result, Ok, Err, codes, refl}
+use Rattle.std.specs.Prelude.{◌≡◌, ℕ, not, List, Some, Result, Ok, Err, filter}
+use Rattle.std.specs.Prelude.{codes, refl}
+use Rattle.std.specs.List.{range_with_len}
 use Rattle.deb_version.specs.declared.fault.BadVersion.TheVariants.{Empty, UpstreamByte}
 use Rattle.deb_version.specs.Faults.{first_fault as version_fault}
 use Rattle.deb_relation.specs.declared.fault.Reason.{Reason}
@@ -11,6 +13,7 @@ use Rattle.deb_relation.specs.declared.fault.Reason.TheVariants.{ItemBad}
 use Rattle.deb_relation.specs.declared.fault.Reason.TheVariants.{MixedSigns, ListEmpty, Trailing}
 use Rattle.deb_relation.specs.Faults.{first_fault}
 use Rattle.deb_relation.specs.Meaning.{Relation}
+use Rattle.deb_relation.specs.Reading.{is_white, is_in_name, is_in_operator, is_before}
 use Rattle.deb_relation.specs.Reading.{gather, read_name, read_qualifier, read_operator}
 use Rattle.deb_relation.specs.Reading.{read_version}
 use Rattle.deb_relation.specs.Reading.{read_bound_behind, read_bound, next_architecture}
@@ -22,7 +25,7 @@ use Rattle.deb_relation.specs.Reading.{next_alternative}
 use Rattle.deb_relation.specs.Reading.{read_group, next_piece, read_relation, relation_in}
 use Rattle.deb_relation.specs.Texts.{group_text, relation_text}
 
--- the reading with its steps laid open, so that the cases compute
+-- the reading with its steps laid open, so that cases compute: whoever unfolds `steps` has them
 names : List ℕ → Result Relation (Reason × ℕ)
 unfolding gather read_name read_qualifier
 names text = relation_in text
@@ -39,13 +42,33 @@ formulas : List ℕ → Result Relation (Reason × ℕ)
 unfolding lists read_restrictions next_restrictions read_formula
 formulas text = relation_in text
 
-steps : List ℕ → Result Relation (Reason × ℕ)
+unfoldable pub steps : List ℕ → Result Relation (Reason × ℕ)
 unfolding formulas read_alternative next_alternative read_group next_piece read_relation
 steps text = relation_in text
 
 abbrev text_of : Result Relation (Reason × ℕ) → Result (List ℕ) (Reason × ℕ)
 text_of (Ok relation) = Ok (relation_text relation)
 text_of (Err stopped) = Err stopped
+
+-- Of all bytes those of white space, those of an operator's run, and those at which the other runs
+-- end: a name, and a version, an architecture and a profile, each with its closing byte.
+white_bytes : filter is_white (range_with_len 0 256) ≡ codes "\t\n "
+white_bytes = refl
+
+operator_bytes : filter is_in_operator (range_with_len 0 256) ≡ codes "<=>"
+operator_bytes = refl
+
+ends_of_names : filter (λ b. not (is_in_name b)) (range_with_len 0 256) ≡ codes "\t\n (),:<>[]|"
+ends_of_names = refl
+
+ends_of_versions : filter (λ b. not (is_before 41 b)) (range_with_len 0 256) ≡ codes "\t\n )"
+ends_of_versions = refl
+
+ends_of_architectures : filter (λ b. not (is_before 93 b)) (range_with_len 0 256) ≡ codes "\t\n ]"
+ends_of_architectures = refl
+
+ends_of_profiles : filter (λ b. not (is_before 62 b)) (range_with_len 0 256) ≡ codes "\t\n >"
+ends_of_profiles = refl
 
 -- The first step that fails, and its place.
 refused-1 : first_fault (codes "a") ≡ Some (NameBad, 0)
@@ -167,6 +190,108 @@ refused-29 = refl
 refused-30 : first_fault (codes "aa (=> 1)") ≡ Some (OperatorBad, 4)
 unfolding steps relation_in group_text
 refused-30 = refl
+
+-- A run goes on over the bytes that end others, so the fault is that of the run, at its start.
+run-1 : first_fault (codes "aa=1") ≡ Some (NameBad, 0)
+unfolding steps relation_in group_text
+run-1 = refl
+
+run-2 : first_fault (codes "aa\r") ≡ Some (NameBad, 0)
+unfolding steps relation_in group_text
+run-2 = refl
+
+run-3 : first_fault (codes "aa!") ≡ Some (NameBad, 0)
+unfolding steps relation_in group_text
+run-3 = refl
+
+run-4 : first_fault (codes "aa:x=") ≡ Some (QualifierBad, 3)
+unfolding steps relation_in group_text
+run-4 = refl
+
+run-5 : first_fault (codes "aa (<<< 1)") ≡ Some (OperatorBad, 4)
+unfolding steps relation_in group_text
+run-5 = refl
+
+run-6 : first_fault (codes "aa (>== 1)") ≡ Some (OperatorBad, 4)
+unfolding steps relation_in group_text
+run-6 = refl
+
+run-7 : first_fault (codes "aa (= = 1)") ≡ Some (VersionBad (UpstreamByte 0), 6)
+unfolding steps relation_in group_text
+run-7 = refl
+
+run-8 : first_fault (codes "aa (>= 1|2)") ≡ Some (VersionBad (UpstreamByte 1), 7)
+unfolding steps relation_in group_text
+run-8 = refl
+
+run-9 : first_fault (codes "aa (>= 1(2)") ≡ Some (VersionBad (UpstreamByte 1), 7)
+unfolding steps relation_in group_text
+run-9 = refl
+
+run-10 : first_fault (codes "aa (>= 1]") ≡ Some (VersionBad (UpstreamByte 1), 7)
+unfolding steps relation_in group_text
+run-10 = refl
+
+run-11 : first_fault (codes "aa (>= 1>") ≡ Some (VersionBad (UpstreamByte 1), 7)
+unfolding steps relation_in group_text
+run-11 = refl
+
+run-12 : first_fault (codes "aa (>= 1\r)") ≡ Some (VersionBad (UpstreamByte 1), 7)
+unfolding steps relation_in group_text
+run-12 = refl
+
+run-13 : first_fault (codes "aa [x>]") ≡ Some (ItemBad, 4)
+unfolding steps relation_in group_text
+run-13 = refl
+
+run-14 : first_fault (codes "aa [x,y]") ≡ Some (ItemBad, 4)
+unfolding steps relation_in group_text
+run-14 = refl
+
+run-15 : first_fault (codes "aa [x|y]") ≡ Some (ItemBad, 4)
+unfolding steps relation_in group_text
+run-15 = refl
+
+run-16 : first_fault (codes "aa [x )]") ≡ Some (ItemBad, 6)
+unfolding steps relation_in group_text
+run-16 = refl
+
+run-17 : first_fault (codes "aa [!!x]") ≡ Some (ItemBad, 4)
+unfolding steps relation_in group_text
+run-17 = refl
+
+run-18 : first_fault (codes "aa <x]>") ≡ Some (ItemBad, 4)
+unfolding steps relation_in group_text
+run-18 = refl
+
+run-19 : first_fault (codes "aa <x y,z>") ≡ Some (ItemBad, 6)
+unfolding steps relation_in group_text
+run-19 = refl
+
+run-20 : first_fault (codes "aa <x (y>") ≡ Some (ItemBad, 6)
+unfolding steps relation_in group_text
+run-20 = refl
+
+-- Each thing comes once, and in its order.
+order-1 : first_fault (codes "aa (= 1) (= 2)") ≡ Some (Trailing, 9)
+unfolding steps relation_in group_text
+order-1 = refl
+
+order-2 : first_fault (codes "aa <x> [y]") ≡ Some (Trailing, 7)
+unfolding steps relation_in group_text
+order-2 = refl
+
+order-3 : first_fault (codes "aa <x> (= 1)") ≡ Some (Trailing, 7)
+unfolding steps relation_in group_text
+order-3 = refl
+
+order-4 : first_fault (codes "aa (= 1):any") ≡ Some (Trailing, 8)
+unfolding steps relation_in group_text
+order-4 = refl
+
+order-5 : first_fault (codes "aa \r") ≡ Some (Trailing, 3)
+unfolding steps relation_in group_text
+order-5 = refl
 
 -- Of two steps that can fail at one place the earlier one is told.
 earlier-1 : first_fault (codes ":any") ≡ Some (NameExpected, 0)

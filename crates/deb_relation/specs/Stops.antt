@@ -1,5 +1,5 @@
 -- How an answer of the code stands to a reading of the specification.
-use Rattle.std.specs.Prelude.{◌≡◌, Option, Some, None, Result, Ok, Err}
+use Rattle.std.specs.Prelude.{◌≡◌, ℕ, List, length, codes, refl, Option, Some, None, Result, Ok, Err}
 use Rattle.deb_relation.specs.declared.fault.Stop.{Stop}
 use Rattle.deb_relation.specs.declared.fault.Stop.TheVariants.{Bad, Memory}
 use Rattle.deb_relation.specs.Reading.{Stopped}
@@ -14,3 +14,7 @@ Gives (Err Memory) view reading = Unit {0}
 abbrev pub next_of : {A B : Type 0} → (A → B) → Option A → Option B
 next_of view None = None
 next_of view (Some a) = Some (view a)
+
+worked-next_of : (next_of {A = List ℕ} {B = ℕ} length None ≡ None)
+    × (next_of {A = List ℕ} {B = ℕ} length (Some (codes "aa")) ≡ Some 2)
+worked-next_of = (refl, refl)

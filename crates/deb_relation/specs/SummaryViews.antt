@@ -1,10 +1,12 @@
 -- What the summaries of the code stand for.
-use Rattle.std.specs.Prelude.{ℕ, Bool, List, Option}
+use Rattle.std.specs.Prelude.{◌≡◌, ℕ, Bool, true, false, List, Option, Some, None, codes, refl}
 use Rattle.std.specs.Option.{option_map}
 use denote.Ref.{Bor}
 use Rattle.deb_relation.specs.declared.group_summary.GroupSummary.{GroupSummary}
+use Rattle.deb_relation.specs.declared.kept_text.KeptText.TheVariants.{Lent}
 use Rattle.deb_relation.specs.KeptTexts.{bytes_of}
 use Rattle.deb_relation.specs.Summaries.{Summary, Told, summary_with, told_with}
+use Rattle.deb_version.specs.Lent.{lent}
 
 abbrev pub told_of : GroupSummary → Summary
 told_of group = summary_with (bytes_of group.text) group.has_two group.only_equals
@@ -20,3 +22,32 @@ told_behind p = (option_map told_of p.0, p.1.now)
 -- what is told of an alternative whose text was written, and the text behind it
 abbrev pub written_behind : List ℕ → Bool × Bor (List ℕ) → Told × List ℕ
 written_behind text p = (told_with text p.0, p.1.now)
+
+-- a group of one name and a bound
+abbrev bounded : GroupSummary
+bounded = record {
+  text = Lent (lent (codes "aa (>= 1)"));
+  has_two = false;
+  only_equals = false;
+}
+
+worked-told : told_of bounded ≡ summary_with (codes "aa (>= 1)") false false
+worked-told = refl
+
+-- the tests aren't taken for each other
+worked-tests : told_of
+    (record { text = Lent (lent (codes "aa | bb")); has_two = true; only_equals = false })
+    ≡ record { text = codes "aa | bb"; has_two = true; only_equals = false }
+worked-tests = refl
+
+worked-key : told_key bounded ≡ codes "aa (>= 1)"
+worked-key = refl
+
+worked-behind : (told_behind (Some bounded, lent (codes ",cc"))
+    ≡ (Some (summary_with (codes "aa (>= 1)") false false), codes ",cc"))
+    × (told_behind (None, lent (codes ",cc")) ≡ (None, codes ",cc"))
+worked-behind = (refl, refl)
+
+worked-written : written_behind (codes "aa") (true, lent (codes "|cc"))
+    ≡ (record { text = codes "aa"; is_equal = true }, codes "|cc")
+worked-written = refl

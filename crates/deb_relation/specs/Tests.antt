@@ -83,3 +83,11 @@ worked-equals : map (λ a. only_equals ((bare ∷ []) ∷ (bare ∷ a ∷ []) �
     (bounded Equal ∷ bare ∷ bounded Earlier ∷ bounded EarlierEqual ∷ bounded LaterEqual
     ∷ bounded Later ∷ []) ≡ true ∷ true ∷ false ∷ false ∷ false ∷ false ∷ []
 worked-equals = refl
+
+-- a wildcard after `!` is one too, whichever of the names it is
+worked-negated_wildcard : map (λ names. some_wildcard
+    ((alternative_with (codes "aa") None None (Some (true, names)) [] ∷ []) ∷ []))
+    ((codes "linux-any" ∷ []) ∷ (codes "amd64" ∷ codes "any" ∷ [])
+    ∷ (codes "any-i386" ∷ codes "hurd" ∷ []) ∷ (codes "amd64" ∷ []) ∷ [])
+    ≡ true ∷ true ∷ true ∷ false ∷ []
+worked-negated_wildcard = refl

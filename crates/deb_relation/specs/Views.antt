@@ -1,5 +1,5 @@
 -- What the values of the code stand for: the meanings of a relation's parts.
-use Rattle.std.specs.Prelude.{ℕ, Bool, List, map}
+use Rattle.std.proofs.Common.{◌≡◌, ℕ, Bool, true, false, List, [], ◌∷◌, Some, None, map, codes, refl, ap}
 use Rattle.std.specs.Option.{option_copied, option_map}
 use denote.Ref.{Bor}
 use Rattle.std.specs.Prelude.{Vec}
@@ -9,6 +9,8 @@ use Rattle.deb_relation.specs.declared.alternative.Alternative.{Alternative as P
 use Rattle.deb_version.specs.declared.version.Version.{Version as Spelled}
 use Rattle.deb_version.specs.Parts.{Meaning as Version}
 use Rattle.deb_version.specs.Version.{meaning_of}
+use Rattle.deb_version.specs.Lent.{lent}
+use Rattle.deb_relation.specs.declared.operator.Op.TheVariants.{LaterEqual}
 use Rattle.deb_relation.specs.Meaning.{Item, Restrictions, Alternative}
 
 -- the operator and the version's meaning
@@ -59,3 +61,83 @@ alternative_of a = record {
   architectures = option_map list_of a.architectures;
   formula = map restrictions_of a.formula.items;
 }
+
+-- Worked cases: slices that show these bytes, and vectors of these items.
+worked-names : (names_of (lent (codes "b") ∷ lent (codes "a") ∷ []) ≡ codes "b" ∷ codes "a" ∷ [])
+    × (name_key (lent (codes "b")) ≡ codes "b")
+worked-names = (refl, refl)
+
+worked-items : items_of ((true, lent (codes "b")) ∷ (false, lent (codes "a")) ∷ [])
+    ≡ (true, codes "b") ∷ (false, codes "a") ∷ []
+worked-items = refl
+
+worked-behind : (text_behind (lent (codes "aa"), lent (codes ":any")) ≡ (codes "aa", codes ":any"))
+    × (item_behind ((true, lent (codes "a")), lent (codes " b>"))
+    ≡ ((true, codes "a"), codes " b>"))
+worked-behind = (refl, refl)
+
+worked-list : (names : Vec (Bor (List ℕ)) Global)
+    → names.items ≡ lent (codes "b") ∷ lent (codes "a") ∷ []
+    → list_of (true, names) ≡ (true, codes "b" ∷ codes "a" ∷ [])
+worked-list names = ap (λ items. (true, names_of items))
+
+worked-lent_list : lent_list_of
+    (false, record { ref_ptr = (0, 0); now = lent (codes "b") ∷ lent (codes "a") ∷ [] })
+    ≡ (false, codes "b" ∷ codes "a" ∷ [])
+worked-lent_list = refl
+
+worked-restrictions : (list : Vec (Bool × Bor (List ℕ)) Global)
+    → list.items ≡ (true, lent (codes "b")) ∷ (false, lent (codes "a")) ∷ []
+    → restrictions_of list ≡ (true, codes "b") ∷ (false, codes "a") ∷ []
+worked-restrictions list = ap items_of
+
+worked-bound : (version : Spelled)
+    → (bound_of (LaterEqual, version) ≡ (LaterEqual, meaning_of version))
+    × (lent_bound_of (LaterEqual, record { ref_ptr = (0, 0); now = version })
+    ≡ (LaterEqual, meaning_of version))
+worked-bound version = (refl, refl)
+
+-- each part of an alternative
+worked-alternative : (version : Spelled) (names : Vec (Bor (List ℕ)) Global)
+    → (formula : Vec (Vec (Bool × Bor (List ℕ)) Global) Global)
+    → alternative_of
+    (record {
+      name = lent (codes "aa");
+      qualifier = Some (lent (codes "any"));
+      bound = Some (LaterEqual, version);
+      architectures = Some (true, names);
+      formula = formula;
+    })
+    ≡ record {
+      name = codes "aa";
+      qualifier = Some (codes "any");
+      bound = Some (LaterEqual, meaning_of version);
+      architectures = Some (true, names_of names.items);
+      formula = map restrictions_of formula.items;
+    }
+worked-alternative version names formula = refl
+
+worked-bare : (formula : Vec (Vec (Bool × Bor (List ℕ)) Global) Global) → formula.items ≡ []
+    → alternative_of
+    (record {
+      name = lent (codes "aa");
+      qualifier = None;
+      bound = None;
+      architectures = None;
+      formula = formula;
+    })
+    ≡ record {
+      name = codes "aa";
+      qualifier = None;
+      bound = None;
+      architectures = None;
+      formula = [];
+    }
+worked-bare formula =
+    ap (λ lists. record {
+      name = codes "aa";
+      qualifier = None;
+      bound = None;
+      architectures = None;
+      formula = map restrictions_of lists;
+    })

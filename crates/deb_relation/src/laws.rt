@@ -1,8 +1,16 @@
 //! Laws of relations.
 //!
-//! Each function here does nothing: its contract is a law, which holds of all texts.
+//! Each function here does nothing: its contract is a law, which holds of all texts, or of all
+//! relations.
 
 ghost use Rattle.deb_relation.specs.Laws.{CanonicalTextDecides, CanonicalTextIsBody, CanonicalTextIsShort, CanonicalTextSpells, CanonicalTextStays, FaultsStandInTheirText, GroupsAscend, SetsAscend, SpellsOneRelation, SpellsWhereFaultless};
+ghost use Rattle.deb_relation.specs.PlaceLaws.{PlacesAreReached};
+ghost use Rattle.deb_relation.specs.Regular.{SpelledIsRegular};
+ghost use Rattle.deb_relation.specs.RelationTexts.{RelationTextSpells};
+ghost use Rattle.deb_relation.specs.Relations.{RelationSpells};
+
+use crate::relation::Relation;
+use crate::relation_text::RelationText;
 
 /// A text spells at most one relation.
 pub fn spells_one_relation()
@@ -12,6 +20,22 @@ pub fn spells_one_relation()
 /// A text spells a relation exactly where no step of its reading fails.
 pub fn spells_where_faultless()
     ensures { SpellsWhereFaultless }
+{}
+
+/// Each `Relation`, however it was made, is spelled by a text: its canonical one.
+pub fn relation_spells(relation: &Relation<'_>)
+    ensures { RelationSpells relation.now }
+{}
+
+/// Each `RelationText`, however it was made, is spelled by a text: its body.
+pub fn relation_text_spells(relation: &RelationText<'_>)
+    ensures { RelationTextSpells relation.now }
+{}
+
+/// What a text spells has no empty group and no empty list, its names are names, its versions have
+/// a text, and its sets ascend.
+pub fn what_is_spelled_is_regular()
+    ensures { SpelledIsRegular }
 {}
 
 /// The canonical text of a relation is accepted, and spells that relation.
@@ -53,4 +77,9 @@ pub fn sets_ascend()
 /// The place of a fault is within the text, or at its end.
 pub fn faults_stand_in_their_text()
     ensures { FaultsStandInTheirText }
+{}
+
+/// What comes before the place of a fault can be continued to a relation, whatever the reason.
+pub fn places_are_reached()
+    ensures { PlacesAreReached }
 {}

@@ -154,6 +154,7 @@ impl<'a> Relation<'a> {
     ghost use Rattle.deb_relation.specs.Grammar.{SpellsRelation};
     ghost use Rattle.deb_relation.specs.Laws.{Ascends, HasAscendingSets};
     ghost use Rattle.deb_relation.specs.Meaning.{Relation as Meaning};
+    ghost use Rattle.deb_relation.specs.Regular.{IsRegularRelation};
     ghost use Rattle.deb_relation.specs.Relations.{IsRead, Tells, relation_of};
     ghost use Rattle.deb_relation.specs.Tests.{has_alternatives, only_equals, some_wildcard};
 
@@ -186,11 +187,13 @@ impl<'a> Relation<'a> {
     }
 
     /// The groups, ascending by their canonical texts, each once; and so do the names of each
-    /// architecture list, the lists of each formula and the items of each list.
+    /// architecture list, the lists of each formula and the items of each list. No group and no
+    /// list is empty, and each name and version is one.
     pub fn groups(&self) -> &[Group<'a>]
         ensures value { map group_of result.now ≡ relation_of self.now }
         ensures ascend { Ascends group_text (relation_of self.now) }
         ensures sets { AllByRecursion (AllByRecursion HasAscendingSets) (relation_of self.now) }
+        ensures regular { IsRegularRelation (relation_of self.now) }
     {
         &self.groups
     }
