@@ -59,6 +59,7 @@ module _ (doc : Doc) (shown shown_now : Option Passing) (kept kept_now : Option 
     fault = is;
     count = refl;
     few = few;
+    finished = tt;
   }
     where
       go : (f : Fault) (text : List ℕ) (before : List Entries) → ((refusal : Refusal) → f ≡ Refused refusal → next_checked (rules_of doc) text before ≡ Err refusal) → IsReadersFault f IsRefusalOfDocument → AnswersChecked doc text before (Err f) (there count bytes).state after
@@ -68,8 +69,8 @@ module _ (doc : Doc) (shown shown_now : Option Passing) (kept kept_now : Option 
       go Write text before h ok = absurd ok
 
   -- no further paragraph
-  checks-none : ((text : List ℕ) (before : List Entries) → FitsChecked doc text before here.state left → (passed : List ℕ) → GivesNone text passed new after → passed_count passed ≡ length before → next_checked (rules_of doc) text before ≡ Ok None) → ((text passed : List ℕ) → Fits text passed reader left → GivesNone text passed new after) → ((text passed : List ℕ) → Fits text passed reader left → TakesNoMore text file_limit after) → failures_after ≡ failures → Checks doc here (Ok None) (there count bytes)
-  checks-none none gives taken counted = record {
+  checks-none : ((text : List ℕ) (before : List Entries) → FitsChecked doc text before here.state left → (passed : List ℕ) → GivesNone text passed new after → passed_count passed ≡ length before → next_checked (rules_of doc) text before ≡ Ok None) → ((text passed : List ℕ) → Fits text passed reader left → GivesNone text passed new after) → ((text passed : List ℕ) → Fits text passed reader left → TakesNoMore text file_limit after) → failures_after ≡ failures → new.finished ≡ true → Checks doc here (Ok None) (there count bytes)
+  checks-none none gives taken counted ends = record {
     answers = λ text before fits.
         let all = gives text fits.passed fits.fits in
         record {
@@ -88,6 +89,7 @@ module _ (doc : Doc) (shown shown_now : Option Passing) (kept kept_now : Option 
     fault = tt;
     count = omega arith;
     few = few;
+    finished = ends;
   }
 
   -- what the reader of paragraphs says of the next one, where it may follow
@@ -119,7 +121,7 @@ module _ (doc : Doc) (shown shown_now : Option Passing) (kept kept_now : Option 
             ∙ ap (λ t. cond (is_single doc && t) (Err (record { code = NoParagraph; line = line_behind text })) (Ok None)) (sym (none-test before given.paragraphs (same ∙ fits.counted)))
 
         go : (t : Bool) → (is_single doc && (given.paragraphs == 0)) ≡ t → Checks doc here (found_answer found bytes_now (cond t (Err (Refused (record { code = NoParagraph; line = lines + 1 }))) (Ok false))) (there count bytes)
-        go false e = checks-none (λ text before fits passed all counts. behind text before fits passed all counts ∙ ap (λ t. cond t (Err (record { code = NoParagraph; line = line_behind text })) (Ok None)) e) advances.answers advances.taken advances.counted
+        go false e = checks-none (λ text before fits passed all counts. behind text before fits passed all counts ∙ ap (λ t. cond t (Err (record { code = NoParagraph; line = line_behind text })) (Ok None)) e) advances.answers advances.taken advances.counted advances.finished
         go true e = record {
           answers = λ text before fits.
               let all = advances.answers text fits.passed fits.fits in
@@ -132,11 +134,12 @@ module _ (doc : Doc) (shown shown_now : Option Passing) (kept kept_now : Option 
           fault = record { least = omega arith; most = omega arith; line = omega arith };
           count = refl;
           few = few;
+          finished = tt;
         }
 
     -- the next one is refused
     pub checks-unpassed : (given : Tally) (seen : Seen) (fault : Fault) → are_numbered seen.first seen.fields ≡ true → given.paragraphs ≡ count → given.bytes ≡ bytes → Advances (reader_at reader left failures) (Ok (Some seen)) (reader_at new after failures_after) → RefusedOrMemory fault (RefusesSeen doc seen given) → Checks doc here (Err fault) (there count bytes)
-    checks-unpassed given seen Memory numbered counted is advances refused = record { answers = λ text before fits. tt; taken = λ text before fits. advances.taken text fits.passed fits.fits; counted = advances.counted; fault = tt; count = refl; few = few }
+    checks-unpassed given seen Memory numbered counted is advances refused = record { answers = λ text before fits. tt; taken = λ text before fits. advances.taken text fits.passed fits.fits; counted = advances.counted; fault = tt; count = refl; few = few; finished = tt }
     checks-unpassed given seen Read numbered counted is advances refused = absurd refused
     checks-unpassed given seen Write numbered counted is advances refused = absurd refused
     checks-unpassed given seen (Refused refusal) numbered counted is advances refused = record {
@@ -157,6 +160,7 @@ module _ (doc : Doc) (shown shown_now : Option Passing) (kept kept_now : Option 
       ];
       count = refl;
       few = few;
+      finished = tt;
     }
 
     -- the next one passes
@@ -187,6 +191,7 @@ module _ (doc : Doc) (shown shown_now : Option Passing) (kept kept_now : Option 
       fault = tt;
       count = adds.paragraphs ∙ ap (λ n. n + 1) counted;
       few = few_now;
+      finished = tt;
     }
 
     -- the next one is checked
@@ -222,7 +227,7 @@ module _ (doc : Doc) (shown shown_now : Option Passing) (kept kept_now : Option 
     pub checks-begins_none : Begins (reader_at reader left failures) (Ok None) (reader_at new after failures_after) → Checks doc here (Ok None) (there count bytes)
     checks-begins_none begins = checks-none
         (λ text before fits passed all counts. next_checked-last (rules_of doc) text before single (second text before fits) (ap (next_begin text) (sym counts) ∙ all.begin))
-        begins.answers begins.taken begins.counted
+        begins.answers begins.taken begins.counted begins.finished
 
     pub checks-begins_some : (line : ℕ) → Begins (reader_at reader left failures) (Ok (Some line)) (reader_at new after failures_after) → Checks doc here (Err (Refused (record { code = TooManyParagraphs; line = line }))) (there count bytes)
     checks-begins_some line begins = record {
@@ -234,6 +239,7 @@ module _ (doc : Doc) (shown shown_now : Option Passing) (kept kept_now : Option 
       fault = record { least = omega arith; most = omega arith; line = begins.line };
       count = refl;
       few = few;
+      finished = tt;
     }
 
 -- where there is no paragraph, none is given, whatever was found before

@@ -1,6 +1,6 @@
 -- The files that are accepted, and what they mean. Debian Policy 5.1; the limits are this project's
 -- own.
-use Rattle.std.specs.Prelude.{◌≡◌, ℕ, ◌≤◌, Bool, is_some, IsTrue, List, length}
+use Rattle.std.specs.Prelude.{◌≡◌, ℕ, ◌≤◌, Bool, true, false, is_some, IsTrue, List, [], ◌∷◌, length, codes, refl}
 use Rattle.std.specs.List.{AllByRecursion, list_all}
 use Rattle.std.specs.FinMap.{find}
 use Rattle.deb_base.specs.Names.{canonical_name}
@@ -26,3 +26,11 @@ pub record IsAccepted (V : Type 0) (spells : List ℕ → List ℕ → V → Typ
   pub canonical_short : length (values_text text_of meaning) ≤ file_limit
   pub canonical_paragraphs_short : AllByRecursion IsShort
       (paragraphs_of (values_text text_of meaning))
+
+-- names without case, and another name
+names_with_values : (has_values (codes "package" ∷ codes "VERSION" ∷ [])
+    ((codes "Package", codes "aa") ∷ (codes "Version", codes "1") ∷ []) ≡ true)
+    × (has_values (codes "Package" ∷ codes "Version" ∷ [])
+    ((codes "Package", codes "aa") ∷ (codes "Versions", codes "1") ∷ []) ≡ false)
+    × (has_values {V = ℕ} [] [] ≡ true) × (has_values {V = ℕ} (codes "A" ∷ []) [] ≡ false)
+names_with_values = (refl, refl, refl, refl)

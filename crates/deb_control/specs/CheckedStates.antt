@@ -1,10 +1,12 @@
 -- What a `Checked` and its parts show.
-use Rattle.std.specs.Prelude.{ℕ, List, Option, Result, Ok, Err}
+use Rattle.std.specs.Prelude.{◌≡◌, ℕ, List, Option, Some, None, Result, Ok, Err, refl}
 use Rattle.std.specs.Option.{option_map}
 use Rattle.deb_base.specs.declared.fault.Fault.{Fault}
 use Rattle.deb_syntax.specs.Paragraphs.{state_of, seen_of}
 use Rattle.deb_base.specs.declared.doc.Doc.{Doc}
-use Rattle.deb_control.specs.Checking.{CheckedMoment, CheckedState, Passing, passing_found, passing_seen}
+use Rattle.deb_control.specs.Checking.{CheckedMoment, CheckedState, Passing, passing_found, passing_seen, text_built}
+use Rattle.deb_control.specs.Documents.{rules_of}
+use Rattle.deb_control.specs.Refusals.{built}
 use Rattle.deb_control.specs.declared.accepted.Accepted.{Accepted}
 use Rattle.deb_control.specs.declared.checked.Checked.{Checked}
 use Rattle.deb_control.specs.declared.judged.Judged.{Judged}
@@ -53,3 +55,33 @@ checked_answer (Err fault) = Err fault
 abbrev pub answer_judged : Result (Option Judged) Fault → Result (Option Passing) Fault
 answer_judged (Ok judged) = Ok (option_map passing_judged judged)
 answer_judged (Err fault) = Err fault
+
+reader_shown : (c : Checked) (left : Option (List ℕ)) (failures : ℕ)
+    → (checked_state c ≡ record {
+      reader = state_of c.paragraphs;
+      count = c.given.paragraphs;
+      bytes = c.given.bytes;
+      current = passing_found c.gives (state_of c.paragraphs).current c.canonical.items;
+      fault = c.fault;
+    }) × (doc_read c ≡ c.doc) × ((checked_moment c left failures).state ≡ checked_state c)
+    × ((checked_moment c left failures).source.bytes ≡ left)
+    × ((checked_moment c left failures).source.failures ≡ failures)
+reader_shown c left failures = (refl, refl, refl, refl, refl)
+
+view_shown : (judged : Judged) → ((passing_judged judged).seen ≡ seen_of judged.raw)
+    × ((passing_judged judged).text ≡ text_built (built (rules_of judged.doc) (seen_of judged.raw)))
+    × (doc_judged judged ≡ judged.doc)
+view_shown judged = (refl, refl, refl)
+
+view_with_text_shown : (accepted : Accepted)
+    → ((passing_of accepted).seen ≡ seen_of accepted.judged.raw)
+    × ((passing_of accepted).text ≡ accepted.canonical.now)
+    × (doc_of accepted ≡ accepted.judged.doc)
+view_with_text_shown accepted = (refl, refl, refl)
+
+answers_shown : (accepted : Accepted) (judged : Judged) (fault : Fault)
+    → (checked_answer (Ok (Some accepted)) ≡ Ok (Some (passing_of accepted)))
+    × (checked_answer (Ok None) ≡ Ok None) × (checked_answer (Err fault) ≡ Err fault)
+    × (answer_judged (Ok (Some judged)) ≡ Ok (Some (passing_judged judged)))
+    × (answer_judged (Ok None) ≡ Ok None) × (answer_judged (Err fault) ≡ Err fault)
+answers_shown accepted judged fault = (refl, refl, refl, refl, refl, refl)

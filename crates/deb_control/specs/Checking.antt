@@ -1,8 +1,9 @@
 -- What a reader of checked paragraphs is to its callers, which texts fit it, and what its calls say
 -- of them (Debian Policy 5.1; the limits and the order of the refusals are this project's own).
-use Rattle.std.specs.Prelude.{◌≡◌, ℕ, ◌+◌, ◌≤◌, Bool, true, false, List, [], ◌∷◌, ◌++◌, length, Option, Some, None, IfSome, IfNone, Result, Ok, Err, is_ok, IfErr, MatchResult}
+use Rattle.std.specs.Prelude.{◌≡◌, ℕ, ◌+◌, ◌≤◌, Bool, true, false, List, [], ◌∷◌, ◌++◌, length, Option, Some, None, IfSome, IfNone, IsSome, IsTrue, ◌⊎◌, Result, Ok, Err, is_ok, IfOk, IfErr, MatchResult, codes, refl}
 use Rattle.std.specs.Option.{option_map}
 use Rattle.std.specs.Str.{bytes_eq}
+use Rattle.deb_base.specs.Bodies.{paragraph_limit}
 use Rattle.deb_base.specs.Codes.{number_of}
 use Rattle.deb_base.specs.Devices.{Shown, read_failures_after}
 use Rattle.deb_base.specs.Faults.{IsReadersFault}
@@ -13,8 +14,10 @@ use Rattle.deb_syntax.specs.Ahead.{TakesNoMore}
 use Rattle.deb_syntax.specs.Answers.{Seen, next_answer}
 use Rattle.deb_syntax.specs.Lines.{file_limit}
 use Rattle.deb_syntax.specs.Meaning.{Entries}
+use Rattle.deb_syntax.specs.Paragraphs.{IsQuiet}
 use Rattle.deb_syntax.specs.Reading.{State, Fits, passed_count}
 use Rattle.deb_base.specs.declared.doc.Doc.{Doc}
+use Rattle.deb_base.specs.declared.doc.Doc.TheVariants.{Any, Packages}
 use Rattle.deb_control.specs.Canonical.{paragraph_text, file_text}
 use Rattle.deb_control.specs.Documents.{rules_of}
 use Rattle.deb_control.specs.Refusals.{built, next_checked}
@@ -33,6 +36,10 @@ pub record CheckedState : Type 0 where
   pub bytes : ℕ
   pub current : Option Passing
   pub fault : Option Fault
+
+-- its reader of paragraphs reads nothing, or there is an error: nothing is read
+abbrev pub IsQuietChecked : CheckedState → Type 0
+IsQuietChecked state = IsQuiet state.reader ⊎ IsSome state.fault
 
 -- Behind `front`, these are the canonical bodies of the next paragraphs of a file: each is the
 -- answer behind those before it.
@@ -105,7 +112,7 @@ pub record CheckedMoment : Type 0 where
 
 -- A call without error: what it answers of each file that fits, how much of it was taken by then,
 -- how often its source failed, which errors there are, and how many paragraphs were given, which
--- are few for every source.
+-- are few for every source. After the answer that no paragraph follows nothing is read.
 pub record Checks (doc : Doc) (before : CheckedMoment) (answer : Result (Option Passing) Fault)
     (after : CheckedMoment) : Type 0 where
   pub answers : (text : List ℕ) (given : List Entries)
@@ -120,6 +127,7 @@ pub record Checks (doc : Doc) (before : CheckedMoment) (answer : Result (Option 
       (λ given. after.state.count ≡ before.state.count + given_count given)
       (λ fault. after.state.count ≡ before.state.count)
   pub few : after.state.count ≤ file_limit + 1
+  pub finished : IfOk answer (λ given. IfNone given (IsTrue after.state.reader.finished))
 
 -- A call: without an error it goes on, and keeps the error that it then answers; with one it
 -- answers that error, and neither reads nor changes.
@@ -189,3 +197,69 @@ passing_found true found text = option_map (λ seen. record { seen = seen; text 
 abbrev pub found_answer : Option Seen → List ℕ → Result Bool Fault → Result (Option Passing) Fault
 found_answer found text (Ok gives) = Ok (passing_found gives found text)
 found_answer found text (Err fault) = Err fault
+
+counts_given : (given : Passing) → (given_count None ≡ 0) × (given_count (Some given) ≡ 1)
+counts_given given = (refl, refl)
+
+-- for the worked cases: what is built of a paragraph, and its canonical text
+abbrev entries_built : Entries
+entries_built = (codes "A", codes "1") ∷ (codes "B", codes "2") ∷ []
+
+texts_built : (refusal : Refusal) → (text_built (Ok entries_built) ≡ codes "A: 1\nB: 2\n")
+    × (text_built (Err refusal) ≡ [])
+    × (is_text_of (Ok entries_built) (codes "A: 1\nB: 2\n") ≡ true)
+    × (is_text_of (Ok entries_built) (codes "A: 1\nB: 2") ≡ false)
+    × (is_text_of (Err refusal) [] ≡ false)
+texts_built refusal = (refl, refl, refl, refl, refl)
+
+-- a paragraph without fields, which passes where no field is asked for, with no text
+abbrev bare : Seen
+bare = record { first = 4; fields = [] }
+
+abbrev bare_passes : Passing
+bare_passes = record { seen = bare; text = [] }
+
+bare_paragraph : (is_judged Any bare ≡ true) × (is_judged Packages bare ≡ false)
+    × (is_passing Any bare [] ≡ true) × (is_passing Any bare (codes "A") ≡ false)
+    × (is_passing Packages bare [] ≡ false) × (passing_seen Any bare ≡ bare_passes)
+unfolding paragraph_limit
+bare_paragraph = (refl, refl, refl, refl, refl, refl)
+
+texts_seen : (doc : Doc) (seen : Seen)
+    → (passing_seen doc seen
+    ≡ record { seen = seen; text = text_built (built (rules_of doc) seen) })
+texts_seen doc seen = refl
+
+paragraphs_judged : (judged_if false Packages (Some bare) ≡ true)
+    × (judged_if true Packages None ≡ false) × (judged_if true Packages (Some bare) ≡ false)
+    × (judged_if true Any (Some bare) ≡ true) × (judged_found false Any (Some bare) ≡ None)
+    × (judged_found true Any None ≡ None) × (judged_found true Any (Some bare) ≡ Some bare_passes)
+unfolding paragraph_limit
+paragraphs_judged = (refl, refl, refl, refl, refl, refl, refl)
+
+paragraphs_given : (passes_if false Packages (Some bare) [] ≡ true)
+    × (passes_if true Packages None [] ≡ false) × (passes_if true Packages (Some bare) [] ≡ false)
+    × (passes_if true Any (Some bare) [] ≡ true)
+    × (passes_if true Any (Some bare) (codes "A") ≡ false)
+unfolding paragraph_limit
+paragraphs_given = (refl, refl, refl, refl, refl)
+
+paragraphs_found : (passing_found false (Some bare) [] ≡ None) × (passing_found true None [] ≡ None)
+    × (passing_found true (Some bare) (codes "A")
+    ≡ Some (record { seen = bare; text = codes "A" }))
+paragraphs_found = (refl, refl, refl)
+
+answers_by_found : (fault : Fault)
+    → (judged_answer Any (Some bare) (Ok true) ≡ Ok (Some bare_passes))
+    × (judged_answer Any (Some bare) (Ok false) ≡ Ok None)
+    × (judged_answer Any (Some bare) (Err fault) ≡ Err fault)
+    × (found_answer (Some bare) [] (Ok true) ≡ Ok (Some bare_passes))
+    × (found_answer (Some bare) [] (Ok false) ≡ Ok None)
+    × (found_answer (Some bare) [] (Err fault) ≡ Err fault)
+unfolding paragraph_limit
+answers_by_found fault = (refl, refl, refl, refl, refl, refl)
+
+sound_faults : (fault inside : Fault) → (is_sound (Some fault) (Some inside) ≡ true)
+    × (is_sound (Some fault) None ≡ true) × (is_sound None (Some inside) ≡ false)
+    × (is_sound None None ≡ true)
+sound_faults fault inside = (refl, refl, refl, refl)

@@ -17,6 +17,7 @@ use Rattle.deb_field.specs.RelationFieldCases.{told}
 use Rattle.deb_field.specs.Values.{ValueMeaning, NameMeans, VersionMeans, ArchitectureMeans, FoldedMeans, value_text, SpellsValue, value_refusal}
 use Rattle.deb_field.specs.ValueLaws.{value_refusals}
 use Rattle.deb_control.specs.Rules.{Rules}
+use Rattle.deb_control.specs.Canonical.{file_text}
 use Rattle.deb_control.specs.Refusals.{next_checked, outcome, refusal_by, text_by}
 use Rattle.deb_control.specs.ValueFiles.{ValueEntries, MeansValues, values_text}
 use Rattle.deb_control.specs.Acceptance.{IsAccepted}
@@ -61,6 +62,11 @@ refusal_of doc = refusal_by (rules_of doc)
 -- refused, or of all.
 abbrev pub out_of : Doc → List ℕ → List ℕ
 out_of doc = text_by (rules_of doc)
+
+texts_of_outcomes : (doc : Doc) (text : List ℕ)
+    → (out_of doc text ≡ file_text (outcome (rules_of doc) text).passed)
+    × (refusal_of doc text ≡ (outcome (rules_of doc) text).refusal)
+texts_of_outcomes doc text = (refl, refl)
 
 -- no paragraph: nothing is written, and one is missing where one is asked
 no_paragraph : (outcome (rules_of Packages) [] ≡ record { passed = []; refusal = None })

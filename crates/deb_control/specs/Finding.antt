@@ -1,5 +1,6 @@
 -- What the parts of a reader of checked paragraphs show while the next one is found.
-use Rattle.std.specs.Prelude.{◌≡◌, ◌⊎◌, ℕ, ◌+◌, ◌<◌, ◌≤◌, ◌==◌, ◌&&◌, Bool, true, false, IsTrue, cond, List, [], length, Option, None, Some, Result, Ok, Err}
+use Rattle.std.specs.Prelude.{◌≡◌, ◌⊎◌, ℕ, ◌+◌, ◌<◌, ◌≤◌, ◌==◌, ◌&&◌, Bool, true, false, IsTrue, cond, List, [], length, Option, None, Some, Result, Ok, Err, refl}
+use Rattle.std.proofs.lemmas.Bool.{leb-true}
 use Rattle.deb_base.specs.declared.code.Code.TheVariants.{NoParagraph, FileTooLong}
 use Rattle.deb_base.specs.declared.fault.Fault.{Fault}
 use Rattle.deb_base.specs.declared.fault.Fault.TheVariants.{Refused}
@@ -9,6 +10,7 @@ use Rattle.deb_syntax.specs.Lines.{file_limit}
 use Rattle.deb_syntax.specs.Meaning.{Entries}
 use Rattle.deb_field.specs.Kinds.{is_single}
 use Rattle.deb_base.specs.declared.doc.Doc.{Doc}
+use Rattle.deb_base.specs.declared.doc.Doc.TheVariants.{Binary, Packages, Source, Sources, Any}
 use Rattle.deb_control.specs.Canonical.{paragraph_text}
 use Rattle.deb_control.specs.Documents.{rules_of}
 use Rattle.deb_control.specs.Refusals.{built}
@@ -79,3 +81,53 @@ pub record PassesOver (doc : Doc) (before : CheckedMoment) (result : Result Bool
     (after : CheckedMoment) : Type 0 where
   pub given : Passing
   pub checks : ChecksOn doc before (given_answer given result) after
+
+moment_by_parts : (shown : Option Passing) (fault : Option Fault) (paragraphs : Paragraphs)
+    (given : Tally) (left : Option (List ℕ)) (failures : ℕ)
+    → moment_from shown fault paragraphs given left failures ≡ record {
+      state =
+          record {
+            reader = state_of paragraphs;
+            count = given.paragraphs;
+            bytes = given.bytes;
+            current = shown;
+            fault = fault;
+          };
+      source = record { bytes = left; failures = failures };
+    }
+moment_by_parts shown fault paragraphs given left failures = refl
+
+-- for the worked cases: nothing was given, or one paragraph without text
+abbrev none_given : Tally
+none_given = record {
+  paragraphs = 0;
+  bytes = 0;
+  within = leb-true 0 4294967295 refl;
+  few = leb-true 0 1 refl;
+}
+
+abbrev one_given : Tally
+one_given = record {
+  paragraphs = 1;
+  bytes = 0;
+  within = leb-true 0 4294967295 refl;
+  few = leb-true 1 1 refl;
+}
+
+-- a document of one paragraph lacks it at the line after the last one
+ends_without_paragraph : (end_answer Binary none_given 2
+    ≡ Err (Refused (record { code = NoParagraph; line = 3 })))
+    × (end_answer Source none_given 0 ≡ Err (Refused (record { code = NoParagraph; line = 1 })))
+    × (end_answer Packages none_given 2 ≡ Ok false) × (end_answer Sources none_given 2 ≡ Ok false)
+    × (end_answer Any none_given 2 ≡ Ok false) × (end_answer Binary one_given 2 ≡ Ok false)
+ends_without_paragraph = (refl, refl, refl, refl, refl, refl)
+
+answers_with_given : (given : Passing) (fault : Fault)
+    → (given_answer given (Ok true) ≡ Ok (Some given)) × (given_answer given (Ok false) ≡ Ok None)
+    × (given_answer given (Err fault) ≡ Err fault)
+answers_with_given given fault = (refl, refl, refl)
+
+paragraph_or_none : (doc : Doc) (seen : Seen)
+    → (passing_of_found doc (Some seen) ≡ passing_seen doc seen)
+    × (passing_of_found doc None ≡ record { seen = record { first = 0; fields = [] }; text = [] })
+paragraph_or_none doc seen = (refl, refl)

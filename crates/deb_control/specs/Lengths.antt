@@ -1,6 +1,6 @@
 -- How long the canonical text of a paragraph is. Debian Policy 5.1; the canonical text is this
 -- project's own.
-use Rattle.std.specs.Prelude.{◌≡◌, ℕ, Bool, IsTrue, List, length, Ok}
+use Rattle.std.specs.Prelude.{◌≡◌, ℕ, Bool, false, IsTrue, List, [], ◌∷◌, ◌++◌, length, None, Ok, codes, refl}
 use Rattle.std.specs.List.{sum_by}
 use Rattle.deb_base.specs.Names.{canonical_name}
 use Rattle.deb_syntax.specs.Answers.{Seen}
@@ -31,3 +31,19 @@ pub record Measures (doc : Doc) (seen : Seen) (keeps : Bool) (text : List ℕ) (
   pub built : built (rules_of doc) seen ≡ Ok entries
   pub measured : n ≡ length (paragraph_text entries)
   pub written : IsTrue keeps → text ≡ paragraph_text entries
+
+-- for the worked cases: the canonical text of a value is the name and the body
+abbrev sample : Rules
+sample = record {
+  refusal = λ name body. None;
+  canonical = λ name body. name ++ body;
+  required = [];
+  single = false;
+}
+
+-- `A-B: A-B12` and `C: C` with their newlines
+lengths_of_texts : (field_length sample (record { name = codes "a-b"; line = 1; body = codes "12" })
+    ≡ 11) × (fields_length sample [] ≡ 0)
+    × (fields_length sample (record { name = codes "a-b"; line = 1; body = codes "12" }
+    ∷ record { name = codes "c"; line = 2; body = [] } ∷ []) ≡ 16)
+lengths_of_texts = (refl, refl, refl)

@@ -1,13 +1,16 @@
 -- What a paragraph whose values have been read shows of it. Debian Policy 5.1.
-use Rattle.std.specs.Prelude.{◌≡◌, ℕ, List, map, Ok}
+use Rattle.std.specs.Prelude.{◌≡◌, ℕ, List, [], ◌∷◌, map, Ok, codes, refl}
+use denote.Ref.{Bor}
 use Rattle.deb_base.specs.Names.{canonical_name}
 use Rattle.deb_syntax.specs.Fields.{Field}
 use Rattle.deb_syntax.specs.Meaning.{entries_of}
 use Rattle.deb_syntax.specs.Answers.{Seen}
 use Rattle.deb_syntax.specs.Raw.{field_of}
 use Rattle.deb_base.specs.declared.doc.Doc.{Doc}
-use Rattle.deb_field.specs.Values.{ValueMeaning, value_text, SpellsValue}
+use Rattle.deb_field.specs.Values.{ValueMeaning, FlagMeans, TextMeans, value_text, SpellsValue}
 use Rattle.deb_field.specs.ValueMeanings.{value_meaning}
+use Rattle.deb_field.specs.declared.flag.Flag.TheVariants.{Yes}
+use Rattle.deb_field.specs.declared.value.Value.TheVariants.{Flag, Text}
 use Rattle.deb_control.specs.Canonical.{paragraph_text}
 use Rattle.deb_control.specs.Documents.{rules_of}
 use Rattle.deb_control.specs.Pairs.{Pairwise}
@@ -41,3 +44,31 @@ IsTypedField doc field =
 pub record AreValuesOf (doc : Doc) (seen : Seen) (values : ValueEntries ValueMeaning) : Type 0 where
   pub spelled : Pairwise (SpellsEntry (SpellsValue doc)) (entries_of seen.fields) values
   pub passes : built (rules_of doc) seen ≡ Ok (map (body_under value_text) values)
+
+-- for the worked cases: a reference, and two fields with their values
+abbrev to : {T : Type 0} → T → Bor T
+to value = record { ref_ptr = (0, 0); now = value }
+
+abbrev flag_field : TypedField
+flag_field = record {
+  raw = record { name = to (codes "eSSENTIAL"); line = 3; body = to (codes "yes") };
+  value = Flag Yes;
+}
+
+abbrev text_field : TypedField
+text_field = record {
+  raw = record { name = to (codes "x-a"); line = 2; body = to (codes "1") };
+  value = Text (record { bytes = to (codes "1") });
+}
+
+fields_in_file : (field_in flag_field
+    ≡ record { name = codes "eSSENTIAL"; line = 3; body = codes "yes" })
+    × (value_in flag_field ≡ (codes "Essential", FlagMeans Yes))
+    × (values_in (flag_field ∷ text_field ∷ [])
+    ≡ (codes "Essential", FlagMeans Yes) ∷ (codes "X-A", TextMeans (codes "1")) ∷ [])
+fields_in_file = (refl, refl, refl)
+
+text_of_two : (text_of_values
+    ((codes "Essential", FlagMeans Yes) ∷ (codes "X-A", TextMeans (codes "1")) ∷ [])
+    ≡ codes "Essential: yes\nX-A: 1\n") × (text_of_values [] ≡ [])
+text_of_two = (refl, refl)

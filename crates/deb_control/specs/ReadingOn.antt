@@ -1,6 +1,6 @@
 -- What a call says that reads on in a file of which the first paragraphs were given (Debian Policy
 -- 5.1; the limits and the order of the refusals are this project's own).
-use Rattle.std.specs.Prelude.{◌≡◌, ℕ, List, Option, Some, None, IfOk, IfErr, Result}
+use Rattle.std.specs.Prelude.{refl, ◌≡◌, ℕ, List, Option, Some, None, IfOk, IfErr, Result}
 use Rattle.deb_base.specs.Devices.{Shown, read_failures_after}
 use Rattle.deb_base.specs.Faults.{IsReadersFault}
 use Rattle.deb_base.specs.declared.fault.Fault.{Fault}
@@ -36,3 +36,7 @@ pub record ReadsOn {T : Type 0} (before : Checked) (source : Shown) (result : Re
   pub fault : IfErr result (λ fault. IsReadersFault fault IsRefusalOfDocument)
   pub sound : IfOk result (λ _. after.fault ≡ None)
   pub doc : IfOk result (λ _. after.doc ≡ before.doc)
+
+devices_shown : (left : Option (List ℕ)) (failures : ℕ)
+    → ((shown left failures).bytes ≡ left) × ((shown left failures).failures ≡ failures)
+devices_shown left failures = (refl, refl)

@@ -299,3 +299,114 @@ one_asked_within : (refusal_under 11 99 (sample true) (codes "Package:a\n\nPacka
     ≡ Some (record { code = NoParagraph; line = 4 }))
 unfolding is_utf8 chars encode
 one_asked_within = (refl, refl, refl, refl, refl, refl)
+
+-- for the worked cases: a field Package, and one under Size, of a paragraph at line 3
+abbrev package_field : Field
+package_field = record { name = codes "package"; line = 4; body = codes "a" }
+
+abbrev size_field : List ℕ → Field
+size_field body = record { name = codes "size"; line = 3; body = body }
+
+abbrev third_line : List Field → Seen
+third_line fields = record { first = 3; fields = fields }
+
+abbrev package_entries : Entries
+package_entries = (codes "Package", codes "a") ∷ []
+
+abbrev no_line : Refusal
+no_line = record { code = BadNumber; line = 0 }
+
+-- a paragraph by itself: a body goes before a name that is missing, and this before the length
+one_paragraph : (named_and_short (sample false) (third_line (package_field ∷ []))
+    ≡ Ok package_entries)
+    × (named_and_short (sample false) (third_line (size_field (codes "1") ∷ []))
+    ≡ Err (record { code = MissingField; line = 3 }))
+    × (named_and_short_under 10 (sample false) (third_line (package_field ∷ []))
+    ≡ Err (record { code = ParagraphTooLong; line = 3 }))
+    × (refused_or_built (sample false) (third_line (package_field ∷ [])) (Some no_line)
+    ≡ Err no_line)
+    × (refused_or_built (sample false) (third_line (package_field ∷ [])) None ≡ Ok package_entries)
+    × (built (sample false) (third_line (size_field (codes "12") ∷ []))
+    ≡ Err (record { code = BadNumber; line = 3 }))
+    × (built (sample false) (third_line (size_field (codes "1") ∷ package_field ∷ []))
+    ≡ Ok ((codes "Package", codes "a") ∷ (codes "Size", codes "1") ∷ []))
+unfolding paragraph_limit
+one_paragraph = (refl, refl, refl, refl, refl, refl, refl)
+
+-- after an empty paragraph, a newline goes before the eleven bytes of the next one
+length_of_file : (within_file ([] ∷ []) 3 (Ok package_entries) ≡ Ok (Some package_entries))
+    × (within_file [] 3 (Err no_line) ≡ Err no_line)
+    × (within_bytes 12 ([] ∷ []) 3 (Ok package_entries) ≡ Ok (Some package_entries))
+    × (within_bytes 11 ([] ∷ []) 3 (Ok package_entries)
+    ≡ Err (record { code = FileTooLong; line = 3 }))
+unfolding file_limit
+length_of_file = (refl, refl, refl, refl)
+
+-- what is seen of the next paragraph: a refusal, none where one is asked for or isn't, and one
+answers_of_seen : (answer_of_seen (sample false) 9 [] (Err no_line) ≡ Err no_line)
+    × (answer_of_seen (sample true) 9 [] (Ok None) ≡ Err (record { code = NoParagraph; line = 9 }))
+    × (answer_of_seen (sample true) 9 ([] ∷ []) (Ok None) ≡ Ok None)
+    × (answer_of_seen (sample false) 9 [] (Ok None) ≡ Ok None)
+    × (answer_of_seen (sample true) 9 [] (Ok (Some (third_line (package_field ∷ []))))
+    ≡ Ok (Some package_entries))
+    × (answer_of_seen (sample false) 9 [] (Ok (Some (third_line [])))
+    ≡ Err (record { code = MissingField; line = 3 }))
+unfolding paragraph_limit file_limit
+answers_of_seen = (refl, refl, refl, refl, refl, refl)
+
+-- for the worked cases: a paragraph of one line
+abbrev paragraph_of : List ℕ → Paragraph
+paragraph_of line = record { first = 3; lines = line ∷ [] }
+
+-- the paragraphs that are left: none, one too many, one that passes, and one whose line is refused
+answers_of_left : (answer_behind (sample true) None 9 [] []
+    ≡ Err (record { code = NoParagraph; line = 9 }))
+    × (answer_behind (sample true) (Some 7) 9 [] []
+    ≡ Err (record { code = FileTooLong; line = 7 }))
+    × (answer_behind (sample true) None 9 ([] ∷ []) (paragraph_of (codes "# x") ∷ [])
+    ≡ Err (record { code = TooManyParagraphs; line = 3 }))
+    × (answer_behind (sample false) None 9 ([] ∷ []) (paragraph_of (codes "package:a") ∷ [])
+    ≡ Ok (Some package_entries))
+    × (answer_behind (sample true) None 9 [] (paragraph_of (codes "# x") ∷ [])
+    ≡ Err (record { code = Comment; line = 3 }))
+unfolding paragraph_limit file_limit is_utf8 chars encode
+answers_of_left = (refl, refl, refl, refl, refl)
+
+outcomes_of_left : (outcome_behind (sample true) None 9 [] []
+    ≡ record { passed = []; refusal = Some (record { code = NoParagraph; line = 9 }) })
+    × (outcome_behind (sample false) None 9 [] [] ≡ record { passed = []; refusal = None })
+    × (outcome_behind (sample false) None 9 ([] ∷ []) (paragraph_of (codes "package:a") ∷ [])
+    ≡ record { passed = [] ∷ package_entries ∷ []; refusal = None })
+    × (outcome_behind (sample false) None 9 []
+    (paragraph_of (codes "package:a") ∷ paragraph_of (codes "# x") ∷ [])
+    ≡ record {
+      passed = package_entries ∷ [];
+      refusal = Some (record { code = Comment; line = 3 });
+    })
+unfolding paragraph_limit file_limit is_utf8 chars encode
+outcomes_of_left = (refl, refl, refl, refl)
+
+limits_of_paragraphs : (rules : Rules) (seen : Seen) (first : Option Refusal)
+    (before : List Entries) (n : ℕ) (entries : Result Entries Refusal)
+    (next : Result (Option Seen) Refusal)
+    → (named_and_short rules seen ≡ named_and_short_under 16777216 rules seen)
+    × (refused_or_built rules seen first ≡ refused_or_built_under 16777216 rules seen first)
+    × (built rules seen ≡ built_under 16777216 rules seen)
+    × (within_file before n entries ≡ within_bytes 4294967295 before n entries)
+    × (answer_of_seen rules n before next
+    ≡ answer_of_seen_under 16777216 4294967295 rules n before next)
+unfolding paragraph_limit file_limit
+limits_of_paragraphs rules seen first before n entries next = (refl, refl, refl, refl, refl)
+
+limits_of_files : (rules : Rules) (beyond : Option ℕ) (n : ℕ) (before : List Entries)
+    (left : List Paragraph) (text : List ℕ)
+    → (answer_behind rules beyond n before left
+    ≡ answer_behind_under 16777216 4294967295 rules beyond n before left)
+    × (outcome_behind rules beyond n before left
+    ≡ outcome_behind_under 16777216 4294967295 rules beyond n before left)
+    × (next_checked rules text before ≡ next_checked_under 16777216 4294967295 rules text before)
+    × (outcome rules text ≡ outcome_under 16777216 4294967295 rules text)
+    × (refusal_by rules text ≡ refusal_under 16777216 4294967295 rules text)
+    × (text_by rules text ≡ text_under 16777216 4294967295 rules text)
+unfolding paragraph_limit file_limit
+limits_of_files rules beyond n before left text = (refl, refl, refl, refl, refl, refl)

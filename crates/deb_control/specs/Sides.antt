@@ -1,5 +1,5 @@
 -- Faults of a call that reads two files, each with the side of its file (this project's own).
-use Rattle.std.specs.Prelude.{⊤, Result, Ok, Err}
+use Rattle.std.specs.Prelude.{◌≡◌, ℕ, ⊤, Result, Ok, Err, refl}
 use Rattle.deb_base.specs.declared.fault.Fault.{Fault}
 use Rattle.deb_control.specs.declared.side.Side.{Side}
 use Rattle.deb_control.specs.declared.side.Side.TheVariants.{First, Second}
@@ -21,3 +21,16 @@ of_first (Err told) = if_first told.side told.fault
 abbrev pub of_second : {T : Type 0} → Result T SideFault → Result ⊤ Fault
 of_second (Ok _) = Ok tt
 of_second (Err told) = if_second told.side told.fault
+
+faults_of_sides : (fault : Fault) → (if_first First fault ≡ Err fault)
+    × (if_first Second fault ≡ Ok tt) × (if_second First fault ≡ Ok tt)
+    × (if_second Second fault ≡ Err fault)
+faults_of_sides fault = (refl, refl, refl, refl)
+
+answers_of_sides : (fault : Fault) → (of_first {T = ℕ} (Ok 1) ≡ Ok tt)
+    × (of_first {T = ℕ} (Err (record { side = First; fault = fault })) ≡ Err fault)
+    × (of_first {T = ℕ} (Err (record { side = Second; fault = fault })) ≡ Ok tt)
+    × (of_second {T = ℕ} (Ok 1) ≡ Ok tt)
+    × (of_second {T = ℕ} (Err (record { side = First; fault = fault })) ≡ Ok tt)
+    × (of_second {T = ℕ} (Err (record { side = Second; fault = fault })) ≡ Err fault)
+answers_of_sides fault = (refl, refl, refl, refl, refl, refl)

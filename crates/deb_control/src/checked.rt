@@ -45,7 +45,7 @@ impl Checked {
     ghost use Rattle.std.specs.Io.BufRead.{Rests};
     ghost use Rattle.std.specs.Option.{option_map};
     ghost use Rattle.deb_control.specs.contracts.checked.Checked.{the_row};
-    ghost use Rattle.deb_control.specs.Checking.{FitsChecked, ChecksOn};
+    ghost use Rattle.deb_control.specs.Checking.{FitsChecked, ChecksOn, IsQuietChecked};
     ghost use Rattle.deb_control.specs.CheckedStates.{checked_state, checked_moment};
     ghost use Rattle.deb_control.specs.CheckedStates.{answer_judged, checked_answer, doc_judged};
     ghost use Rattle.deb_control.specs.CheckedStates.{doc_of, doc_read, passing_judged, passing_of};
@@ -72,7 +72,7 @@ impl Checked {
     }
 
     /// The next paragraph of the file, if it passes, or `None` where there is no further one and
-    /// none is missing.
+    /// none is missing. After `None` nothing is read.
     ///
     /// # Errors
     ///
@@ -95,6 +95,7 @@ impl Checked {
             (checked_moment self.old (R.left reader.old) (R.failures reader.old))
             (checked_answer result) (checked_moment new (R.left reader.new) (R.failures reader.new))
             × (doc_read new ≡ doc_read self.old))) }
+        ensures quiet { IsQuietChecked (checked_state self.old) → reader.new ≡ reader.old }
     {
         if self.step(reader)? {
             Ok(self.current())
@@ -121,6 +122,7 @@ impl Checked {
             (checked_moment self.old (R.left reader.old) (R.failures reader.old))
             (answer_judged result) (checked_moment new (R.left reader.new) (R.failures reader.new))
             × (doc_read new ≡ doc_read self.old))) }
+        ensures quiet { IsQuietChecked (checked_state self.old) → reader.new ≡ reader.old }
     {
         if self.judge(reader)? {
             Ok(self.current_judged())
@@ -145,6 +147,7 @@ impl Checked {
             (checked_moment self.old (R.left reader.old) (R.failures reader.old)) result
             (checked_moment self.new (R.left reader.new) (R.failures reader.new)) }
         ensures doc { doc_read self.new ≡ doc_read self.old }
+        ensures quiet { IsQuietChecked (checked_state self.old) → reader.new ≡ reader.old }
     {
         self.go_on(false, keeper, reader)
     }
@@ -157,6 +160,7 @@ impl Checked {
             (checked_moment self.new (R.left reader.new) (R.failures reader.new)) }
         ensures gives { IfOk result (λ gives. self.new.gives ≡ gives) }
         ensures doc { self.new.doc ≡ self.old.doc }
+        ensures quiet { IsQuietChecked (checked_state self.old) → reader.new ≡ reader.old }
     {
         self.go_on(true, &mut Nothing, reader)
     }
@@ -170,6 +174,7 @@ impl Checked {
             (checked_moment self.new (R.left reader.new) (R.failures reader.new)) }
         ensures judged { IfOk result (λ gives. self.new.judged ≡ gives) }
         ensures doc { self.new.doc ≡ self.old.doc }
+        ensures quiet { IsQuietChecked (checked_state self.old) → reader.new ≡ reader.old }
     {
         self.go_on(false, &mut Nothing, reader)
     }
@@ -207,6 +212,7 @@ impl Checked {
         ensures kept { keeps_text ≡ false → result ≡ Ok true
             → KeepsFound K.Keeps keeper.new self.old.doc (state_of self.new.paragraphs).current }
         ensures doc { self.new.doc ≡ self.old.doc }
+        ensures quiet { IsQuietChecked (checked_state self.old) → reader.new ≡ reader.old }
     {
         if let Some(fault) = self.fault {
             return Err(fault);

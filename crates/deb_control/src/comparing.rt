@@ -37,7 +37,7 @@ use std::alloc::Global;
 /// - `Fault::Refused` with `Side::First`: the first file isn't accepted; with `Side::Second`: the
 ///   first file is accepted, and the second one isn't. This is the first refusal of that file.
 /// - `Fault::Memory`: a growth of memory was refused, at the file of that side.
-/// - `Fault::Read`: a read of the reader of that side failed in this call, and was the last one.
+/// - `Fault::Read`: a read of the reader of that side failed in this call.
 pub fn same<R: Source, S: Source>(
     alloc: Global,
     doc: Doc,

@@ -2,7 +2,7 @@
 
 ghost use Rattle.std.specs.Prelude.{◌≡◌, ◌≤◌, ◌==◌, ◌&&◌, not, [], Option, None, Some, Ok, Err, false, true, length, IfOk, IfErr, IsTrue};
 ghost use Rattle.deb_base.specs.Faults.{RefusedOrMemory};
-ghost use Rattle.deb_syntax.specs.Paragraphs.{state_of, seen_of};
+ghost use Rattle.deb_syntax.specs.Paragraphs.{state_of, seen_of, IsQuiet};
 ghost use Rattle.deb_field.specs.Kinds.{is_single as is_one};
 ghost use Rattle.deb_control.specs.Checking.{passes_if, judged_if, found_answer, Checks, Passing};
 ghost use Rattle.deb_control.specs.Documents.{rules_of};
@@ -47,6 +47,7 @@ pub(crate) fn find<R: Source, K: Keep>(
         (λ gives. IsTrue (judged_if gives doc (state_of paragraphs.new).current)) }
     ensures kept { keeps_text ≡ false → result ≡ Ok true
         → KeepsFound K.Keeps keeper.new doc (state_of paragraphs.new).current }
+    ensures quiet { IsQuiet (state_of paragraphs.old) → reader.new ≡ reader.old }
 {
     if is_complete(doc, given) {
         return none_follows(paragraphs, reader);
@@ -76,6 +77,7 @@ fn none_follows<R: Source>(paragraphs: &mut Paragraphs, reader: &mut R) -> Resul
         (R.failures reader.new)) }
     ensures sound { IfOk result (λ _. (state_of paragraphs.new).fault ≡ None) }
     ensures none { IfOk result (λ gives. gives ≡ false) }
+    ensures quiet { IsQuiet (state_of paragraphs.old) → reader.new ≡ reader.old }
 {
     match paragraphs.begins(reader)? {
         None => Ok(false),

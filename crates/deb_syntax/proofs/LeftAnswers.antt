@@ -1,5 +1,5 @@
 -- The answer of a reader on the part of a file that hasn't passed, by what stands there.
-use Rattle.deb_syntax.proofs.Common.{◌≡◌, ◌≢◌, ℕ, ◌+◌, ◌-◌, ◌<◌, ◌≤◌, ◌==◌, ◌⊎◌, inl, inr, Bool, true, false, cond, List, [], ◌∷◌, ◌++◌, Option, Some, None, Ok, Err, length, drop, eqb, refl, sym, ap, ◌∙◌, arith, length-append, le-leb, lt-leb, append-nil, drop-append_seam, drop-length, ParagraphTooLong, FileTooLong, Line, line_length, paragraph_limit, is_blank, part_within, line_beyond, line_too_long, is_line, seen_from, paragraph_answer, answer_of_first, begin_of_first, paragraphs_within, next_answer, next_begin, left_answer, left_begin, AreBlank, AreNotBlank, judged, Paragraph, lines_of, begins_blank, paragraphs_from, paragraphs_of, total_length, file_limit, with_line, IsClosed}
+use Rattle.deb_syntax.proofs.Common.{◌≡◌, ℕ, ◌+◌, ◌-◌, ◌<◌, ◌≤◌, ◌==◌, ◌⊎◌, inl, inr, Bool, true, false, cond, List, [], ◌∷◌, ◌++◌, Option, Some, None, Ok, Err, length, drop, eqb, refl, sym, ap, ◌∙◌, arith, length-append, le-leb, lt-leb, append-nil, drop-append_seam, drop-length, ParagraphTooLong, FileTooLong, Line, line_length, paragraph_limit, is_blank, part_within, line_beyond, line_too_long, is_line, seen_from, paragraph_answer, answer_of_first, begin_of_first, paragraphs_within, next_answer, next_begin, left_answer, left_begin, AreBlank, AreNotBlank, judged, Paragraph, lines_of, begins_blank, paragraphs_from, paragraphs_of, total_length, file_limit, with_line, IsClosed}
 use Rattle.std.proofs.lemmas.List.{append_assoc}
 use Rattle.deb_syntax.proofs.Boundaries.{lines_of-append}
 use Rattle.deb_syntax.proofs.NextParagraph.{paragraphs_from-append, no_paragraph, total-cons}

@@ -1,7 +1,9 @@
 -- The walk of a reader through the text ahead of it: blank lines that are passed, a line of which
 -- nothing is kept, and where the next paragraph ends. Debian Policy 5.1; the limits are this
 -- project's own.
-use Rattle.std.specs.Prelude.{◌≡◌, ◌≢◌, ℕ, ◌+◌, ◌-◌, ◌<◌, ◌≤◌, ◌⊎◌, false, List, [], ◌∷◌, ◌++◌, length, take, drop, Option, Some, None, Result, Ok, Err, IsTrue}
+use Rattle.std.specs.Prelude.{◌≡◌, ◌≢◌, ℕ, ◌+◌, ◌-◌, ◌<◌, ◌≤◌, ◌⊎◌, false, List, [], ◌∷◌, ◌++◌, length, take, drop, Option, Some, None, Result, Ok, Err, IsTrue, codes, refl}
+use Rattle.std.specs.Str.{is_utf8, chars}
+use lib.Utf8.{encode}
 use Rattle.deb_base.specs.Bodies.{Line, newline, HasNoNewline, is_blank, pieces_of, paragraph_limit}
 use Rattle.deb_base.specs.Faults.{IsReadersFault}
 use Rattle.deb_base.specs.declared.code.Code.TheVariants.{FileTooLong}
@@ -217,3 +219,28 @@ IsExtentAhead text before (Err fault) after left =
 pub record SameCounts (before after : FeedState) : Type 0 where
   pub bytes : after.bytes ≡ before.bytes
   pub lines : after.lines ≡ before.lines
+
+-- of a text from line 5 on: what is answered of its first paragraph, and where that begins
+texts_from_line_5 : (left_answer 5 99 (codes "a:1\n\nb")
+    ≡ Ok (Some (record {
+      first = 5;
+      fields = record { name = codes "a"; line = 5; body = codes "1" } ∷ [];
+    })))
+    × (left_answer 5 99 (codes "\n \n") ≡ Ok None)
+    × (left_answer 5 4 (codes "a:1\nb") ≡ Err (record { code = FileTooLong; line = 6 }))
+    × (left_begin 5 99 (codes "\n\na") ≡ Ok (Some 7)) × (left_begin 5 99 (codes "\n") ≡ Ok None)
+    × (left_begin 5 4 (codes "\n\na\nb") ≡ Ok (Some 7))
+    × (left_begin 5 3 (codes "\n\na\nb") ≡ Err (record { code = FileTooLong; line = 7 }))
+unfolding paragraph_limit is_utf8 chars encode
+texts_from_line_5 = (refl, refl, refl, refl, refl, refl, refl)
+
+-- bytes that have passed count, and unread ones don't
+room_of_five : room_ahead (record {
+  unread = codes "ab";
+  held = 9;
+  bytes = 4294967290;
+  lines = 1;
+  ended = false;
+}) ≡ 5
+unfolding file_limit
+room_of_five = refl

@@ -229,6 +229,26 @@ order_of_limits : (next_answer_under 7 8 (codes "a\nb:222\nc") 0
 unfolding is_utf8 chars encode
 order_of_limits = (refl, refl, refl, refl, refl, refl)
 
+-- at the limits of this project
+small_files : (paragraphs_within (codes "a:1\n\nb")
+    ≡ record { first = 1; lines = codes "a:1" ∷ [] }
+    ∷ record { first = 3; lines = codes "b" ∷ [] } ∷ [])
+    × (answer_of_first None [] ≡ Ok None)
+    × (answer_of_first (Some 3) [] ≡ Err (record { code = FileTooLong; line = 3 }))
+    × (answer_of_first None (record { first = 1; lines = codes "a:1" ∷ [] } ∷ [])
+    ≡ Ok (Some first_seen))
+    × (next_begin (codes "\na\n") 0 ≡ Ok (Some 2)) × (next_begin (codes "\na\n") 1 ≡ Ok None)
+unfolding paragraph_limit file_limit is_utf8 chars encode
+small_files = (refl, refl, refl, refl, refl, refl)
+
+limits_of_answers : (text : List ℕ) (count : ℕ) (at : Option ℕ) (left : List Paragraph)
+    → (answer_of_first at left ≡ answer_of_first_under 16777216 at left)
+    × (paragraphs_within text ≡ paragraphs_within_under 16777216 4294967295 text)
+    × (next_answer text count ≡ next_answer_under 16777216 4294967295 text count)
+    × (next_begin text count ≡ next_begin_under 16777216 4294967295 text count)
+unfolding paragraph_limit file_limit
+limits_of_answers text count at left = (refl, refl, refl, refl)
+
 -- where the next paragraph begins: a paragraph is there however long it is and whatever it holds
 begins : (next_begin_under 1 99 (codes "\na\nb\n") 0 ≡ Ok (Some 2))
     × (next_begin_under 99 4 (codes "\na\nb\n") 0 ≡ Ok (Some 2))

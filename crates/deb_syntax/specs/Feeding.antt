@@ -1,6 +1,6 @@
 -- A file that is read by pieces: the bytes of it that are unread, and how far it may be looked at
 -- (this project's own).
-use Rattle.std.specs.Prelude.{◌≡◌, ℕ, ◌+◌, ◌-◌, ◌<◌, ◌≤◌, Bool, List, [], ◌++◌, length, take, drop, slice_range, vec_len, Option, Some, None, IsSome, Result, OnOk, OnErr, IfErr, IsErrOf, IsTrue, IsFalse}
+use Rattle.std.specs.Prelude.{◌≡◌, ℕ, ◌+◌, ◌-◌, ◌<◌, ◌≤◌, Bool, false, List, [], ◌++◌, length, take, drop, slice_range, vec_len, Option, Some, None, IsSome, Result, OnOk, OnErr, IfErr, IsErrOf, IsTrue, IsFalse, codes, refl}
 use Rattle.std.specs.Io.KnownBytes.{Consumes, IsAtEnd}
 use Rattle.deb_base.specs.Devices.{Shown, read_failures_after}
 use Rattle.deb_base.specs.declared.fault.Fault.{Fault}
@@ -147,3 +147,36 @@ pub record KeepsFirst (before : FeedState) (count : ℕ) (after : FeedState) : T
   pub bytes : after.bytes ≡ before.bytes
   pub lines : after.lines ≡ before.lines
   pub ended : after.ended ≡ before.ended
+
+-- a file that is too long is known from one piece beyond
+longest_piece : (piece_limit ≡ 65536) × (file_limit + piece_limit ≡ 4295032831)
+unfolding file_limit
+longest_piece = (refl, refl)
+
+unread_bytes_shown : (window : Window) → unread_of window
+    ≡ take (window.filled - window.start) (drop window.start window.buffer.items)
+unread_bytes_shown window = refl
+
+feed_shown : (feed : Feed) → (feed_state feed ≡ record {
+  unread = unread_of feed.window;
+  held = feed.window.buffer.len;
+  bytes = feed.bytes;
+  lines = feed.lines;
+  ended = feed.ended;
+}) × (buffer_of feed ≡ feed.window.buffer.items) × (start_of feed ≡ feed.window.start)
+feed_shown feed = (refl, refl, refl)
+
+-- five bytes below the most that a file may have have passed, and two are unread
+abbrev near_end : FeedState
+near_end = record {
+  unread = codes "ab";
+  held = 9;
+  bytes = 4294967290;
+  lines = 1;
+  ended = false;
+}
+
+counted_bytes : (had near_end ≡ 4294967292) × (room_of near_end 0 ≡ 5) × (room_of near_end 2 ≡ 3)
+    × (left_count None ≡ 0) × (left_count (Some (codes "abc")) ≡ 3)
+unfolding file_limit
+counted_bytes = (refl, refl, refl, refl, refl)

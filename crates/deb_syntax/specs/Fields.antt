@@ -121,3 +121,11 @@ no_name_and_no_body : (is_field (record { name = codes "-A"; line = 1; body = []
     × (is_field (record { name = codes "A"; line = 1; body = codes "1 " }) ≡ false)
 unfolding is_utf8 chars encode
 no_name_and_no_body = (refl, refl)
+
+-- the first line of the paragraph, and that of each of its fields
+lines_from_one : (are_numbered 1 [] ≡ true) × (are_numbered 0 [] ≡ false)
+    × (are_numbered 1 (record { name = []; line = 1; body = [] } ∷ []) ≡ true)
+    × (are_numbered 0 (record { name = []; line = 1; body = [] } ∷ []) ≡ false)
+    × (are_numbered 1 (record { name = []; line = 1; body = [] }
+    ∷ record { name = []; line = 0; body = [] } ∷ []) ≡ false)
+lines_from_one = (refl, refl, refl, refl, refl)

@@ -115,3 +115,20 @@ open_texts : (ends_line (codes "a\n ") ≡ false) × (ends_line (codes "a") ≡ 
     × (ends_blank_under 3 (lines_of (codes "a\n   \n")) ≡ false)
 unfolding paragraph_limit
 open_texts = (refl, refl, refl, refl, refl)
+
+blank_line_first : (begins_blank [] ≡ true) × (begins_blank ([] ∷ codes "a" ∷ []) ≡ true)
+    × (begins_blank (codes " \t" ∷ codes "a" ∷ []) ≡ true)
+    × (begins_blank (codes " a" ∷ [] ∷ []) ≡ false)
+unfolding paragraph_limit
+blank_line_first = (refl, refl, refl, refl)
+
+-- each line has a newline more
+added_lengths : (total_length [] ≡ 0) × (total_length (codes "ab" ∷ [] ∷ codes "c" ∷ []) ≡ 6)
+added_lengths = (refl, refl)
+
+limits_of_lines : (n : ℕ) (lines : List Line)
+    → (begins_blank lines ≡ begins_blank_under 16777216 lines)
+    × (ends_blank lines ≡ ends_blank_under 16777216 lines)
+    × (paragraphs_from n lines ≡ paragraphs_under 16777216 n lines) × (file_limit ≡ 4294967295)
+unfolding paragraph_limit file_limit
+limits_of_lines n lines = (refl, refl, refl, refl)

@@ -1,5 +1,5 @@
 -- What a `Paragraphs` and its answers show.
-use Rattle.std.specs.Prelude.{◌≡◌, ◌<◌, ◌⊎◌, ℕ, Bool, true, false, Option, None, Result, Ok, Err, IsTrue, IsSome}
+use Rattle.std.specs.Prelude.{◌≡◌, ◌<◌, ◌⊎◌, ℕ, Bool, true, false, Option, Some, None, Result, Ok, Err, IsTrue, IsSome, refl}
 use Rattle.std.specs.Option.{option_map}
 use Rattle.deb_base.specs.declared.fault.Fault.{Fault}
 use Rattle.deb_syntax.specs.declared.paragraphs.Paragraphs.{Paragraphs}
@@ -8,7 +8,8 @@ use Rattle.deb_syntax.specs.Answers.{Seen}
 use Rattle.deb_syntax.specs.declared.first.First.{First}
 use Rattle.deb_syntax.specs.declared.first.First.TheVariants.{End, Kept, Dropped}
 use Rattle.deb_syntax.specs.Ahead.{KeepsLine}
-use Rattle.deb_syntax.specs.Feeding.{FeedState, feed_state, buffer_of}
+use Rattle.deb_syntax.specs.Feeding.{FeedState, feed_state, buffer_of, unread_of}
+use Rattle.deb_syntax.specs.Places.{fields_at}
 use Rattle.deb_syntax.specs.Raw.{first_line_of, fields_of}
 use Rattle.deb_syntax.specs.Reading.{State, state_from}
 use Rattle.deb_syntax.specs.Standing.{standing_of}
@@ -49,3 +50,29 @@ ShowsFirst (Err fault) hidden finished feed = finished ≡ false
 -- error: nothing is read
 abbrev pub IsQuiet : State → Type 0
 IsQuiet state = IsTrue state.ended ⊎ (IsTrue state.finished ⊎ IsSome state.fault)
+
+view_shown : (raw : Raw) → seen_of raw
+    ≡ record { first = raw.first_line; fields = fields_at raw.text.now raw.places.now }
+view_shown raw = refl
+
+answers_shown : (raw : Raw) (fault : Fault) → (answer_of (Ok (Some raw)) ≡ Ok (Some (seen_of raw)))
+    × (answer_of (Ok None) ≡ Ok None) × (answer_of (Err fault) ≡ Err fault)
+answers_shown raw fault = (refl, refl, refl)
+
+reader_shown : (p : Paragraphs) → state_of p ≡ record {
+  unread = unread_of p.feed.window;
+  held = p.feed.window.buffer.len;
+  bytes = p.feed.bytes;
+  lines = p.feed.lines;
+  hidden = p.hidden;
+  ended = p.feed.ended;
+  finished = p.finished;
+  current = option_map (standing_of p.feed.window.buffer.items p.places.items) p.current;
+  fault = p.fault;
+}
+reader_shown p = refl
+
+calls_shown : (new : State) (fault : Fault) → (advance_answer new (Ok true) ≡ Ok new.current)
+    × (advance_answer new (Ok false) ≡ Ok None) × (advance_answer new (Err fault) ≡ Err fault)
+    × (end_answer new (Ok tt) ≡ Ok new.current) × (end_answer new (Err fault) ≡ Err fault)
+calls_shown new fault = (refl, refl, refl, refl, refl)

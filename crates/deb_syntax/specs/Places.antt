@@ -1,6 +1,6 @@
 -- Where the fields of a paragraph stand in its bytes, and what stands there. Debian Policy 5.1;
 -- deb822(5), "Syntax".
-use Rattle.std.specs.Prelude.{◌≡◌, ℕ, ◌+◌, ◌-◌, ◌*◌, ◌%◌, ◌<◌, ◌≤◌, ◌==◌, ◌&&◌, Bool, true, false, List, [], ◌∷◌, ◌++◌, length, map, nat_le, nat_lt, drop, get_or, slice_index, slice_range, if◌then◌else◌, IsTrue, Result, Err, codes, refl}
+use Rattle.std.specs.Prelude.{◌≡◌, ℕ, ◌+◌, ◌-◌, ◌*◌, ◌%◌, ◌<◌, ◌≤◌, ◌==◌, ◌&&◌, Bool, true, false, List, [], ◌∷◌, ◌++◌, length, map, nat_le, nat_lt, drop, get_or, replicate, slice_index, slice_range, if◌then◌else◌, IsTrue, Result, Err, codes, refl}
 use Rattle.std.specs.List.{list_all, list_any}
 use Rattle.std.specs.Str.{bytes_eq}
 use Rattle.std.specs.Char.{to_ascii_lowercase}
@@ -155,3 +155,31 @@ marks_of_names : (mark_of (codes "Package") ≡ mark_of (codes "pACKAGE"))
     × (mark_of (codes "Package") ≡ 110) × (mark_of (codes "Packages") ≡ 37) × (mark_of [] ≡ 0)
 unfolding mark_of
 marks_of_names = (refl, refl, refl, refl)
+
+-- the body of a field that goes on isn't trimmed
+fields_begun : begun_fields (codes "A: 1 \n 2\nB:")
+    (record { line = 1; start = 0; colon = 1; end = 8 }
+    ∷ record { line = 3; start = 9; colon = 10; end = 11 } ∷ [])
+    ≡ record { name = codes "A"; line = 1; body = codes " 1 \n 2" }
+    ∷ record { name = codes "B"; line = 3; body = [] } ∷ []
+fields_begun = refl
+
+names_without_case : (has_stood (codes "pACKAGE") (codes "Tag" ∷ codes "Package" ∷ []) ≡ true)
+    × (has_stood (codes "Packages") (codes "Tag" ∷ codes "Package" ∷ []) ≡ false)
+    × (has_stood (codes "Package") [] ≡ false)
+names_without_case = (refl, refl, refl)
+
+kept_names_without_case : (is_kept (codes "pACKAGE")
+    (record { 0 = record { ref_ptr = (0, 0); now = codes "Tag" } }
+    ∷ record { 0 = record { ref_ptr = (0, 0); now = codes "Package" } } ∷ []) ≡ true)
+    × (is_kept (codes "Packages")
+    (record { 0 = record { ref_ptr = (0, 0); now = codes "Package" } } ∷ []) ≡ false)
+    × (is_kept (codes "Package") [] ≡ false)
+kept_names_without_case = (refl, refl, refl)
+
+-- the mark of `Package` is 110
+marked_name : (is_marked (replicate 110 false ++ true ∷ []) (codes "pACKAGE") ≡ true)
+    × (is_marked (replicate 110 true ++ false ∷ true ∷ []) (codes "Package") ≡ false)
+    × (is_marked [] (codes "Package") ≡ false)
+unfolding mark_of
+marked_name = (refl, refl, refl)

@@ -1,10 +1,14 @@
 -- What a view of a paragraph shows of it: its fields and the number of its first line. Debian
 -- Policy 5.1.
 use Rattle.std.specs.Prelude.{◌≡◌, ℕ, List, [], ◌∷◌, Option, Some, None, find, codes, refl}
-use Rattle.std.specs.Str.{bytes_eq}
+use Rattle.std.specs.Str.{bytes_eq, is_utf8, chars}
+use lib.Utf8.{encode}
+use denote.Ref.{Bor}
+use Rattle.deb_base.specs.Bodies.{paragraph_limit}
 use Rattle.deb_base.specs.Names.{folded}
 use Rattle.deb_syntax.specs.Fields.{Field}
 use Rattle.deb_syntax.specs.Places.{fields_at}
+use Rattle.deb_syntax.specs.declared.place.Place.{Place}
 use Rattle.deb_syntax.specs.declared.raw.Fields.{Fields}
 use Rattle.deb_syntax.specs.declared.raw.Raw.{Raw}
 use Rattle.deb_syntax.specs.declared.raw.RawField.{RawField}
@@ -36,3 +40,40 @@ named_without_case = refl
 named_otherwise : field_named (codes "Versio")
     (record { name = codes "Version"; line = 1; body = codes "1" } ∷ []) ≡ None
 named_otherwise = refl
+
+-- for the worked cases: a reference, and the places of the fields of `A: 1`, ` 2` and `B:`
+abbrev to : {T : Type 0} → T → Bor T
+to value = record { ref_ptr = (0, 0); now = value }
+
+abbrev two_places : List Place
+two_places =
+    record { line = 5; start = 0; colon = 1; end = 7 }
+    ∷ record { line = 7; start = 8; colon = 9; end = 10 } ∷ []
+
+field_shown : field_of (record {
+  name = to (codes "A");
+  line = 3;
+  body = to (codes "1");
+}) ≡ record { name = codes "A"; line = 3; body = codes "1" }
+field_shown = refl
+
+abbrev two_fields : Raw
+unfolding paragraph_limit is_utf8 chars encode
+two_fields = record {
+  text = to (codes "A: 1\n 2\nB:");
+  places = to two_places;
+  first_line = 4;
+  within = refl;
+  fields = refl;
+  numbered = refl;
+}
+
+paragraph_shown : (fields_of two_fields
+    ≡ record { name = codes "A"; line = 5; body = codes "1\n 2" }
+    ∷ record { name = codes "B"; line = 7; body = [] } ∷ []) × (first_line_of two_fields ≡ 4)
+unfolding two_fields
+paragraph_shown = (refl, refl)
+
+left_fields_shown : (fields : Fields)
+    → fields_left fields ≡ fields_at fields.text.now fields.places.now
+left_fields_shown fields = refl

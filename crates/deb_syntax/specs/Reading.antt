@@ -287,3 +287,33 @@ fits_all =
       ended = λ e. refl;
       finished = λ e. refl;
     }
+
+state_by_parts : (unread : List ℕ) (held bytes lines hidden : ℕ) (ended finished : Bool)
+    (current : Option Seen) (fault : Option Fault) → state_from
+    (record { unread = unread; held = held; bytes = bytes; lines = lines; ended = ended })
+    hidden finished current fault ≡ record {
+      unread = unread;
+      held = held;
+      bytes = bytes;
+      lines = lines;
+      hidden = hidden;
+      ended = ended;
+      finished = finished;
+      current = current;
+      fault = fault;
+    }
+state_by_parts unread held bytes lines hidden ended finished current fault = refl
+
+moment_by_parts : (state : State) (left : Option (List ℕ)) (failures : ℕ)
+    → ((moment_of state left failures).state ≡ state)
+    × ((moment_of state left failures).source.bytes ≡ left)
+    × ((moment_of state left failures).source.failures ≡ failures)
+moment_by_parts state left failures = (refl, refl, refl)
+
+paragraphs_passed : (passed_count (codes "a\n\nb\nc\n") ≡ 2) × (passed_count (codes " \n") ≡ 0)
+unfolding paragraph_limit
+paragraphs_passed = (refl, refl)
+
+answers_of_end : (fault : Fault) → (tells_end {A = ℕ} (Ok None) ≡ true)
+    × (tells_end {A = ℕ} (Ok (Some 1)) ≡ false) × (tells_end {A = ℕ} (Err fault) ≡ false)
+answers_of_end fault = (refl, refl, refl)

@@ -1,6 +1,8 @@
 -- What stands in the buffer of a reader of paragraphs: the paragraph that was found last, and the
 -- line that is hidden.
-use Rattle.std.specs.Prelude.{◌≡◌, ◌≢◌, ◌⊎◌, ◌<◌, ◌≤◌, ◌++◌, Result, Ok, Err, ◌+◌, ◌-◌, [], length, ℕ, ◌&&◌, Bool, true, nat_le, List, Option, Some, None, IsTrue, get_or, slice_range}
+use Rattle.std.specs.Prelude.{◌≡◌, ◌≢◌, ◌⊎◌, ◌<◌, ◌≤◌, ◌++◌, Result, Ok, Err, ◌+◌, ◌-◌, [], length, ℕ, ◌&&◌, Bool, true, nat_le, List, Option, Some, None, IsTrue, get_or, slice_range, false, ◌∷◌, codes, refl}
+use Rattle.std.specs.Str.{is_utf8, chars}
+use lib.Utf8.{encode}
 use Rattle.std.specs.List.{list_all}
 use Rattle.deb_base.specs.Bodies.{Line, newline, paragraph_limit}
 use Rattle.deb_base.specs.Faults.{IsReadersFault}
@@ -77,3 +79,51 @@ IsPassed text before (Ok seen) after left = PassesNext text before seen after le
 IsPassed text before (Err fault) after left =
     IsReadersFault fault (λ refusal.
     left_answer (before.lines + 1) (room_ahead before) text ≡ Err refusal)
+
+-- for the worked cases: a buffer in which bytes have passed and others are unread, and the places
+-- of the fields of `A: 1`, ` 2` and `B:` in their paragraph
+abbrev buffer : List ℕ
+buffer = codes "\n\nA: 1\n 2\nB:\nC"
+
+abbrev two_places : List Place
+two_places =
+    record { line = 5; start = 0; colon = 1; end = 7 }
+    ∷ record { line = 7; start = 8; colon = 9; end = 10 } ∷ []
+
+abbrev two_fields : Seen
+two_fields = record {
+  first = 5;
+  fields = record { name = codes "A"; line = 5; body = codes "1\n 2" }
+      ∷ record { name = codes "B"; line = 7; body = [] } ∷ [];
+}
+
+paragraph_in_buffer : (standing_of buffer two_places
+    (record { from = 2; to = 12; first_line = 5 }) ≡ two_fields)
+    × (standing_answer buffer two_places (Ok (record { from = 2; to = 12; first_line = 5 }))
+    ≡ Ok two_fields)
+paragraph_in_buffer = (refl, refl)
+
+error_shown : (fault : Fault) → standing_answer buffer two_places (Err fault) ≡ Err fault
+error_shown fault = refl
+
+-- none, and one that is whole
+paragraphs_within_buffer : (stands_within buffer two_places None ≡ true)
+    × (stands_within buffer two_places (Some (record { from = 2; to = 12; first_line = 5 })) ≡ true)
+unfolding paragraph_limit is_utf8 chars encode
+paragraphs_within_buffer = (refl, refl)
+
+-- it ends before it begins, goes beyond the buffer, or a field goes beyond it; its first line has
+-- no number, or two fields have one name
+paragraphs_beyond_buffer : (stands_within buffer []
+    (Some (record { from = 12; to = 2; first_line = 5 })) ≡ false)
+    × (stands_within buffer two_places (Some (record { from = 2; to = 99; first_line = 5 }))
+    ≡ false)
+    × (stands_within buffer two_places (Some (record { from = 2; to = 11; first_line = 5 }))
+    ≡ false)
+    × (stands_within buffer two_places (Some (record { from = 2; to = 12; first_line = 0 }))
+    ≡ false)
+    × (stands_within (codes "A:a:") (record { line = 1; start = 0; colon = 1; end = 2 }
+    ∷ record { line = 2; start = 2; colon = 3; end = 4 } ∷ [])
+    (Some (record { from = 0; to = 4; first_line = 1 })) ≡ false)
+unfolding paragraph_limit is_utf8 chars encode
+paragraphs_beyond_buffer = (refl, refl, refl, refl, refl)
