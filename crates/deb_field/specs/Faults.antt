@@ -1,10 +1,11 @@
 -- The faults of a value.
-use Rattle.std.specs.Prelude.{◌≡◌, Bool, true, false, IsTrue, List, ℕ, Option, Some, Result, Ok, Err}
+use Rattle.std.specs.Prelude.{◌≡◌, Bool, true, false, IsTrue, List, [], ◌∷◌, ℕ, map, Option, Some, Result, Ok, Err, refl}
 use Rattle.deb_base.specs.declared.code.Code.{Code}
 use Rattle.deb_field.specs.Values.{ValueMeaning, kind_refusal}
 use Rattle.deb_field.specs.ValueMeanings.{value_meaning}
 use Rattle.deb_field.specs.declared.kind.Kind.{Kind}
 use Rattle.deb_field.specs.declared.kind.Kind.TheVariants as kinds
+use Rattle.deb_field.specs.declared.kind.Relationship.TheVariants as sorts
 use Rattle.deb_field.specs.declared.value.Value.{Value}
 use Rattle.deb_field.specs.declared.value.ValueFault.{ValueFault}
 use Rattle.deb_field.specs.declared.value.ValueFault.TheVariants.{Refused, Memory}
@@ -39,3 +40,15 @@ abbrev pub IsRead : Kind → Result Value ValueFault → ValueMeaning → Type 0
 IsRead kind (Ok v) m = value_meaning v ≡ m
 IsRead kind (Err (Refused code)) m = ⊥
 IsRead kind (Err Memory) m = IsTrue (takes_memory kind)
+
+relations_take_memory : map takes_memory
+    (kinds.Relation sorts.Depends ∷ kinds.Relation sorts.Conflicts
+    ∷ kinds.Relation sorts.Provides ∷ [])
+    ≡ true ∷ true ∷ true ∷ []
+relations_take_memory = refl
+
+others_take_none : map takes_memory
+    (kinds.Name ∷ kinds.Source ∷ kinds.Version ∷ kinds.Architecture ∷ kinds.ArchitectureWords
+    ∷ kinds.Flag ∷ kinds.MultiArch ∷ kinds.Number ∷ kinds.Line ∷ kinds.Folded ∷ kinds.Text ∷ [])
+    ≡ false ∷ false ∷ false ∷ false ∷ false ∷ false ∷ false ∷ false ∷ false ∷ false ∷ false ∷ []
+others_take_none = refl

@@ -2,7 +2,7 @@
 -- Debian Policy 5.1 (names are found without case), 5.3 (binary packages), 5.4 (source packages),
 -- 5.6 (the fields), 7.1 to 7.8 (relationship fields); that unknown fields are text is this
 -- project's own.
-use Rattle.std.specs.Prelude.{◌≡◌, ℕ, Bool, true, false, cond, List, [], ◌∷◌, map, codes, refl}
+use Rattle.std.specs.Prelude.{◌≡◌, ℕ, Bool, true, false, cond, List, [], ◌∷◌, length, map, codes, refl}
 use Rattle.std.specs.Str.{bytes_eq}
 use Rattle.deb_base.specs.Codes.{number_of, name_of}
 pub use Rattle.deb_base.specs.Docs.{doc_named, is_single}
@@ -134,7 +134,13 @@ KindOfCanonicalName =
 abbrev pub FieldsOfAnyAreTexts : Type 0
 FieldsOfAnyAreTexts = (name : List ℕ) → kind_of docs.Any name ≡ Text
 
--- Worked cases. Each name is written out here, and not taken from the table.
+-- Worked cases. Each name is written out here, and not taken from the table; the table has no more
+-- rows than there are names here.
+
+all_rows : map (λ doc. length (document doc).fields)
+    (docs.Binary ∷ docs.Packages ∷ docs.Source ∷ docs.Sources ∷ docs.Any ∷ [])
+    ≡ 32 ∷ 32 ∷ 32 ∷ 32 ∷ 0 ∷ []
+all_rows = refl
 
 -- under a kind of document these fields have the kind
 abbrev HasKind : Doc → Kind → List (List ℕ) → Type 0

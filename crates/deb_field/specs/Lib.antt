@@ -29,5 +29,6 @@ pub mod Values
 pub mod ValueLaws
 pub mod Shown
 pub mod ValueMeanings
+pub mod ValueCases
 pub mod Faults
 pub mod ValueCodes

@@ -130,3 +130,8 @@ versioned_text : source_text (record {
   });
 }) ≡ codes "aa (1.0)"
 versioned_text = refl
+
+names_and_versions : (name_before (codes "aa \t(1 (2)") ≡ codes "aa")
+    × (version_within (codes "aa ( 1 )") ≡ codes "1")
+    × (version_within (codes "aa (1) (2)") ≡ codes "1) (2")
+names_and_versions = (refl, refl, refl)

@@ -1,6 +1,6 @@
 -- Values that are their own text: plain text, lines, and the names of packages and architectures.
 -- Debian Policy 5.1, 5.6.1 (names of packages) and 5.6.8 (architectures).
-use Rattle.std.specs.Prelude.{◌≡◌, ℕ, Bool, true, not, List, [], Option, Some, None, IsTrue, codes, refl}
+use Rattle.std.specs.Prelude.{◌≡◌, ℕ, Bool, true, false, not, List, [], Option, Some, None, IsTrue, codes, refl}
 use Rattle.deb_base.specs.declared.code.Code.{Code}
 use Rattle.deb_base.specs.declared.code.Code.TheVariants.{NotOneLine, BadName, BadArchitecture}
 use Rattle.deb_base.specs.PackageNames.{is_package_name, is_arch_name}
@@ -47,6 +47,16 @@ SpellsArchitecture = SpellsItself is_arch_name
 
 abbrev pub architecture_refusal : List ℕ → Option Code
 architecture_refusal body = line_refusal body (refusal_unless (is_arch_name body) BadArchitecture)
+
+any_body : (is_any_text [] ≡ true) × (is_any_text (codes "aa\n bb") ≡ true)
+any_body = (refl, refl)
+
+one_line : (is_one_line [] ≡ true) × (is_one_line (codes "Aa <a@b>") ≡ true)
+    × (is_one_line (codes "aa\n bb") ≡ false)
+one_line = (refl, refl, refl)
+
+own_text : text_itself (codes "aa\n bb") ≡ codes "aa\n bb"
+own_text = refl
 
 lines : (one_line_refusal [] ≡ None) × (one_line_refusal (codes "Aa <a@b>") ≡ None)
     × (one_line_refusal (codes "a\n b") ≡ Some NotOneLine)

@@ -1,5 +1,6 @@
 -- How the words of a text are cut off, one after the other.
 use Rattle.std.proofs.Common.{◌≡◌, ℕ, suc, ◌+◌, ◌-◌, ◌==◌, Bool, true, false, not, cond, List, [], ◌∷◌, length, take, drop, refl, sym, ap, ◌∙◌, arith}
+use Rattle.std.specs.Prelude.{codes}
 use Rattle.std.proofs.lemmas.Bool.{not_from_false, ne_eqb}
 use Rattle.std.proofs.lemmas.List.{take_rest}
 use Rattle.std.proofs.lemmas.List.Folds.{length-prefix_len}
@@ -133,3 +134,7 @@ cut-some text behind n e l some =
     sym (words_of-behind_white text) ∙ ap words_of (sym e) ∙ first_word behind (λ z. some (l ∙ z))
     ∙ ap (λ k. take k behind ∷ words_of (drop k behind)) (sym l)
     ∙ ap (λ t. take n behind ∷ words_of t) (sym (take_rest behind n))
+
+white_fronts : (is_other 32 ≡ false) × (is_other 97 ≡ true)
+    × (behind_white (codes " \n\taa b") ≡ codes "aa b") × (behind_white [] ≡ [])
+white_fronts = (refl, refl, refl, refl)

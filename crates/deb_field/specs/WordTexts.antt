@@ -1,5 +1,6 @@
 -- The text of words with one space between two of them.
 use Rattle.std.proofs.Common.{◌≡◌, ℕ, ◌+◌, ◌≤◌, Bool, true, false, cond, List, [], ◌∷◌, ◌++◌, length, length-append, append-nil, append_assoc, refl, sym, ap, ◌∙◌, arith}
+use Rattle.std.specs.Prelude.{codes}
 use Rattle.std.specs.List.{filter, slice_split, onto_first}
 use Rattle.deb_field.specs.Words.{is_white, is_word, words_of, words_text}
 use Rattle.deb_field.specs.WordCuts.{split-white, split-other, first_piece}
@@ -102,3 +103,7 @@ module _ (text word from rest others : List ℕ) (same : from ≡ text)
   begin-text out new e =
       ap (λ t. t ++ more_text (words_of others)) e
       ∙ append_assoc out word (more_text (words_of others)) ∙ ap (λ t. out ++ t) (sym cut-text)
+
+words_aa_and_b : (more_text [] ≡ []) × (more_text (codes "aa" ∷ codes "b" ∷ []) ≡ codes " aa b")
+    × (total [] ≡ 0) × (total (codes "aa" ∷ codes "b" ∷ []) ≡ 5)
+words_aa_and_b = (refl, refl, refl, refl)

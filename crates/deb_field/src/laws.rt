@@ -54,6 +54,23 @@ pub fn canonical_text_tells_values()
     ensures of_kinds { (kind : FieldKind) → OneText ValueMeaning (SpellsKind kind) value_text }
 {}
 
+/// The same of each kind's own values.
+pub fn kinds_have_one_text()
+    ensures names { OneText (List ℕ) SpellsName text_itself }
+    ensures sources { OneText SourceMeaning SpellsSource source_text }
+    ensures versions { OneText VersionMeaning SpellsVersion version_text }
+    ensures architectures { OneText (List ℕ) SpellsArchitecture text_itself }
+    ensures architecture_words { OneText (List (List ℕ)) SpellsArchitectures words_text }
+    ensures flags { OneText FlagWord SpellsFlag flag_text }
+    ensures multi_archs { OneText MultiArchWord SpellsMultiArch multi_arch_text }
+    ensures numbers { OneText ℕ SpellsNumber digits_of }
+    ensures lines { OneText (List ℕ) SpellsLine text_itself }
+    ensures folded { OneText (List (List ℕ)) SpellsFolded words_text }
+    ensures relations { (sort : Relationship)
+        → OneText RelationMeaning (SpellsRelationship sort) relation_text }
+    ensures texts { OneText (List ℕ) SpellsText text_itself }
+{}
+
 /// In a field, and as one of a kind, a body has a refusal exactly where it spells no value.
 pub fn bodies_are_spelled_or_refused()
     ensures of_fields { (doc : Doc) (name : List ℕ)

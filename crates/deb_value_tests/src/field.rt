@@ -97,6 +97,30 @@ fn long_values(rt: HostRuntime) -> Result<(), Fail> {
     Ok(())
 }
 
+/// The sort of a relationship field; None where the field is of another kind, or a call fails.
+fn sort_of(alloc: Global, name: &str) -> Option<Relationship> {
+    let body = b"aa";
+    if !is_body(body) {
+        return None;
+    }
+    let value = Value::parse(alloc, Doc::Packages, name.as_bytes(), body).ok()?;
+    match &value {
+        Value::Relation(field) => Some(field.relationship()),
+        _ => None,
+    }
+}
+
+#[test]
+fn sorts_of_relationships(rt: HostRuntime) {
+    for (name, wanted) in [
+        ("Depends", Relationship::Depends),
+        ("Conflicts", Relationship::Conflicts),
+        ("Provides", Relationship::Provides),
+    ] {
+        assert!(rt; sort_of(rt.alloc(), name) == Some(wanted), "{name}");
+    }
+}
+
 /// What stands behind a text where it is there, else all bytes; None where it should be there and
 /// isn't.
 fn behind<'a>(bytes: &'a [u8], text: &[u8], is_there: bool) -> Option<&'a [u8]> {
