@@ -46,7 +46,7 @@ numbers_push n test (q ∷ packages) p =
     moved false true l j k e = ap (λ i. l ++ i ∷ []) e
     moved false false l j k e = refl
 
--- a package's number is put behind those of the packages before it
+-- a package's number follows those of the packages before it
 pub numbers_put : (k : ℕ) (test : Listed → Bool) (packages : List Listed) (p : Listed) → k ≡ length packages
     → numbers_of test (packages ++ p ∷ []) ≡ cond (test p) (put_last (k + 1) (numbers_of test packages)) (numbers_of test packages)
 numbers_put k test packages p is =

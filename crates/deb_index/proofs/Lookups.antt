@@ -22,7 +22,7 @@ module _ {A X : Type 0} where
       is_apart : (k : Vec ℕ A) → bytes_eq bs k.items ≡ true → bytes_eq cs k.items ≡ false
       is_apart k e = ap (bytes_eq cs) (sym ((bytes_eq-Decides bs k.items).0 e)) ∙ apart
 
--- bytes are equal whichever stands first
+-- bytes are equal whichever comes first
 pub same_bytes : (bs cs : List ℕ) → bytes_eq bs cs ≡ bytes_eq cs bs
 same_bytes bs cs =
     elim (cases_Bool (bytes_eq bs cs)) [
@@ -38,7 +38,7 @@ same_bytes bs cs =
 abbrev under : {A B S : Type 0} → IndexMap (Vec ℕ A) (Vec ℕ B) S → List ℕ → List ℕ
 under m name = option_map_or (λ v. v.items) (get_by (λ k. bytes_eq name k.items) m) []
 
--- a number is put behind those under a name, and those under other names stay
+-- a number is appended to those under a name, and those under other names stay
 pub put_under : {A B S : Type 0} (bs : List ℕ) (number : ℕ) (m n : IndexMap (Vec ℕ A) (Vec ℕ B) S) (w : Vec ℕ B) → UpdatesBy (λ x y. bytes_eq x.items y.items) (λ k. bytes_eq bs k.items) m n (Some w)
     → w.items ≡ put_last number (under m bs) → (cs : List ℕ) → under n cs ≡ cond (bytes_eq bs cs) (put_last number (under m cs)) (under m cs)
 put_under bs number m n w updates items cs =

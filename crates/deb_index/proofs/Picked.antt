@@ -17,7 +17,7 @@ behind : (front : List Listed) (p : Listed) (rest : List Listed) → slice_get (
 behind [] p rest = refl
 behind (q ∷ front) p rest = behind front p rest
 
--- the package behind a front has the number that follows
+-- the package after a prefix has the number that follows
 behind-front : (front : List Listed) (p : Listed) (rest : List Listed) (n : ℕ) → n ≡ length front + 1 → slice_get (front ++ p ∷ rest) (n - 1) ≡ Some p
 behind-front front p rest n is = ap (slice_get (front ++ p ∷ rest)) (omega (arith, is)) ∙ behind front p rest
 

@@ -1,4 +1,4 @@
--- What an index stands for.
+-- The packages that an index is to its callers.
 use Rattle.std.specs.Prelude.{List, map}
 use Rattle.deb_index.specs.Kept.{listed_of}
 use Rattle.deb_index.specs.Listed.{Listed}

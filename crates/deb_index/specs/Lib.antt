@@ -12,3 +12,4 @@ pub mod Listing
 pub mod Indexes
 pub mod Told
 pub mod Laws
+pub mod ViewCases

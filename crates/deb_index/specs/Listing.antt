@@ -113,6 +113,6 @@ worked-full =
       provisions = refl;
     }
 
--- no value stands under a name that isn't there
+-- there is no value under a name that isn't there
 worked-no_value : value_under (codes "Provides") plain ≡ None
 worked-no_value = refl

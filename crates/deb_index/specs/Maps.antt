@@ -1,4 +1,4 @@
--- What a map from names to numbers of packages stands for.
+-- The numbers of packages under a name, as a map from names to numbers has them.
 use Rattle.std.specs.Prelude.{◌≡◌, ℕ, ◌-◌, ◌==◌, ◌&&◌, nat_lt, Bool, cond, length, List, [], ◌∷◌, ◌++◌, refl}
 use Rattle.std.specs.List.{slice_index}
 use Rattle.std.specs.Option.{option_map_or}
@@ -15,7 +15,7 @@ numbers_under names name =
 abbrev pub is_last : ℕ → List ℕ → Bool
 is_last n xs = nat_lt 0 (length xs) && (slice_index xs (length xs - 1) == n)
 
--- a number behind others, unless it is the last of them
+-- a number after others, unless it is the last of them
 abbrev pub put_last : ℕ → List ℕ → List ℕ
 put_last n xs = cond (is_last n xs) xs (xs ++ n ∷ [])
 

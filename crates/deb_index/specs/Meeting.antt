@@ -15,8 +15,8 @@ use Rattle.deb_index.specs.Alternatives.{alone, with_bound, with_qualifier}
 use Rattle.deb_index.specs.Listed.{Provision, Listed}
 use Rattle.deb_version.specs.Places.{version_in}
 
--- A version meets a bound if it stands in the bound's operator to the bound's version. Every
--- version meets no bound.
+-- A version meets a bound if the bound's operator holds of it and the bound's version. Every
+-- version meets an absent bound.
 abbrev pub meets_bound : Option (Op × Version) → Version → Bool
 meets_bound None version = true
 meets_bound (Some bound) version = holds bound.0 (version_cmp version bound.1)

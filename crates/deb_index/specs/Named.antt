@@ -22,7 +22,7 @@ numbers_from n test (p ∷ packages) =
     cond (test p) (n ∷ numbers_from (n + 1) test packages) (numbers_from (n + 1) test packages)
 
 -- The numbers of the packages of a list that pass a test: they are counted from 1, ascend, and each
--- stands once.
+-- is there once.
 abbrev pub numbers_of : (Listed → Bool) → List Listed → List ℕ
 numbers_of test packages = numbers_from 1 test packages
 

@@ -1,4 +1,4 @@
--- The text of a report: for each group a line, and behind that of a met group a line for each
+-- The text of a report: for each group a line, and after that of a met group a line for each
 -- package that meets it. Its form is this project's own; the canonical text of a version is that of
 -- Debian Policy 5.6.12, as deb_version has it.
 use Rattle.std.specs.Prelude.{◌≡◌, ℕ, ◌++◌, List, [], ◌∷◌, None, codes, refl}

@@ -1,4 +1,4 @@
--- What a report and its parts stand for.
+-- The report that the values of the code are to the contracts.
 use Rattle.std.specs.Prelude.{List, map}
 use Rattle.deb_index.specs.Kept.{listed_of}
 use Rattle.deb_index.specs.Reports.{Numbered, Answer}

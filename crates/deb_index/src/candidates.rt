@@ -40,8 +40,8 @@ pub(crate) fn packages_meeting<'a>(
     Ok(found)
 }
 
-/// The numbers of the packages that meet an alternative of a group that applies: they ascend, and
-/// each stands once.
+/// The numbers of the packages that meet an alternative of a group that applies, in ascending order
+/// and each once.
 fn numbers_meeting(
     alloc: Global,
     index: &Index,

@@ -52,8 +52,8 @@ impl Index {
     /// Reads a file as an index of packages (Debian Policy 5.1, 5.3 and 5.6).
     ///
     /// It takes one paragraph at a time, and at most 4,295,032,831 bytes from the reader: those
-    /// that a file may have, and one piece. What is said of the file's text holds for a reader that
-    /// tells its bytes.
+    /// that a file may have, and one piece. What is said of the file's text holds for a reader
+    /// whose bytes are known.
     ///
     /// # Errors
     ///
@@ -69,7 +69,7 @@ impl Index {
         ensures taken { (text : List ℕ) → R.left reader.old ≡ Some text
             → TakesNoMore text file_limit (R.left reader.new) }
 
-        // Whether or not the reader tells its bytes.
+        // Whether or not the reader's bytes are known.
         ensures fault { IfErr result (λ fault. IsReadersFault fault IsRefusalOfDocument) }
         ensures reads { R.failures reader.new ≡ read_failures_after (R.failures reader.old) result }
         ensures tells_reads { TellsReads (R.failures reader.old) (R.failures reader.new) result }
@@ -103,8 +103,8 @@ impl Index {
         })
     }
 
-    /// The numbers of the packages that have a name, as their Package (Debian Policy 5.6.7): they
-    /// ascend, each stands once, and the first package of the index has the number 1. Without such
+    /// The numbers of the packages that have a name, as their Package (Debian Policy 5.6.7), in
+    /// ascending order and each once. The first package of the index has the number 1. Without such
     /// a package there is none. No memory is taken.
     pub fn packages(&self, name: &[u8]) -> &[u64]
         ensures { result.now ≡ numbers_of (has_name name.now) (packages_of self.now) }
@@ -114,10 +114,11 @@ impl Index {
 
     /// The numbers of the packages that provide a name, in some version or without one (Debian
     /// Policy 7.5): those with an entry of this name in Provides that has neither a qualifier nor
-    /// an architecture list nor a formula. They ascend, each stands once, and the first package of
-    /// the index has the number 1. Without such a package there is none. No memory is taken.
+    /// an architecture list nor a formula. They are in ascending order and each once, and the first
+    /// package of the index has the number 1. Without such a package there is none. No memory is
+    /// taken.
     ///
-    /// A package isn't told here for its own name, unless it provides that too.
+    /// A package isn't here for its own name, unless it provides that too.
     pub fn providers(&self, name: &[u8]) -> &[u64]
         ensures { result.now ≡ numbers_of (provides name.now) (packages_of self.now) }
     {
@@ -133,14 +134,14 @@ impl Index {
         &self.packages[number as usize - 1]
     }
 
-    /// What is told of a relation in an environment: of each group, in the order of the groups'
+    /// Reports on a relation in an environment: for each group, in the order of the groups'
     /// canonical texts, whether it is ignored, since none of its alternatives applies; met, since a
     /// package meets one that applies, and by which packages; or unmet (Debian Policy 7.1).
     ///
     /// # Errors
     ///
-    /// `Wildcard` exactly where an architecture list of the relation holds a wildcard, whatever
-    /// memory there is; else want of memory.
+    /// `Wildcard` exactly if an architecture list of the relation contains a wildcard, whatever
+    /// memory there is; else out of memory.
     pub fn query(
         &self,
         alloc: Global,

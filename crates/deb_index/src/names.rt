@@ -12,7 +12,7 @@ use crate::provision::Provision;
 use indexmap::IndexMap;
 use std::alloc::{AllocError, Global};
 
-/// The numbers of packages under names: of each name they ascend, and each stands once.
+/// The numbers of packages under names: under each name in ascending order and each once.
 #[derive(Debug, Drop)]
 pub(crate) struct Names {
     map: IndexMap<Vec<u8>, Vec<u64>>,
@@ -81,7 +81,7 @@ impl Names {
         Ok(())
     }
 
-    /// Puts a number behind those under a name, unless it is the last of them.
+    /// Appends a number to those under a name, unless it is the last of them.
     fn put(&mut self, alloc: Global, name: &[u8], number: u64) -> Result<(), AllocError>
         ensures { OnOk result ((other : List ℕ) → numbers_under self.new other
             ≡ (if bytes_eq name.now other then put_last number (numbers_under self.old other)
@@ -98,7 +98,7 @@ impl Names {
     }
 }
 
-/// Puts a number behind others, unless it is the last of them.
+/// Appends a number to others, unless it is the last of them.
 fn push_unless_last(numbers: &mut Vec<u64>, number: u64) -> Result<(), AllocError>
     ensures { OnOk result (numbers.new.items ≡ put_last number numbers.old.items) }
 {

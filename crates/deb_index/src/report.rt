@@ -1,4 +1,4 @@
-//! What an index tells of a relation.
+//! Which groups of a relation the packages of an index meet.
 
 ghost use Rattle.std.specs.Prelude.{◌≡◌, IfOk, map, not};
 ghost use Rattle.std.specs.List.{list_all, list_any};
@@ -100,8 +100,8 @@ impl<'a> Answer<'a> {
     }
 }
 
-/// What an index tells of a relation: of each of its groups, in their order, whether it is met and
-/// by which packages (Debian Policy 7.1).
+/// The report of an index on a relation: for each of its groups, in their order, whether it is met
+/// and by which packages (Debian Policy 7.1).
 #[derive(Debug, Drop)]
 pub struct Report<'a> {
     pub(crate) answers: Vec<Answer<'a>>,

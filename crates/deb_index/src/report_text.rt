@@ -13,7 +13,7 @@ use itoa::Buffer;
 
 impl Report<'_> {
     /// Writes the report, without memory: for each group a line with its verdict and its canonical
-    /// text, as `met aa | bb`, `unmet cc` or `ignored dd [i386]`; behind that of a met group a line
+    /// text, as `met aa | bb`, `unmet cc` or `ignored dd [i386]`; after that of a met group a line
     /// for each package that meets it, as ` 2 aa 1.0 all`: its number, name, canonical version and
     /// architecture.
     ///

@@ -5,7 +5,7 @@ use Rattle.deb_base.specs.Faults.{MatchFault}
 use Rattle.deb_base.specs.declared.fault.Fault.{Fault}
 use Rattle.deb_syntax.specs.Lines.{file_limit}
 
--- One piece of so many bytes, which a source had left and has no longer, came behind the bytes that
+-- One piece of so many bytes, which a source had left and has no longer, follows the bytes that
 -- were read before. It is empty only at the end.
 pub record TakesPiece (left : Option (List ℕ)) (read : List ℕ) (count : ℕ)
     (left_after : Option (List ℕ)) (read_after : List ℕ) : Type 0 where
@@ -25,6 +25,6 @@ pub record IsEnough (text read : List ℕ) : Type 0 where
 abbrev pub ReadsEnough : Option (List ℕ) → List ℕ → Type 0
 ReadsEnough left read = (text : List ℕ) → left ≡ Some text → IsEnough text read
 
--- want of memory, or a read that failed
+-- out of memory, or a read that failed
 abbrev pub IsMemoryOrRead : Fault → Type 0
 IsMemoryOrRead fault = MatchFault fault (λ _. ⊥) (Unit {0}) (Unit {0}) ⊥

@@ -11,7 +11,7 @@ use Rattle.deb_version.specs.Places.{version_in}
 abbrev pub is_earlier : Line → Line → Bool
 is_earlier a b = is_lt (version_cmp (version_in a) (version_in b))
 
--- one line stands before another: its version is earlier, or in reverse order later
+-- one line comes before another: its version is earlier, or in reverse order later
 abbrev pub stands_before : Bool → Line → Line → Bool
 stands_before false a b = is_earlier a b
 stands_before true a b = is_earlier b a
@@ -32,7 +32,7 @@ later : (stands_before true (codes "1.10") (codes "1.9") ≡ true)
     × (stands_before true (codes "1.9") (codes "1.10") ≡ false)
 later = (refl, refl)
 
--- neither of two equal versions stands before the other
+-- neither of two equal versions comes before the other
 equal : (stands_before false (codes "1.0") (codes "0:1.00-0") ≡ false)
     × (stands_before false (codes "0:1.00-0") (codes "1.0") ≡ false)
 equal = (refl, refl)

@@ -33,7 +33,7 @@ pub(crate) fn version_lines<'a>(
     parse_lines(alloc, texts.as_slice())
 }
 
-/// How many pieces of a text stand between its newlines.
+/// How many pieces a text has between its newlines.
 fn count_pieces(text: &[u8]) -> u64
     ensures { result ≡ length (pieces_of text.now) }
 {

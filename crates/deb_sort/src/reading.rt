@@ -18,7 +18,7 @@ const PIECE: usize = 65_536;
 ///
 /// # Errors
 ///
-/// Want of memory, and a failed read; no more is read then.
+/// Out of memory, and a failed read; no more is read then.
 pub fn read_text<R: Source>(alloc: Global, source: &mut R) -> Result<Vec<u8>, Fault>
     ensures ok { IfOk result (λ text. ReadsEnough (R.left source.old) text.items) }
     ensures taken { (text : List ℕ) → R.left source.old ≡ Some text
@@ -49,8 +49,8 @@ fn read_by<R: Source>(alloc: Global, piece: &mut [u8], source: &mut R) -> Result
     Ok(text)
 }
 
-/// Reads one piece into a buffer, and puts it behind a text. Says how many bytes came; no more than
-/// that piece is taken of the source.
+/// Reads one piece into a buffer, and appends it to a text. Returns how many bytes it read; it
+/// takes no more than that piece from the source.
 fn read_piece<R: Source>(
     piece: &mut [u8],
     source: &mut R,

@@ -15,14 +15,13 @@ use deb_base::{Fault, Sink, Source, put_pieces};
 use std::alloc::{AllocError, Global};
 
 /// Writes the lines of a file in Debian's order of the versions that they spell, or in reverse
-/// order, each as it stands and with a newline behind it. Lines of equal versions keep the order
+/// order, each as it is spelled and with a newline after it. Lines of equal versions keep the order
 /// that they had.
 ///
-/// A newline behind the last line may be missing. Refused is a file that is too long
-/// (`FileTooLong`, at the line that is cut off), and else the first line that is no version
-/// (`BadVersion`); the empty line is none. Nothing is written before the file was read to its end
-/// and all of its lines were found good. At most 4,295,032,831 bytes are taken from the source:
-/// those that a file may have, and one piece.
+/// The last line may have no newline. `sort` refuses a file that is too long (`FileTooLong`, at the
+/// line that is cut off), or else the first line that isn't a version (`BadVersion`), as an empty
+/// line. It writes nothing before it has read the file to its end and found no refusal. It takes at
+/// most 4,295,032,831 bytes from the source: those that a file may have, and one piece.
 pub fn sort<R: Source, W: Sink>(
     alloc: Global,
     source: &mut R,
@@ -51,7 +50,7 @@ fn sort_lines(lines: &mut Vec<VersionLine<'_>>, reverse: bool) -> Result<(), All
     }
 }
 
-/// Writes lines, each with a newline behind it.
+/// Writes lines, each with a newline after it.
 fn write_lines<W: Sink>(out: &mut W, lines: &[VersionLine<'_>]) -> Result<(), Fault>
     ensures written { Puts (W.held out.old) (W.held out.new) result
         (with_newlines (texts_of lines.now)) }

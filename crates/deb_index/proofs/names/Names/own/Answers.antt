@@ -1,4 +1,4 @@
--- The package's number goes behind those of the packages before it.
+-- The package's number follows those of the packages before it.
 use Rattle.std.proofs.Common.{cond, sym, ap, ◌+◌, ◌∙◌}
 use Rattle.std.specs.Str.{bytes_eq}
 use Rattle.deb_index.specs.Kept.{listed_of}

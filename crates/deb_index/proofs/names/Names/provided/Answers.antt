@@ -1,4 +1,4 @@
--- The package's number goes behind those of the packages before it.
+-- The package's number follows those of the packages before it.
 use Rattle.std.proofs.Common.{cond, map, sym, ap, ◌+◌, ◌∙◌}
 use Rattle.std.specs.List.{list_any}
 use Rattle.std.specs.Str.{bytes_eq}

@@ -1,4 +1,4 @@
--- The number stands under the names so far.
+-- The number is under the names so far.
 use Rattle.std.proofs.Common.{◌≡◌, ℕ, List, cond, map, take}
 use Rattle.std.specs.List.{list_any}
 use Rattle.std.specs.Str.{bytes_eq}
