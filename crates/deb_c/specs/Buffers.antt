@@ -1,6 +1,7 @@
 -- What a call leaves in a buffer that a program in C lends it, and in the length beside it (this
 -- project's own).
-use Rattle.std.specs.Prelude.{◌≡◌, ℕ, ◌<◌, ◌≤◌, List, ◌++◌, drop, length}
+use Rattle.std.specs.Prelude.{◌≡◌, ℕ, ◌<◌, ◌≤◌, List, ◌++◌, codes, drop, length, refl}
+use Rattle.std.proofs.Common.{arith}
 
 -- The bytes stand at the front of the buffer, which is else as it was, and their length is told.
 pub record Gives (bytes before after : List ℕ) (len : ℕ) : Type 0 where
@@ -18,3 +19,14 @@ pub record LacksRoom (bytes before after : List ℕ) (len : ℕ) : Type 0 where
 pub record GivesNothing (before after : List ℕ) (len : ℕ) : Type 0 where
   pub kept : after ≡ before
   pub none : len ≡ 0
+
+-- Worked cases.
+
+given : Gives (codes "ab") (codes "xyz") (codes "abz") 2
+given = record { fits = omega arith; is = refl; counted = refl }
+
+without_room : LacksRoom (codes "abc") (codes "xy") (codes "xy") 3
+without_room = record { short = omega arith; kept = refl; counted = refl }
+
+nothing_given : GivesNothing (codes "xy") (codes "xy") 0
+nothing_given = record { kept = refl; none = refl }

@@ -1,6 +1,6 @@
 -- What is answered of files to a program in C: Debian Policy 5.1 and 5.3 to 5.6. The numbers of the
 -- kinds are this project's own.
-use Rattle.std.specs.Prelude.{◌≡◌, ℕ, ◌≤◌, List, Bool, length, Some}
+use Rattle.std.specs.Prelude.{◌≡◌, ℕ, ◌≤◌, List, [], ◌∷◌, Bool, length, map, Some, refl}
 use Rattle.deb_base.specs.Faults.{RefusedOrMemory}
 use Rattle.deb_base.specs.declared.refusal.Refusal.{Refusal}
 use Rattle.deb_base.specs.declared.doc.Doc.{Doc}
@@ -31,6 +31,13 @@ IsKind number = (doc : Doc) × (number ≡ kind_number doc)
 
 abbrev pub IsNoKind : ℕ → Type 0
 IsNoKind number = 5 ≤ number
+
+numbers_of_kinds : map kind_number (Binary ∷ Packages ∷ Source ∷ Sources ∷ Any ∷ [])
+    ≡ 0 ∷ 1 ∷ 2 ∷ 3 ∷ 4 ∷ []
+numbers_of_kinds = refl
+
+other_numbers : (IsNoKind 4 ≡ (5 ≤ 4)) × (IsNoKind 5 ≡ (5 ≤ 5))
+other_numbers = (refl, refl)
 
 -- ---- answers
 

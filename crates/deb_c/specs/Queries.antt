@@ -1,6 +1,6 @@
 -- What is answered of a relation and an index to a program in C: Debian Policy 7.1 and 7.5. The
 -- order of refusals and the report's form are this project's own.
-use Rattle.std.specs.Prelude.{◌≡◌, ◌⊎◌, ℕ, Bool, List, Some, Result, Ok, Err, IsTrue, IsFalse}
+use Rattle.std.specs.Prelude.{◌≡◌, ◌⊎◌, ℕ, Bool, true, false, List, [], ◌∷◌, Some, Result, Ok, Err, IsTrue, IsFalse, codes, refl}
 use Rattle.deb_base.specs.Faults.{RefusedOrMemory}
 use Rattle.deb_base.specs.declared.code.Code.TheVariants.{BadRelation, BadEnvironment, Wildcard}
 use Rattle.deb_base.specs.declared.fault.Fault.{Fault}
@@ -44,6 +44,27 @@ has_environment q = is_environment q.target q.profiles
 abbrev pub environment_in : Question → Environment
 environment_in q = environment_with q.target q.profiles
 
+-- a question of these names, about `aa`
+abbrev about_aa : List ℕ → List (List ℕ) → Question
+about_aa target profiles = question target profiles (codes "aa")
+
+questions : (about_aa (codes "amd64") (codes "cross" ∷ codes "nocheck" ∷ []) ≡ record {
+  target = codes "amd64";
+  profiles = codes "cross" ∷ codes "nocheck" ∷ [];
+  relation = codes "aa";
+})
+    × (environment_in (about_aa (codes "amd64") (codes "cross" ∷ codes "nocheck" ∷ [])) ≡ record {
+      target = codes "amd64";
+      profiles = codes "cross" ∷ codes "nocheck" ∷ [];
+    })
+questions = (refl, refl)
+
+environments : (has_environment (about_aa (codes "amd64") []) ≡ true)
+    × (has_environment (about_aa (codes "amd64") (codes "cross" ∷ codes "nocheck" ∷ [])) ≡ true)
+    × (has_environment (about_aa (codes "any") []) ≡ false)
+    × (has_environment (about_aa (codes "amd64") (codes "cross" ∷ codes "No" ∷ [])) ≡ false)
+environments = (refl, refl, refl, refl)
+
 -- The relation is one, and the environment is.
 pub record IsGood (q : Question) : Type 0 where
   pub relation : Relation
@@ -60,6 +81,12 @@ bad_environment = record { code = BadEnvironment; line = 0 }
 
 abbrev pub wildcard : Refusal
 wildcard = record { code = Wildcard; line = 0 }
+
+-- their codes are 19, 23 and 22, and they have no line
+refusals : (refusing 2 bad_relation ≡ record { status = 2; code = 19; line = 0; count = 0 })
+    × (refusing 2 bad_environment ≡ record { status = 2; code = 23; line = 0; count = 0 })
+    × (refusing 2 wildcard ≡ record { status = 2; code = 22; line = 0; count = 0 })
+refusals = (refl, refl, refl)
 
 -- The relation is none; else the target or a profile is no good name; else the index is refused;
 -- else it is accepted, and an architecture list of the relation holds a wildcard.

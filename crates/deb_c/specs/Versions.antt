@@ -1,6 +1,6 @@
 -- What is answered of versions to a program in C: Debian Policy 5.6.12 and deb-version(7). The
 -- numbers of the orders are this project's own.
-use Rattle.std.specs.Prelude.{◌≡◌, ℕ, List, ℤ, pos, negsuc}
+use Rattle.std.specs.Prelude.{◌≡◌, ℕ, List, ℤ, pos, negsuc, refl}
 use Rattle.std.specs.declared.cmp.Ordering.{Ordering}
 use Rattle.std.specs.declared.cmp.Ordering.TheVariants.{Less, Equal, Greater}
 use Rattle.deb_base.specs.declared.code.Code.TheVariants.{BadVersion}
@@ -9,6 +9,7 @@ use Rattle.deb_version.specs.Canonical.{version_text}
 use Rattle.deb_version.specs.Grammar.{SpellsVersion}
 use Rattle.deb_version.specs.Order.{version_cmp}
 use Rattle.deb_version.specs.Parts.{Meaning}
+use Rattle.deb_c.specs.Answers.{refusing}
 use Rattle.deb_c.specs.Buffers.{Gives, LacksRoom}
 use Rattle.deb_c.specs.declared.versions.Comparison.{Comparison}
 
@@ -31,6 +32,15 @@ order_number Greater = pos 1
 abbrev pub comparing : ℕ → ℕ → Ordering → Comparison
 comparing status code order =
     record { status = status; code = code; order = order_number order }
+
+orders : (comparing 0 0 Less ≡ record { status = 0; code = 0; order = negsuc 0 })
+    × (comparing 0 0 Equal ≡ record { status = 0; code = 0; order = pos 0 })
+    × (comparing 0 0 Greater ≡ record { status = 0; code = 0; order = pos 1 })
+    × (comparing 3 18 Equal ≡ record { status = 3; code = 18; order = pos 0 })
+orders = (refl, refl, refl, refl)
+
+refusals : refusing 2 bad_version ≡ record { status = 2; code = 18; line = 0; count = 0 }
+refusals = refl
 
 -- Both texts are versions, and this is their order.
 pub record Compares (left right : List ℕ) (comparison : Comparison) : Type 0 where

@@ -8,7 +8,8 @@ use Rattle.deb_base.specs.Trimming.{trimmed}
 use Rattle.deb_base.specs.declared.code.Code.{Code}
 use Rattle.deb_base.specs.declared.code.Code.TheVariants.{BadVersion, BadRelation, BadName}
 use Rattle.deb_version.specs.Faults.{first_fault}
-use Rattle.deb_version.specs.declared.fault.BadVersion.TheVariants.{UpstreamByte, RevisionEmpty, Empty}
+use Rattle.deb_version.specs.declared.fault.BadVersion.TheVariants.{UpstreamByte, RevisionEmpty}
+use Rattle.deb_version.specs.declared.fault.BadVersion.TheVariants.{Empty}
 use Rattle.deb_relation.specs.Faults.{first_fault as first_stop}
 use Rattle.deb_relation.specs.declared.fault.Reason.{Reason}
 use Rattle.deb_relation.specs.declared.fault.Reason.TheVariants.{Trailing}

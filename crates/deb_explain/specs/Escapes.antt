@@ -1,6 +1,8 @@
 -- Bytes of a file as they are shown: in printable ASCII, and shortened where there are many. The
 -- form is this project's own.
-use Rattle.std.specs.Prelude.{◌≡◌, ℕ, ◌+◌, ◌-◌, ◌/◌, ◌%◌, ◌==◌, ◌&&◌, cond, nat_le, nat_lt, List, [], ◌∷◌, ◌++◌, length, take, replicate, Option, Some, None, codes, refl}
+use Rattle.std.specs.Prelude.{◌≡◌, ℕ, ◌+◌, ◌-◌, ◌/◌, ◌%◌, ◌==◌, ◌&&◌, cond, nat_le, nat_lt, List}
+use Rattle.std.specs.Prelude.{[], ◌∷◌, ◌++◌, length, take, replicate, Option, Some, None, codes}
+use Rattle.std.specs.Prelude.{refl}
 use Rattle.std.specs.List.{flat_map}
 
 -- the hexadecimal digit of a number below 16: 48 is `0`, 97 is `a`

@@ -1,6 +1,7 @@
 -- Why a file is refused, in full. Debian Policy 5.1, 5.3 to 5.6 and 7; which of it is told is this
 -- project's own.
-use Rattle.std.specs.Prelude.{◌≡◌, ℕ, List, [], length, Option, Some, None, Result, Ok, Err, codes, refl}
+use Rattle.std.specs.Prelude.{◌≡◌, ℕ, List, [], length, Option, Some, None, Result, Ok, Err, codes}
+use Rattle.std.specs.Prelude.{refl}
 use Rattle.std.specs.Option.{option_map}
 use Rattle.std.specs.Str.{is_utf8, chars}
 use lib.Utf8.{encode}
@@ -22,7 +23,8 @@ use Rattle.deb_base.specs.declared.doc.Doc.TheVariants.{Binary, Packages}
 use Rattle.deb_control.specs.Documents.{rules_of}
 use Rattle.deb_control.specs.Refusals.{Outcome, outcome}
 use Rattle.deb_control.specs.Rules.{Rules}
-use Rattle.deb_explain.specs.Subjects.{About, AboutWhole, AboutLine, AboutName, AboutMissing, AboutField, about_topic, topic_of}
+use Rattle.deb_explain.specs.Subjects.{About, AboutWhole, AboutLine, AboutName, AboutMissing}
+use Rattle.deb_explain.specs.Subjects.{AboutField, about_topic, topic_of}
 use Rattle.deb_explain.specs.declared.cause.Cause.TheVariants as causes
 
 -- a refusal, and what it is about

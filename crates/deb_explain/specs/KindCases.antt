@@ -82,7 +82,8 @@ version_text =
 second_package : explanation_of Packages index
     ≡ Some (record {
       refusal = record { code = BadVersion; line = 6 };
-      about = AboutField (codes "vERSION") 10 (codes "1_2") (Some (causes.Version (UpstreamByte 1) 0));
+      about = AboutField
+          (codes "vERSION") 10 (codes "1_2") (Some (causes.Version (UpstreamByte 1) 0));
     })
 unfolding file_limit paragraph_limit is_utf8 chars encode kind_of first_fault
 second_package =

@@ -2,7 +2,15 @@
 -- what a refusal with it usually is. The words are this project's own.
 use Rattle.std.specs.Prelude.{ℕ, List, ◌++◌, Option, Some, None, codes}
 use Rattle.deb_base.specs.declared.code.Code.{Code}
-use Rattle.deb_base.specs.declared.code.Code.TheVariants.{NotUtf8, Armour, Comment, StrayContinuation, BadFieldName, NoColon, DuplicateField, ParagraphTooLong, FileTooLong, NoParagraph, TooManyParagraphs, MissingField, NotOneLine, BadName, BadNumber, BadWord, BadArchitecture, BadVersion, BadRelation, AlternativesNotAllowed, ProvidesBound, Wildcard, BadEnvironment}
+use Rattle.deb_base.specs.declared.code.Code.TheVariants.{NotUtf8, Armour, Comment}
+use Rattle.deb_base.specs.declared.code.Code.TheVariants.{StrayContinuation, BadFieldName, NoColon}
+use Rattle.deb_base.specs.declared.code.Code.TheVariants.{DuplicateField, ParagraphTooLong}
+use Rattle.deb_base.specs.declared.code.Code.TheVariants.{FileTooLong, NoParagraph}
+use Rattle.deb_base.specs.declared.code.Code.TheVariants.{TooManyParagraphs, MissingField}
+use Rattle.deb_base.specs.declared.code.Code.TheVariants.{NotOneLine, BadName, BadNumber, BadWord}
+use Rattle.deb_base.specs.declared.code.Code.TheVariants.{BadArchitecture, BadVersion, BadRelation}
+use Rattle.deb_base.specs.declared.code.Code.TheVariants.{AlternativesNotAllowed, ProvidesBound}
+use Rattle.deb_base.specs.declared.code.Code.TheVariants.{Wildcard, BadEnvironment}
 
 -- the rule that is broken
 abbrev pub rule_of : Code → List ℕ

@@ -1,12 +1,17 @@
 -- What the values of the code show of an explanation.
-use Rattle.std.specs.Prelude.{ℕ}
+use Rattle.std.specs.Prelude.{◌≡◌, ℕ, codes, refl, Vec}
+use Rattle.std.specs.declared.alloc.Global.{Global}
+use Rattle.deb_base.specs.declared.refusal.Refusal.{Refusal}
 use Rattle.deb_explain.specs.Explanations.{Told}
-use Rattle.deb_explain.specs.Subjects.{About, AboutWhole, AboutLine, AboutName, AboutMissing, AboutField}
+use Rattle.deb_explain.specs.Subjects.{About, AboutWhole, AboutLine, AboutName, AboutMissing}
+use Rattle.deb_explain.specs.Subjects.{AboutField}
 use Rattle.deb_explain.specs.declared.explained.Explained.{Explained}
 use Rattle.deb_explain.specs.declared.explained.Explained.TheVariants.{Accepted, Refused}
 use Rattle.deb_explain.specs.declared.explained.Explanation.{Explanation}
+use Rattle.deb_explain.specs.declared.explained.RefusedField.{RefusedField}
 use Rattle.deb_explain.specs.declared.explained.Subject.{Subject}
-use Rattle.deb_explain.specs.declared.explained.Subject.TheVariants.{Whole, Line, Name, Missing, Field}
+use Rattle.deb_explain.specs.declared.explained.Subject.TheVariants.{Whole, Line, Name, Missing}
+use Rattle.deb_explain.specs.declared.explained.Subject.TheVariants.{Field}
 
 abbrev pub about_of : Subject → About
 about_of Whole = AboutWhole
@@ -28,3 +33,15 @@ IfAccepted (Refused explanation) P = Unit {0}
 abbrev pub IfRefused : Explained → (Explanation → Type 0) → Type 0
 IfRefused (Accepted count) P = Unit {0}
 IfRefused (Refused explanation) P = P explanation
+
+-- each subject by its bytes
+subjects : ((bytes : Vec ℕ Global) → about_of (Line bytes) ≡ AboutLine bytes.items)
+    × ((bytes : Vec ℕ Global) → about_of (Name bytes) ≡ AboutName bytes.items)
+    × (about_of (Missing (record { ref_ptr = (0, 0); now = codes "A" })) ≡ AboutMissing (codes "A"))
+    × ((field : RefusedField) → about_of (Field field)
+    ≡ AboutField field.name.items field.column field.body.items field.cause)
+subjects = (λ bytes. refl, λ bytes. refl, refl, λ field. refl)
+
+wholes : (refusal : Refusal) → shown_by (record { refusal = refusal; subject = Whole })
+    ≡ record { refusal = refusal; about = AboutWhole }
+wholes refusal = refl

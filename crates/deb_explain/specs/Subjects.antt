@@ -1,6 +1,7 @@
 -- What a refusal is about, and what is wrong there. Debian Policy 5.1 (fields), 5.3 and 5.4
 -- (required fields), 5.6 and 7 (values); which of it is told is this project's own.
-use Rattle.std.specs.Prelude.{◌≡◌, ℕ, ◌+◌, ◌-◌, ◌==◌, not, List, find, slice_get, Option, Some, None, codes, refl}
+use Rattle.std.specs.Prelude.{◌≡◌, ℕ, ◌+◌, ◌-◌, ◌==◌, not, List, find, slice_get, Option, Some}
+use Rattle.std.specs.Prelude.{None, codes, refl}
 use Rattle.std.specs.List.{after_first, before_first, position_or_len, prefix_len}
 use Rattle.deb_base.specs.Bodies.{Line, is_blank_byte, pieces_of}
 use Rattle.deb_base.specs.FieldNames.{colon}

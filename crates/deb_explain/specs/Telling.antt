@@ -1,5 +1,6 @@
 -- The text that tells why a file is refused, in lines `key: value`. Its form is this project's own.
-use Rattle.std.specs.Prelude.{◌≡◌, ℕ, ◌+◌, ◌==◌, cond, List, [], ◌∷◌, ◌++◌, take, Option, Some, None, codes, refl}
+use Rattle.std.specs.Prelude.{◌≡◌, ℕ, ◌+◌, ◌==◌, cond, List, [], ◌∷◌, ◌++◌, take, Option, Some}
+use Rattle.std.specs.Prelude.{None, codes, refl}
 use Rattle.std.specs.Fmt.{decimal, digits}
 use Rattle.std.specs.List.{concat}
 use Rattle.std.specs.Str.{is_utf8, chars}
@@ -9,7 +10,10 @@ use Rattle.deb_base.specs.Codes.{number_of, name_of}
 use Rattle.deb_base.specs.declared.code.Code.{Code}
 use Rattle.deb_base.specs.declared.code.Code.TheVariants as code
 use Rattle.deb_version.specs.declared.fault.BadVersion.{BadVersion}
-use Rattle.deb_version.specs.declared.fault.BadVersion.TheVariants.{Empty, EpochEmpty, EpochNotNumber, EpochTooBig, RevisionEmpty, UpstreamEmpty, UpstreamByte, RevisionByte}
+use Rattle.deb_version.specs.declared.fault.BadVersion.TheVariants.{Empty, EpochEmpty}
+use Rattle.deb_version.specs.declared.fault.BadVersion.TheVariants.{EpochNotNumber, EpochTooBig}
+use Rattle.deb_version.specs.declared.fault.BadVersion.TheVariants.{RevisionEmpty, UpstreamEmpty}
+use Rattle.deb_version.specs.declared.fault.BadVersion.TheVariants.{UpstreamByte, RevisionByte}
 use Rattle.deb_relation.specs.declared.fault.Reason.{Reason}
 use Rattle.deb_relation.specs.declared.fault.Reason.TheVariants as reason
 use Rattle.deb_explain.specs.Causes.{word_code}
@@ -17,7 +21,8 @@ use Rattle.deb_explain.specs.Escapes.{escaped_byte, front_of, shortened, shown_l
 use Rattle.deb_explain.specs.Explanations.{Told}
 use Rattle.deb_explain.specs.Paths.{has_control, path_byte, shown_path}
 use Rattle.deb_explain.specs.Sentences.{rule_of, usually_of}
-use Rattle.deb_explain.specs.Subjects.{About, AboutWhole, AboutLine, AboutName, AboutMissing, AboutField}
+use Rattle.deb_explain.specs.Subjects.{About, AboutWhole, AboutLine, AboutName, AboutMissing}
+use Rattle.deb_explain.specs.Subjects.{AboutField}
 use Rattle.deb_explain.specs.declared.cause.Cause.{Cause}
 use Rattle.deb_explain.specs.declared.cause.Cause.TheVariants as cause
 use Rattle.deb_explain.specs.declared.cause.Word.{Word}
@@ -184,7 +189,8 @@ worked_field = refl
 worked_spot : (wrong_spot 5 10 (codes "bb,\n cc dd") (cause.Relation reason.Trailing 8)
     ≡ record { line = 6; column = 5 })
     × (wrong_spot 5 10 (codes "\n 1_") (cause.Version Empty 0) ≡ record { line = 5; column = 10 })
-    × (wrong_spot 5 9 (codes "1-") (cause.Version RevisionEmpty 0) ≡ record { line = 5; column = 9 })
+    × (wrong_spot 5 9 (codes "1-") (cause.Version RevisionEmpty 0)
+    ≡ record { line = 5; column = 9 })
 unfolding place_of relation_place place_within
 worked_spot = (refl, refl, refl)
 

@@ -4,7 +4,8 @@ ghost use Rattle.std.specs.Prelude.{◌≡◌, ◌+◌, ◌≤◌, length, Some,
 ghost use Rattle.std.specs.List.{position_or_len, prefix_len};
 ghost use Rattle.deb_base.specs.Bodies.{is_blank_byte};
 ghost use Rattle.deb_field.specs.Sources.{is_open, without_last};
-ghost use Rattle.deb_explain.specs.Causes.{cause_of, relation_cause, source_cause, version_cause, version_fault, word_cause};
+ghost use Rattle.deb_explain.specs.Causes.{cause_of, relation_cause, source_cause, version_cause};
+ghost use Rattle.deb_explain.specs.Causes.{version_fault, word_cause};
 
 use deb_base::{Code, is_blank_byte, trimmed};
 use deb_field::{Doc, Kind, kind_of};

@@ -6,7 +6,9 @@ ghost use Rattle.deb_base.specs.FieldNames.{colon};
 ghost use Rattle.deb_syntax.specs.Fields.{has_name};
 ghost use Rattle.deb_syntax.specs.Paragraphs.{seen_of};
 ghost use Rattle.deb_syntax.specs.Raw.{field_of, fields_of};
-ghost use Rattle.deb_explain.specs.Subjects.{about_field, about_line, about_missing, about_name, about_topic, about_value, body_column, column_in, field_at, line_numbered, missing_among, topic_of};
+ghost use Rattle.deb_explain.specs.Subjects.{about_field, about_line, about_missing, about_name};
+ghost use Rattle.deb_explain.specs.Subjects.{about_topic, about_value, body_column, column_in};
+ghost use Rattle.deb_explain.specs.Subjects.{field_at, line_numbered, missing_among, topic_of};
 ghost use Rattle.deb_explain.specs.Shown.{about_of};
 
 use crate::cause::{cause_of, leading_blanks};

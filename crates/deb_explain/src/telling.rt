@@ -6,8 +6,13 @@ ghost use Rattle.deb_base.specs.Devices.{write_failures_after, Puts, TellsWrites
 ghost use Rattle.deb_explain.specs.Sentences.{usually_of};
 ghost use Rattle.deb_explain.specs.Shown.{about_of, shown_by};
 ghost use Rattle.deb_explain.specs.Causes.{word_code};
-ghost use Rattle.deb_explain.specs.Escapes.{escaped_byte, front_of, hex_digit, shortened, shown_line};
-ghost use Rattle.deb_explain.specs.Telling.{cause_text, code_lines, explanation_text, field_text, line_number, place_of, place_text, place_within, reason_of, rule_line, rule_lines, rule_text, subject_text, usually_line, version_reason, word_cause_text, word_text, wrong_spot};
+ghost use Rattle.deb_explain.specs.Escapes.{escaped_byte, front_of, hex_digit, shortened};
+ghost use Rattle.deb_explain.specs.Escapes.{shown_line};
+ghost use Rattle.deb_explain.specs.Telling.{cause_text, code_lines, explanation_text, field_text};
+ghost use Rattle.deb_explain.specs.Telling.{line_number, place_of, place_text, place_within};
+ghost use Rattle.deb_explain.specs.Telling.{reason_of, rule_line, rule_lines, rule_text};
+ghost use Rattle.deb_explain.specs.Telling.{subject_text, usually_line, version_reason};
+ghost use Rattle.deb_explain.specs.Telling.{word_cause_text, word_text, wrong_spot};
 
 use crate::cause::{Cause, Word};
 use crate::explained::{Explanation, RefusedField, Subject};

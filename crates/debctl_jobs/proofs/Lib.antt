@@ -1,4 +1,5 @@
 pub mod AuditTelling
+pub mod CutOffTelling
 pub mod DocumentTelling
 pub mod JobRefusals
 pub mod LastPaths

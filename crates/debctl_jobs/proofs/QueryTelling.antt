@@ -1,9 +1,8 @@
 -- From what the parts of a query answer to what the job answers and tells.
-use Rattle.std.proofs.Common.{◌≡◌, ℕ, Bool, List, Option, Some, Ok, Err, inl, inr, refl, subst}
-use Rattle.std.specs.Prelude.{IsTrue, IsFalse}
-use Rattle.std.specs.Io.KnownBytes.{Appends}
-use Rattle.deb_base.specs.Devices.{AppendsFront, read_failures_after, write_failures_after}
-use Rattle.deb_base.specs.Faults.{IsReadersFault, RefusedOrMemory}
+use Rattle.std.proofs.Common.{◌≡◌, ℕ, Bool, List, Option, Some, Result, Ok, Err, inl, inr, refl, subst}
+use Rattle.std.specs.Prelude.{IsTrue}
+use Rattle.deb_base.specs.Devices.{read_failures_after}
+use Rattle.deb_base.specs.Faults.{IsReadersFault}
 use Rattle.deb_base.specs.declared.fault.Fault.{Fault}
 use Rattle.deb_base.specs.declared.fault.Fault.TheVariants.{Refused, Memory, Read, Write}
 use Rattle.deb_base.specs.declared.doc.Doc.TheVariants.{Packages}
@@ -12,13 +11,11 @@ use Rattle.deb_control.specs.Checking.{IsRefusalOfDocument}
 use Rattle.deb_control.specs.Documents.{refusal_of}
 use Rattle.deb_index.specs.Listed.{Listed}
 use Rattle.deb_index.specs.Listing.{ListsAll}
-use Rattle.deb_index.specs.Reports.{Answer, all_met, report}
-use Rattle.deb_index.specs.ReportText.{report_text}
+use Rattle.deb_index.specs.Reports.{report}
 use Rattle.deb_index.specs.declared.index.Index.{Index}
 use Rattle.deb_relation.specs.Grammar.{SpellsRelation}
 use Rattle.deb_relation.specs.Meaning.{Relation}
-use Rattle.deb_relation.specs.Tests.{some_wildcard}
-use Rattle.debctl_jobs.specs.QueryJob.{AreRefused, IsGood, QueriesFile, Question, TellsQueryRefusal, environment_in, has_environment, wildcard}
+use Rattle.debctl_jobs.specs.QueryJob.{AreRefused, IsGood, QueriesFile, Question, ReportsOver, TellsQueryRefusal, environment_in, has_environment}
 use Rattle.debctl_jobs.specs.Telling.{TellsFault}
 use Rattle.debctl_jobs.proofs.Telling.{told_as_two}
 
@@ -45,56 +42,44 @@ index_refused q left count count_after held failures out Read good refused is re
     record { ok = λ text told. tt; refused = λ text told. tt; write = λ text told. tt; refusal = tt; unwritten = refl; reads = reads; writes = refl }
 index_refused q left count count_after held failures out Write good refused is reads = absurd is
 
--- a wildcard, or want of memory for the report: nothing was written
-pub wildcard_refused : {W : Type 0} (q : Question) (left : Option (List ℕ)) (count count_after : ℕ) (held : W → Option (List ℕ)) (failures : W → ℕ) (out : W) (fault : Fault) (good : IsGood q) (packages : List Listed)
-    → ((text : List ℕ) → left ≡ Some text → ListsAll text packages) → count_after ≡ count → RefusedOrMemory fault (λ refusal. IsTrue (some_wildcard good.relation) × (refusal ≡ wildcard))
-    → QueriesFile q left count count_after held failures out out (Err fault)
-wildcard_refused q left count count_after held failures out (Refused refusal) good packages lists reads is =
+-- what is written over an index that was read
+pub queries_over : {W : Type 0} (q : Question) (left : Option (List ℕ)) (count count_after : ℕ) (held : W → Option (List ℕ)) (failures : W → ℕ) (out new : W) (answer : Result Bool Fault) (good : IsGood q) (packages : List Listed)
+    → ((text : List ℕ) → left ≡ Some text → ListsAll text packages) → count_after ≡ count → ReportsOver packages good.relation (environment_in q) held failures out new answer
+    → QueriesFile q left count count_after held failures out new answer
+queries_over q left count count_after held failures out new (Ok met) good packages lists reads over =
+    let told = report packages good.relation (environment_in q) in
     record {
-      ok = λ text told. tt;
-      refused = λ text told. inr (inr (record { good = good; packages = packages; lists = lists text told; holds = is.0; is = is.1 }));
-      write = λ text told. tt;
-      refusal = inr (good, inr is.1);
-      unwritten = refl;
-      reads = reads;
-      writes = refl;
-    }
-wildcard_refused q left count count_after held failures out Memory good packages lists reads is =
-    record { ok = λ text told. tt; refused = λ text told. tt; write = λ text told. tt; refusal = tt; unwritten = refl; reads = reads; writes = refl }
-wildcard_refused q left count count_after held failures out Read good packages lists reads is = absurd is
-wildcard_refused q left count count_after held failures out Write good packages lists reads is = absurd is
-
--- a write of the report failed
-pub report_unwritten : {W : Type 0} (q : Question) (left : Option (List ℕ)) (count count_after : ℕ) (held : W → Option (List ℕ)) (failures : W → ℕ) (out new : W) (fault : Fault) (good : IsGood q) (packages : List Listed) (told : List Answer)
-    → ((text : List ℕ) → left ≡ Some text → ListsAll text packages) → count_after ≡ count → IsFalse (some_wildcard good.relation) → told ≡ report packages good.relation (environment_in q)
-    → fault ≡ Write → AppendsFront (held out) (held new) (report_text told) → failures new ≡ write_failures_after {T = Bool} (failures out) (Err fault)
-    → QueriesFile q left count count_after held failures out new (Err fault)
-report_unwritten q left count count_after held failures out new fault good packages told lists reads plain is write written writes =
-    rw write
-    record {
-      ok = λ text known. tt;
-      refused = λ text known. tt;
-      write = λ text known. record { told = told; reported = record { good = good; packages = packages; lists = lists text known; plain = plain; is = is }; written = written };
-      refusal = tt;
-      unwritten = tt;
-      reads = reads;
-      writes = rw write at writes;
-    }
-
--- the report was written
-pub report_written : {W : Type 0} (q : Question) (left : Option (List ℕ)) (count count_after : ℕ) (held : W → Option (List ℕ)) (failures : W → ℕ) (out new : W) (met : Bool) (good : IsGood q) (packages : List Listed) (told : List Answer)
-    → ((text : List ℕ) → left ≡ Some text → ListsAll text packages) → count_after ≡ count → IsFalse (some_wildcard good.relation) → told ≡ report packages good.relation (environment_in q)
-    → met ≡ all_met told → Appends (held out) (held new) (report_text told) → failures new ≡ failures out
-    → QueriesFile q left count count_after held failures out new (Ok met)
-report_written q left count count_after held failures out new met good packages told lists reads plain is met_is written writes =
-    record {
-      ok = λ text known. record { told = told; reported = record { good = good; packages = packages; lists = lists text known; plain = plain; is = is }; met_is = met_is; written = written };
+      ok = λ text known. record { told = told; reported = record { good = good; packages = packages; lists = lists text known; plain = over.ok.0; is = refl }; met_is = over.ok.1; written = over.ok.2 };
       refused = λ text known. tt;
       write = λ text known. tt;
       refusal = tt;
       unwritten = tt;
       reads = reads;
-      writes = writes;
+      writes = over.writes;
+    }
+queries_over q left count count_after held failures out new (Err (Refused refusal)) good packages lists reads over =
+    record {
+      ok = λ text known. tt;
+      refused = λ text known. inr (inr (record { good = good; packages = packages; lists = lists text known; holds = over.fault.0; is = over.fault.1 }));
+      write = λ text known. tt;
+      refusal = inr (good, inr over.fault.1);
+      unwritten = over.fault.2;
+      reads = reads;
+      writes = over.writes;
+    }
+queries_over q left count count_after held failures out new (Err Memory) good packages lists reads over =
+    record { ok = λ text known. tt; refused = λ text known. tt; write = λ text known. tt; refusal = tt; unwritten = over.fault; reads = reads; writes = over.writes }
+queries_over q left count count_after held failures out new (Err Read) good packages lists reads over = absurd over.fault
+queries_over q left count count_after held failures out new (Err Write) good packages lists reads over =
+    let told = report packages good.relation (environment_in q) in
+    record {
+      ok = λ text known. tt;
+      refused = λ text known. tt;
+      write = λ text known. record { told = told; reported = record { good = good; packages = packages; lists = lists text known; plain = over.fault.0; is = refl }; written = over.fault.1 };
+      refusal = tt;
+      unwritten = tt;
+      reads = reads;
+      writes = over.writes;
     }
 
 -- status 2

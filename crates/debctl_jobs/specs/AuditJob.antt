@@ -1,7 +1,8 @@
 -- What the job of `audit` answers and writes: a record for each file, and the worst status. The
 -- records and statuses are this project's own; acceptance and refusals are those of documents of a
 -- kind (Debian Policy 5.1 and 5.3 to 5.6).
-use Rattle.std.specs.Prelude.{◌≡◌, ℕ, max, List, [], ◌∷◌, ◌++◌, map, Option, Some, Result, Ok, Err, IfOk, IfErr, MatchResult, codes, refl}
+use Rattle.std.specs.Prelude.{◌≡◌, ℕ, max, List, [], ◌∷◌, ◌++◌, map, Option, Some, Result, Ok, Err}
+use Rattle.std.specs.Prelude.{IfOk, IfErr, MatchResult, codes, refl}
 use Rattle.std.specs.Fmt.{decimal, digits}
 use Rattle.std.specs.List.{All, concat, flat_map, fold}
 use Rattle.std.specs.Str.{is_utf8, chars}
@@ -21,6 +22,7 @@ use Rattle.deb_control.specs.Documents.{refusal_of}
 use Rattle.deb_explain.specs.Escapes.{escaped_byte}
 use Rattle.deb_explain.specs.Paths.{has_control, path_byte, shown_path}
 use Rattle.debctl_jobs.specs.DocumentJobs.{ok_line}
+use Rattle.debctl_jobs.specs.Taking.{TakesFile}
 use Rattle.debctl_jobs.specs.Telling.{status_of}
 use Rattle.debctl_jobs.specs.Unopened.{unopened_words}
 use Rattle.debctl_jobs.specs.declared.unopened.Unopened.{Unopened}
@@ -87,15 +89,16 @@ pub record Audited (R : Type 0) : Type 0 where
   pub opened : Result R Unopened
   pub outcome : Result (Result ℕ Fault) Unopened
 
--- What `check` answers of a file: by the text that its reader tells, and the reader's count of
--- failed calls before and after.
-pub record AnswersFile (doc : Doc) (left : Option (List ℕ)) (count count_after : ℕ)
+-- What `check` answers of a file, and takes of it: by the text that its reader tells before and
+-- after, and the reader's counts of failed calls.
+pub record AnswersFile (doc : Doc) (left left_after : Option (List ℕ)) (count count_after : ℕ)
     (answer : Result ℕ Fault) : Type 0 where
   pub ok : (text : List ℕ) → left ≡ Some text → IfOk answer (HasParagraphs doc text)
   pub refused : (text : List ℕ) → left ≡ Some text →
       IfRefused answer (λ refusal. refusal_of doc text ≡ Some refusal)
   pub fault : IfErr answer (λ fault. IsReadersFault fault IsRefusalOfDocument)
   pub reads : count_after ≡ read_failures_after count answer
+  pub taken : TakesFile left left_after
 
 -- A file that was opened has the text that is told of it, and is answered by what its reader came
 -- to be. Of one that couldn't be opened that is told, and why.
@@ -103,7 +106,8 @@ abbrev pub AnswersOpened : {R : Type 0} → (R → Option (List ℕ)) → (R →
     → Result R Unopened → Result (Result ℕ Fault) Unopened → Type 0
 AnswersOpened {R} left failures doc told (Ok reader) (Ok answer) =
     (left reader ≡ told)
-    × ((after : R) × AnswersFile doc told (failures reader) (failures after) answer)
+    × ((after : R)
+    × AnswersFile doc told (left after) (failures reader) (failures after) answer)
 AnswersOpened left failures doc told (Ok reader) (Err why) = ⊥
 AnswersOpened left failures doc told (Err why) (Ok answer) = ⊥
 AnswersOpened left failures doc told (Err why) (Err why_told) = why_told ≡ why

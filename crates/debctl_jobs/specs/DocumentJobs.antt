@@ -1,6 +1,7 @@
 -- What the jobs on files answer. The line of `check` is this project's own; acceptance, refusals
 -- and canonical text are those of documents of a kind (Debian Policy 5.1 and 5.3 to 5.6).
-use Rattle.std.specs.Prelude.{◌≡◌, ℕ, List, [], ◌∷◌, ◌++◌, Option, Some, Result, Ok, Err, IfOk, codes, refl}
+use Rattle.std.specs.Prelude.{◌≡◌, ℕ, List, [], ◌∷◌, ◌++◌, Option, Some, Result, Ok, Err, IfOk}
+use Rattle.std.specs.Prelude.{codes, refl}
 use Rattle.std.specs.Fmt.{decimal, digits}
 use Rattle.std.specs.Io.KnownBytes.{Appends}
 use Rattle.deb_base.specs.Bodies.{newline}
@@ -10,7 +11,8 @@ use Rattle.deb_base.specs.Lines.{refusal_line}
 use Rattle.deb_base.specs.declared.fault.Fault.{Fault}
 use Rattle.deb_base.specs.declared.refusal.Refusal.{Refusal}
 use Rattle.deb_base.specs.declared.doc.Doc.{Doc}
-use Rattle.deb_control.specs.Calls.{HasParagraphs, IfCutOff, IfRefused, IfWriteFailed, WritesCanonical, WritesRead, WritesRefused}
+use Rattle.deb_control.specs.Calls.{HasParagraphs, IfCutOff, IfRefused, IfWriteFailed}
+use Rattle.deb_control.specs.Calls.{WritesCanonical, WritesRead, WritesRefused}
 use Rattle.deb_control.specs.Checking.{IsRefusalOfDocument}
 use Rattle.deb_control.specs.Documents.{out_of, refusal_of}
 

@@ -1,20 +1,28 @@
 -- What the jobs of `explain` answer. The form of what is told is this project's own.
-use Rattle.std.specs.Prelude.{◌≡◌, ◌⊎◌, ℕ, Bool, true, false, List, [], ◌∷◌, ◌++◌, Option, Some, None, Result, ⊤, IfOk, IfErr, codes, refl}
+use Rattle.std.specs.Prelude.{◌≡◌, ◌⊎◌, ℕ, Bool, true, false, List, [], ◌∷◌, ◌++◌, Option, Some}
+use Rattle.std.specs.Prelude.{None, Result, ⊤, IfOk, IfErr, codes, refl}
 use Rattle.std.specs.Io.KnownBytes.{Appends}
+use Rattle.std.specs.Fmt.{digits}
 use Rattle.std.specs.Str.{is_utf8, chars}
 use lib.Utf8.{encode}
 use Rattle.deb_base.specs.Bodies.{newline}
 use Rattle.deb_base.specs.Devices.{AppendsFront, Puts, write_failures_after}
 use Rattle.deb_base.specs.Faults.{MatchFault}
 use Rattle.deb_base.specs.declared.code.Code.{Code}
+use Rattle.deb_base.specs.declared.code.Code.TheVariants.{BadVersion}
 use Rattle.deb_base.specs.declared.fault.Fault.{Fault}
+use Rattle.deb_version.specs.declared.fault.BadVersion.TheVariants.{Empty, UpstreamByte}
 use Rattle.deb_explain.specs.Explanations.{Told, explanation_of}
 use Rattle.deb_explain.specs.Causes.{word_cause}
-use Rattle.deb_explain.specs.Escapes.{escaped_byte}
+use Rattle.deb_explain.specs.Escapes.{escaped_byte, front_of, shortened, shown_line}
 use Rattle.deb_explain.specs.Paths.{has_control, path_byte}
 use Rattle.deb_explain.specs.Telling.{explanation_text, file_line, path_line, rule_text, word_text}
+use Rattle.deb_explain.specs.Telling.{code_lines, rule_lines, word_cause_text}
+use Rattle.deb_explain.specs.Telling.{place_of, place_within, reason_of, version_reason}
 use Rattle.deb_explain.specs.declared.cause.Cause.{Cause}
+use Rattle.deb_explain.specs.declared.cause.Cause.TheVariants as cause
 use Rattle.deb_explain.specs.declared.cause.Word.{Word}
+use Rattle.deb_explain.specs.declared.cause.Word.TheVariants as words
 use Rattle.deb_base.specs.declared.doc.Doc.{Doc}
 use Rattle.debctl_jobs.specs.DocumentJobs.{WritesOk, WritesFrontOfOk}
 use Rattle.debctl_jobs.specs.Unopened.{unopened_words}
@@ -93,6 +101,23 @@ abbrev pub unopened_text : List ℕ → Unopened → List ℕ
 unopened_text path why =
     file_line path
     ++ (codes "fault: read\nreason: " ++ (unopened_words why ++ newline ∷ []))
+
+statuses_of_answers : (explain_status true ≡ 0) × (explain_status false ≡ 2)
+statuses_of_answers = (refl, refl)
+
+good_words : (is_good None ≡ true) × (is_good (Some (cause.Version Empty 0)) ≡ false)
+good_words = (refl, refl)
+
+text_of_good_word : (word_answer words.Version (codes "1") None ≡ codes "ok\n")
+    × (word_answer words.Relation [] None ≡ codes "ok\n")
+text_of_good_word = (refl, refl)
+
+text_of_bad_word : word_answer words.Version (codes "1_2") (Some (cause.Version (UpstreamByte 1) 0))
+    ≡ codes "code: 18\nname: BadVersion\nplace: 1\nreason: UpstreamByte\nvalue: 1_2\n"
+    ++ rule_lines BadVersion
+unfolding digits shown_line shortened front_of escaped_byte code_lines word_cause_text place_of
+    place_within reason_of version_reason
+text_of_bad_word = refl
 
 text_of_unopened : unopened_text (codes "a\tb") NotFound
     ≡ codes "file: a\\tb\nfault: read\nreason: no such file or directory\n"

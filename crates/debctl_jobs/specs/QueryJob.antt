@@ -1,10 +1,11 @@
 -- What the job of `query` answers and tells. The order of refusals and the report's form are this
 -- project's own; relations and which packages meet them are those of Debian Policy 7.1 and 7.5.
-use Rattle.std.specs.Prelude.{◌≡◌, ◌⊎◌, ℕ, Bool, List, Option, Some, Result, Ok, Err, IfOk, IsTrue, IsFalse, codes, refl}
+use Rattle.std.specs.Prelude.{◌≡◌, ◌⊎◌, ℕ, Bool, true, false, List, [], ◌∷◌, Option, Some, Result}
+use Rattle.std.specs.Prelude.{Ok, Err, IfOk, IfErr, IsTrue, IsFalse, codes, refl}
 use Rattle.std.specs.Fmt.{digits}
 use Rattle.std.specs.Io.KnownBytes.{Appends}
 use Rattle.deb_base.specs.Devices.{AppendsFront, read_failures_after, write_failures_after}
-use Rattle.deb_base.specs.Faults.{RefusedOrMemory}
+use Rattle.deb_base.specs.Faults.{MatchFault, RefusedOrMemory}
 use Rattle.deb_base.specs.Lines.{refusal_line}
 use Rattle.deb_base.specs.declared.code.Code.TheVariants.{BadRelation, BadEnvironment, Wildcard}
 use Rattle.deb_base.specs.declared.fault.Fault.{Fault}
@@ -170,6 +171,21 @@ TellsOf packages relation environment (Ok told) =
 TellsOf packages relation environment (Err fault) =
     RefusedOrMemory fault (λ refusal. IsTrue (some_wildcard relation) × (refusal ≡ wildcard))
 
+-- What is written of a relation over the packages of an index: the report, or a prefix of it before
+-- a write failed; nothing, where a list of the relation holds a wildcard or out of memory.
+pub record ReportsOver {W : Type 0} (packages : List Listed) (relation : Relation)
+    (environment : Environment) (held : W → Option (List ℕ)) (failures : W → ℕ) (old new : W)
+    (answer : Result Bool Fault) : Type 0 where
+  pub ok : IfOk answer (λ met. IsFalse (some_wildcard relation)
+      × (met ≡ all_met (report packages relation environment))
+      × Appends (held old) (held new) (report_text (report packages relation environment)))
+  pub fault : IfErr answer (λ fault. MatchFault fault
+      (λ refusal. IsTrue (some_wildcard relation) × (refusal ≡ wildcard) × (new ≡ old))
+      (new ≡ old) ⊥
+      (IsFalse (some_wildcard relation) × AppendsFront (held old) (held new)
+      (report_text (report packages relation environment))))
+  pub writes : failures new ≡ write_failures_after (failures old) answer
+
 -- ---- telling
 
 -- The words, the index or a wildcard is refused, and exactly the refusal's line was told.
@@ -178,6 +194,20 @@ pub record TellsQueryRefusal (q : Question) (left err err_after : Option (List �
   pub is_query_refusal : IsQueryRefusal q refusal
   pub refused : (text : List ℕ) → left ≡ Some text → RefusesQuery q text refusal
   pub told : Appends err err_after (refusal_line refusal)
+
+-- for the worked cases: `nocheck` is active, and `aa` is asked for this architecture
+abbrev asked_for : List ℕ → Question
+asked_for target = question target (codes "nocheck" ∷ []) (codes "aa")
+
+words_of_question : (asked_for (codes "amd64")).relation ≡ codes "aa"
+words_of_question = refl
+
+environments : (environment_in (asked_for (codes "amd64"))
+    ≡ record { target = codes "amd64"; profiles = codes "nocheck" ∷ [] })
+    × (has_environment (asked_for (codes "amd64")) ≡ true)
+    × (has_environment (asked_for (codes "any")) ≡ false)
+    × (has_environment (question (codes "amd64") (codes "No" ∷ []) (codes "aa")) ≡ false)
+environments = (refl, refl, refl, refl)
 
 line_of_bad_relation : refusal_line bad_relation ≡ codes "line 0: 19 BadRelation\n"
 unfolding digits

@@ -1,6 +1,7 @@
 -- What a whole command answers and writes, by its job. The jobs and their statuses are this
 -- project's own.
-use Rattle.std.specs.Prelude.{◌≡◌, ◌⊎◌, ℕ, ⊤, Bool, true, false, List, map, Option, Some, Result, String, Vec, string_bytes}
+use Rattle.std.specs.Prelude.{◌≡◌, ◌⊎◌, ℕ, ⊤, Bool, true, false, List, map, Option, Some, None}
+use Rattle.std.specs.Prelude.{Result, String, Vec, string_bytes, codes, refl}
 use Rattle.std.specs.Io.KnownBytes.{Appends}
 use Rattle.std.specs.declared.alloc.Global.{Global}
 use Rattle.deb_base.specs.Lines.{refusal_line}
@@ -8,14 +9,18 @@ use Rattle.deb_base.specs.declared.fault.Fault.{Fault}
 use Rattle.deb_control.specs.Calls.{WritesCanonical}
 use Rattle.deb_control.specs.declared.side.SideFault.{SideFault}
 use Rattle.deb_sort.specs.Files.{SortsFile, WritesSorted}
-use Rattle.debctl_jobs.specs.DocumentJobs.{ChecksFile, NormalisesFile, TellsRefusal, TellsRefusalBehind, WritesOk}
-use Rattle.debctl_jobs.specs.QueryJob.{AreRefused, QueriesFile, Question, TellsQueryRefusal, WritesReport, question}
+use Rattle.debctl_jobs.specs.DocumentJobs.{ChecksFile, NormalisesFile, TellsRefusal}
+use Rattle.debctl_jobs.specs.DocumentJobs.{TellsRefusalBehind, WritesOk}
+use Rattle.debctl_jobs.specs.QueryJob.{AreRefused, QueriesFile, Question, TellsQueryRefusal}
+use Rattle.debctl_jobs.specs.QueryJob.{WritesReport, question}
 use Rattle.debctl_jobs.specs.SameJob.{ComparesFiles, TellsComparison, TellsRefusedSide, WritesSame}
 use Rattle.debctl_jobs.specs.SortJob.{TellsLineRefusal}
 use Rattle.debctl_jobs.specs.Telling.{done_status, Tells}
-use Rattle.debctl_jobs.specs.VersionJobs.{bad_version, verdict_status, Canonicalises, Compared, Compares, IsNoVersion, WritesLine}
+use Rattle.debctl_jobs.specs.VersionJobs.{bad_version, verdict_status, Canonicalises, Compared}
+use Rattle.debctl_jobs.specs.VersionJobs.{Compares, IsNoVersion, WritesLine}
 use Rattle.debctl_words.specs.declared.jobs.Job.{Job}
-use Rattle.debctl_words.specs.declared.jobs.Job.TheVariants.{Check, Normalise, Same, Compare, CanonVersion, Sort, Query}
+use Rattle.debctl_words.specs.declared.jobs.Job.TheVariants.{Check, Normalise, Same, Compare}
+use Rattle.debctl_words.specs.declared.jobs.Job.TheVariants.{CanonVersion, Sort, Query}
 
 -- the question that a query's words are
 abbrev pub asked : String Global → Vec (String Global) Global → String Global → Question
@@ -184,3 +189,21 @@ IfRefusedWords (Compare former operator latter) P = Unit {0}
 IfRefusedWords (CanonVersion version) P = Unit {0}
 IfRefusedWords (Sort reverse) P = Unit {0}
 IfRefusedWords (Query arch profiles relation) P = AreRefused (asked arch profiles relation) → P
+
+-- the words of a query are asked in their places
+words_asked : (arch relation : String Global) (profiles : Vec (String Global) Global)
+    → asked arch profiles relation ≡ record {
+      target = string_bytes arch;
+      profiles = map string_bytes profiles.items;
+      relation = string_bytes relation;
+    }
+words_asked arch relation profiles = refl
+
+-- a reader that has failed once before a job, and once more in it, and a writer that holds its
+-- bytes
+devices_of_job : (reader_of (Some (codes "a")) 1 2
+    ≡ record { text = Some (codes "a"); failures = 1; failures_after = 2 })
+    × (reader_of None 0 0 ≡ record { text = None; failures = 0; failures_after = 0 })
+    × ((writer_of Some (λ held. 3) (codes "a") (codes "ab")).old ≡ codes "a")
+    × ((writer_of Some (λ held. 3) (codes "a") (codes "ab")).new ≡ codes "ab")
+devices_of_job = (refl, refl, refl, refl)

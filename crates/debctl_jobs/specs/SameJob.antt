@@ -1,6 +1,7 @@
 -- What the job of `same` answers and tells. Its lines are this project's own; acceptance, refusals
 -- and what files mean are those of documents of a kind (Debian Policy 5.1 and 5.3 to 5.6).
-use Rattle.std.specs.Prelude.{◌≡◌, ◌⊎◌, ℕ, Bool, if◌then◌else◌, List, [], ◌++◌, Option, Some, Result, Ok, Err, IfOk, IfErr, codes, refl}
+use Rattle.std.specs.Prelude.{◌≡◌, ◌⊎◌, ℕ, Bool, true, false, if◌then◌else◌, List, [], ◌++◌, Option}
+use Rattle.std.specs.Prelude.{Some, Result, Ok, Err, IfOk, IfErr, codes, refl}
 use Rattle.std.specs.Fmt.{digits}
 use Rattle.std.specs.Io.KnownBytes.{Appends}
 use Rattle.deb_base.specs.Devices.{read_failures_after}
@@ -112,11 +113,24 @@ TellsComparison held writes out new held_err tells err err_after (Ok same) statu
 TellsComparison held writes out new held_err tells err err_after (Err told) status =
     (new ≡ out) × TellsSide held_err tells err err_after told status
 
+-- files that mean the same, and files that don't
+lines_of_answers : (same_line true ≡ codes "same\n") × (same_line false ≡ codes "different\n")
+lines_of_answers = (refl, refl)
+
+line_of_refused_first : side_line (record
+    { side = First; fault = Refused (record { code = BadNumber; line = 4 }) })
+    ≡ codes "first: line 4: 15 BadNumber\n"
+unfolding digits
+line_of_refused_first = refl
+
 line_of_refused_second : side_line (record
     { side = Second; fault = Refused (record { code = BadNumber; line = 4 }) })
     ≡ codes "second: line 4: 15 BadNumber\n"
 unfolding digits
 line_of_refused_second = refl
 
-line_of_failed_read : side_line (record { side = Second; fault = Read }) ≡ codes "fault: read\n"
-line_of_failed_read = refl
+-- other faults have no side
+lines_of_faults : (side_line (record { side = Second; fault = Read }) ≡ codes "fault: read\n")
+    × (side_line (record { side = First; fault = Memory }) ≡ codes "fault: memory\n")
+    × (side_line (record { side = First; fault = Write }) ≡ codes "fault: write\n")
+lines_of_faults = (refl, refl, refl)

@@ -75,10 +75,22 @@ pub record TellsUnopened {W E : Type 0} (lines : List ℕ) (held : W → Option 
 status_of_refusal : status_of (Refused (record { code = NoColon; line = 1 })) ≡ 2
 status_of_refusal = refl
 
-status_of_failed_read : status_of Read ≡ 3
-status_of_failed_read = refl
+-- no fault but a refusal has another status than 3, and no success another than 0
+statuses_of_faults : (status_of Memory ≡ 3) × (status_of Read ≡ 3) × (status_of Write ≡ 3)
+statuses_of_faults = (refl, refl, refl)
+
+status_of_success : (done_status (codes "") ≡ 0) × (done_status (codes "a") ≡ 0)
+status_of_success = (refl, refl)
+
+-- after all lines the failed opening is told, and after some the failed write
+faults_behind : ((done : ⊤) → fault_behind (Ok done) ≡ Read) × (fault_behind (Err Write) ≡ Write)
+faults_behind = (λ done. refl, refl)
 
 line_of_refusal :
     fault_line (Refused (record { code = NoColon; line = 1 })) ≡ codes "line 1: 6 NoColon\n"
 unfolding digits
 line_of_refusal = refl
+
+lines_of_faults : (fault_line Memory ≡ codes "fault: memory\n")
+    × (fault_line Read ≡ codes "fault: read\n") × (fault_line Write ≡ codes "fault: write\n")
+lines_of_faults = (refl, refl, refl)

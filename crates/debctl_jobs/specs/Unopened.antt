@@ -2,7 +2,11 @@
 use Rattle.std.specs.Prelude.{◌≡◌, ℕ, List, ◌++◌, codes, refl}
 use Rattle.std.specs.Fmt.{decimal, digits}
 use Rattle.debctl_jobs.specs.declared.unopened.Unopened.{Unopened}
-use Rattle.debctl_jobs.specs.declared.unopened.Unopened.TheVariants.{NotFound, PermissionDenied, NotADirectory, IsADirectory, FilesystemLoop, InvalidFilename, NotUtf8, System, Other}
+use Rattle.debctl_jobs.specs.declared.unopened.Unopened.TheVariants.{NotFound, PermissionDenied}
+use Rattle.debctl_jobs.specs.declared.unopened.Unopened.TheVariants.{NotADirectory, IsADirectory}
+use Rattle.debctl_jobs.specs.declared.unopened.Unopened.TheVariants.{FilesystemLoop}
+use Rattle.debctl_jobs.specs.declared.unopened.Unopened.TheVariants.{InvalidFilename, NotUtf8}
+use Rattle.debctl_jobs.specs.declared.unopened.Unopened.TheVariants.{System, Other}
 
 abbrev pub unopened_words : Unopened → List ℕ
 unopened_words NotFound = codes "no such file or directory"

@@ -1,6 +1,7 @@
 -- What the jobs on versions answer: Debian Policy 5.6.12 and deb-version(7). The statuses, the line
 -- of a refusal and the newline behind a canonical version are this project's own.
-use Rattle.std.specs.Prelude.{◌≡◌, ◌⊎◌, ℕ, Bool, true, false, not, List, [], ◌∷◌, ◌++◌, Option, Result, Ok, Err, if◌then◌else◌, codes, refl}
+use Rattle.std.specs.Prelude.{◌≡◌, ◌⊎◌, ℕ, Bool, true, false, not, List, [], ◌∷◌, ◌++◌, Option}
+use Rattle.std.specs.Prelude.{Result, Ok, Err, if◌then◌else◌, codes, refl}
 use Rattle.std.specs.Fmt.{digits}
 use Rattle.std.specs.Io.KnownBytes.{Appends}
 use Rattle.std.specs.declared.cmp.Ordering.{Ordering}
@@ -15,7 +16,7 @@ use Rattle.deb_base.specs.declared.refusal.Refusal.{Refusal}
 use Rattle.deb_version.specs.Canonical.{version_text}
 use Rattle.deb_version.specs.Grammar.{SpellsVersion}
 use Rattle.deb_version.specs.Order.{version_cmp}
-use Rattle.deb_version.specs.Parts.{Meaning}
+use Rattle.deb_version.specs.Parts.{Meaning, no_revision}
 use Rattle.deb_version.specs.Version.{meaning_of}
 use Rattle.deb_version.specs.declared.version.Version.{Version}
 use Rattle.debctl_words.specs.declared.jobs.Cmp.{Cmp}
@@ -135,3 +136,24 @@ line_of_bad_version = refl
 less_or_equal_holds_of_equal : (holds cmp.LessOrEqual order.Equal ≡ true)
     × (holds cmp.Less order.Equal ≡ false) × (holds cmp.NotEqual order.Equal ≡ false)
 less_or_equal_holds_of_equal = (refl, refl, refl)
+
+-- the other operators, of versions in each order
+operators : (holds cmp.Less order.Less ≡ true) × (holds cmp.Less order.Greater ≡ false)
+    × (holds cmp.LessOrEqual order.Less ≡ true) × (holds cmp.LessOrEqual order.Greater ≡ false)
+    × (holds cmp.Equal order.Equal ≡ true) × (holds cmp.Equal order.Less ≡ false)
+    × (holds cmp.Equal order.Greater ≡ false) × (holds cmp.NotEqual order.Less ≡ true)
+    × (holds cmp.NotEqual order.Greater ≡ true) × (holds cmp.GreaterOrEqual order.Less ≡ false)
+    × (holds cmp.GreaterOrEqual order.Equal ≡ true)
+    × (holds cmp.GreaterOrEqual order.Greater ≡ true) × (holds cmp.Greater order.Less ≡ false)
+    × (holds cmp.Greater order.Equal ≡ false) × (holds cmp.Greater order.Greater ≡ true)
+operators =
+    (refl, refl, refl, refl, refl, refl, refl, refl, refl, refl, refl, refl, refl, refl, refl)
+
+statuses_of_verdicts : (verdict_status true ≡ 0) × (verdict_status false ≡ 1)
+statuses_of_verdicts = (refl, refl)
+
+-- of the version 01:02.a3-00, whose revision isn't told
+line_of_version : version_line
+    (record { epoch = 1; upstream = ([], 2) ∷ (codes ".a", 3) ∷ []; revision = no_revision })
+    ≡ codes "1:2.a3\n"
+line_of_version = refl

@@ -1,5 +1,5 @@
 -- What is told of words that ask for no job. The texts and the statuses are this project's own.
-use Rattle.std.specs.Prelude.{◌≡◌, ◌⊎◌, ℕ, List, [], ◌∷◌, ◌++◌, Option, string_bytes}
+use Rattle.std.specs.Prelude.{◌≡◌, ◌⊎◌, ℕ, List, [], ◌∷◌, ◌++◌, Option, string_bytes, codes, refl}
 use Rattle.deb_base.specs.Bodies.{newline}
 use Rattle.deb_base.specs.declared.fault.Fault.TheVariants as fault
 use Rattle.debctl_jobs.specs.Telling.{TellsFault, TellsFront, TellsUnwritten, TellsWhole}
@@ -24,3 +24,7 @@ TellsWords held writes out new held_err tells err err_after (Help text) status =
     (line_of (string_bytes text)) status
 TellsWords held writes out new held_err tells err err_after Memory status =
     (new ≡ out) × TellsFault held_err tells err err_after fault.Memory status
+
+line_of_usage : (line_of (codes "usage: unknown code") ≡ codes "usage: unknown code\n")
+    × (line_of [] ≡ codes "\n")
+line_of_usage = (refl, refl)

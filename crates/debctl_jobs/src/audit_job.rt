@@ -3,7 +3,9 @@
 ghost use Rattle.std.specs.Prelude.{◌≡◌, ◌<◌, ℕ, List, [], ◌∷◌, ◌++◌, map, IfErr, Ok, Result};
 ghost use Rattle.deb_base.specs.Devices.{failures_after, write_failures_after, Puts};
 ghost use Rattle.deb_base.specs.declared.fault.Fault.{Fault};
-ghost use Rattle.debctl_jobs.specs.AuditJob.{answer_status, answer_words, audit_path, audit_record, fault_words, outcome_status, outcome_words, record_end, AnswersOpened, Audits};
+ghost use Rattle.debctl_jobs.specs.AuditJob.{answer_status, answer_words, audit_path, audit_record};
+ghost use Rattle.debctl_jobs.specs.AuditJob.{fault_words, outcome_status, outcome_words};
+ghost use Rattle.debctl_jobs.specs.AuditJob.{record_end, AnswersOpened, Audits};
 ghost use Rattle.debctl_jobs.specs.Telling.{Tells, TellsUnopened};
 ghost use Rattle.debctl_jobs.specs.declared.unopened.Unopened.{Unopened};
 
@@ -31,10 +33,10 @@ pub struct AuditOptions {
 /// of a kind, and answers the worst status.
 ///
 /// The record of a file is its path as `deb_explain::write_path` writes it, `: `, and `ok N` for
-/// its N paragraphs, the refusal, or the fault; and a newline. With `LineEnd::Nul` it has the path as
-/// it is given, and the byte 0 in place of the newline. A file that can't be opened has the fault of one
-/// that can't be read, and after it why. A file that is refused, or has a fault, doesn't end the
-/// job.
+/// its N paragraphs, the refusal, or the fault; and a newline. With `LineEnd::Nul` it has the path
+/// as it is given, and the byte 0 in place of the newline. A file that can't be opened has the
+/// fault of one that can't be read, and after it why. A file that is refused, or has a fault,
+/// doesn't end the job.
 ///
 /// - 0: each file is accepted.
 /// - 2: some file is refused, and none has a fault.
@@ -73,8 +75,8 @@ pub fn run_audit<F: Opens, W: Sink, E: Sink>(
     }
 }
 
-/// Writes on `out`, as the record of a file, that the list of the paths can't be opened, and why, and
-/// tells on `err` the fault of a file that can't be read. Answers the status, which is 3.
+/// Writes on `out`, as the record of a file, that the list of the paths can't be opened, and why,
+/// and tells on `err` the fault of a file that can't be read. Answers the status, which is 3.
 ///
 /// Where a write on `out` failed, a prefix of the line was written, and that fault is told.
 pub(crate) fn run_without_list<W: Sink, E: Sink>(
@@ -84,8 +86,8 @@ pub(crate) fn run_without_list<W: Sink, E: Sink>(
     out: &mut W,
     err: &mut E,
 ) -> u8
-    ensures told { TellsUnopened (audit_record end path.now (Err why)) W.held W.failures out.old out.new
-        E.held E.failures err.old err.new result }
+    ensures told { TellsUnopened (audit_record end path.now (Err why))
+        W.held W.failures out.old out.new E.held E.failures err.old err.new result }
 {
     let written = put_audit_record(end, path, &Err(why), out);
     tell_unopened(&written, err)
@@ -119,9 +121,9 @@ fn audit_file<F: Opens, W: Sink>(
     files: &mut F,
     out: &mut W,
 ) -> Result<u8, Fault>
-    ensures audits { Audits F.Reader.left F.Reader.failures options.doc options.end (F.text files.old)
-        (F.failures files.old) (F.failures files.new) (W.held out.old) (W.held out.new)
-        (W.failures out.old) (W.failures out.new) (path.now ∷ []) result }
+    ensures audits { Audits F.Reader.left F.Reader.failures options.doc options.end
+        (F.text files.old) (F.failures files.old) (F.failures files.new) (W.held out.old)
+        (W.held out.new) (W.failures out.old) (W.failures out.new) (path.now ∷ []) result }
     ensures stays { F.text files.new ≡ F.text files.old }
 {
     let outcome = check_path(alloc, options.doc, path, files);

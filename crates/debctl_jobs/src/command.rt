@@ -2,7 +2,9 @@
 
 ghost use Rattle.std.specs.Prelude.{◌≡◌, ◌<◌};
 ghost use Rattle.deb_base.specs.Devices.{one_more};
-ghost use Rattle.debctl_jobs.specs.Running.{Done, IfCompare, IfRefusedWords, IfSecondUnread, IfUnread, IsRefused, SaysNo, Told, reader_of, writer_of};
+ghost use Rattle.debctl_jobs.specs.Running.{Done, IfCompare, IfRefusedWords, IfSecondUnread};
+ghost use Rattle.debctl_jobs.specs.Running.{IfUnread, IsRefused, SaysNo, Told, reader_of};
+ghost use Rattle.debctl_jobs.specs.Running.{writer_of};
 ghost use Rattle.debctl_jobs.specs.Taking.{TakesFile};
 
 use crate::document_jobs::{run_check, run_normalise};

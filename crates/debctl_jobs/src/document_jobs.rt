@@ -4,7 +4,8 @@ ghost use Rattle.std.specs.Prelude.{◌≡◌, ◌<◌, ℕ, List, Some, Result,
 ghost use Rattle.deb_base.specs.Devices.{write_failures_after, Puts};
 ghost use Rattle.deb_base.specs.declared.fault.Fault.{Fault};
 ghost use Rattle.deb_control.specs.Calls.{WritesCanonical};
-ghost use Rattle.debctl_jobs.specs.DocumentJobs.{ok_line, ChecksFile, NormalisesFile, TellsRefusal, TellsRefusalBehind, WritesOk};
+ghost use Rattle.debctl_jobs.specs.DocumentJobs.{ok_line, ChecksFile, NormalisesFile, TellsRefusal};
+ghost use Rattle.debctl_jobs.specs.DocumentJobs.{TellsRefusalBehind, WritesOk};
 ghost use Rattle.debctl_jobs.specs.Taking.{TakesFile};
 ghost use Rattle.debctl_jobs.specs.Telling.{done_status, Tells};
 

@@ -5,7 +5,8 @@ ghost use Rattle.deb_base.specs.Devices.{write_failures_after, Puts};
 ghost use Rattle.deb_base.specs.declared.fault.Fault.{Fault};
 ghost use Rattle.deb_explain.specs.Telling.{rule_text};
 ghost use Rattle.debctl_jobs.specs.DocumentJobs.{WritesOk};
-ghost use Rattle.debctl_jobs.specs.ExplainJob.{explain_status, unopened_text, Explains, ExplainsWord, WritesExplanation, WritesRule};
+ghost use Rattle.debctl_jobs.specs.ExplainJob.{explain_status, unopened_text, Explains};
+ghost use Rattle.debctl_jobs.specs.ExplainJob.{ExplainsWord, WritesExplanation, WritesRule};
 ghost use Rattle.debctl_jobs.specs.Telling.{done_status, Tells, TellsUnopened};
 
 use crate::document_jobs::put_ok_line;
@@ -107,8 +108,8 @@ fn write_unopened<W: Sink>(path: &[u8], why: Unopened, out: &mut W) -> Result<()
 ///
 /// - 0: it is one. `ok` with a newline was written.
 /// - 2: it is none. Where and why was written, in lines `key: value`.
-/// - 3: out of memory, or a write failed. `err` has the fault's line; where a write on `err` failed,
-///   a prefix of its line.
+/// - 3: out of memory, or a write failed. `err` has the fault's line; where a write on `err`
+///   failed, a prefix of its line.
 ///
 /// But for status 3 nothing was written on `err`.
 pub fn run_word<W: Sink, E: Sink>(

@@ -9,41 +9,82 @@ use std::alloc::Global;
 /// The most bytes that one read is lent.
 const PIECE: usize = 65_536;
 
-/// Reads a file to its end; or to the end of a line at which the lines of a paragraph are too long,
-/// or until the file is: what comes after that doesn't change its refusal. Beyond that at most one
-/// piece is taken.
-pub(crate) fn read_to_refusal<R: Source>(alloc: Global, source: &mut R) -> Result<Vec<u8>, Fault> {
-    let mut piece = vec![in alloc; 0; PIECE]?;
-    read_by(alloc, piece.as_mut_slice(), source)
+/// The bytes of a file that decide why it is refused.
+#[derive(Drop)]
+pub(crate) struct DecidingText {
+    pub(crate) bytes: Vec<u8>,
+    /// Whether the file is too long, at the line with which these bytes end and of which they are
+    /// not all.
+    pub(crate) is_cut_off: bool,
 }
 
-/// Reads a file so, by pieces that are first read into a buffer.
-fn read_by<R: Source>(alloc: Global, piece: &mut [u8], source: &mut R) -> Result<Vec<u8>, Fault> {
-    let mut text = Vec::new(alloc);
+/// Reads a file to its end, until it is too long, or until the lines of a paragraph are: what comes
+/// after that doesn't change its refusal. Of the line at which the lines are too long the rest is
+/// read as well, but not kept. After that line, or what a file may have, at most one piece is
+/// taken.
+pub(crate) fn read_to_refusal<R: Source>(
+    alloc: Global,
+    source: &mut R,
+) -> Result<DecidingText, Fault> {
+    let mut piece = vec![in alloc; 0; PIECE]?;
+    let mut bytes = Vec::new(alloc);
+    let goes_on = read_kept(piece.as_mut_slice(), source, &mut bytes)?;
+    let is_cut_off = goes_on && read_rest(piece.as_mut_slice(), source, bytes.len() as u64)?;
+    Ok(DecidingText { bytes, is_cut_off })
+}
+
+/// Reads the bytes that are kept. Says whether the line with which they end is too long and goes
+/// on.
+fn read_kept<R: Source>(
+    piece: &mut [u8],
+    source: &mut R,
+    text: &mut Vec<u8>,
+) -> Result<bool, Fault> {
     let mut lengths = Lengths::new();
     for _ in 0..u64::MAX {
-        let count = read_piece(piece, source, &mut text)?;
+        let count = read_piece(piece, source)?;
+        text.extend_from_slice(&piece[..count])?;
         lengths.pass(&piece[..count]);
         if count == 0 || lengths.were_too_long || text.len() as u64 > FILE_LIMIT {
             break;
         }
+        if lengths.are_too_long() {
+            return Ok(true);
+        }
     }
-    Ok(text)
+    Ok(false)
 }
 
-/// Reads one piece into a buffer, and puts it behind a text. Says how many bytes came.
-fn read_piece<R: Source>(
-    piece: &mut [u8],
-    source: &mut R,
-    text: &mut Vec<u8>,
-) -> Result<usize, Fault>
+/// Reads the rest of the line that the last of so many bytes of a file is in, and keeps nothing of
+/// it. Says whether the line goes on beyond what a file may have.
+fn read_rest<R: Source>(piece: &mut [u8], source: &mut R, passed: u64) -> Result<bool, Fault> {
+    let mut passed = passed;
+    for _ in 0..u64::MAX {
+        let count = read_piece(piece, source)?;
+        let before = newline_at(&piece[..count]);
+        passed = passed.saturating_add(before as u64);
+        if before < count {
+            // The newline is a byte of the file too.
+            return Ok(passed >= FILE_LIMIT);
+        }
+        if count == 0 || passed > FILE_LIMIT {
+            break;
+        }
+    }
+    Ok(passed > FILE_LIMIT)
+}
+
+/// Where the first newline stands, or the length where there is none.
+fn newline_at(bytes: &[u8]) -> usize {
+    bytes.iter().take_while(|byte| **byte != b'\n').count()
+}
+
+/// Reads one piece into a buffer. Says how many bytes came.
+fn read_piece<R: Source>(piece: &mut [u8], source: &mut R) -> Result<usize, Fault>
     ensures { IfOk result (λ count. count ≤ length piece.new) }
 {
     match source.read(piece) {
-        Ok(count) => {
-            text.extend_from_slice(&piece[..count])?;
-            Ok(count)
-        }
+        Ok(count) => Ok(count),
         Err(Failed) => Err(Fault::Read),
     }
 }

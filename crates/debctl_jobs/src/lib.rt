@@ -4,14 +4,15 @@
 //! - [`run`] does a job over readers and writers, tells on one of them why it wasn't done, and
 //!   answers the status. It reads no path and knows no stream of the system.
 //! - [`run_explain`] tells why a text is refused, [`run_unopened`] why a file can't be opened,
-//!   [`run_word`] why a relation or a version is none, [`run_rule`] what a code means, and [`run_audit`] of each of many files whether it is
-//!   accepted.
+//!   [`run_word`] why a relation or a version is none, [`run_rule`] what a code means, and
+//!   [`run_audit`] of each of many files whether it is accepted.
 //! - [`run_program`] does what the program's words ask for: it opens the paths, hands these
 //!   the files and the standard streams, and flushes what was written.
 #![tactic(auto)]
 
 mod audit_job;
 mod command;
+mod cut_off;
 mod document_jobs;
 mod explain_job;
 mod explained_text;

@@ -1,12 +1,17 @@
 //! The job on an index and a relation: `query`.
 
-ghost use Rattle.std.specs.Prelude.{◌≡◌, ◌<◌, ℕ, List, Some, Bool, true, false, map, Result, IfOk, string_bytes};
+ghost use Rattle.std.specs.Prelude.{◌≡◌, ◌<◌, ℕ, List, Some, Bool, true, false, map, Result, IfOk};
+ghost use Rattle.std.specs.Prelude.{IsTrue, string_bytes};
 ghost use Rattle.deb_base.specs.declared.fault.Fault.{Fault};
 ghost use Rattle.deb_relation.specs.Environments.{environment_of};
+ghost use Rattle.deb_relation.specs.Grammar.{SpellsRelation};
 ghost use Rattle.deb_relation.specs.Relations.{relation_of};
 ghost use Rattle.deb_relation.specs.Views.{names_of};
 ghost use Rattle.deb_index.specs.Indexes.{packages_of};
-ghost use Rattle.debctl_jobs.specs.QueryJob.{AreRefused, ParsesEnvironment, ParsesRelation, QueriesFile, TellsOf, TellsQueryRefusal, WritesReport, question};
+ghost use Rattle.debctl_jobs.specs.QueryJob.{environment_in, has_environment, question, Question};
+ghost use Rattle.debctl_jobs.specs.QueryJob.{AreRefused, ParsesEnvironment, ParsesRelation};
+ghost use Rattle.debctl_jobs.specs.QueryJob.{QueriesFile, ReportsOver, TellsOf};
+ghost use Rattle.debctl_jobs.specs.QueryJob.{TellsQueryRefusal, WritesReport};
 ghost use Rattle.debctl_jobs.specs.Taking.{TakesFile};
 ghost use Rattle.debctl_jobs.specs.Telling.{Tells};
 ghost use Rattle.debctl_jobs.specs.VersionJobs.{verdict_status};
@@ -87,8 +92,40 @@ fn write_report<R: Source, W: Sink>(
 {
     let relation = parse_relation(alloc, relation)?;
     let environment = environment_of(alloc, target, profiles)?;
+    write_answer(alloc, &relation, &environment, first, out)
+}
+
+/// Writes the report of a relation in an environment over an index that is read, and answers
+/// whether no group is unmet.
+fn write_answer<R: Source, W: Sink>(
+    alloc: Global,
+    relation: &Relation<'_>,
+    environment: &Env,
+    first: &mut R,
+    out: &mut W,
+) -> Result<bool, Fault>
+    ensures queries { (q : Question) → SpellsRelation q.relation (relation_of relation.now)
+        → IsTrue (has_environment q) → environment_of environment.now ≡ environment_in q
+        → QueriesFile q (R.left first.old) (R.failures first.old) (R.failures first.new)
+        W.held W.failures out.old out.new result }
+    ensures taken { TakesFile (R.left first.old) (R.left first.new) }
+{
     let index = Index::read(alloc, first)?;
-    let report = report_of(alloc, &index, &relation, &environment)?;
+    write_over(alloc, &index, relation, environment, out)
+}
+
+/// Writes the report of a relation over an index, and answers whether no group is unmet.
+fn write_over<W: Sink>(
+    alloc: Global,
+    index: &Index,
+    relation: &Relation<'_>,
+    environment: &Env,
+    out: &mut W,
+) -> Result<bool, Fault>
+    ensures { ReportsOver (packages_of index.now) (relation_of relation.now)
+        (environment_of environment.now) W.held W.failures out.old out.new result }
+{
+    let report = report_of(alloc, index, relation, environment)?;
     report.write(out)?;
     Ok(report.all_met())
 }

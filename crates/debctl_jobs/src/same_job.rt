@@ -2,7 +2,8 @@
 
 ghost use Rattle.std.specs.Prelude.{◌≡◌, ◌<◌, true, false, Bool, Result};
 ghost use Rattle.deb_control.specs.declared.side.SideFault.{SideFault};
-ghost use Rattle.debctl_jobs.specs.SameJob.{ComparesFiles, TellsAnswer, TellsComparison, TellsRefusedSide, WritesSame};
+ghost use Rattle.debctl_jobs.specs.SameJob.{ComparesFiles, TellsAnswer, TellsComparison};
+ghost use Rattle.debctl_jobs.specs.SameJob.{TellsRefusedSide, WritesSame};
 ghost use Rattle.debctl_jobs.specs.Taking.{TakesFile};
 
 use crate::tell::{tell, tell_side};

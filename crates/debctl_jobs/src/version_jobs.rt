@@ -6,7 +6,9 @@ ghost use Rattle.deb_base.specs.Devices.{one_more};
 ghost use Rattle.deb_base.specs.Lines.{refusal_line};
 ghost use Rattle.deb_base.specs.declared.fault.Fault.{Fault};
 ghost use Rattle.debctl_jobs.specs.Telling.{done_status, Tells};
-ghost use Rattle.debctl_jobs.specs.VersionJobs.{bad_version, holds, verdict_status, Canonicalises, Compared, Compares, GivesLine, IsNoVersion, ParsesWord, WritesLine};
+ghost use Rattle.debctl_jobs.specs.VersionJobs.{bad_version, holds, verdict_status, Canonicalises};
+ghost use Rattle.debctl_jobs.specs.VersionJobs.{Compared, Compares, GivesLine, IsNoVersion};
+ghost use Rattle.debctl_jobs.specs.VersionJobs.{ParsesWord, WritesLine};
 
 use crate::tell::tell;
 use deb_base::{Code, Fault, Refusal, Sink, put_all};

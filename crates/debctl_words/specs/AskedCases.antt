@@ -334,7 +334,11 @@ audit_with_bytes_0 = refl
 
 short_null : asked_of
     (line (codes "audit" ∷ codes "-0kany" ∷ codes "--files0-from" ∷ codes "x" ∷ []))
-    ≡ Some (asks (record { wanted = audits Any (listed (codes "x")) Nul; first = None; second = None }))
+    ≡ Some (asks (record {
+      wanted = audits Any (listed (codes "x")) Nul;
+      first = None;
+      second = None;
+    }))
 unfolding clap_on_literals kind_asked
 short_null = refl
 

@@ -1,3 +1,4 @@
 pub mod Asked
 pub mod AskedCases
 pub mod Commands
+pub mod RequestCases

@@ -200,8 +200,8 @@ one line is printed:
 Below a line `met GROUP`, each package that meets it has a line
 ` NUMBER PACKAGE VERSION ARCHITECTURE`, with its place in the index, from 1.
 The former operators `<` and `>` of a bound mean `<=` and `>=`.
-/var/lib/dpkg/status lists packages that were removed, too: filter these out first,
-with `grep-dctrl -F Status 'ok installed' /var/lib/dpkg/status | debctl query ..`.
+The status file of dpkg lists packages that were removed, too: filter these out first,
+as debctl(1) and README.md show.
 
 Statuses:
   0  no group is unmet

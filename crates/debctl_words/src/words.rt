@@ -73,7 +73,8 @@ impl From<AllocError> for UsageFault {
 ///   paths `-`, `usage: standard input twice`; of an `explain` with two of a code, a relation, a
 ///   version and a file, which a kind or a path names,
 ///   `usage: explain takes one file, code, relation or version`; of an audit with neither paths nor
-///   a list, or with both, `usage: audit takes paths, or --files0-from`; of all else it is `clap`'s.
+///   a list, or with both, `usage: audit takes paths, or --files0-from`; of all else it is that of
+///   `clap`.
 /// - `UsageFault::Help`: the words ask for help or for the version.
 /// - `UsageFault::Memory`: a growth of memory was refused.
 pub fn job_of(alloc: Global, words: &[String]) -> Result<Task, UsageFault>

@@ -14,6 +14,7 @@ returns-in-Ok-clause-answers g c =
             refused = λ text is. c.check.ensures.refused text (told ∙ is);
             fault = c.check.ensures.fault;
             reads = c.check.ensures.reads;
+            taken = λ text is. c.check.ensures.taken text (told ∙ is);
           },
         ),
       ),
