@@ -242,11 +242,43 @@ static void try_queries(void) {
     }
 }
 
+/* Packages of one name, each of which meets the relation: more than a megabyte is reported, and so
+ * many bytes are asked for without a buffer, and with one that is too short by a byte. */
+static void try_long_report(void) {
+    enum { PACKAGES = 50000, LONGEST = 64 };
+    char *index = malloc(PACKAGES * LONGEST), *report = malloc(PACKAGES * LONGEST);
+    char *at = index, *told = report + sprintf(report, "met hello\n");
+    struct buffer none = buffer_of(0), it;
+    size_t room;
+    int number;
+
+    for (number = 1; number <= PACKAGES; number++) {
+        at += sprintf(at, "Package: hello\nVersion: %d\nArchitecture: all\n\n", number);
+        told += sprintf(told, " %d hello %d all\n", number, number);
+    }
+    IS(told - report > 1 << 20);
+    IS(is(query("amd64", NULL, "hello", index, &none), DEB_NO_ROOM, 0, 0, 0));
+    IS(none.length == (size_t)(told - report));
+    for (room = none.length - 1; room <= none.length + 1; room++) {
+        it = buffer_of(room);
+        if (room < none.length)
+            IS(is(query("amd64", NULL, "hello", index, &it), DEB_NO_ROOM, 0, 0, 0) &&
+               untouched(it, none.length));
+        else
+            IS(is(query("amd64", NULL, "hello", index, &it), DEB_YES, 0, 0, 0) &&
+               holds(it, report));
+        free(it.bytes);
+    }
+    free(index);
+    free(report);
+}
+
 int main(void) {
     try_versions();
     try_files();
     try_explanations();
     try_queries();
+    try_long_report();
     printf("calls: %d passed, %d failed\n", passed, failed);
     return failed != 0;
 }
