@@ -43,15 +43,15 @@ function __debctl_at
 end
 
 complete -c debctl -f
-complete -c debctl -n __debctl_command -a check -d 'Say whether a file is accepted'
-complete -c debctl -n __debctl_command -a explain -d 'Say why a file is refused, or what a code means'
-complete -c debctl -n __debctl_command -a audit -d 'Say of each of many files whether it is accepted'
+complete -c debctl -n __debctl_command -a check -d 'Check whether a file is well formed'
+complete -c debctl -n __debctl_command -a explain -d 'Explain why a file is rejected'
+complete -c debctl -n __debctl_command -a audit -d 'Check many files and print one line for each'
 complete -c debctl -n __debctl_command -a normalise -d 'Write the canonical text of a file'
-complete -c debctl -n __debctl_command -a same -d 'Say whether two files mean the same'
-complete -c debctl -n __debctl_command -a compare -d 'Say how two versions stand to each other'
-complete -c debctl -n __debctl_command -a canon-version -d 'Write the canonical text of a version'
-complete -c debctl -n __debctl_command -a sort -d 'Write the lines of a file, each a version, in order'
-complete -c debctl -n __debctl_command -a query -d 'Say which packages meet a relation'
+complete -c debctl -n __debctl_command -a same -d 'Check whether two files mean the same'
+complete -c debctl -n __debctl_command -a compare -d 'Compare two versions'
+complete -c debctl -n __debctl_command -a canon-version -d 'Print the canonical text of a version'
+complete -c debctl -n __debctl_command -a sort -d 'Sort the lines of a file, each a version'
+complete -c debctl -n __debctl_command -a query -d 'Find the packages that meet a relation'
 complete -c debctl -n __debctl_command -a help -d 'Print the help'
 complete -c debctl -n __debctl_command -s V -l version -d 'Print the version'
 complete -c debctl -s h -l help -d 'Print the help'
@@ -60,12 +60,12 @@ complete -c debctl -n '__debctl_command check explain audit normalise same' -s k
 complete -c debctl -n '__debctl_at 0 check explain normalise same sort' -F
 complete -c debctl -n '__debctl_at 1 same query' -F
 complete -c debctl -n '__debctl_command audit' -F
-complete -c debctl -n '__debctl_command explain' -l code -x -d 'Number of a code'
-complete -c debctl -n '__debctl_command explain' -l relation -x -d 'Text of a relation'
-complete -c debctl -n '__debctl_command explain' -l version-text -x -d 'Text of a version'
+complete -c debctl -n '__debctl_command explain' -l code -x -d 'Error code'
+complete -c debctl -n '__debctl_command explain' -l relation -x -d 'Relation'
+complete -c debctl -n '__debctl_command explain' -l version-text -x -d 'Version'
 complete -c debctl -n '__debctl_command audit' -l files0-from -r -F -d 'File that lists the paths'
-complete -c debctl -n '__debctl_command audit' -s 0 -l null -d 'End each record with a byte 0'
-complete -c debctl -n '__debctl_command sort' -l reverse -d 'The latest version first'
+complete -c debctl -n '__debctl_command audit' -s 0 -l null -d 'End each line with a byte 0'
+complete -c debctl -n '__debctl_command sort' -l reverse -d 'Sort the latest version first'
 complete -c debctl -n '__debctl_at 1 compare' -a 'lt le eq ne ge gt'
 complete -c debctl -n '__debctl_command query' -l arch -x -a '(dpkg-architecture -L 2>/dev/null)' -d 'Target architecture'
 complete -c debctl -n '__debctl_command query' -l profiles -x -d 'Active build profiles'

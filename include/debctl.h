@@ -1,24 +1,23 @@
 /* Debian control data for programs in C and C++: versions, files of control data, why they are
- * refused, and which packages of an index meet a relation. The functions are those of the program
- * debctl, and are proved to give these answers.
+ * refused, and which packages of an index meet a relation. The functions return what the program
+ * debctl prints, and are proved to return exactly that.
  *
- * Texts. A text is a pointer to bytes and their number, which are not ended by a NUL. They are read
- * during the call alone, and stay the caller's. A pointer may be NULL where its length is 0, and
- * nowhere else. No function can check that a pointer points to as many bytes as its length says.
+ * Texts. A text is a pointer to bytes and their number; no NUL is needed after them. The bytes are
+ * only read, and only during the call. A pointer may be NULL only if its length is 0. No function
+ * can check that a pointer points to as many bytes as its length says.
  *
- * Buffers. A text that is answered goes to the front of `out`, which has room for `out_size` bytes,
- * and its length to `length`; no NUL is put behind it. `out` and `length` are the caller's, and no
- * other argument may lie in them. Where `out` has no room for the whole text, nothing is written to
- * it, and `length` says how many bytes it needs: so a call with NULL and 0 asks for that number. A
- * second call then does the work once more.
+ * Buffers. A function that returns a text writes it to the start of `out`, which has room for
+ * `out_size` bytes, and its length to `length`, without a NUL after it. `out` and `length` belong
+ * to the caller, and may not overlap each other or another argument. If the text doesn't fit, nothing
+ * is written to `out`, and `length` is the length that it needs. So a call with NULL and 0 returns
+ * that length, and a second call does the work again.
  *
- * Lengths are in bytes, and lines are counted from 1. Nothing is kept between two calls, and
- * nothing has to be given back. Each function may be called from several threads at once. What
- * takes memory takes it by malloc and realloc, and gives it back by free before it returns. No
- * function may be called from a signal's handler, or from the child of a process with threads
- * between fork and exec.
+ * Lengths are in bytes, and lines are counted from 1. Nothing is kept between calls, so there is
+ * nothing to free, and several threads may call at once. Memory is taken with malloc and realloc,
+ * and freed before the call returns. Don't call a function from a signal handler, or between fork
+ * and exec in the child of a process with several threads.
  *
- * The rules, and what each code means, are in docs/FORMAT.md; examples are in docs/LIBRARIES.md. */
+ * docs/FORMAT.md has the rules and the meaning of each error code, docs/LIBRARIES.md examples. */
 #ifndef DEBCTL_H
 #define DEBCTL_H
 
@@ -29,15 +28,15 @@
 extern "C" {
 #endif
 
-/* How a call ended. */
+/* The status of a call. */
 enum deb_status {
     DEB_YES = 0,            /* done, or yes */
-    DEB_NO = 1,             /* deb_same: the files differ; deb_query: some group is unmet */
+    DEB_NO = 1,             /* deb_same: the files differ; deb_query: a group is unmet */
     DEB_REFUSED = 2,        /* a text is refused, or the first of two */
     DEB_SECOND_REFUSED = 3, /* the first text is accepted, and the second is refused */
-    DEB_NO_ROOM = 4,        /* the buffer is too short; its length says how much is needed */
-    DEB_NO_MEMORY = 5,      /* a growth of memory was refused */
-    DEB_NO_KIND = 6         /* there is no kind of document of this number */
+    DEB_NO_ROOM = 4,        /* the buffer is too small; its length is what it needs */
+    DEB_NO_MEMORY = 5,      /* out of memory */
+    DEB_NO_KIND = 6         /* no kind of document has this number */
 };
 
 /* Kinds of documents. */
@@ -46,7 +45,7 @@ enum deb_kind {
     DEB_PACKAGES = 1, /* an index of binary packages: any number of paragraphs */
     DEB_SOURCE = 2,   /* the description of a source package: one paragraph */
     DEB_SOURCES = 3,  /* an index of source packages: any number of paragraphs */
-    DEB_ANY = 4       /* any control data, of which no value is judged */
+    DEB_ANY = 4       /* any control data; its values aren't checked */
 };
 
 /* Why a text is refused. */
@@ -82,65 +81,65 @@ struct deb_text {
     size_t length;
 };
 
-/* What a call answers. What isn't told is 0. */
+/* The answer of a call. Parts that don't apply are 0. */
 struct deb_answer {
     uint8_t status; /* one of deb_status */
-    uint8_t code;   /* one of deb_code, where a text is refused */
-    uint64_t line;  /* the line of the refusal in its file; 0 for a text that is no file */
-    uint64_t count; /* how many paragraphs the file has: DEB_YES by deb_check, deb_normalise and
-                     * deb_explain */
+    uint8_t code;   /* one of deb_code, if a text is refused */
+    uint64_t line;  /* the line of the refusal in its file; 0 for a text that isn't a file */
+    uint64_t count; /* the number of paragraphs of the file: for DEB_YES of deb_check, deb_normalise
+                     * and deb_explain */
 };
 
-/* What the comparison of two versions answers. */
+/* The answer of a comparison of two versions. */
 struct deb_comparison {
     uint8_t status; /* DEB_YES, DEB_REFUSED or DEB_SECOND_REFUSED */
-    uint8_t code;   /* DEB_BAD_VERSION, where a text is no version */
+    uint8_t code;   /* DEB_BAD_VERSION, if a text isn't a version */
     int8_t order;   /* below 0 if the first is earlier, above 0 if it is later, 0 if they are equal */
 };
 
 /* Compares two versions in Debian's order. Takes no memory.
- * DEB_YES; DEB_REFUSED: the first is no version; DEB_SECOND_REFUSED. */
+ * DEB_YES; DEB_REFUSED: the first isn't a version; DEB_SECOND_REFUSED. */
 struct deb_comparison deb_version_compare(const uint8_t *left, size_t left_length,
                                           const uint8_t *right, size_t right_length);
 
-/* Writes the canonical text of a version: two versions are equal exactly if theirs is the same.
- * DEB_YES; DEB_REFUSED: this is no version; DEB_NO_ROOM; DEB_NO_MEMORY. */
+/* Writes the canonical text of a version: two versions are equal exactly if theirs are the same.
+ * DEB_YES; DEB_REFUSED: it isn't a version; DEB_NO_ROOM; DEB_NO_MEMORY. */
 struct deb_answer deb_version_canonical(const uint8_t *text, size_t text_length,
                                         uint8_t *out, size_t out_size, size_t *length);
 
-/* Whether a file is accepted as a document of a kind.
+/* Checks whether a file is accepted as a document of a kind.
  * DEB_YES, with the number of its paragraphs; DEB_REFUSED; DEB_NO_MEMORY; DEB_NO_KIND. */
 struct deb_answer deb_check(uint8_t kind, const uint8_t *text, size_t text_length);
 
 /* Writes the canonical text of a file: two files that are accepted as one kind of document mean the
- * same exactly if theirs is the same. Of a file that is refused nothing is written.
+ * same exactly if theirs are the same. Nothing is written for a file that is refused.
  * DEB_YES, with the number of its paragraphs; DEB_REFUSED; DEB_NO_ROOM; DEB_NO_MEMORY;
  * DEB_NO_KIND. */
 struct deb_answer deb_normalise(uint8_t kind, const uint8_t *text, size_t text_length,
                                 uint8_t *out, size_t out_size, size_t *length);
 
 /* Writes why a file is refused as a document of a kind, in lines `key: value`: those that the
- * program `debctl explain` writes, but for its first, `file`, since a text has no path. The keys
- * are, in this order and as far as there is something to tell: line, code, name, field, place (the
- * offset in the value of what is wrong there), at (the same in the file, as LINE:COLUMN, both from
- * 1), reason, value, rule and usually. Bytes of the file that aren't printable ASCII are escaped,
- * and of a long value the first 200 are shown. Of a file that is accepted the one line `ok N` is
- * written, for its N paragraphs. Each line ends in a newline.
- * DEB_REFUSED, with the code and the line that deb_check answers; DEB_YES, with the number of
+ * program `debctl explain` writes, except for its first, `file`, since a text has no path. The keys
+ * are, in this order and if they apply: line, code, name, field, place (the offset of the error in
+ * the value), at (the same position in the file, as LINE:COLUMN, both from 1), reason, value, rule
+ * and usually. Bytes of the file that aren't printable ASCII are escaped, and a long value is cut
+ * after 200 bytes. For an accepted file of N paragraphs the line `ok N` is written. Each line ends
+ * with a newline.
+ * DEB_REFUSED, with the code and the line that deb_check returns; DEB_YES, with the number of
  * paragraphs: the file is accepted; DEB_NO_ROOM; DEB_NO_MEMORY; DEB_NO_KIND. */
 struct deb_answer deb_explain(uint8_t kind, const uint8_t *text, size_t text_length,
                               uint8_t *out, size_t out_size, size_t *length);
 
-/* Whether two files mean the same as documents of a kind.
+/* Compares two files by meaning, as documents of a kind.
  * DEB_YES; DEB_NO; DEB_REFUSED: the first is refused; DEB_SECOND_REFUSED; DEB_NO_MEMORY;
  * DEB_NO_KIND. */
 struct deb_answer deb_same(uint8_t kind, const uint8_t *text, size_t text_length,
                            const uint8_t *other, size_t other_length);
 
 /* Writes which packages of an index meet a relation, for a target architecture and with these build
- * profiles active: for each group of the relation a line, and behind one that is met a line for
+ * profiles active: for each group of the relation a line, and after one that is met a line for
  * each package that meets it.
- * DEB_YES: no group is unmet; DEB_NO: some group is; DEB_REFUSED: the relation (DEB_BAD_RELATION),
+ * DEB_YES: no group is unmet; DEB_NO: a group is; DEB_REFUSED: the relation (DEB_BAD_RELATION),
  * the target or a profile (DEB_BAD_ENVIRONMENT), the index (any code up to DEB_PROVIDES_BOUND), or
  * a wildcard in an architecture list (DEB_WILDCARD), in this order; DEB_NO_ROOM; DEB_NO_MEMORY. */
 struct deb_answer deb_query(const uint8_t *target, size_t target_length,

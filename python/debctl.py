@@ -1,10 +1,10 @@
 """Debian control data: versions, files of control data, why they are refused, and queries of an
 index of packages.
 
-Each function calls one of the library libdebctl and has no rule of its own; what the library
-answers is proved. It is looked for at DEBCTL_LIBRARY, else beside this file, else where the system
-keeps its libraries. A text is a `str`, whose UTF-8 is read, or a bytes-like object, such as `bytes`
-or `memoryview`. A function raises TypeError for an argument of another type.
+Each function calls one of the library libdebctl, whose answers are proved, and adds no rule of its
+own. The library is looked for at DEBCTL_LIBRARY, then in the folder of this file, then where the
+system keeps its libraries. A text is a `str`, of which the UTF-8 is read, or a bytes-like object
+such as `bytes` or `memoryview`. A function raises TypeError for an argument of another type.
 
     >>> import debctl
     >>> debctl.compare("1.0~rc1", "1.0")
@@ -65,10 +65,10 @@ class Code(enum.IntEnum):
 
 
 class Refused(ValueError):
-    """A text is refused. Its message is the line that the program debctl tells.
+    """A text is refused. The message is the line that the program debctl prints.
 
-    `line` is counted from 1, and 0 for a text that is no file; `code` is a number from 1 to 23, and
-    `name` its name; `second` tells that it is the second of two files.
+    `line` is counted from 1, and 0 for a text that isn't a file; `code` is a number from 1 to 23,
+    and `name` its name; `second` is true if it is the second of two files.
     """
 
     def __init__(self, code: int, line: int, second: bool = False) -> None:
@@ -83,14 +83,14 @@ class Refused(ValueError):
 
 
 class Explanation(NamedTuple):
-    """What is told of a file: its refusal, or None if it is accepted, and the text of that."""
+    """The answer for a file: its refusal, or None if it is accepted, and the text of that."""
 
     refusal: Optional[Refused]
     text: bytes
 
 
 class Report(NamedTuple):
-    """What an index tells of a relation: whether no group is unmet, and the report's text."""
+    """The report on a relation: whether no group is unmet, and its text."""
 
     met: bool
     text: bytes
@@ -148,7 +148,7 @@ _lib = _library()
 
 
 def _text(text: Text) -> Tuple[bytes, int]:
-    """A text as the library is handed it: its bytes and their number."""
+    """Returns a text as the library takes it: its bytes and their number."""
     if isinstance(text, str):
         data = str.encode(text)
     elif type(text) is bytes:
@@ -163,7 +163,7 @@ def _text(text: Text) -> Tuple[bytes, int]:
 
 
 def _texts(texts: Iterable[Text]) -> "ctypes.Array[_Text]":
-    """Texts as the library is handed them."""
+    """Returns texts as the library takes them."""
     if isinstance(texts, (str, bytes, bytearray, memoryview)):
         raise TypeError(f"profiles are an iterable of texts, not one {type(texts).__name__}")
     items = [_Text(*_text(text)) for text in texts]
@@ -179,7 +179,7 @@ def _kind(kind: str) -> int:
 
 
 def _refusal(answer: Union[_Answer, _Comparison]) -> Optional[Refused]:
-    """The refusal that an answer tells, if it tells one."""
+    """Returns the refusal of an answer, or None."""
     if answer.status == _NO_MEMORY:
         raise MemoryError
     if answer.status in (_REFUSED, _SECOND_REFUSED):
@@ -188,7 +188,7 @@ def _refusal(answer: Union[_Answer, _Comparison]) -> Optional[Refused]:
 
 
 def _answered(answer: _AnyAnswer) -> _AnyAnswer:
-    """The answer of a call, or the exception that it stands for."""
+    """Returns an answer, or raises its exception."""
     refusal = _refusal(answer)
     if refusal is not None:
         raise refusal
@@ -196,8 +196,8 @@ def _answered(answer: _AnyAnswer) -> _AnyAnswer:
 
 
 def _written(room: int, call: Callable[..., _Answer]) -> Tuple[_Answer, bytes]:
-    """The answer of a call that writes to a buffer, and what it wrote: if this room is too little,
-    it is called again with as much as it needs."""
+    """Returns the answer of a call that writes to a buffer, and what it wrote. If there isn't
+    enough room, it is called again with as much as it needs."""
     length = ctypes.c_size_t(room)
     while True:
         out = ctypes.create_string_buffer(length.value)
@@ -207,24 +207,24 @@ def _written(room: int, call: Callable[..., _Answer]) -> Tuple[_Answer, bytes]:
 
 
 def _given(room: int, call: Callable[..., _Answer]) -> Tuple[_Answer, bytes]:
-    """The same, or the exception that the answer stands for."""
+    """Does the same, or raises the exception of the answer."""
     answer, text = _written(room, call)
     return _answered(answer), text
 
 
 def compare(left: Text, right: Text) -> int:
-    """Debian's order of two versions: -1, 0 or 1.
+    """Returns the order of two versions, in Debian's order: -1, 0 or 1.
 
-    Raises Refused where one of them is no version.
+    Raises Refused if one of them isn't a version.
     """
     answer: _Comparison = _lib.deb_version_compare(*_text(left), *_text(right))
     return _answered(answer).order
 
 
 def canonical(version: Text) -> bytes:
-    """The canonical text of a version: two are equal exactly if theirs is the same.
+    """Returns the canonical text of a version: two are equal exactly if theirs are the same.
 
-    Raises Refused where this is no version.
+    Raises Refused if it isn't a version.
     """
     data, length = _text(version)
     call = functools.partial(_lib.deb_version_canonical, data, length)
@@ -233,9 +233,9 @@ def canonical(version: Text) -> bytes:
 
 @functools.total_ordering
 class Version:
-    """A version, by Debian's order: it can be compared, sorted, and be a key.
+    """A version in Debian's order, which can be compared, sorted and used as a key.
 
-    Raises Refused where the text is no version.
+    Raises Refused if the text isn't a version.
     """
 
     def __init__(self, text: Text) -> None:
@@ -263,20 +263,20 @@ class Version:
 
 
 def check(text: Text, kind: str = "packages") -> int:
-    """The number of paragraphs of a file that is accepted as a document of this kind: `packages`,
-    `binary`, `source`, `sources` or `any`.
+    """Returns the number of paragraphs of a file that is accepted as a document of this kind:
+    `packages`, `binary`, `source`, `sources` or `any`.
 
-    Raises Refused where it is refused.
+    Raises Refused if it is refused.
     """
     answer: _Answer = _lib.deb_check(_kind(kind), *_text(text))
     return _answered(answer).count
 
 
 def normalise(text: Text, kind: str = "packages") -> bytes:
-    """The canonical text of a file: two that are accepted mean the same exactly if theirs is the
-    same.
+    """Returns the canonical text of a file: two accepted files mean the same exactly if theirs are
+    the same.
 
-    Raises Refused where it is refused.
+    Raises Refused if the file is refused.
     """
     data, length = _text(text)
     call = functools.partial(_lib.deb_normalise, _kind(kind), data, length)
@@ -284,9 +284,9 @@ def normalise(text: Text, kind: str = "packages") -> bytes:
 
 
 def explain(text: Text, kind: str = "packages") -> Explanation:
-    """Why a file is refused as a document of this kind, in lines `key: value`: those that the
-    program `debctl explain` writes, but for its first, `file`. Of a file that is accepted the text
-    is the line `ok N`, for its N paragraphs.
+    """Returns why a file is refused as a document of this kind, in lines `key: value`: those that
+    the program `debctl explain` writes, except for its first, `file`. For an accepted file of N
+    paragraphs the text is the line `ok N`.
     """
     data, length = _text(text)
     answer, told = _written(2048, functools.partial(_lib.deb_explain, _kind(kind), data, length))
@@ -294,18 +294,19 @@ def explain(text: Text, kind: str = "packages") -> Explanation:
 
 
 def same(text: Text, other: Text, kind: str = "packages") -> bool:
-    """Whether two files mean the same.
+    """Returns whether two files mean the same.
 
-    Raises Refused where one of them is refused; `second` tells which.
+    Raises Refused if one of them is refused; its `second` says which.
     """
     answer: _Answer = _lib.deb_same(_kind(kind), *_text(text), *_text(other))
     return _answered(answer).status == _YES
 
 
 def query(relation: Text, index: Text, arch: Text, profiles: Iterable[Text] = ()) -> Report:
-    """Which packages of an index meet a relation, for this architecture and these build profiles.
+    """Finds the packages of an index that meet a relation, for this architecture and these build
+    profiles.
 
-    Raises Refused where one of these is refused, and TypeError for profiles that are one text.
+    Raises Refused if one of these is refused, and TypeError if the profiles are a single text.
     """
     active = _texts(profiles)
     call = functools.partial(

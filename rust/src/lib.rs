@@ -1,8 +1,8 @@
 //! Debian control data: versions, files of control data, why they are refused, and queries of an
 //! index of packages.
 //!
-//! Each function calls one of the library `libdebctl` and has no rule of its own; what the library
-//! answers is proved. Texts are slices of bytes.
+//! Each function calls one of the library `libdebctl`, whose answers are proved, and adds no rule
+//! of its own. Texts are slices of bytes.
 //!
 //! ```
 //! use debctl::{check, compare, explain, normalise, Code, Error, Kind, Refusal};
@@ -39,7 +39,7 @@ pub enum Kind {
     Source = 2,
     /// An index of source packages: any number of paragraphs.
     Sources = 3,
-    /// Any control data, of which no value is judged.
+    /// Any control data; its values aren't checked.
     Any = 4,
 }
 
@@ -91,17 +91,17 @@ codes! {
     BadEnvironment = 23,
 }
 
-/// What is refused: why, and at which line. Lines are counted from 1; a text that is no file has
+/// Why a text is refused, and at which line. Lines are counted from 1; a text that isn't a file has
 /// line 0.
 #[derive(Clone, Copy, Debug, PartialEq, Eq)]
 pub struct Refusal {
-    /// Why.
+    /// The error code.
     pub code: Code,
-    /// At which line.
+    /// The line.
     pub line: u64,
 }
 
-/// As the program debctl tells it: `line 3: 7 DuplicateField`.
+/// The line that the program debctl prints: `line 3: 7 DuplicateField`.
 impl fmt::Display for Refusal {
     fn fmt(&self, out: &mut fmt::Formatter<'_>) -> fmt::Result {
         write!(
@@ -135,25 +135,25 @@ impl fmt::Display for Error {
 
 impl std::error::Error for Error {}
 
-/// What is told of a file.
+/// The answer for a file.
 #[derive(Clone, Debug, PartialEq, Eq)]
 pub struct Explanation {
-    /// Its refusal; none where it is accepted.
+    /// Its refusal, or `None` if it is accepted.
     pub refusal: Option<Refusal>,
-    /// The text that tells it.
+    /// The text of the explanation, or `ok N`.
     pub text: Vec<u8>,
 }
 
-/// What an index tells of a relation.
+/// The report on a relation.
 #[derive(Clone, Debug, PartialEq, Eq)]
 pub struct Report {
     /// Whether no group is unmet.
     pub met: bool,
-    /// The report's text.
+    /// The text of the report.
     pub text: Vec<u8>,
 }
 
-/// The error that a status stands for, if it is one.
+/// Returns the error of a status, if it is one.
 fn error_of(status: u8, code: u8, line: u64) -> Option<Error> {
     let refusal = || Refusal {
         code: Code::of(code),
@@ -167,7 +167,7 @@ fn error_of(status: u8, code: u8, line: u64) -> Option<Error> {
     }
 }
 
-/// An answer, or the error that it stands for.
+/// Returns an answer, or its error.
 fn answered(answer: Answer) -> Result<Answer, Error> {
     match error_of(answer.status, answer.code, answer.line) {
         Some(error) => Err(error),
@@ -175,8 +175,8 @@ fn answered(answer: Answer) -> Result<Answer, Error> {
     }
 }
 
-/// The answer of a call that writes to a buffer, and what it wrote: if this room is too little, it
-/// is called again with as much as it needs.
+/// Returns the answer of a call that writes to a buffer, and what it wrote. If there isn't enough
+/// room, it is called again with as much as it needs.
 fn written(room: usize, call: impl Fn(&mut [u8], &mut usize) -> Answer) -> (Answer, Vec<u8>) {
     let mut length = room;
     loop {
@@ -189,7 +189,7 @@ fn written(room: usize, call: impl Fn(&mut [u8], &mut usize) -> Answer) -> (Answ
     }
 }
 
-/// The same, or the error that the answer stands for.
+/// Returns the same, or the error of the answer.
 fn given(
     room: usize,
     call: impl Fn(&mut [u8], &mut usize) -> Answer,
@@ -198,7 +198,7 @@ fn given(
     Ok((answered(answer)?, text))
 }
 
-/// Debian's order of two versions.
+/// Compares two versions in Debian's order.
 pub fn compare(left: &[u8], right: &[u8]) -> Result<Ordering, Error> {
     let answer = library::version_compare(left, right);
     match error_of(answer.status, answer.code, 0) {
@@ -207,28 +207,29 @@ pub fn compare(left: &[u8], right: &[u8]) -> Result<Ordering, Error> {
     }
 }
 
-/// The canonical text of a version: two versions are equal exactly if theirs is the same.
+/// Returns the canonical text of a version: two versions are equal exactly if theirs are the same.
 pub fn canonical(version: &[u8]) -> Result<Vec<u8>, Error> {
     let call =
         |out: &mut [u8], length: &mut usize| library::version_canonical(version, out, length);
     Ok(given(version.len(), call)?.1)
 }
 
-/// The number of paragraphs of a file that is accepted as a document of a kind.
+/// Returns the number of paragraphs of a file that is accepted as a document of a kind.
 pub fn check(kind: Kind, text: &[u8]) -> Result<u64, Error> {
     Ok(answered(library::check(kind as u8, text))?.count)
 }
 
-/// The canonical text of a file: two that are accepted mean the same exactly if theirs is the same.
+/// Returns the canonical text of a file: two accepted files mean the same exactly if theirs are the
+/// same.
 pub fn normalise(kind: Kind, text: &[u8]) -> Result<Vec<u8>, Error> {
     let call =
         |out: &mut [u8], length: &mut usize| library::normalise(kind as u8, text, out, length);
     Ok(given(text.len() + 64, call)?.1)
 }
 
-/// Why a file is refused as a document of a kind, in lines `key: value`: those that the program
-/// `debctl explain` writes, but for its first, `file`. Of a file that is accepted the text is the
-/// line `ok N`, for its N paragraphs. The only error is [`Error::Memory`].
+/// Returns why a file is refused as a document of a kind, in lines `key: value`: those that the
+/// program `debctl explain` writes, except for its first, `file`. For an accepted file of N
+/// paragraphs the text is the line `ok N`. The only error is [`Error::Memory`].
 pub fn explain(kind: Kind, text: &[u8]) -> Result<Explanation, Error> {
     let call = |out: &mut [u8], length: &mut usize| library::explain(kind as u8, text, out, length);
     let (answer, text) = written(2048, call);
@@ -240,13 +241,13 @@ pub fn explain(kind: Kind, text: &[u8]) -> Result<Explanation, Error> {
     Ok(Explanation { refusal, text })
 }
 
-/// Whether two files mean the same.
+/// Returns whether two files mean the same.
 pub fn same(kind: Kind, text: &[u8], other: &[u8]) -> Result<bool, Error> {
     Ok(answered(library::same(kind as u8, text, other))?.status == library::YES)
 }
 
-/// Which packages of an index meet a relation, for a target architecture and with these build
-/// profiles active.
+/// Finds the packages of an index that meet a relation, for a target architecture and with these
+/// build profiles active.
 pub fn query(
     target: &[u8],
     profiles: &[&[u8]],

@@ -154,17 +154,16 @@ static void try_explanations(void) {
         {DEB_ANY, bad, DEB_YES, 0, 0, 1, "ok 1\n"},
         {DEB_PACKAGES, bad, DEB_REFUSED, DEB_BAD_NUMBER, 4, 0,
          "line: 4\ncode: 15\nname: BadNumber\nfield: Size\nvalue: 1k\n"
-         "rule: Installed-Size (Debian Policy 5.6.20) and Size are one or more decimal digits.\n"
-         "usually: a unit behind the number\n"},
+         "rule: Installed-Size (Debian Policy 5.6.20) and Size must be one or more decimal digits.\n"
+         "usually: a unit after the number\n"},
         {DEB_BINARY, NULL, DEB_REFUSED, DEB_NO_PARAGRAPH, 1, 0,
          "line: 1\ncode: 10\nname: NoParagraph\n"
-         "rule: A file of this kind has one paragraph (Debian Policy 5.3, 5.4).\n"
-         "usually: an empty file, as a command that failed leaves it\n"},
+         "rule: A file of this kind must contain exactly one paragraph (Debian Policy 5.3, 5.4).\n"
+         "usually: an empty file, such as a failed command leaves\n"},
         {DEB_SOURCES, "Package: aa\nVersion: 1_2\n\\\t", DEB_REFUSED, DEB_NO_COLON, 3, 0,
          "line: 3\ncode: 6\nname: NoColon\nvalue: \\\\\\t\n"
-         "rule: A line that begins a field has a colon behind the name (Debian Policy 5.1).\n"
-         "usually: no control data at all, a blank line within a field, or lines that end in CR LF"
-         "\n"},
+         "rule: The first line of a field must have a colon after the name (Debian Policy 5.1).\n"
+         "usually: no control data, a blank line within a field, or lines that end in CR LF\n"},
         {5, hello, DEB_NO_KIND, 0, 0, 0, NULL},
         {255, NULL, DEB_NO_KIND, 0, 0, 0, NULL},
     };
@@ -273,12 +272,47 @@ static void try_long_report(void) {
     free(report);
 }
 
+/* An architecture, a profile and a name of a package, each of 16,000,000 bytes, in the environment
+ * and in a group of the report. */
+static void try_long_names(void) {
+    enum { LONG = 16000000 };
+    char *name = malloc(LONG + 1), *relation = malloc(LONG + 16), *report = malloc(LONG + 32);
+    struct buffer it = buffer_of(LONG + 32);
+
+    memset(name, 'a', LONG);
+    name[LONG] = '\0';
+    sprintf(relation, "hello [!%s]", name);
+    sprintf(report, "ignored %s\n", relation);
+    IS(is(query(name, NULL, relation, hello, &it), DEB_YES, 0, 0, 0) && holds(it, report));
+    free(it.bytes);
+    it = buffer_of(LONG + 32);
+    sprintf(relation, "hello <!%s>", name);
+    sprintf(report, "ignored %s\n", relation);
+    IS(is(query("amd64", name, relation, hello, &it), DEB_YES, 0, 0, 0) && holds(it, report));
+    free(it.bytes);
+    it = buffer_of(LONG + 32);
+    sprintf(report, "unmet %s\n", name);
+    IS(is(query("amd64", NULL, name, hello, &it), DEB_NO, 0, 0, 0) && holds(it, report));
+    free(it.bytes);
+    name[LONG - 1] = 'A';
+    it = buffer_of(16);
+    IS(is(query(name, NULL, "hello", hello, &it), DEB_REFUSED, DEB_BAD_ENVIRONMENT, 0, 0) &&
+       untouched(it, 0));
+    IS(is(query("amd64", name, "hello", hello, &it), DEB_REFUSED, DEB_BAD_ENVIRONMENT, 0, 0) &&
+       untouched(it, 0));
+    free(it.bytes);
+    free(name);
+    free(relation);
+    free(report);
+}
+
 int main(void) {
     try_versions();
     try_files();
     try_explanations();
     try_queries();
     try_long_report();
+    try_long_names();
     printf("calls: %d passed, %d failed\n", passed, failed);
     return failed != 0;
 }

@@ -142,8 +142,8 @@ TESTS = {
     "explain a kind": explained(BAD, kind="any") == (None, ["ok 1", ""]),
     "explain refused": explained(BAD) == ((Code.BadNumber, 4, False), [
         "line: 4", "code: 15", "name: BadNumber", "field: Size", "value: 1k",
-        "rule: Installed-Size (Debian Policy 5.6.20) and Size are one or more decimal digits.",
-        "usually: a unit behind the number", "",
+        "rule: Installed-Size (Debian Policy 5.6.20) and Size must be one or more decimal digits.",
+        "usually: a unit after the number", "",
     ]),
     "explain refused kind": explained("", "binary")[0] == (Code.NoParagraph, 1, False),
     "explain unknown kind": error(debctl.explain, HELLO, "foo") is ValueError,

@@ -6,6 +6,7 @@ pub mod FieldBytes
 pub mod GraphicBodies
 pub mod GraphicNames
 pub mod LaterPieces
+pub mod ReadTexts
 pub mod TextLines
 pub mod Trims
 pub mod Writes

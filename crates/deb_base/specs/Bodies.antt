@@ -163,3 +163,19 @@ half_character : (is_body (99 ∷ 97 ∷ 102 ∷ 195 ∷ []) ≡ false)
     × (is_body (99 ∷ 97 ∷ 102 ∷ 195 ∷ 169 ∷ []) ≡ true)
 unfolding is_utf8 chars encode
 half_character = (refl, refl)
+
+-- sixteen times 1,048,576 bytes
+limit_of_paragraphs : paragraph_limit ≡ 16777216
+unfolding paragraph_limit
+limit_of_paragraphs = refl
+
+limits_of_blank_lines : (line : Line) → is_blank line ≡ is_blank_under 16777216 line
+unfolding paragraph_limit
+limits_of_blank_lines line = refl
+
+-- each later line is judged, and not the second one alone
+later_lines : (is_body_shape (codes "a\n b\nc") ≡ false)
+    × (is_body_shape (codes "a\n b\n\n c") ≡ false) × (is_body_shape (codes "\n b\n\tc") ≡ true)
+    × (is_body_shape (codes "a\r\n b") ≡ true)
+unfolding paragraph_limit
+later_lines = (refl, refl, refl, refl)

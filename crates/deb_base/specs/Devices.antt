@@ -1,8 +1,9 @@
 -- What a call of a device does to its bytes and to the count of its failed calls, and what a call
 -- that writes several times leaves. The rules are this project's own; the words on bytes are those
 -- of std.
-use Rattle.std.specs.Prelude.{◌≡◌, ℕ, ◌+◌, ◌-◌, ◌^◌, ◌<◌, ◌≤◌, ◌↔◌, min, List, ◌++◌, length, IfOk, IsErrOf, Result, Ok, Err, Option, MatchResult, refl}
+use Rattle.std.specs.Prelude.{◌≡◌, ℕ, ◌+◌, ◌-◌, ◌^◌, ◌<◌, ◌≤◌, ◌↔◌, min, List, [], ◌∷◌, ◌++◌, length, IfOk, IsErrOf, Result, Ok, Err, Option, MatchResult, refl}
 use Rattle.std.specs.Io.KnownBytes.{Appends}
+use Rattle.std.proofs.Math.Dec.{lit≤}
 use Rattle.deb_base.specs.declared.code.Code.TheVariants.{NoColon}
 use Rattle.deb_base.specs.declared.fault.Fault.{Fault}
 use Rattle.deb_base.specs.declared.fault.Fault.TheVariants.{Refused, Memory, Read, Write}
@@ -53,12 +54,12 @@ write_failures_after n (Err Read) = n
 write_failures_after n (Err Write) = one_more n
 
 -- where the source's count is below its last value, Read is answered exactly where the count rose
-abbrev pub TellsReads : {T : Type 0} → ℕ → ℕ → Result T Fault → Type 0
-TellsReads old new r = old < last_count → (IsErrOf r Read ↔ (old < new))
+abbrev pub ReadFaultIffFailed : {T : Type 0} → ℕ → ℕ → Result T Fault → Type 0
+ReadFaultIffFailed old new r = old < last_count → (IsErrOf r Read ↔ (old < new))
 
 -- where the sink's count is below its last value, Write is answered exactly where the count rose
-abbrev pub TellsWrites : {T : Type 0} → ℕ → ℕ → Result T Fault → Type 0
-TellsWrites old new r = old < last_count → (IsErrOf r Write ↔ (old < new))
+abbrev pub WriteFaultIffFailed : {T : Type 0} → ℕ → ℕ → Result T Fault → Type 0
+WriteFaultIffFailed old new r = old < last_count → (IsErrOf r Write ↔ (old < new))
 
 -- a front of the bytes was written: told bytes stay, and grow by that front
 pub record AppendsFront (old new : Option (List ℕ)) (bytes : List ℕ) : Type 0 where
@@ -98,3 +99,23 @@ count_of_writes : (write_failures_after {T = ℕ} 3 (Err Write) ≡ 4)
     × (write_failures_after {T = ℕ} 3 (Err Memory) ≡ 3)
     × (write_failures_after {T = ℕ} 3 (Err Read) ≡ 3)
 count_of_writes = (refl, refl, refl, refl, refl)
+
+-- a read gives at most what the buffer holds, and a write takes at most what it was given, and some
+-- of it
+most_of_a_read : (n : ℕ) → ReadsWithin {E = ℕ} (Ok n) (0 ∷ 0 ∷ []) → n ≤ 2
+most_of_a_read n within = within
+
+least_of_a_write : (n : ℕ) → TakesSome {E = ℕ} (Ok n) (0 ∷ 0 ∷ []) → (n ≤ 2) × (0 < n)
+least_of_a_write n takes = (takes.0, takes.1 (lit≤ tt))
+
+-- below the last value of a count, it rose where the answer says so, and not elsewhere
+risen_counts : (r : Result ℕ Fault) → (ReadFaultIffFailed 3 4 r → IsErrOf r Read)
+    × (WriteFaultIffFailed 3 4 r → IsErrOf r Write)
+risen_counts r = (λ tells. (tells (lit≤ tt)).1 (lit≤ tt), λ tells. (tells (lit≤ tt)).1 (lit≤ tt))
+
+answers_of_counts : (r : Result ℕ Fault) (n : ℕ) → (ReadFaultIffFailed 3 n r → IsErrOf r Read → 3 < n)
+    × (WriteFaultIffFailed 3 n r → IsErrOf r Write → 3 < n)
+answers_of_counts r n = (
+  λ tells told. (tells (lit≤ tt)).0 told,
+  λ tells told. (tells (lit≤ tt)).0 told,
+)

@@ -1,6 +1,6 @@
 -- The kinds of documents: the word for each, and which have exactly one paragraph. Debian Policy
 -- 5.3 (binary packages) and 5.4 (source packages); the words are this project's own.
-use Rattle.std.specs.Prelude.{◌≡◌, ℕ, Bool, true, false, cond, List, [], ◌∷◌, Option, None, Some, codes, refl}
+use Rattle.std.specs.Prelude.{◌≡◌, ℕ, Bool, true, false, cond, List, [], ◌∷◌, map, Option, None, Some, codes, refl}
 use Rattle.std.specs.Str.{bytes_eq}
 use Rattle.deb_base.specs.declared.doc.Doc.{Doc}
 use Rattle.deb_base.specs.declared.doc.Doc.TheVariants as docs
@@ -19,7 +19,7 @@ about_of docs.Binary = codes "the control file of a binary package"
 about_of docs.Packages = codes "an index of binary packages"
 about_of docs.Source = codes "the description of a source package"
 about_of docs.Sources = codes "an index of source packages"
-about_of docs.Any = codes "any control data, of which no value is judged"
+about_of docs.Any = codes "any control data; its values aren't checked"
 
 -- whether a document of the kind has exactly one paragraph
 abbrev pub is_single : Doc → Bool
@@ -54,7 +54,7 @@ descriptions : (about_of docs.Binary ≡ codes "the control file of a binary pac
     × (about_of docs.Packages ≡ codes "an index of binary packages")
     × (about_of docs.Source ≡ codes "the description of a source package")
     × (about_of docs.Sources ≡ codes "an index of source packages")
-    × (about_of docs.Any ≡ codes "any control data, of which no value is judged")
+    × (about_of docs.Any ≡ codes "any control data; its values aren't checked")
 descriptions = (refl, refl, refl, refl, refl)
 
 -- words have one case
@@ -67,3 +67,14 @@ words : (doc_named (codes "binary") ≡ Some docs.Binary)
     × (doc_named (codes "sourc") ≡ None)
     × (doc_named [] ≡ None)
 words = (refl, refl, refl, refl, refl, refl, refl, refl)
+
+words_of_documents : map word_of documents
+    ≡ codes "binary" ∷ codes "packages" ∷ codes "source" ∷ codes "sources" ∷ codes "any" ∷ []
+words_of_documents = refl
+
+-- neither shorter nor longer words, nor names of other things, name a kind
+other_words : map doc_named
+    (codes "bin" ∷ codes "deb" ∷ codes "dsc" ∷ codes "control" ∷ codes "package" ∷ codes "src"
+    ∷ codes "all" ∷ codes "any " ∷ codes "ANY" ∷ [])
+    ≡ None ∷ None ∷ None ∷ None ∷ None ∷ None ∷ None ∷ None ∷ None ∷ []
+other_words = refl

@@ -22,3 +22,19 @@ RefusedOrMemory fault refused = MatchFault fault refused (Unit {0}) ⊥ ⊥
 -- a refusal with this fact, want of memory or a failed read: nothing was written
 abbrev pub IsReadersFault : Fault → (Refusal → Type 0) → Type 0
 IsReadersFault fault refused = MatchFault fault refused (Unit {0}) (Unit {0}) ⊥
+
+-- What each statement says of the faults: of a refusal its fact, and of others whether they are
+-- there.
+facts_of_refusals : (refusal : Refusal) (Fact : Refusal → Type 0)
+    → (IfRefused (Refused refusal) Fact → Fact refusal)
+    × (RefusedOrMemory (Refused refusal) Fact → Fact refusal)
+    × (IsReadersFault (Refused refusal) Fact → Fact refusal)
+facts_of_refusals refusal Fact = (λ fact. fact, λ fact. fact, λ fact. fact)
+
+no_other_faults : (Fact : Refusal → Type 0) → (RefusedOrMemory Read Fact → ⊥)
+    × (RefusedOrMemory Write Fact → ⊥) × (IsReadersFault Write Fact → ⊥)
+no_other_faults Fact = (λ none. none, λ none. none, λ none. none)
+
+other_faults : (Fact : Refusal → Type 0) → RefusedOrMemory Memory Fact
+    × IsReadersFault Memory Fact × IsReadersFault Read Fact
+other_faults Fact = (tt, tt, tt)

@@ -8,4 +8,6 @@ pub mod Lines
 pub mod Memory
 pub mod Names
 pub mod PackageNames
+pub mod Reading
+pub mod Sentences
 pub mod Trimming

@@ -1,6 +1,8 @@
 -- Names of fields without ASCII case (Debian Policy 5.1: names are not case-sensitive), and the one
 -- spelling in which canonical text has them (this project's own).
-use Rattle.std.specs.Prelude.{◌≡◌, ◌↔◌, ℕ, Bool, true, if◌then◌else◌, ◌==◌, List, [], ◌∷◌, map, codes, refl}
+use Rattle.std.specs.Prelude.{◌≡◌, ◌↔◌, ℕ, Bool, true, false, if◌then◌else◌, ◌==◌, not, List, [], ◌∷◌, map, codes, refl}
+use Rattle.std.specs.List.{filter, range_with_len}
+use Rattle.std.specs.Str.{bytes_eq}
 use Rattle.std.specs.Char.{to_ascii_lowercase, to_ascii_uppercase}
 
 -- a name with its ASCII letters in lower case: names are the same if these are equal
@@ -49,3 +51,20 @@ name_of_other = refl
 
 fold_of_name : folded (codes "X-Foo_1[") ≡ codes "x-foo_1["
 fold_of_name = refl
+
+-- after no other byte than a hyphen is a letter in upper case
+name_of_dots : canonical_name (codes "a.b+c~d/e") ≡ codes "A.b+c~d/e"
+name_of_dots = refl
+
+bytes_before_capitals : filter (λ b. bytes_eq (capitalised false (b ∷ 120 ∷ [])) (b ∷ 88 ∷ []))
+    (range_with_len 0 256) ≡ codes "-"
+bytes_before_capitals = refl
+
+-- of all bytes those that change: capital letters without case, and others at the start of a name
+bytes_folded : filter (λ b. not (bytes_eq (folded (b ∷ [])) (b ∷ []))) (range_with_len 0 256)
+    ≡ codes "ABCDEFGHIJKLMNOPQRSTUVWXYZ"
+bytes_folded = refl
+
+bytes_capitalised : filter (λ b. not (bytes_eq (canonical_name (b ∷ [])) (b ∷ [])))
+    (range_with_len 0 256) ≡ codes "abcdefghijklmnopqrstuvwxyz"
+bytes_capitalised = refl

@@ -108,3 +108,14 @@ no_wildcards : (is_wildcard (codes "all") ≡ false) × (is_wildcard (codes "any
     × (is_wildcard (codes "-any") ≡ false) × (is_wildcard (codes "any+") ≡ false)
     × (is_wildcard [] ≡ false)
 no_wildcards = (refl, refl, refl, refl, refl, refl, refl)
+
+-- the last byte may be any that a name may have
+last_bytes : (is_package_name (codes "aa-") ≡ true) × (is_package_name (codes "a.") ≡ true)
+    × (is_package_name (codes "a+") ≡ true) × (is_profile_name (codes "x-") ≡ true)
+    × (is_profile_name (codes "x.") ≡ true) × (is_profile_name (codes "x+") ≡ true)
+last_bytes = (refl, refl, refl, refl, refl, refl)
+
+-- a byte comes again, and a name of two bytes is the shortest
+repeated_bytes : (is_package_name (codes "a--..++a") ≡ true) × (is_package_name (codes "00") ≡ true)
+    × (is_arch_name (codes "a--9-") ≡ true) × (is_profile_name (codes "9..-+x") ≡ true)
+repeated_bytes = (refl, refl, refl, refl)

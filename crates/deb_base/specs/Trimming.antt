@@ -25,3 +25,8 @@ blanks_at_ends = refl
 
 only_blanks : trimmed (codes " \t") ≡ []
 only_blanks = refl
+
+-- newlines and carriage returns stay, and so do blanks beside them
+line_ends_stay : (trimmed (codes " \n a\t\n ") ≡ codes "\n a\t\n")
+    × (trimmed (codes "a\r ") ≡ codes "a\r")
+line_ends_stay = (refl, refl)

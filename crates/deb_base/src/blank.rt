@@ -1,38 +1,38 @@
-//! Spaces and tabs, and bytes without those at their ends (Debian Policy 5.1).
+//! Spaces and tabs: tests for them, and texts without those at their ends (Debian Policy 5.1).
 
 ghost use Rattle.std.specs.Prelude.{◌≡◌};
 ghost use Rattle.deb_base.specs.Bodies.{begins_with_blank, is_all_blank, is_blank_byte};
 ghost use Rattle.deb_base.specs.Trimming.{trimmed, without_leading_blanks, without_trailing_blanks};
 
-/// Whether a byte is a space or a tab.
+/// Returns whether a byte is a space or a tab.
 pub fn is_blank_byte(byte: u8) -> bool
     ensures { result ≡ is_blank_byte byte }
 {
     byte == b' ' || byte == b'\t'
 }
 
-/// Whether the text holds only spaces and tabs, or nothing.
+/// Returns whether the text contains only spaces and tabs, or nothing.
 pub fn is_only_blanks(text: &[u8]) -> bool
     ensures { result ≡ is_all_blank text.now }
 {
     text.iter().all(|byte| is_blank_byte(*byte))
 }
 
-/// Whether a space or a tab comes first.
+/// Returns whether the first byte is a space or a tab.
 pub fn begins_with_blank(text: &[u8]) -> bool
     ensures { result ≡ begins_with_blank text.now }
 {
     matches!(text, [b' ' | b'\t', ..])
 }
 
-/// The text without the spaces and tabs at its ends.
+/// Returns the text without the spaces and tabs at both ends.
 pub fn trimmed(text: &[u8]) -> &[u8]
     ensures { result.now ≡ trimmed text.now }
 {
     without_trailing_blanks(without_leading_blanks(text))
 }
 
-/// The text without the spaces and tabs at its end.
+/// Returns the text without the spaces and tabs at its end.
 pub fn without_trailing_blanks(text: &[u8]) -> &[u8]
     ensures { result.now ≡ without_trailing_blanks text.now }
 {

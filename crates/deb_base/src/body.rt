@@ -1,4 +1,4 @@
-//! The bodies of fields.
+//! Whether bytes can be the body of a field, and how long a paragraph may be.
 
 ghost use Rattle.std.specs.Prelude.{◌≡◌, ◌↔◌, IsTrue, drop};
 ghost use Rattle.std.specs.List.{list_all};
@@ -6,15 +6,15 @@ ghost use Rattle.deb_base.specs.Bodies.{ends_with_blank, is_blank, is_body_shape
 
 use crate::blank::{begins_with_blank, is_blank_byte, is_only_blanks};
 
-/// The most bytes that the lengths of a paragraph's lines may add up to, with their newlines (this
+/// The most bytes that the lines of a paragraph may have together, with their newlines (this
 /// project's own).
 pub const PARAGRAPH_LIMIT: usize = 16_777_216;
 
-/// Whether this can be the body of a field (Debian Policy 5.1): UTF-8 that neither begins nor ends
-/// with a space or a tab, each of whose lines after the first begins with one and isn't blank. The
+/// Returns whether the bytes can be the body of a field (Debian Policy 5.1): UTF-8 without a space
+/// or tab at either end, in which each line after the first begins with one and isn't blank. The
 /// empty text is one.
 ///
-/// A line is blank if it has only spaces and tabs, and less than 16,777,216 of them.
+/// A line is blank if it has only spaces and tabs, and fewer than 16,777,216 of them.
 pub fn is_body(body: &[u8]) -> bool
     ensures { IsTrue result ↔ IsBody body.now }
 {

@@ -1,4 +1,4 @@
-//! The kinds of documents: their words, and which of them have one paragraph alone.
+//! The kinds of documents: the word for each, and which have exactly one paragraph.
 
 ghost use Rattle.std.specs.Prelude.{◌≡◌};
 ghost use Rattle.deb_base.specs.Docs.{about_of, doc_named, is_single, word_of};
@@ -8,14 +8,15 @@ ghost use Rattle.deb_base.specs.Docs.{about_of, doc_named, is_single, word_of};
 pub enum Doc {
     /// The control file of a binary package: one paragraph (Debian Policy 5.3).
     Binary,
-    /// An index of binary packages: any number of paragraphs, none included.
+    /// An index of binary packages: any number of paragraphs, also none.
     Packages,
-    /// The description of a source package, without signature: one paragraph (Debian Policy 5.4).
+    /// The description of a source package, without its signature: one paragraph (Debian Policy
+    /// 5.4).
     Source,
-    /// An index of source packages: any number of paragraphs, none included.
+    /// An index of source packages: any number of paragraphs, also none.
     Sources,
-    /// Any control data: any number of paragraphs, none included, of which no field is required and
-    /// no value is judged, as each is a text.
+    /// Any control data: any number of paragraphs, also none. No field is required, and no value is
+    /// checked: each is a text.
     Any,
 }
 
@@ -29,7 +30,7 @@ impl Doc {
         Doc::Any,
     ];
 
-    /// The word for the kind.
+    /// Returns the word for the kind, as `--kind` takes it.
     pub fn word(self) -> &'static str
         ensures { result.now ≡ word_of self }
     {
@@ -42,7 +43,7 @@ impl Doc {
         }
     }
 
-    /// What such a document is, in a few words.
+    /// Describes such a document in a few words.
     pub fn about(self) -> &'static str
         ensures { result.now ≡ about_of self }
     {
@@ -51,11 +52,11 @@ impl Doc {
             Doc::Packages => "an index of binary packages",
             Doc::Source => "the description of a source package",
             Doc::Sources => "an index of source packages",
-            Doc::Any => "any control data, of which no value is judged",
+            Doc::Any => "any control data; its values aren't checked",
         }
     }
 
-    /// The kind that a word names, if it names one.
+    /// Returns the kind that a word names, or `None`.
     pub fn named(word: &str) -> Option<Doc>
         ensures { result ≡ doc_named word.now }
     {
@@ -68,7 +69,7 @@ impl Doc {
     }
 }
 
-/// Whether a document of this kind has exactly one paragraph.
+/// Returns whether a document of this kind has exactly one paragraph.
 pub fn is_single(doc: Doc) -> bool
     ensures { result ≡ is_single doc }
 {

@@ -1,14 +1,14 @@
-//! Faults: why a call gave no answer.
+//! Faults: why a call returned no answer.
 
 ghost use Rattle.std.specs.Prelude.{◌≡◌, IfErr};
-ghost use Rattle.deb_base.specs.Devices.{write_failures_after, Puts, TellsWrites};
+ghost use Rattle.deb_base.specs.Devices.{write_failures_after, Puts, WriteFaultIffFailed};
 ghost use Rattle.deb_base.specs.Lines.{fault_line};
 ghost use Rattle.deb_base.specs.declared.fault.Fault.TheVariants.{Refused, Memory};
 
 use crate::{Refusal, Sink, put_all};
 use std::alloc::{AllocError, AllocFailed};
 
-/// Why a call that reads, writes or takes memory gave no answer.
+/// Why a call that reads, writes or takes memory returned no answer.
 #[derive(Clone, Copy, Debug, PartialEq, Eq)]
 pub enum Fault {
     /// The text is refused.
@@ -22,16 +22,20 @@ pub enum Fault {
 }
 
 impl Fault {
-    /// Writes the line of the fault, with its LF: that of the refusal, or `fault: memory`,
+    /// Writes the line of the fault, with its newline: that of the refusal, or `fault: memory`,
     /// `fault: read` or `fault: write`.
     ///
-    /// The only error is `Fault::Write`. It is answered exactly where a write to `out` failed in
-    /// this call, and a front of the line, perhaps empty, was written before it.
+    /// # Errors
+    ///
+    /// `Fault::Write` only, exactly if a write to `out` failed in this call. A prefix of the line,
+    /// perhaps empty, was written before it.
     pub fn write_line<W: Sink>(&self, out: &mut W) -> Result<(), Fault>
         ensures written { Puts (W.held out.old) (W.held out.new) result (fault_line self.now) }
         ensures fault { IfErr result (λ fault. fault ≡ Fault.Write) }
-        ensures counted { W.failures out.new ≡ write_failures_after (W.failures out.old) result }
-        ensures told { TellsWrites (W.failures out.old) (W.failures out.new) result }
+        ensures counts_failure { W.failures out.new ≡ write_failures_after (W.failures out.old)
+            result }
+        ensures fault_iff_write_failed { WriteFaultIffFailed (W.failures out.old)
+            (W.failures out.new) result }
     {
         match self {
             Fault::Refused(refusal) => refusal.write_line(out),

@@ -1,4 +1,4 @@
-//! A source of what std reads.
+//! A source over a reader of std.
 
 ghost use Rattle.std.specs.Prelude.{◌≡◌, ◌≤◌};
 ghost use Rattle.deb_base.specs.Devices.{last_count};
@@ -6,10 +6,10 @@ ghost use Rattle.deb_base.specs.Devices.{last_count};
 use crate::{Failed, Source};
 use std::io::Read;
 
-/// A reader of std as a source: its bytes are exactly the reader's, and each error of the reader is
-/// a failure, one of kind `Interrupted` too.
+/// A source over a reader of std. Its bytes are exactly the reader's, and each error of the reader
+/// is a failure, also one of kind `Interrupted`.
 ///
-/// Once 2^64 - 1 reads have failed, the reader isn't asked any more.
+/// Once 2^64 - 1 reads have failed, the reader isn't called again.
 #[derive(Drop)]
 pub struct Input<R> {
     reader: R,
@@ -18,7 +18,7 @@ pub struct Input<R> {
 }
 
 impl<R: Read> Input<R> {
-    /// The source of a reader, none of whose reads has failed yet.
+    /// Returns the source over a reader, with no failed read.
     pub fn new(reader: R) -> Input<R>
         ensures left { ⟦<Input<R> as Source>⟧.left result ≡ R.remaining reader }
         ensures failures { ⟦<Input<R> as Source>⟧.failures result ≡ 0 }

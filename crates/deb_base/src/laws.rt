@@ -1,8 +1,8 @@
-//! Laws of the definitions. Each function does nothing, and its contract is the law.
+//! Laws of the definitions of names. Each function does nothing; its contract is the law.
 
 ghost use Rattle.deb_base.specs.Names.{CanonicalNameTellsSameNames, CanonicalNameIsStable, CanonicalNameIsSameName};
 
-/// Two names have one canonical spelling exactly where they are the same name.
+/// Two names have the same canonical spelling exactly if they are the same name.
 pub fn canonical_name_tells_same_names()
     ensures { CanonicalNameTellsSameNames }
 {}

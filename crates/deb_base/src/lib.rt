@@ -1,16 +1,17 @@
-//! The ground that every crate of this repository stands on: the codes of refusals, the faults of a
-//! call, the devices that bytes are read from and written to, names without ASCII case, the kinds
-//! of documents, the bodies of fields, and the spaces and tabs at their ends.
+//! The types and functions that every crate of this repository uses: error codes, faults, the
+//! devices that bytes are read from and written to, names without ASCII case, the kinds of
+//! documents, the bodies of fields, and the spaces and tabs at their ends.
 //!
 //! - A refusal has one of 23 codes and the number of a line, and is printed as
 //!   `line 3: 7 DuplicateField`.
-//! - A [`Source`] and a [`Sink`] count their failed calls, so that a caller can tell whether a read
-//!   or a write failed; [`Input`] and [`Output`] make them of std's readers and writers, and
-//!   [`SliceSource`] and [`VecSink`] are over memory.
-//! - [`put_all`] writes all of its bytes, and [`put_pieces`] all of its pieces, or says that a
-//!   write failed and has then written a front of them.
+//! - A [`Source`] and a [`Sink`] count their failed calls, so that a caller knows whether a read or
+//!   a write failed. [`Input`] and [`Output`] are over std's readers and writers, [`SliceSource`]
+//!   and [`VecSink`] over memory.
+//! - [`put_all`] writes all of its bytes, and [`put_pieces`] all of its pieces. If a write fails,
+//!   they return that error after writing a prefix.
+//! - [`read_text`] reads a whole file, up to a limit.
 //!
-//! Nothing in this crate takes memory but a write to a [`VecSink`].
+//! In this crate only [`read_text`] and a write to a [`VecSink`] take memory.
 //!
 //! ```text
 //! let mut out = Output::new(io::writer(&rt));
@@ -33,6 +34,7 @@ mod names;
 mod output;
 mod package_names;
 mod put;
+mod reading;
 mod refusal;
 
 pub use blank::{
@@ -49,4 +51,5 @@ pub use names::same_name;
 pub use output::Output;
 pub use package_names::{is_arch_name, is_package_name, is_profile_name, is_wildcard};
 pub use put::{put_all, put_pieces};
+pub use reading::{PIECE_LIMIT, read_text};
 pub use refusal::Refusal;

@@ -1,4 +1,4 @@
-//! Devices in memory: a source of bytes that are lent, and a sink that keeps what is written.
+//! Devices in memory: a source over borrowed bytes, and a sink that keeps what is written.
 
 ghost use Rattle.std.specs.Prelude.{◌≡◌, ◌≤◌, [], Some};
 ghost use Rattle.deb_base.specs.Devices.{last_count};
@@ -7,14 +7,14 @@ ghost use Rattle.deb_base.specs.Memory.{none_counts_to_last};
 use crate::{Failed, Sink, Source};
 use std::alloc::Global;
 
-/// A source of bytes in memory. No read of it fails.
+/// A source over bytes in memory. No read of it fails.
 #[derive(Clone, Copy, Debug)]
 pub struct SliceSource<'a> {
     rest: &'a [u8],
 }
 
 impl<'a> SliceSource<'a> {
-    /// The source of these bytes.
+    /// Returns the source of these bytes.
     pub fn new(bytes: &'a [u8]) -> SliceSource<'a>
         ensures left { ⟦<SliceSource<'a> as Source>⟧.left result ≡ Some bytes.now }
         ensures failures { ⟦<SliceSource<'a> as Source>⟧.failures result ≡ 0 }
@@ -38,8 +38,8 @@ impl Source for SliceSource<'_> {
     ghost counts_to_last = { λ source. none_counts_to_last };
 }
 
-/// A sink that keeps in memory what is written to it, and takes all of it at once. A write fails
-/// where a growth of memory is refused.
+/// A sink that keeps in memory what is written to it. Each write takes all of its bytes, and fails
+/// if a growth of memory is refused.
 #[derive(Debug, Drop)]
 pub struct VecSink {
     bytes: Vec<u8>,
@@ -48,7 +48,7 @@ pub struct VecSink {
 }
 
 impl VecSink {
-    /// A sink to which nothing was written, and of which no write has failed yet.
+    /// Returns an empty sink, with no failed write.
     pub fn new(alloc: Global) -> VecSink
         ensures held { ⟦<VecSink as Sink>⟧.held result ≡ Some [] }
         ensures failures { ⟦<VecSink as Sink>⟧.failures result ≡ 0 }
@@ -59,14 +59,14 @@ impl VecSink {
         }
     }
 
-    /// What was written.
+    /// Returns what was written.
     pub fn bytes(&self) -> &[u8]
         ensures { ⟦<VecSink as Sink>⟧.held self.now ≡ Some result.now }
     {
         &self.bytes
     }
 
-    /// What was written, to keep.
+    /// Returns what was written, as a `Vec` of the caller's.
     pub fn into_bytes(self) -> Vec<u8>
         ensures { ⟦<VecSink as Sink>⟧.held self ≡ Some result.items }
     {

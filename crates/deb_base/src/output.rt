@@ -1,4 +1,4 @@
-//! A sink of what std writes.
+//! A sink over a writer of std.
 
 ghost use Rattle.std.specs.Prelude.{◌≡◌, ◌≤◌};
 ghost use Rattle.deb_base.specs.Devices.{last_count};
@@ -6,10 +6,10 @@ ghost use Rattle.deb_base.specs.Devices.{last_count};
 use crate::{Failed, Sink};
 use std::io::Write;
 
-/// A writer of std as a sink: its bytes are exactly the writer's. Each error of the writer is a
-/// failure, one of kind `Interrupted` too, and so is a write that takes none of some bytes.
+/// A sink over a writer of std. Its bytes are exactly the writer's. Each error of the writer is a
+/// failure, also one of kind `Interrupted`, and so is a write that takes none of some bytes.
 ///
-/// Once 2^64 - 1 writes have failed, the writer isn't asked any more. Nothing is flushed.
+/// Once 2^64 - 1 writes have failed, the writer isn't called again. Nothing is flushed.
 #[derive(Drop)]
 pub struct Output<W> {
     writer: W,
@@ -18,7 +18,7 @@ pub struct Output<W> {
 }
 
 impl<W: Write> Output<W> {
-    /// The sink of a writer, none of whose writes has failed yet.
+    /// Returns the sink over a writer, with no failed write.
     pub fn new(writer: W) -> Output<W>
         ensures held { ⟦<Output<W> as Sink>⟧.held result ≡ W.contents writer }
         ensures failures { ⟦<Output<W> as Sink>⟧.failures result ≡ 0 }

@@ -1,36 +1,37 @@
-//! The names that values are made of: packages, architectures and build profiles.
+//! Names in values: packages, architectures and build profiles.
 
 ghost use Rattle.std.specs.Prelude.{◌≡◌};
 ghost use Rattle.std.specs.List.{list_all, list_any};
 ghost use Rattle.deb_base.specs.PackageNames.{begins_small_or_digit, hyphen_parts, is_any, is_arch_byte, is_arch_name, is_package_byte, is_package_name, is_profile_name, is_small_or_digit, is_wildcard};
 
-/// Whether this is the name of a package (Debian Policy 5.6.1): at least two bytes of `a` to `z`,
-/// `0` to `9`, `+`, `-` and `.`, of which the first is a letter or a digit.
+/// Returns whether this is the name of a package (Debian Policy 5.6.1): at least two of the bytes
+/// `a` to `z`, `0` to `9`, `+`, `-` and `.`, beginning with a letter or a digit.
 pub fn is_package_name(name: &[u8]) -> bool
     ensures { result ≡ is_package_name name.now }
 {
     name.len() >= 2 && begins_small_or_digit(name) && are_package_bytes(name)
 }
 
-/// Whether this is the name of an architecture, or a qualifier (Debian Policy 5.6.8 and 7.1): one
-/// or more bytes of `a` to `z`, `0` to `9` and `-`, of which the first is a letter or a digit. A
-/// wildcard is one too.
+/// Returns whether this is the name of an architecture, or a qualifier (Debian Policy 5.6.8 and
+/// 7.1): one or more of the bytes `a` to `z`, `0` to `9` and `-`, beginning with a letter or a
+/// digit. A wildcard is one too.
 pub fn is_arch_name(name: &[u8]) -> bool
     ensures { result ≡ is_arch_name name.now }
 {
     begins_small_or_digit(name) && are_arch_bytes(name)
 }
 
-/// Whether this is the name of a build profile: one or more bytes of `a` to `z`, `0` to `9`, `+`,
-/// `-` and `.`, of which the first is a letter or a digit.
+/// Returns whether this is the name of a build profile: one or more of the bytes `a` to `z`, `0` to
+/// `9`, `+`, `-` and `.`, beginning with a letter or a digit.
 pub fn is_profile_name(name: &[u8]) -> bool
     ensures { result ≡ is_profile_name name.now }
 {
     begins_small_or_digit(name) && are_package_bytes(name)
 }
 
-/// Whether this is an architecture wildcard (Debian Policy 11.1): the name of an architecture that
-/// has `any` among its parts between hyphens, as `any`, `linux-any` and `any-amd64`.
+/// Returns whether this is an architecture wildcard (Debian Policy 11.1): the name of an
+/// architecture with `any` among its parts between hyphens, such as `any`, `linux-any` and
+/// `any-amd64`.
 pub fn is_wildcard(name: &[u8]) -> bool
     ensures { result ≡ is_wildcard name.now }
 {

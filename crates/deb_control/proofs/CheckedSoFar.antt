@@ -15,6 +15,9 @@ goes_on doc before answer after sound checks = subst (λ fault. IfNone fault (Ch
 pub sound_on : (doc : Doc) (before : CheckedMoment) (given : Option Passing) (after : CheckedMoment) → before.state.fault ≡ None → ChecksOn doc before (Ok given) after → after.state.fault ≡ None
 sound_on doc before given after sound checks = subst (λ fault. IfNone fault (after.state.fault ≡ None)) sound checks.keeps
 
+pub failed_on : (doc : Doc) (before : CheckedMoment) (fault : Fault) (after : CheckedMoment) → before.state.fault ≡ None → ChecksOn doc before (Err fault) after → after.state.fault ≡ Some fault
+failed_on doc before fault after sound checks = subst (λ kept. IfNone kept (after.state.fault ≡ Some fault)) sound checks.keeps
+
 -- the text of more paragraphs begins with that of the first ones
 pub file_text-starts : (before more : List Entries) → (rest : List ℕ) × (file_text (before ++ more) ≡ file_text before ++ rest)
 file_text-starts before [] = ([], ap file_text (append-nil before) ∙ sym (append-nil (file_text before)))

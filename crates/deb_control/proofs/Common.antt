@@ -50,6 +50,7 @@ pub use Rattle.deb_field.specs.ValueMeanings.{value_meaning}
 pub use Rattle.deb_field.specs.Values.{SpellsKind, SpellsValue, ValueMeaning, kind_refusal, value_refusal, value_text}
 pub use Rattle.deb_base.specs.declared.doc.Doc.{Doc}
 pub use Rattle.deb_base.specs.declared.doc.Doc.TheVariants.{Any}
+pub use Rattle.deb_base.specs.Reading.{TakesNoMore}
 pub use Rattle.deb_syntax.proofs.Advancing.{reach_limit, taken_none}
 pub use Rattle.deb_syntax.proofs.AnswerLaws.{next_answer-refusal}
 pub use Rattle.deb_syntax.proofs.Boundaries.{lines_of-append}
@@ -65,7 +66,6 @@ pub use Rattle.deb_syntax.proofs.LinesOfPieces.{IsNonempty, IsNonempty-pieces_of
 pub use Rattle.deb_syntax.proofs.ParagraphLines.{HaveLines, HaveLines-paragraphs_from}
 pub use Rattle.deb_syntax.proofs.Parts.{line_beyond-some, part_within-all, part_within-some}
 pub use Rattle.deb_syntax.proofs.Runs.{paragraphs_from-run}
-pub use Rattle.deb_syntax.specs.Ahead.{TakesNoMore}
 pub use Rattle.deb_syntax.specs.Answers.{Seen, answer_of_first, begin_of_first, is_line, line_beyond, line_too_long, next_answer, next_begin, paragraph_answer, paragraphs_within, part_within, seen_from, whole_lines, with_whole}
 pub use Rattle.deb_syntax.specs.Feeding.{feed_state}
 pub use Rattle.deb_syntax.specs.Fields.{AreDistinct, Field, IsShort, SpellsField, SpellsFields, SpellsParagraph, are_fields, are_numbered, has_name, is_field}
@@ -83,7 +83,7 @@ pub use Rattle.deb_control.specs.Calls.{HasParagraphs, IfCutOff, IfRefused, Writ
 pub use Rattle.deb_control.specs.Canonical.{behind_colon, field_text, file_text, paragraph_text}
 pub use Rattle.deb_control.specs.CheckedStates.{checked_moment, checked_state, passing_of}
 pub use Rattle.deb_control.specs.Checking.{AnswersChecked, CheckedMoment, CheckedState, Checks, ChecksOn, FitsChecked, Follow, GivesEnd, GivesPassing, HasChecked, IsRefusalOfDocument, Passing, found_answer, is_judged, is_text_of, judged_answer, judged_if, passes_if, passing_seen, text_built}
-pub use Rattle.deb_control.specs.Comparing.{Agrees, RefusesSecond, TellsSame}
+pub use Rattle.deb_control.specs.Comparing.{Agrees, RefusesSecond, AnswersSame}
 pub use Rattle.deb_control.specs.Documents.{Meaning, canonical_text, out_of, refusal_of, rules_of, text_unless_refused}
 pub use Rattle.deb_control.specs.Finding.{AddsPassing, RefusesSeen, end_answer, given_answer, passing_of_found}
 pub use Rattle.deb_control.specs.Keeping.{IsShown, KeepsField, KeepsFields, KeepsFound, KeepsValues, ShownValues, none_shown}

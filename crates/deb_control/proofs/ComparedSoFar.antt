@@ -1,5 +1,5 @@
 -- What the loop that compares two files knows of them, and what is answered by that.
-use Rattle.deb_control.proofs.Common.{◌≡◌, ◌↔◌, ℕ, Bool, true, false, List, [], ◌∷◌, ◌++◌, length, Option, None, Some, Ok, IsTrue, refl, sym, ap, ◌∙◌, arith, length-append, false≢true, is_none, Entries, Doc, value_text, ValueMeaning, SpellsValue, value_law, HasParagraphs, paragraph_text, file_text, Passing, CheckedMoment, FitsChecked, HasChecked, AnswersChecked, ChecksOn, TellsSame, Agrees, rules_of, Meaning, canonical_text, refusal_of, outcome, bodies_of}
+use Rattle.deb_control.proofs.Common.{◌≡◌, ◌↔◌, ℕ, Bool, true, false, List, [], ◌∷◌, ◌++◌, length, Option, None, Some, Ok, IsTrue, refl, sym, ap, ◌∙◌, arith, length-append, false≢true, is_none, Entries, Doc, value_text, ValueMeaning, SpellsValue, value_law, HasParagraphs, paragraph_text, file_text, Passing, CheckedMoment, FitsChecked, HasChecked, AnswersChecked, ChecksOn, AnswersSame, Agrees, rules_of, Meaning, canonical_text, refusal_of, outcome, bodies_of}
 use Rattle.deb_control.proofs.Accepting.{accepted-from_none, outcome-accepted, canonical_text_tells_accepted}
 use Rattle.deb_control.proofs.CheckedSoFar.{goes_on}
 use Rattle.deb_control.proofs.DocumentRules.{document_rules}
@@ -75,7 +75,7 @@ pub none_refused : (doc : Doc) (text : List ℕ) (n : ℕ) → HasParagraphs doc
 none_refused doc text n has = ap (λ o. o.refusal) (outcome-accepted ValueMeaning (SpellsValue doc) value_text (value_law doc) (rules_of doc) (document_rules doc) text has.meaning has.accepted)
 
 -- Where no file is refused, whether they agree is whether they mean the same.
-pub tells_same : (doc : Doc) (text other : List ℕ) (same : Bool) → refusal_of doc text ≡ None → refusal_of doc other ≡ None → Agrees doc text other same → TellsSame doc text other same
+pub tells_same : (doc : Doc) (text other : List ℕ) (same : Bool) → refusal_of doc text ≡ None → refusal_of doc other ≡ None → Agrees doc text other same → AnswersSame doc text other same
 tells_same doc text other same none none_too agrees =
     let found = accepted-from_none ValueMeaning (SpellsValue doc) value_text (value_law doc) (rules_of doc) (document_rules doc) text none in
     let found_too = accepted-from_none ValueMeaning (SpellsValue doc) value_text (value_law doc) (rules_of doc) (document_rules doc) other none_too in

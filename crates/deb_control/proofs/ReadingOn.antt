@@ -1,6 +1,6 @@
 -- Reading on in a file, a call at a time.
 use Rattle.deb_control.proofs.Common.{◌≡◌, ℕ, List, [], Option, None, Some, Result, Ok, Err, IfOk, refl, ap, ◌∙◌, ⊤, Shown, read_failures_after, Fault, Doc, checked_state, checked_moment, Passing, FitsChecked, ChecksOn, ReadsFile, ReadsOn, Checked}
-use Rattle.deb_control.proofs.CheckedSoFar.{goes_on, sound_on, checked_on, counted_on, has_taken, refusal_behind}
+use Rattle.deb_control.proofs.CheckedSoFar.{goes_on, sound_on, failed_on, checked_on, counted_on, has_taken, refusal_behind}
 
 -- nothing was read yet
 pub reads-none : (checked : Checked) (source : Shown) → checked.fault ≡ None → ReadsOn {T = ⊤} checked source (Ok tt) checked source
@@ -9,6 +9,7 @@ reads-none checked source sound = record {
   failures = refl;
   fault = tt;
   sound = sound;
+  failed = tt;
   doc = refl;
 }
 
@@ -24,6 +25,7 @@ module _ (before now after : Checked) (source source_now source_after : Shown) (
         failures = goes.counted ∙ reads.failures;
         fault = tt;
         sound = sound_on _ _ _ _ reads.sound checks;
+        failed = tt;
         doc = same ∙ reads.doc;
       }
 
@@ -38,6 +40,7 @@ module _ (before now after : Checked) (source source_now source_after : Shown) (
         failures = counted_on T _ _ fault _ _ goes reads.failures;
         fault = goes.fault;
         sound = tt;
+        failed = failed_on _ _ fault _ reads.sound checks;
         doc = tt;
       }
 
@@ -48,6 +51,7 @@ module _ (before now after : Checked) (source source_now source_after : Shown) (
     failures = more.failures ∙ ap (λ n. read_failures_after n result) reads.failures;
     fault = more.fault;
     sound = more.sound;
+    failed = more.failed;
     doc = go result more.doc;
   }
     where
@@ -62,6 +66,7 @@ reads-well reads = record {
   failures = reads.failures;
   fault = tt;
   sound = reads.sound;
+  failed = tt;
   doc = reads.doc;
 }
 
@@ -71,6 +76,7 @@ reads-fault reads = record {
   failures = reads.failures;
   fault = reads.fault;
   sound = tt;
+  failed = reads.failed;
   doc = tt;
 }
 

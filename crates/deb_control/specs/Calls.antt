@@ -4,6 +4,7 @@ use Rattle.std.specs.Prelude.{◌≡◌, ◌⊎◌, ℕ, List, [], ◌++◌, len
 use Rattle.std.specs.Io.KnownBytes.{Appends}
 use Rattle.deb_base.specs.Faults.{MatchFault}
 use Rattle.deb_base.specs.declared.fault.Fault.{Fault}
+use Rattle.deb_base.specs.declared.fault.Fault.TheVariants.{Refused, Memory, Read, Write}
 use Rattle.deb_base.specs.declared.refusal.Refusal.{Refusal}
 use Rattle.deb_syntax.specs.Lines.{IsClosed}
 use Rattle.deb_syntax.specs.Meaning.{Entries}
@@ -62,3 +63,11 @@ pub record WritesRead (doc : Doc) (text : List ℕ) (old new : Option (List ℕ)
   pub all : passed_count read ≡ length first
   pub alone : (outcome (rules_of doc) read).passed ≡ first
   pub written : Appends old new (file_text first)
+
+-- A fact for an answer says something of that answer: of a refusal, of out of memory and a failed
+-- read alike, and of a failed write.
+facts_of_answers : (T : Type 0) (refusal : Refusal) (Fact : Refusal → Type 0) (P : Type 0)
+    → (IfRefused {T = T} (Err (Refused refusal)) Fact → Fact refusal)
+    × (IfCutOff {T = T} (Err Memory) P → P) × (IfCutOff {T = T} (Err Read) P → P)
+    × (IfWriteFailed {T = T} (Err Write) P → P)
+facts_of_answers T refusal Fact P = (λ fact. fact, λ fact. fact, λ fact. fact, λ fact. fact)

@@ -1,6 +1,7 @@
 -- What a reader of checked paragraphs is to its callers, which texts fit it, and what its calls say
 -- of them (Debian Policy 5.1; the limits and the order of the refusals are this project's own).
 use Rattle.std.specs.Prelude.{◌≡◌, ℕ, ◌+◌, ◌≤◌, Bool, true, false, List, [], ◌∷◌, ◌++◌, length, Option, Some, None, IfSome, IfNone, IsSome, IsTrue, ◌⊎◌, Result, Ok, Err, is_ok, IfOk, IfErr, MatchResult, codes, refl}
+use Rattle.std.proofs.Common.{subst}
 use Rattle.std.specs.Option.{option_map}
 use Rattle.std.specs.Str.{bytes_eq}
 use Rattle.deb_base.specs.Bodies.{paragraph_limit}
@@ -10,7 +11,7 @@ use Rattle.deb_base.specs.Faults.{IsReadersFault}
 use Rattle.deb_base.specs.declared.fault.Fault.{Fault}
 use Rattle.deb_base.specs.declared.fault.Fault.TheVariants.{Refused, Memory, Read, Write}
 use Rattle.deb_base.specs.declared.refusal.Refusal.{Refusal}
-use Rattle.deb_syntax.specs.Ahead.{TakesNoMore}
+use Rattle.deb_base.specs.Reading.{TakesNoMore}
 use Rattle.deb_syntax.specs.Answers.{Seen, next_answer}
 use Rattle.deb_syntax.specs.Lines.{file_limit}
 use Rattle.deb_syntax.specs.Meaning.{Entries}
@@ -263,3 +264,16 @@ sound_faults : (fault inside : Fault) → (is_sound (Some fault) (Some inside) �
     × (is_sound (Some fault) None ≡ true) × (is_sound None (Some inside) ≡ false)
     × (is_sound None None ≡ true)
 sound_faults fault inside = (refl, refl, refl, refl)
+
+-- refusals of documents have the codes of texts, of paragraphs and of values
+codes_of_documents : (refusal : Refusal) → IsRefusalOfDocument refusal
+    → (1 ≤ number_of refusal.code) × (number_of refusal.code ≤ 21) × (1 ≤ refusal.line)
+codes_of_documents refusal is = (is.least, is.most, is.line)
+
+-- an error is answered again, and nothing changes
+error_again : (doc : Doc) (before after : CheckedMoment) (fault : Fault)
+    (answer : Result (Option Passing) Fault) → before.state.fault ≡ Some fault
+    → ChecksOn doc before answer after → (answer ≡ Err fault) × (after ≡ before)
+error_again doc before after fault answer failed call =
+    subst (λ kept. IfSome kept (λ fault. (answer ≡ Err fault) × (after ≡ before))) failed
+    call.repeats

@@ -4,7 +4,7 @@ use Rattle.std.specs.Prelude.{refl, ◌≡◌, ℕ, List, Option, Some, None, If
 use Rattle.deb_base.specs.Devices.{Shown, read_failures_after}
 use Rattle.deb_base.specs.Faults.{IsReadersFault}
 use Rattle.deb_base.specs.declared.fault.Fault.{Fault}
-use Rattle.deb_syntax.specs.Ahead.{TakesNoMore}
+use Rattle.deb_base.specs.Reading.{TakesNoMore}
 use Rattle.deb_syntax.specs.Lines.{file_limit}
 use Rattle.deb_base.specs.declared.doc.Doc.{Doc}
 use Rattle.deb_control.specs.Calls.{IfRefused}
@@ -27,7 +27,7 @@ pub record ReadsFile {T : Type 0} (doc : Doc) (text : List ℕ) (result : Result
 
 -- The reader went from one moment to another, with this answer: what that says of each file of
 -- which the first paragraphs were given before, how often the source failed, and which faults there
--- are; without one the reader has none.
+-- are; without one the reader has none, and with one it has that fault.
 pub record ReadsOn {T : Type 0} (before : Checked) (source : Shown) (result : Result T Fault)
     (after : Checked) (source_after : Shown) : Type 0 where
   pub files : (text : List ℕ) → HasChecked before.doc text (checked_state before) source.bytes
@@ -35,6 +35,7 @@ pub record ReadsOn {T : Type 0} (before : Checked) (source : Shown) (result : Re
   pub failures : source_after.failures ≡ read_failures_after source.failures result
   pub fault : IfErr result (λ fault. IsReadersFault fault IsRefusalOfDocument)
   pub sound : IfOk result (λ _. after.fault ≡ None)
+  pub failed : IfErr result (λ fault. after.fault ≡ Some fault)
   pub doc : IfOk result (λ _. after.doc ≡ before.doc)
 
 devices_shown : (left : Option (List ℕ)) (failures : ℕ)

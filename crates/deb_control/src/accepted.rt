@@ -10,9 +10,8 @@ use deb_field::Value;
 use deb_syntax::{Fields, RawField};
 use std::alloc::{AllocError, Global};
 
-/// A paragraph of a document that passes every rule of its kind, as a view: its fields as they
-/// stand in the file, and its canonical text. Values are read from it on demand, and are never
-/// refused.
+/// A view of a paragraph that passes every rule of its kind of document: its fields as they are in
+/// the file, and its canonical text. Values are read from it on demand, and are never refused.
 #[derive(Clone, Copy)]
 pub struct Accepted<'a> {
     judged: Judged<'a>,
@@ -39,15 +38,15 @@ impl<'a> Accepted<'a> {
         Accepted { judged, canonical }
     }
 
-    /// The number of the paragraph's first line in its file, which is counted from 1.
+    /// Returns the number of the paragraph's first line in its file, counted from 1.
     pub fn first_line(&self) -> u64
         ensures { result ≡ (passing_of self.now).seen.first }
     {
         self.judged.first_line()
     }
 
-    /// The field of a name as it stands in the file, without ASCII case, or `None` where there is
-    /// no such field.
+    /// Returns the field with a name as it is in the file, without ASCII case, or `None` if there
+    /// is no such field.
     pub fn get(&self, name: &[u8]) -> Option<RawField<'a>>
         ensures { option_map field_of result
             ≡ field_named name.now (passing_of self.now).seen.fields }
@@ -55,27 +54,27 @@ impl<'a> Accepted<'a> {
         self.judged.get(name)
     }
 
-    /// The fields in the order of the file.
+    /// Returns the fields in file order.
     pub fn fields(&self) -> Fields<'a>
         ensures { fields_left result ≡ (passing_of self.now).seen.fields }
     {
         self.judged.fields()
     }
 
-    /// The paragraph's canonical text: each field on lines of its own, in ascending order of the
-    /// canonical spellings of their names.
+    /// Returns the paragraph's canonical text: each field on lines of its own, in ascending order
+    /// of the canonical spellings of their names.
     pub fn canonical_text(&self) -> &'a [u8]
         ensures { result.now ≡ (passing_of self.now).text }
     {
         self.canonical
     }
 
-    /// The value of the field of a name, without ASCII case, or `None` where there is no such
-    /// field.
+    /// Returns the value of the field with a name, without ASCII case, or `None` if there is no
+    /// such field.
     ///
     /// # Errors
     ///
-    /// Want of memory alone.
+    /// Out of memory only.
     pub fn value(&self, alloc: Global, name: &[u8]) -> Result<Option<Value<'a>>, AllocError>
         ensures { IfOk result
             (λ value. HasValue (doc_of self.now) (passing_of self.now).seen name.now
@@ -84,11 +83,11 @@ impl<'a> Accepted<'a> {
         self.judged.value(alloc, name)
     }
 
-    /// The paragraph with its values.
+    /// Returns the paragraph with its values.
     ///
     /// # Errors
     ///
-    /// Want of memory alone.
+    /// Out of memory only.
     pub fn paragraph(&self, alloc: Global) -> Result<Paragraph<'a>, AllocError>
         ensures values { IfOk result
             (λ typed. AreValuesOf (doc_of self.now) (passing_of self.now).seen (values_of typed)) }

@@ -1,4 +1,4 @@
-//! Paragraphs of a document, checked one after another.
+//! Reads the paragraphs of a document, and checks them one after another.
 
 ghost use Rattle.std.specs.Prelude.{◌≡◌, ◌+◌, ◌≤◌, ◌&&◌, ℕ, List, [], Some, None, Ok, IfOk, IfSome, IsTrue, false, true};
 ghost use Rattle.deb_syntax.specs.Paragraphs.{state_of};
@@ -16,12 +16,11 @@ use deb_field::Doc;
 use deb_syntax::Paragraphs;
 use std::alloc::Global;
 
-/// Reads the paragraphs of a document of a kind, one after another, and gives those that pass every
-/// rule of the kind (Debian Policy 5.1 and 5.3 to 5.6).
+/// Reads the paragraphs of a document of a kind, one after another, and returns those that pass
+/// every rule of the kind (Debian Policy 5.1 and 5.3 to 5.6).
 ///
-/// Each call is handed the file's reader, as those of `Paragraphs` are. Beside its `Paragraphs` it
-/// keeps the canonical text of one paragraph; of earlier ones only their number and the length of
-/// their canonical text.
+/// Each call takes the file's reader, as those of `Paragraphs` do. It holds one paragraph and its
+/// canonical text; of earlier ones only their number and the length of their canonical text.
 #[derive(Drop)]
 pub struct Checked {
     paragraphs: Paragraphs,
@@ -50,8 +49,8 @@ impl Checked {
     ghost use Rattle.deb_control.specs.CheckedStates.{answer_judged, checked_answer, doc_judged};
     ghost use Rattle.deb_control.specs.CheckedStates.{doc_of, doc_read, passing_judged, passing_of};
 
-    /// A reader of checked paragraphs that has read nothing: whatever its source has left is the
-    /// file. Takes no memory.
+    /// Returns a reader of checked paragraphs that has read nothing: the file is what its source
+    /// has left. Takes no memory.
     pub fn new(alloc: Global, doc: Doc) -> Checked
         ensures doc { doc_read result ≡ doc }
         ensures sound { (checked_state result).fault ≡ None }
@@ -71,19 +70,19 @@ impl Checked {
         }
     }
 
-    /// The next paragraph of the file, if it passes, or `None` where there is no further one and
-    /// none is missing. After `None` nothing is read.
+    /// Returns the next paragraph of the file, if it passes, or `None` if there is no further one
+    /// and none is missing. After `None` nothing is read.
     ///
     /// # Errors
     ///
-    /// After an error every later call answers the same error, and reads nothing.
+    /// After an error every later call returns the same error, and reads nothing.
     ///
-    /// - `Fault::Refused`: the file is refused there. Where the kind of document has one paragraph,
-    ///   that there is none (`NoParagraph`, at the line behind the last one) or a second one
-    ///   (`TooManyParagraphs`, at its first line, whatever it holds). Else the first of these that
-    ///   holds of the next paragraph: what `Paragraphs::next` refuses, what `Paragraph::build`
-    ///   does, and that the canonical text of the file has more than 4,294,967,295 bytes with it
-    ///   (`FileTooLong`, at its first line).
+    /// - `Fault::Refused`: the file is refused. If this kind of document has exactly one paragraph:
+    ///   there is none (`NoParagraph`, at the line after the last one), or there is a second one
+    ///   (`TooManyParagraphs`, at its first line, whatever it contains). Otherwise the first of
+    ///   these for the next paragraph: what `Paragraphs::next` refuses; what `Paragraph::build`
+    ///   refuses; with this paragraph the canonical text of the file has more than 4,294,967,295
+    ///   bytes (`FileTooLong`, at the paragraph's first line).
     /// - `Fault::Memory`: a growth of memory was refused.
     /// - `Fault::Read`: a read of `reader` failed in this call.
     pub fn next<'a, R: Source>(&'a mut self, reader: &mut R) -> Result<Option<Accepted<'a>>, Fault>
@@ -95,7 +94,8 @@ impl Checked {
             (checked_moment self.old (R.left reader.old) (R.failures reader.old))
             (checked_answer result) (checked_moment new (R.left reader.new) (R.failures reader.new))
             × (doc_read new ≡ doc_read self.old))) }
-        ensures quiet { IsQuietChecked (checked_state self.old) → reader.new ≡ reader.old }
+        ensures source_untouched { IsQuietChecked (checked_state self.old) → reader.new ≡
+            reader.old }
     {
         if self.step(reader)? {
             Ok(self.current())
@@ -104,12 +104,12 @@ impl Checked {
         }
     }
 
-    /// The next paragraph of the file as `next` gives it, but without its canonical text, which
-    /// isn't built.
+    /// Returns the next paragraph of the file as `next` does, but without building its canonical
+    /// text.
     ///
     /// # Errors
     ///
-    /// Those of `next`. After an error every later call answers the same error, and reads nothing.
+    /// Those of `next`. After an error every later call returns the same error, and reads nothing.
     pub fn next_judged<'a, R: Source>(
         &'a mut self,
         reader: &mut R,
@@ -122,7 +122,8 @@ impl Checked {
             (checked_moment self.old (R.left reader.old) (R.failures reader.old))
             (answer_judged result) (checked_moment new (R.left reader.new) (R.failures reader.new))
             × (doc_read new ≡ doc_read self.old))) }
-        ensures quiet { IsQuietChecked (checked_state self.old) → reader.new ≡ reader.old }
+        ensures source_untouched { IsQuietChecked (checked_state self.old) → reader.new ≡
+            reader.old }
     {
         if self.judge(reader)? {
             Ok(self.current_judged())
@@ -131,13 +132,14 @@ impl Checked {
         }
     }
 
-    /// Goes on behind the next paragraph of the file, and says whether there is one: where `next`
-    /// gives a paragraph. Its values are shown to the keeper, and its canonical text isn't built.
+    /// Moves past the next paragraph of the file, and returns whether there is one: whether `next`
+    /// would return a paragraph. Shows its values to the keeper, and doesn't build its canonical
+    /// text.
     ///
     /// # Errors
     ///
-    /// Those of `next`; `Fault::Memory` also where the keeper was refused memory. After an error
-    /// every later call answers the same error, and reads nothing.
+    /// Those of `next`; `Fault::Memory` also if the keeper is out of memory. After an error every
+    /// later call returns the same error, and reads nothing.
     pub fn next_kept<R: Source, K: Keep>(
         &mut self,
         keeper: &mut K,
@@ -147,7 +149,8 @@ impl Checked {
             (checked_moment self.old (R.left reader.old) (R.failures reader.old)) result
             (checked_moment self.new (R.left reader.new) (R.failures reader.new)) }
         ensures doc { doc_read self.new ≡ doc_read self.old }
-        ensures quiet { IsQuietChecked (checked_state self.old) → reader.new ≡ reader.old }
+        ensures source_untouched { IsQuietChecked (checked_state self.old) → reader.new ≡
+            reader.old }
     {
         self.go_on(false, keeper, reader)
     }
@@ -160,7 +163,8 @@ impl Checked {
             (checked_moment self.new (R.left reader.new) (R.failures reader.new)) }
         ensures gives { IfOk result (λ gives. self.new.gives ≡ gives) }
         ensures doc { self.new.doc ≡ self.old.doc }
-        ensures quiet { IsQuietChecked (checked_state self.old) → reader.new ≡ reader.old }
+        ensures source_untouched { IsQuietChecked (checked_state self.old) → reader.new ≡
+            reader.old }
     {
         self.go_on(true, &mut Nothing, reader)
     }
@@ -174,12 +178,13 @@ impl Checked {
             (checked_moment self.new (R.left reader.new) (R.failures reader.new)) }
         ensures judged { IfOk result (λ gives. self.new.judged ≡ gives) }
         ensures doc { self.new.doc ≡ self.old.doc }
-        ensures quiet { IsQuietChecked (checked_state self.old) → reader.new ≡ reader.old }
+        ensures source_untouched { IsQuietChecked (checked_state self.old) → reader.new ≡
+            reader.old }
     {
         self.go_on(false, &mut Nothing, reader)
     }
 
-    /// Goes on behind the next paragraph, and says whether there is one: what `next` answers, for a
+    /// Moves past the next paragraph, and returns whether there is one: what `next` returns, for a
     /// caller that counts. No canonical text is built.
     ///
     /// # Errors
@@ -194,7 +199,7 @@ impl Checked {
         self.go_on(false, &mut Nothing, reader)
     }
 
-    /// Goes on behind the next paragraph, whose canonical text is kept or not. Where it isn't, the
+    /// Moves past the next paragraph, whose canonical text is kept or not. Where it isn't, the
     /// values are shown to the keeper.
     fn go_on<R: Source, K: Keep>(
         &mut self,
@@ -212,7 +217,8 @@ impl Checked {
         ensures kept { keeps_text ≡ false → result ≡ Ok true
             → KeepsFound K.Keeps keeper.new self.old.doc (state_of self.new.paragraphs).current }
         ensures doc { self.new.doc ≡ self.old.doc }
-        ensures quiet { IsQuietChecked (checked_state self.old) → reader.new ≡ reader.old }
+        ensures source_untouched { IsQuietChecked (checked_state self.old) → reader.new ≡
+            reader.old }
     {
         if let Some(fault) = self.fault {
             return Err(fault);

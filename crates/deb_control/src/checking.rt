@@ -1,9 +1,9 @@
-//! Whether a file is accepted.
+//! Checks whether a file is accepted.
 
 ghost use Rattle.std.specs.Prelude.{◌≡◌, ◌+◌, ℕ, List, None, Some, IfOk, IfErr, length};
-ghost use Rattle.deb_base.specs.Devices.{read_failures_after, TellsReads};
+ghost use Rattle.deb_base.specs.Devices.{read_failures_after, ReadFaultIffFailed};
 ghost use Rattle.deb_base.specs.Faults.{IsReadersFault};
-ghost use Rattle.deb_syntax.specs.Ahead.{TakesNoMore};
+ghost use Rattle.deb_base.specs.Reading.{TakesNoMore};
 ghost use Rattle.deb_syntax.specs.Lines.{file_limit};
 ghost use Rattle.deb_syntax.specs.Meaning.{Entries};
 ghost use Rattle.deb_control.specs.Calls.{IfRefused, HasParagraphs};
@@ -17,16 +17,16 @@ use deb_base::{Fault, Source};
 use deb_field::Doc;
 use std::alloc::Global;
 
-/// Reads a file as a document of a kind, and answers the number of its paragraphs (Debian Policy
+/// Reads a file as a document of a kind, and returns the number of its paragraphs (Debian Policy
 /// 5.1 and 5.3 to 5.6).
 ///
-/// At most 4,295,032,831 bytes are taken from the reader: those that a file may have, and one
-/// piece. What is said of the file's text holds for a reader that tells its bytes.
+/// At most 4,295,032,831 bytes are read: a file of the most bytes, and one piece. Promises about
+/// the text of the file hold for a reader whose bytes are known.
 ///
 /// # Errors
 ///
-/// - `Fault::Refused`: the file isn't accepted. This is the first refusal, with a code from 1 to 21
-///   and a line of the file, which are counted from 1.
+/// - `Fault::Refused`: the file isn't accepted. This is its first refusal, with a code from 1 to 21
+///   and a line of the file, counted from 1.
 /// - `Fault::Memory`: a growth of memory was refused.
 /// - `Fault::Read`: a read failed in this call.
 pub fn check<R: Source>(alloc: Global, doc: Doc, reader: &mut R) -> Result<u64, Fault>
@@ -34,18 +34,20 @@ pub fn check<R: Source>(alloc: Global, doc: Doc, reader: &mut R) -> Result<u64, 
         → IfOk result (HasParagraphs doc text) }
     ensures refused { (text : List ℕ) → R.left reader.old ≡ Some text
         → IfRefused result (λ refusal. refusal_of doc text ≡ Some refusal) }
-    ensures taken { (text : List ℕ) → R.left reader.old ≡ Some text
+    ensures reads_at_most { (text : List ℕ) → R.left reader.old ≡ Some text
         → TakesNoMore text file_limit (R.left reader.new) }
 
     // Whether or not the reader tells its bytes.
     ensures fault { IfErr result (λ fault. IsReadersFault fault IsRefusalOfDocument) }
-    ensures reads { R.failures reader.new ≡ read_failures_after (R.failures reader.old) result }
-    ensures tells_reads { TellsReads (R.failures reader.old) (R.failures reader.new) result }
+    ensures counts_read_failure { R.failures reader.new ≡ read_failures_after
+        (R.failures reader.old) result }
+    ensures fault_iff_read_failed { ReadFaultIffFailed (R.failures reader.old)
+        (R.failures reader.new) result }
 {
     count_rest(&mut Checked::new(alloc, doc), reader)
 }
 
-/// Reads a file to its end, of which some paragraphs were given, and answers how many more it has.
+/// Reads a file to its end, after some of its paragraphs, and returns how many more it has.
 /// The errors are those of `check`.
 pub(crate) fn count_rest<R: Source>(checked: &mut Checked, reader: &mut R) -> Result<u64, Fault>
     requires sound { (checked_state checked.now).fault ≡ None }

@@ -1,14 +1,14 @@
-//! Whether two files mean the same.
+//! Compares two files by meaning.
 
 ghost use Rattle.std.specs.Prelude.{◌≡◌, ℕ, List, [], None, Some, IfOk, IfErr};
-ghost use Rattle.deb_base.specs.Devices.{read_failures_after, TellsReads};
+ghost use Rattle.deb_base.specs.Devices.{read_failures_after, ReadFaultIffFailed};
 ghost use Rattle.deb_base.specs.Faults.{IsReadersFault};
-ghost use Rattle.deb_syntax.specs.Ahead.{TakesNoMore};
+ghost use Rattle.deb_base.specs.Reading.{TakesNoMore};
 ghost use Rattle.deb_syntax.specs.Lines.{file_limit};
 ghost use Rattle.deb_control.specs.Calls.{IfRefused};
 ghost use Rattle.deb_control.specs.Checking.{FitsChecked, IsRefusalOfDocument};
 ghost use Rattle.deb_control.specs.CheckedStates.{checked_state};
-ghost use Rattle.deb_control.specs.Comparing.{Agrees, RefusesSecond, TellsSame};
+ghost use Rattle.deb_control.specs.Comparing.{Agrees, RefusesSecond, AnswersSame};
 ghost use Rattle.deb_control.specs.Documents.{refusal_of};
 ghost use Rattle.deb_control.specs.ReadingOn.{ReadsOn, shown};
 ghost use Rattle.deb_control.specs.Sides.{of_first, of_second};
@@ -20,17 +20,16 @@ use deb_base::{Fault, Source};
 use deb_field::Doc;
 use std::alloc::Global;
 
-/// Reads two files as documents of a kind, and answers whether they mean the same: the same
+/// Reads two files as documents of a kind, and returns whether they mean the same: the same
 /// paragraphs in the same order, each with equal values under equal names, whatever the order and
-/// the case of these (Debian Policy 5.1 and 5.3 to 5.6). They do exactly where their canonical
-/// texts are equal, and by these it decides.
+/// the case of the names (Debian Policy 5.1 and 5.3 to 5.6). This is exactly if their canonical
+/// texts are equal, which is what it compares.
 ///
-/// It takes one paragraph of each file at a time, and keeps nothing of earlier ones. After a
-/// difference it reads both files to their ends before it answers, and where the second one is
-/// refused the first one.
+/// One paragraph of each file is held at a time. After a difference it reads both files to their
+/// ends before it returns, and if the second one is refused, the first one.
 ///
-/// At most 4,295,032,831 bytes are taken from each reader: those that a file may have, and one
-/// piece. What is said of a file's text holds for a reader that tells its bytes.
+/// At most 4,295,032,831 bytes are read from each reader: a file of the most bytes, and one piece.
+/// Promises about the text of a file hold for a reader whose bytes are known.
 ///
 /// # Errors
 ///
@@ -45,26 +44,28 @@ pub fn same<R: Source, S: Source>(
     second: &mut S,
 ) -> Result<bool, SideFault>
     ensures ok { (text other : List ℕ) → R.left first.old ≡ Some text
-        → S.left second.old ≡ Some other → IfOk result (TellsSame doc text other) }
+        → S.left second.old ≡ Some other → IfOk result (AnswersSame doc text other) }
     ensures first { (text : List ℕ) → R.left first.old ≡ Some text
         → IfRefused (of_first result) (λ refusal. refusal_of doc text ≡ Some refusal) }
     ensures second { (text other : List ℕ) → R.left first.old ≡ Some text
         → S.left second.old ≡ Some other
         → IfRefused (of_second result) (RefusesSecond doc text other) }
-    ensures taken_first { (text : List ℕ) → R.left first.old ≡ Some text
+    ensures first_reads_at_most { (text : List ℕ) → R.left first.old ≡ Some text
         → TakesNoMore text file_limit (R.left first.new) }
-    ensures taken_second { (text : List ℕ) → S.left second.old ≡ Some text
+    ensures second_reads_at_most { (text : List ℕ) → S.left second.old ≡ Some text
         → TakesNoMore text file_limit (S.left second.new) }
 
     // Whether or not the readers tell their bytes.
     ensures fault { IfErr result (λ told. IsReadersFault told.fault IsRefusalOfDocument) }
-    ensures reads_first { R.failures first.new
+    ensures counts_first_failure { R.failures first.new
         ≡ read_failures_after (R.failures first.old) (of_first result) }
-    ensures reads_second { S.failures second.new
+    ensures counts_second_failure { S.failures second.new
         ≡ read_failures_after (S.failures second.old) (of_second result) }
-    ensures tells_first { TellsReads (R.failures first.old) (R.failures first.new)
+    ensures fault_iff_first_failed { ReadFaultIffFailed (R.failures first.old)
+        (R.failures first.new)
         (of_first result) }
-    ensures tells_second { TellsReads (S.failures second.old) (S.failures second.new)
+    ensures fault_iff_second_failed { ReadFaultIffFailed (S.failures second.old)
+        (S.failures second.new)
         (of_second result) }
 {
     let mut one = Checked::new(alloc, doc);
@@ -86,7 +87,7 @@ fn compare<R: Source, S: Source>(
     ensures same { (text text_too : List ℕ)
         → FitsChecked one.old.doc text [] (checked_state one.old) (R.left first.old)
         → FitsChecked one.old.doc text_too [] (checked_state other.old) (S.left second.old)
-        → IfOk result (TellsSame one.old.doc text text_too) }
+        → IfOk result (AnswersSame one.old.doc text text_too) }
     ensures refused { (text text_too : List ℕ)
         → FitsChecked one.old.doc text [] (checked_state one.old) (R.left first.old)
         → FitsChecked one.old.doc text_too [] (checked_state other.old) (S.left second.old)
@@ -94,10 +95,10 @@ fn compare<R: Source, S: Source>(
 
     ensures first { ReadsOn one.old (shown (R.left first.old) (R.failures first.old))
         (of_first result) one.new (shown (R.left first.new) (R.failures first.new)) }
-    ensures taken_second { (text : List ℕ)
+    ensures second_reads_at_most { (text : List ℕ)
         → FitsChecked one.old.doc text [] (checked_state other.old) (S.left second.old)
         → TakesNoMore text file_limit (S.left second.new) }
-    ensures reads_second { S.failures second.new
+    ensures counts_second_failure { S.failures second.new
         ≡ read_failures_after (S.failures second.old) (of_second result) }
     ensures fault { IfErr result (λ told. IsReadersFault told.fault IsRefusalOfDocument) }
 {
@@ -127,8 +128,8 @@ fn compare<R: Source, S: Source>(
     }
 }
 
-/// Whether the paragraphs of two files of which nothing was read have the same canonical texts, one
-/// after another. Reads on to the first difference, or to a fault.
+/// Returns whether the paragraphs of two files that haven't been read have the same canonical
+/// texts, one after another. Stops at the first difference, or at a fault.
 fn agree<R: Source, S: Source>(
     one: &mut Checked,
     first: &mut R,

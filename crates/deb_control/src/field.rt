@@ -1,4 +1,4 @@
-//! The canonical text of one field.
+//! Writes the canonical text of one field.
 
 ghost use Rattle.std.specs.Prelude.{◌≡◌, ◌++◌, ◌∷◌, [], OnOk};
 ghost use Rattle.deb_base.specs.Names.{canonical_name};
@@ -8,7 +8,7 @@ use crate::name::append_name;
 use deb_field::Canon;
 use std::alloc::AllocError;
 
-/// Appends a field: the canonical spelling of its name, a colon, and what stands behind that, with
+/// Appends a field: the canonical spelling of its name, a colon, and the text after it, with
 /// a line end.
 pub(crate) fn append_field<V: Canon>(
     name: &[u8],
@@ -26,7 +26,7 @@ pub(crate) fn append_field<V: Canon>(
     Ok(())
 }
 
-/// Appends what stands behind the colon: nothing for an empty value, the value itself where it
+/// Appends the text after the colon: nothing for an empty value, the value itself where it
 /// begins on the next line, else a space and the value.
 fn append_value<V: Canon>(value: &V, text: &mut Vec<u8>) -> Result<(), AllocError>
     ensures { OnOk result

@@ -1,4 +1,4 @@
-//! The next paragraph of a document, checked.
+//! Finds the next paragraph of a document, and checks it.
 
 ghost use Rattle.std.specs.Prelude.{◌≡◌, ◌≤◌, ◌==◌, ◌&&◌, not, [], Option, None, Some, Ok, Err, false, true, length, IfOk, IfErr, IsTrue};
 ghost use Rattle.deb_base.specs.Faults.{RefusedOrMemory};
@@ -47,7 +47,7 @@ pub(crate) fn find<R: Source, K: Keep>(
         (λ gives. IsTrue (judged_if gives doc (state_of paragraphs.new).current)) }
     ensures kept { keeps_text ≡ false → result ≡ Ok true
         → KeepsFound K.Keeps keeper.new doc (state_of paragraphs.new).current }
-    ensures quiet { IsQuiet (state_of paragraphs.old) → reader.new ≡ reader.old }
+    ensures source_untouched { IsQuiet (state_of paragraphs.old) → reader.new ≡ reader.old }
 {
     if is_complete(doc, given) {
         return none_follows(paragraphs, reader);
@@ -77,7 +77,7 @@ fn none_follows<R: Source>(paragraphs: &mut Paragraphs, reader: &mut R) -> Resul
         (R.failures reader.new)) }
     ensures sound { IfOk result (λ _. (state_of paragraphs.new).fault ≡ None) }
     ensures none { IfOk result (λ gives. gives ≡ false) }
-    ensures quiet { IsQuiet (state_of paragraphs.old) → reader.new ≡ reader.old }
+    ensures source_untouched { IsQuiet (state_of paragraphs.old) → reader.new ≡ reader.old }
 {
     match paragraphs.begins(reader)? {
         None => Ok(false),

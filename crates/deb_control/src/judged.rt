@@ -10,8 +10,8 @@ use deb_field::{Doc, Value};
 use deb_syntax::{Fields, Raw, RawField};
 use std::alloc::{AllocError, Global};
 
-/// A paragraph of a document that passes every rule of its kind, as a view of its fields as they
-/// stand in the file. Values are read from it on demand, and are never refused.
+/// A view of a paragraph that passes every rule of its kind of document: its fields as they are in
+/// the file. Values are read from it on demand, and are never refused.
 #[derive(Clone, Copy)]
 pub struct Judged<'a> {
     doc: Doc,
@@ -37,15 +37,15 @@ impl<'a> Judged<'a> {
         Judged { doc, raw }
     }
 
-    /// The number of the paragraph's first line in its file, which is counted from 1.
+    /// Returns the number of the paragraph's first line in its file, counted from 1.
     pub fn first_line(&self) -> u64
         ensures { result ≡ (passing_judged self.now).seen.first }
     {
         self.raw.first_line()
     }
 
-    /// The field of a name as it stands in the file, without ASCII case, or `None` where there is
-    /// no such field.
+    /// Returns the field with a name as it is in the file, without ASCII case, or `None` if there
+    /// is no such field.
     pub fn get(&self, name: &[u8]) -> Option<RawField<'a>>
         ensures { option_map field_of result
             ≡ field_named name.now (passing_judged self.now).seen.fields }
@@ -53,19 +53,19 @@ impl<'a> Judged<'a> {
         self.raw.get(name)
     }
 
-    /// The fields in the order of the file.
+    /// Returns the fields in file order.
     pub fn fields(&self) -> Fields<'a>
         ensures { fields_left result ≡ (passing_judged self.now).seen.fields }
     {
         self.raw.fields()
     }
 
-    /// The value of the field of a name, without ASCII case, or `None` where there is no such
-    /// field.
+    /// Returns the value of the field with a name, without ASCII case, or `None` if there is no
+    /// such field.
     ///
     /// # Errors
     ///
-    /// Want of memory alone.
+    /// Out of memory only.
     pub fn value(&self, alloc: Global, name: &[u8]) -> Result<Option<Value<'a>>, AllocError>
         ensures { IfOk result
             (λ value. HasValue (doc_judged self.now) (passing_judged self.now).seen name.now
@@ -80,11 +80,11 @@ impl<'a> Judged<'a> {
         }
     }
 
-    /// The paragraph with its values.
+    /// Returns the paragraph with its values.
     ///
     /// # Errors
     ///
-    /// Want of memory alone.
+    /// Out of memory only.
     pub fn paragraph(&self, alloc: Global) -> Result<Paragraph<'a>, AllocError>
         ensures values { IfOk result
             (λ typed. AreValuesOf (doc_judged self.now) (passing_judged self.now).seen
@@ -99,7 +99,7 @@ impl<'a> Judged<'a> {
     }
 }
 
-/// Want of memory, which is the only fault that reading again what passes can have.
+/// Out of memory, which is the only fault that reading again what passes can have.
 fn want_of_memory(fault: Fault) -> AllocError
     requires { fault ≡ Fault.Memory }
 {

@@ -1,4 +1,4 @@
-//! What is kept of the values of a paragraph while it is judged.
+//! A visitor of the values of a paragraph, called while the paragraph is checked.
 
 ghost use Rattle.std.specs.Prelude.{OnOk};
 ghost use Rattle.deb_control.specs.Keeping.{ShownValues, none_shown, shown_with};
@@ -7,20 +7,20 @@ ghost use Rattle.deb_field.specs.ValueMeanings.{value_meaning};
 use deb_field::Value;
 use std::alloc::AllocError;
 
-/// Who is shown the value of each field of a paragraph while it is judged, and keeps what it wants.
+/// Visits the value of each field while a paragraph is checked, and keeps what it needs.
 pub trait Keep {
     /// What is kept is of these values.
     ghost Keeps: { Self → ShownValues → Type 0 };
 
-    /// Forgets what was kept: the fields of another paragraph are shown from here on.
+    /// Forgets what was kept. The fields of another paragraph follow.
     fn begin(&mut self)
         ensures { Keeps self.new none_shown };
 
-    /// Keeps what is wanted of the value of one more field.
+    /// Keeps what is needed from the value of one more field.
     ///
     /// # Errors
     ///
-    /// Want of memory.
+    /// Out of memory.
     fn keep(&mut self, name: &[u8], value: &Value<'_>) -> Result<(), AllocError>
         ensures { (shown : ShownValues) → Keeps self.old shown
             → OnOk result

@@ -1,8 +1,8 @@
-//! Laws of documents. Each function does nothing, and its contract is the law.
+//! Laws of documents. Each function does nothing; its contract is the law.
 
 ghost use Rattle.deb_control.specs.Laws.{RefusedOrAccepted, AcceptedMeansOneThing, AcceptedIsWritten, CanonicalTextIsAccepted, CanonicalTextTellsMeanings, CanonicalTextIsItsOwn, WhatIsWrittenIsNormal, RefusalsAreOfTheFile, RefusalsOfAnyAreOfText, RefusalBehindIsOfTheFile, EndBehindIsOfTheFile};
 
-/// A file has no refusal exactly where it is accepted with some meaning.
+/// A file has no refusal exactly if it is accepted with some meaning.
 pub fn a_file_is_refused_or_accepted()
     ensures { RefusedOrAccepted }
 {}
@@ -12,53 +12,54 @@ pub fn an_accepted_file_means_one_thing()
     ensures { AcceptedMeansOneThing }
 {}
 
-/// What is written of an accepted file is the canonical text of its meaning.
+/// What is written for an accepted file is the canonical text of its meaning.
 pub fn canonical_text_is_written_of_an_accepted_file()
     ensures { AcceptedIsWritten }
 {}
 
-/// The canonical text of an accepted file is accepted with the same meaning: both limits hold of it
-/// too.
+/// The canonical text of an accepted file is accepted with the same meaning, so it is within both
+/// limits.
 pub fn canonical_text_is_accepted()
     ensures { CanonicalTextIsAccepted }
 {}
 
-/// Two files that are accepted as one kind of document have equal canonical text exactly where they
+/// Two files that are accepted as one kind of document have equal canonical text exactly if they
 /// mean the same.
 pub fn canonical_text_tells_meanings()
     ensures { CanonicalTextTellsMeanings }
 {}
 
-/// The canonical text of an accepted file has no refusal, and what is written of it is itself.
+/// The canonical text of an accepted file has no refusal, and what is written for it is itself:
+/// `normalise` is idempotent.
 pub fn canonical_text_is_its_own()
     ensures { CanonicalTextIsItsOwn }
 {}
 
-/// What `normalise` writes where it answers Ok is accepted with the file's meaning, and what is
-/// written of it is itself.
+/// What `normalise` writes when it returns Ok is accepted with the file's meaning, and what is
+/// written for it is itself.
 pub fn normalised_text_is_normal()
     ensures { WhatIsWrittenIsNormal }
 {}
 
-/// The refusal of a file has a code from 1 to 21, and is at one of the file's lines, which are
-/// counted from 1; or a paragraph is missing at the line behind the last one.
+/// The refusal of a file has a code from 1 to 21, and is at one of the file's lines, counted from
+/// 1; or a paragraph is missing, at the line after the last one.
 pub fn a_refusal_is_of_the_file()
     ensures { RefusalsAreOfTheFile }
 {}
 
-/// The refusal of control data of which no value is judged has a code from 1 to 9: it is refused
-/// for its text alone.
+/// The refusal of a file under `Doc::Any`, which checks no value, has a code from 1 to 9: it is
+/// refused only for its text.
 pub fn a_refusal_of_any_is_of_the_text()
     ensures { RefusalsOfAnyAreOfText }
 {}
 
-/// What `Checked::next` refuses behind the paragraphs that it has given is the refusal of the file,
-/// and they are all that is written of it.
+/// What `Checked::next` refuses after the paragraphs that it has returned is the refusal of the
+/// file, and they are all that is written for it.
 pub fn a_refusal_behind_paragraphs_is_of_the_file()
     ensures { RefusalBehindIsOfTheFile }
 {}
 
-/// Where `Checked::next` answers that no paragraph follows those that it has given, the file is
+/// If `Checked::next` returns that no paragraph follows those that it has returned, the file is
 /// accepted with exactly these.
 pub fn an_end_behind_paragraphs_is_of_the_file()
     ensures { EndBehindIsOfTheFile }

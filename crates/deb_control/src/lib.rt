@@ -1,9 +1,9 @@
-//! What a file of Debian control data means as a document of a kind, which files are accepted, why
-//! others are refused, and the canonical text of what a file means (Debian Policy 5.1 and 5.3 to
-//! 5.6).
+//! Files of Debian control data as documents of a kind: what a file means, which files are
+//! accepted, why others are refused, and the canonical text of what a file means (Debian Policy 5.1
+//! and 5.3 to 5.6).
 //!
-//! The definitions stand in `specs/`, and `laws` says what holds of them. Values enter through the
-//! law of their canonical text alone. A `Paragraph` has the values of one paragraph:
+//! The definitions are in `specs/`, and `laws` has the theorems about them. Values are used only
+//! through the law of their canonical text. A `Paragraph` has the values of one paragraph:
 //!
 //! ```
 //! let raw = paragraphs.next(&mut reader)?.ok_or("no paragraph")?;

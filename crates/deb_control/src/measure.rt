@@ -1,4 +1,4 @@
-//! The length of a paragraph's canonical text, which no text is built for.
+//! Computes the length of a paragraph's canonical text without building it.
 
 ghost use Rattle.std.specs.Prelude.{◌≡◌, ◌≤◌, ◌-◌, ◌^◌, [], false, None, Some, IfOk, IfErr, length, min};
 ghost use Rattle.deb_base.specs.Bodies.{IsBody};
@@ -108,7 +108,7 @@ fn canonical_len(name: &[u8], value: &Value<'_>) -> u64
     name_and_ends.saturating_add(behind_colon_len(value))
 }
 
-/// The length of what stands behind the colon, or `u64::MAX` where it is longer.
+/// Returns the length of the text after the colon, or `u64::MAX` where it is longer.
 fn behind_colon_len(value: &Value<'_>) -> u64
     ensures { result
         ≡ min (length (behind_colon (value_text (value_meaning value.now)))) (2 ^ 64 - 1) }

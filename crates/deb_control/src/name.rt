@@ -9,7 +9,7 @@ ghost use Rattle.deb_syntax.specs.Meaning.{byte_order};
 use std::alloc::AllocError;
 use std::cmp::Ordering;
 
-/// How the canonical spellings of two names stand in the order of bytes.
+/// Compares the canonical spellings of two names in the order of bytes.
 pub(crate) fn compare(name: &[u8], other: &[u8]) -> Ordering
     ensures { result ≡ byte_order (canonical_name name.now) (canonical_name other.now) }
 {

@@ -1,4 +1,4 @@
-//! Paragraphs whose values have been read.
+//! Paragraphs with their values.
 
 ghost use Rattle.std.specs.Prelude.{◌≡◌, ◌++◌, ◌≤◌, Some, None, Err, IfOk, IfErr, OnOk, OnErr, find, length, map};
 ghost use Rattle.std.specs.Option.{option_map};
@@ -28,8 +28,7 @@ use std::alloc::{AllocError, Global};
 /// A paragraph of a document of a kind: its fields with their values, by the canonical spellings of
 /// their names.
 ///
-/// It owns the list of its fields and its canonical text, and borrows the bytes that the fields
-/// stand in.
+/// It owns the list of its fields and its canonical text, and borrows the bytes of the fields.
 #[derive(Drop)]
 pub struct Paragraph<'a> {
     fields: Vec<TypedField<'a>>,
@@ -44,10 +43,10 @@ impl<'a> Paragraph<'a> {
     ///
     /// # Errors
     ///
-    /// The first body that is refused, in the order of the file, at the line of its field; else
-    /// `MissingField` where a field that the kind of document asks for is missing, and
-    /// `ParagraphTooLong` where the canonical text has more than 16,777,216 bytes, both at the
-    /// paragraph's first line. `Fault::Memory` where a growth was refused.
+    /// The first body that is refused, in file order, at the line of its field; else `MissingField`
+    /// if a field that the kind of document requires is missing; else `ParagraphTooLong` if the
+    /// canonical text has more than 16,777,216 bytes, both at the paragraph's first line. Or
+    /// `Fault::Memory`, if a growth of memory was refused.
     pub fn build(alloc: Global, doc: Doc, paragraph: &Raw<'a>) -> Result<Paragraph<'a>, Fault>
         ensures ok { IfOk result
             (λ typed. AreValuesOf doc (seen_of paragraph.now) (values_of typed)) }
@@ -62,8 +61,8 @@ impl<'a> Paragraph<'a> {
         Ok(Paragraph { fields, text })
     }
 
-    /// The fields with their values, in ascending order of the canonical spellings of their names:
-    /// those of the paragraph, each with its line, its name as it is spelled, and its body.
+    /// Returns the fields with their values, in ascending order of the canonical spellings of their
+    /// names: those of the paragraph, each with its line, its name as spelled, and its body.
     pub fn fields(&self) -> &[TypedField<'a>]
         ensures values { values_in result.now ≡ values_of self.now }
         ensures raw { map field_in result.now ≡ fields_shown self.now }
@@ -71,8 +70,8 @@ impl<'a> Paragraph<'a> {
         self.fields.as_slice()
     }
 
-    /// The value of the field of a name, without ASCII case, or `None` where there is no such
-    /// field.
+    /// Returns the value of the field with a name, without ASCII case, or `None` if there is no
+    /// such field.
     pub fn get(&self, name: &[u8]) -> Option<&Value<'a>>
         ensures { option_map (λ value. value_meaning value.now) result
             ≡ value_under byte_order (canonical_name name.now) (values_of self.now) }
@@ -85,19 +84,19 @@ impl<'a> Paragraph<'a> {
         None
     }
 
-    /// The length in bytes of the canonical text.
+    /// Returns the length of the canonical text in bytes.
     pub fn canon_len(&self) -> u64
         ensures { result ≡ length (text_of_values (values_of self.now)) }
     {
         self.text.len() as u64
     }
 
-    /// Appends the canonical text: each field on lines of its own, in ascending order of the
-    /// canonical spellings of their names.
+    /// Appends the canonical text to `out`: each field on lines of its own, in ascending order of
+    /// the canonical spellings of their names.
     ///
     /// # Errors
     ///
-    /// Want of memory, and `out` is then unchanged.
+    /// Out of memory; `out` is then unchanged.
     pub fn canon_into(&self, out: &mut Vec<u8>) -> Result<(), AllocError>
         ensures ok { OnOk result
             (out.new.items ≡ out.old.items ++ text_of_values (values_of self.now)) }

@@ -11,11 +11,11 @@ pub enum Side {
     Second,
 }
 
-/// Why a call that reads two files gave no answer, and by which of them.
+/// Why a call that reads two files returned no answer, and which file it was.
 #[derive(Clone, Copy, Debug, PartialEq, Eq)]
 pub struct SideFault {
-    /// The file that is refused or could not be read, or at which memory was wanting.
+    /// The file that is refused, couldn't be read, or was being read when memory ran out.
     pub side: Side,
-    /// Its fault.
+    /// The fault of that file.
     pub fault: Fault,
 }

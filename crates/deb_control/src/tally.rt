@@ -1,4 +1,4 @@
-//! What was given of a file.
+//! Counts the paragraphs of a file that were returned, and the length of their canonical text.
 
 ghost use Rattle.std.specs.Prelude.{◌≡◌, ◌+◌, ◌≤◌, ◌<◌, Some, None, IfSome, IfNone};
 ghost use Rattle.deb_control.specs.Tallies.{bytes_with};

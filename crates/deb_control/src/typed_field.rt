@@ -1,4 +1,4 @@
-//! Fields whose values have been read.
+//! Fields with their values.
 
 ghost use Rattle.std.specs.Prelude.{◌≡◌, ◌++◌, OnOk};
 ghost use Rattle.std.specs.List.Sorted.{IsPermutation, IsSortedBy};
@@ -14,9 +14,9 @@ use std::alloc::AllocError;
 /// A field of a paragraph, with its value.
 #[derive(Debug, Drop)]
 pub struct TypedField<'a> {
-    /// The field as it stands in the file.
+    /// The field as it is in the file.
     pub raw: RawField<'a>,
-    /// What its body spells.
+    /// The value that its body spells.
     pub value: Value<'a>,
 }
 

@@ -1,6 +1,6 @@
-//! Laws of acceptance, refusals and canonical text, for values of any type that has canonical text.
-//! Each function does nothing, and its contract is the law: of any kinds of the names of fields,
-//! and any rules that are those of the values.
+//! Laws of acceptance, refusals and canonical text, for values of any type that has canonical text,
+//! any kinds of field names, and any rules that are those of the values. Each function does
+//! nothing; its contract is the law.
 
 ghost use Rattle.std.specs.Prelude.{ℕ, List};
 ghost use Rattle.deb_control.specs.Rules.{Rules, AreRulesOf};
@@ -8,7 +8,7 @@ ghost use Rattle.deb_control.specs.AcceptanceLaws.{RefusedOrAccepted, AcceptedMe
 
 use deb_field::Canon;
 
-/// A file has no refusal exactly where it is accepted with some meaning.
+/// A file has no refusal exactly if it is accepted with some meaning.
 pub fn a_file_is_refused_or_accepted<V: Canon>()
     ensures { (kind : List ℕ → V.Kinds) (rules : Rules)
         → AreRulesOf V.Meaning (λ name. V.Spells (kind name)) V.text_of rules
@@ -21,28 +21,28 @@ pub fn an_accepted_file_means_one_thing<V: Canon>()
         → AcceptedMeansOneThing V.Meaning (λ name. V.Spells (kind name)) V.text_of rules }
 {}
 
-/// What is written of an accepted file is the canonical text of its meaning.
+/// What is written for an accepted file is the canonical text of its meaning.
 pub fn canonical_text_is_written_of_an_accepted_file<V: Canon>()
     ensures { (kind : List ℕ → V.Kinds) (rules : Rules)
         → AreRulesOf V.Meaning (λ name. V.Spells (kind name)) V.text_of rules
         → AcceptedIsWritten V.Meaning (λ name. V.Spells (kind name)) V.text_of rules }
 {}
 
-/// The canonical text of an accepted file is accepted with the same meaning: both limits hold of it
-/// too.
+/// The canonical text of an accepted file is accepted with the same meaning, so it is within both
+/// limits.
 pub fn canonical_text_is_accepted<V: Canon>()
     ensures { (kind : List ℕ → V.Kinds) (rules : Rules)
         → CanonicalTextIsAccepted V.Meaning (λ name. V.Spells (kind name)) V.text_of rules }
 {}
 
-/// Two files that are accepted by the same rules have equal canonical text exactly where they mean
-/// the same.
+/// Two files that are accepted by the same rules have equal canonical text exactly if they mean the
+/// same.
 pub fn canonical_text_tells_meanings<V: Canon>()
     ensures { (kind : List ℕ → V.Kinds) (rules : Rules)
         → CanonicalTextTellsAccepted V.Meaning (λ name. V.Spells (kind name)) V.text_of rules }
 {}
 
-/// The canonical text of an accepted file has no refusal, and what is written of it is itself.
+/// The canonical text of an accepted file has no refusal, and what is written for it is itself.
 pub fn canonical_text_is_its_own<V: Canon>()
     ensures { (kind : List ℕ → V.Kinds) (rules : Rules)
         → AreRulesOf V.Meaning (λ name. V.Spells (kind name)) V.text_of rules

@@ -14,21 +14,21 @@ use Rattle.deb_control.specs.Checking.{Passing, CheckedState, FitsChecked, Gives
 use Rattle.deb_control.specs.Documents.{rules_of}
 use Rattle.deb_control.specs.Refusals.{next_checked}
 use Rattle.deb_control.proofs.FollowedParagraphs.{outcome-from_refusal}
-use Rattle.deb_explain.specs.Explanations.{Told, seen_in, told_in, told_of, explanation_of}
+use Rattle.deb_explain.specs.Explanations.{WhyRefused, seen_in, explanation_in, explain_refusal, explanation_of}
 use Rattle.deb_explain.specs.Subjects.{About, about_topic, topic_of}
 use Rattle.deb_explain.specs.Reading.{PassesOne, ShowsNext}
 
 -- the answer is no fault of memory or a device
-abbrev pub IsTold : Result (Option Seen) Fault → Type 0
-IsTold (Ok seen) = Unit {0}
-IsTold (Err (Refused refusal)) = Unit {0}
-IsTold (Err Memory) = ⊥
-IsTold (Err Read) = ⊥
-IsTold (Err Write) = ⊥
+abbrev pub HasNoFault : Result (Option Seen) Fault → Type 0
+HasNoFault (Ok seen) = Unit {0}
+HasNoFault (Err (Refused refusal)) = Unit {0}
+HasNoFault (Err Memory) = ⊥
+HasNoFault (Err Read) = ⊥
+HasNoFault (Err Write) = ⊥
 
-pub told-found : (new : State) (found : Bool) → IsTold (advance_answer new (Ok found))
-told-found new true = tt
-told-found new false = tt
+pub faultless-found : (new : State) (found : Bool) → HasNoFault (advance_answer new (Ok found))
+faultless-found new true = tt
+faultless-found new false = tt
 
 none_passes : (text passed : List ℕ) (new : State) (left : Option (List ℕ)) (answer : Result (Option Seen) Refusal) → next_answer text (passed_count passed) ≡ answer → seen_in answer ≡ None → new.current ≡ None → ShowsNext text passed new left
 none_passes text passed new left answer is none current =
@@ -39,7 +39,7 @@ none_passes text passed new left answer is none current =
     }
 
 -- What the reader of paragraphs shows of its answer.
-pub shows_next : (text passed : List ℕ) (before after : Moment) (answer : Result (Option Seen) Fault) → before.state.fault ≡ None → Fits text passed before.state before.source.bytes → KeepsErrors Advances before answer after → IsTold answer → ShowsNext text passed after.state after.source.bytes
+pub shows_next : (text passed : List ℕ) (before after : Moment) (answer : Result (Option Seen) Fault) → before.state.fault ≡ None → Fits text passed before.state before.source.bytes → KeepsErrors Advances before answer after → HasNoFault answer → ShowsNext text passed after.state after.source.bytes
 shows_next text passed before after (Ok None) sound fits passes told =
     let goes = goes-from_passes Advances before after (Ok None) sound passes in
     none_passes text passed after.state after.source.bytes (Ok None) (goes.answers text passed fits).answer refl goes.current
@@ -111,17 +111,17 @@ together_on doc text checked new left left_after reader ahead shown given gives 
     }
 
 -- What is refused behind them is explained by the paragraph that is shown.
-pub explains : (doc : Doc) (text : List ℕ) (checked : CheckedState) (left : Option (List ℕ)) (reader : State) (ahead : Option (List ℕ)) (shown : Ahead doc text checked left reader ahead) (refusal : Refusal) → next_checked (rules_of doc) text shown.before ≡ Err refusal → explanation_of doc text ≡ Some (told_of doc text refusal reader.current)
+pub explains : (doc : Doc) (text : List ℕ) (checked : CheckedState) (left : Option (List ℕ)) (reader : State) (ahead : Option (List ℕ)) (shown : Ahead doc text checked left reader ahead) (refusal : Refusal) → next_checked (rules_of doc) text shown.before ≡ Err refusal → explanation_of doc text ≡ Some (explain_refusal doc text refusal reader.current)
 explains doc text checked left reader ahead shown refusal refused =
-    ap (told_in (told_of doc text) text) (outcome-from_refusal (rules_of doc) text shown.before refusal shown.fits.given refused)
-    ∙ ap (λ n. Some (told_of doc text refusal (seen_in (next_answer text n)))) (sym shown.level)
-    ∙ ap (λ seen. Some (told_of doc text refusal seen)) (sym shown.shows.current)
+    ap (explanation_in (explain_refusal doc text) text) (outcome-from_refusal (rules_of doc) text shown.before refusal shown.fits.given refused)
+    ∙ ap (λ n. Some (explain_refusal doc text refusal (seen_in (next_answer text n)))) (sym shown.level)
+    ∙ ap (λ seen. Some (explain_refusal doc text refusal seen)) (sym shown.shows.current)
 
 -- what is told of the refusal, by the paragraph at hand, is the explanation
-pub tells_explanation : (doc : Doc) (text : List ℕ) (found refusal : Refusal) (about : About) (seen current : Option Seen) (explanation : Option Told) → explanation ≡ Some (told_of doc text refusal current) → found ≡ refusal → about ≡ about_topic (topic_of found.code) doc text found seen → seen ≡ current → explanation ≡ Some (record { refusal = found; about = about })
-tells_explanation doc text found refusal about seen current explanation told same about_is seen_is =
-    let tell : About → Option Told = λ other. Some (record { refusal = found; about = other }) in
+pub is_explanation : (doc : Doc) (text : List ℕ) (found refusal : Refusal) (about : About) (seen current : Option Seen) (explanation : Option WhyRefused) → explanation ≡ Some (explain_refusal doc text refusal current) → found ≡ refusal → about ≡ about_topic (topic_of found.code) doc text found seen → seen ≡ current → explanation ≡ Some (record { refusal = found; about = about })
+is_explanation doc text found refusal about seen current explanation told same about_is seen_is =
+    let tell : About → Option WhyRefused = λ other. Some (record { refusal = found; about = other }) in
     told
-    ∙ ap (λ r. Some (told_of doc text r current)) (sym same)
-    ∙ ap (λ s. Some (told_of doc text found s)) (sym seen_is)
+    ∙ ap (λ r. Some (explain_refusal doc text r current)) (sym same)
+    ∙ ap (λ s. Some (explain_refusal doc text found s)) (sym seen_is)
     ∙ ap tell (sym about_is)

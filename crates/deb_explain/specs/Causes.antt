@@ -101,3 +101,7 @@ of_words = (refl, refl, refl, refl)
 -- of other refusals there is none
 other_codes : cause_of Packages BadName (codes "Package") (codes "A") ≡ None
 other_codes = refl
+
+-- the code of each kind of word
+codes_of_words : (word_code words.Relation ≡ BadRelation) × (word_code words.Version ≡ BadVersion)
+codes_of_words = (refl, refl)

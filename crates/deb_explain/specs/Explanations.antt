@@ -28,12 +28,12 @@ use Rattle.deb_explain.specs.Subjects.{AboutField, about_topic, topic_of}
 use Rattle.deb_explain.specs.declared.cause.Cause.TheVariants as causes
 
 -- a refusal, and what it is about
-pub record Told : Type 0 where
+pub record WhyRefused : Type 0 where
   pub refusal : Refusal
   pub about : About
 
-abbrev pub told_of : Doc → List ℕ → Refusal → Option Seen → Told
-told_of doc text refusal paragraph =
+abbrev pub explain_refusal : Doc → List ℕ → Refusal → Option Seen → WhyRefused
+explain_refusal doc text refusal paragraph =
     record {
       refusal = refusal;
       about = about_topic (topic_of refusal.code) doc text refusal paragraph;
@@ -49,16 +49,18 @@ abbrev pub paragraph_behind : List ℕ → List Entries → Option Seen
 paragraph_behind text passed = seen_in (next_answer text (length passed))
 
 -- what is told where this comes of a file
-abbrev pub told_in : (Refusal → Option Seen → Told) → List ℕ → Outcome → Option Told
-told_in tells text come =
-    option_map (λ refusal. tells refusal (paragraph_behind text come.passed)) come.refusal
+abbrev pub explanation_in : (Refusal → Option Seen → WhyRefused) → List ℕ → Outcome
+    → Option WhyRefused
+explanation_in why text come =
+    option_map (λ refusal. why refusal (paragraph_behind text come.passed)) come.refusal
 
-abbrev pub explanation_by : Rules → (Refusal → Option Seen → Told) → List ℕ → Option Told
-explanation_by rules tells text = told_in tells text (outcome rules text)
+abbrev pub explanation_by : Rules → (Refusal → Option Seen → WhyRefused) → List ℕ
+    → Option WhyRefused
+explanation_by rules why text = explanation_in why text (outcome rules text)
 
 -- Why a file is refused, if it is.
-abbrev pub explanation_of : Doc → List ℕ → Option Told
-explanation_of doc text = explanation_by (rules_of doc) (told_of doc text) text
+abbrev pub explanation_of : Doc → List ℕ → Option WhyRefused
+explanation_of doc text = explanation_by (rules_of doc) (explain_refusal doc text) text
 
 -- for the worked cases: the rules of a kind where bodies count as canonical text, which then
 -- computes; the refusals are those of the kind
@@ -70,56 +72,56 @@ plain doc = record {
   single = is_single doc;
 }
 
-abbrev explained : Doc → List ℕ → Option Told
-explained doc text = explanation_by (plain doc) (told_of doc text) text
+abbrev explained : Doc → List ℕ → Option WhyRefused
+explained doc text = explanation_by (plain doc) (explain_refusal doc text) text
 
 -- a refusal, and what it is about
-abbrev tells : Code → ℕ → About → Option Told
-tells code line about =
+abbrev why : Code → ℕ → About → Option WhyRefused
+why code line about =
     Some (record { refusal = record { code = code; line = line }; about = about })
 
 -- a bad version in the second paragraph: that field, and not the one at this place of the first
 second_paragraph : explained Packages
     (codes "Package: aa\nVersion: 1\nArchitecture: all\n\nPackage: bb\nvERSION: 1_2\n")
-    ≡ tells code.BadVersion 6
+    ≡ why code.BadVersion 6
     (AboutField (codes "vERSION") 10 (codes "1_2") (Some (causes.Version (UpstreamByte 1) 0)))
 unfolding file_limit paragraph_limit is_utf8 chars encode kind_of first_fault
 second_paragraph = refl
 
 -- a relation, and a value that has no parts
 values : (explained Packages (codes "Package: aa\nDepends: bb\n c\nSize: 1k")
-    ≡ tells code.BadRelation 2
+    ≡ why code.BadRelation 2
     (AboutField (codes "Depends") 10 (codes "bb\n c") (Some (causes.Relation Trailing 4))))
     × (explained Packages (codes "Package: aa\nSize: 1k")
-    ≡ tells code.BadNumber 2 (AboutField (codes "Size") 7 (codes "1k") None))
+    ≡ why code.BadNumber 2 (AboutField (codes "Size") 7 (codes "1k") None))
 unfolding file_limit paragraph_limit is_utf8 chars encode kind_of first_fault told
 values = (refl, refl)
 
 -- of two names that are missing, the first in the order of the table
 missing : (explained Packages (codes "architecture: all\npackage: aa")
-    ≡ tells code.MissingField 1 (AboutMissing (codes "Version")))
+    ≡ why code.MissingField 1 (AboutMissing (codes "Version")))
     × (explained Binary (codes "\nPackage: aa")
-    ≡ tells code.MissingField 2 (AboutMissing (codes "Version")))
+    ≡ why code.MissingField 2 (AboutMissing (codes "Version")))
     × (explained Packages (codes "Package: aa\nVersion: 1\nArchitecture: all\n\nX: 1")
-    ≡ tells code.MissingField 5 (AboutMissing (codes "Package")))
+    ≡ why code.MissingField 5 (AboutMissing (codes "Package")))
 unfolding file_limit paragraph_limit is_utf8 chars encode kind_of first_fault
 missing = (refl, refl, refl)
 
 -- refusals of a line: the line, or what stands before its colon
 lines : (explained Packages (codes "Package: aa\npackage: bb\n")
-    ≡ tells code.DuplicateField 2 (AboutName (codes "package")))
+    ≡ why code.DuplicateField 2 (AboutName (codes "package")))
     × (explained Packages (codes "Package : aa")
-    ≡ tells code.BadFieldName 1 (AboutName (codes "Package ")))
+    ≡ why code.BadFieldName 1 (AboutName (codes "Package ")))
     × (explained Packages (codes "\nPackage aa\n\nB: 1")
-    ≡ tells code.NoColon 2 (AboutLine (codes "Package aa")))
-    × (explained Packages (codes " x\n") ≡ tells code.StrayContinuation 1 (AboutLine (codes " x")))
+    ≡ why code.NoColon 2 (AboutLine (codes "Package aa")))
+    × (explained Packages (codes " x\n") ≡ why code.StrayContinuation 1 (AboutLine (codes " x")))
 unfolding file_limit paragraph_limit is_utf8 chars encode kind_of first_fault
 lines = (refl, refl, refl, refl)
 
 -- the file as a whole
-wholes : (explained Binary [] ≡ tells code.NoParagraph 1 AboutWhole)
+wholes : (explained Binary [] ≡ why code.NoParagraph 1 AboutWhole)
     × (explained Binary (codes "Package: aa\nVersion: 1\nArchitecture: all\n\n# x")
-    ≡ tells code.TooManyParagraphs 5 AboutWhole)
+    ≡ why code.TooManyParagraphs 5 AboutWhole)
 unfolding file_limit paragraph_limit is_utf8 chars encode kind_of first_fault
 wholes = (refl, refl)
 
@@ -131,9 +133,9 @@ accepted = (refl, refl)
 
 -- at the rules of the kind itself, of a first paragraph
 of_the_kind : (explanation_of Packages (codes "Package: aa\nVersion: 1_2")
-    ≡ tells code.BadVersion 2
+    ≡ why code.BadVersion 2
     (AboutField (codes "Version") 10 (codes "1_2") (Some (causes.Version (UpstreamByte 1) 0))))
     × (explanation_of Packages (codes "Package: aa\nVersion: 1")
-    ≡ tells code.MissingField 1 (AboutMissing (codes "Architecture")))
+    ≡ why code.MissingField 1 (AboutMissing (codes "Architecture")))
 unfolding file_limit paragraph_limit is_utf8 chars encode kind_of first_fault
 of_the_kind = (refl, refl)

@@ -19,7 +19,8 @@ use Rattle.deb_base.specs.declared.doc.Doc.TheVariants.{Packages}
 use Rattle.deb_control.specs.Documents.{rules_of}
 use Rattle.deb_control.specs.Rules.{Rules}
 use Rattle.deb_control.proofs.DocumentRules.{document_rules}
-use Rattle.deb_explain.specs.Explanations.{Told, explanation_by, explanation_of, told_of}
+use Rattle.deb_explain.specs.Explanations.{WhyRefused, explanation_by, explanation_of}
+use Rattle.deb_explain.specs.Explanations.{explain_refusal}
 use Rattle.deb_explain.specs.Subjects.{AboutField}
 use Rattle.deb_explain.specs.declared.cause.Cause.TheVariants as causes
 
@@ -36,8 +37,8 @@ writing canonical = record {
   single = is_single Packages;
 }
 
-abbrev explained : (List ℕ → List ℕ → List ℕ) → Option Told
-explained canonical = explanation_by (writing canonical) (told_of Packages index) index
+abbrev explained : (List ℕ → List ℕ → List ℕ) → Option WhyRefused
+explained canonical = explanation_by (writing canonical) (explain_refusal Packages index) index
 
 -- texts by the name of a field
 abbrev by_name : List ℕ → List ℕ → List ℕ → List ℕ → List ℕ → List ℕ

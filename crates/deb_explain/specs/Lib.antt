@@ -2,9 +2,8 @@ pub mod Causes
 pub mod Subjects
 pub mod Escapes
 pub mod Paths
-pub mod Telling
+pub mod Texts
 pub mod Explanations
 pub mod KindCases
 pub mod Reading
-pub mod Sentences
 pub mod Shown

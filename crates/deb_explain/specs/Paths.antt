@@ -44,3 +44,10 @@ other_paths : (shown_path (97 ∷ 194 ∷ 155 ∷ 195 ∷ 188 ∷ []) ≡ codes 
     × (shown_path (codes "\\xff") ≡ codes "\\\\xff")
 unfolding is_utf8 chars encode has_control path_byte escaped_byte hex_digit
 other_paths = (refl, refl, refl)
+
+-- U+0080 and U+009F are control characters, U+00A0 isn't one
+last_control : (shown_path (194 ∷ 128 ∷ []) ≡ codes "\\xc2\\x80")
+    × (shown_path (194 ∷ 159 ∷ []) ≡ codes "\\xc2\\x9f")
+    × (shown_path (194 ∷ 160 ∷ []) ≡ 194 ∷ 160 ∷ [])
+unfolding is_utf8 chars encode has_control path_byte escaped_byte hex_digit
+last_control = (refl, refl, refl)

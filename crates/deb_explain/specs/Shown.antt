@@ -2,7 +2,7 @@
 use Rattle.std.specs.Prelude.{◌≡◌, ℕ, codes, refl, Vec}
 use Rattle.std.specs.declared.alloc.Global.{Global}
 use Rattle.deb_base.specs.declared.refusal.Refusal.{Refusal}
-use Rattle.deb_explain.specs.Explanations.{Told}
+use Rattle.deb_explain.specs.Explanations.{WhyRefused}
 use Rattle.deb_explain.specs.Subjects.{About, AboutWhole, AboutLine, AboutName, AboutMissing}
 use Rattle.deb_explain.specs.Subjects.{AboutField}
 use Rattle.deb_explain.specs.declared.explained.Explained.{Explained}
@@ -21,7 +21,7 @@ about_of (Missing name) = AboutMissing name.now
 about_of (Field field) =
     AboutField field.name.items field.column field.body.items field.cause
 
-abbrev pub shown_by : Explanation → Told
+abbrev pub shown_by : Explanation → WhyRefused
 shown_by explanation =
     record { refusal = explanation.refusal; about = about_of explanation.subject }
 
@@ -45,3 +45,10 @@ subjects = (λ bytes. refl, λ bytes. refl, refl, λ field. refl)
 wholes : (refusal : Refusal) → shown_by (record { refusal = refusal; subject = Whole })
     ≡ record { refusal = refusal; about = AboutWhole }
 wholes refusal = refl
+
+-- each fact is asked of its own answer
+facts_of_answers : (explanation : Explanation) (P : ℕ → Type 0) (Q : Explanation → Type 0)
+    → (IfAccepted (Accepted 2) P ≡ P 2) × (IfAccepted (Refused explanation) P ≡ Unit {0})
+    × (IfRefused (Accepted 2) Q ≡ Unit {0})
+    × (IfRefused (Refused explanation) Q ≡ Q explanation)
+facts_of_answers explanation P Q = (refl, refl, refl, refl)

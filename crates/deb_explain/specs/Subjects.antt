@@ -1,7 +1,7 @@
 -- What a refusal is about, and what is wrong there. Debian Policy 5.1 (fields), 5.3 and 5.4
 -- (required fields), 5.6 and 7 (values); which of it is told is this project's own.
-use Rattle.std.specs.Prelude.{◌≡◌, ℕ, ◌+◌, ◌-◌, ◌==◌, not, List, find, slice_get, Option, Some}
-use Rattle.std.specs.Prelude.{None, codes, refl}
+use Rattle.std.specs.Prelude.{◌≡◌, ℕ, ◌+◌, ◌-◌, ◌==◌, not, List, [], ◌∷◌, find, map, slice_get}
+use Rattle.std.specs.Prelude.{Option, Some, None, codes, refl}
 use Rattle.std.specs.List.{after_first, before_first, position_or_len, prefix_len}
 use Rattle.deb_base.specs.Bodies.{Line, is_blank_byte, pieces_of}
 use Rattle.deb_base.specs.FieldNames.{colon}
@@ -114,3 +114,20 @@ about_topic topics.Value doc text refusal paragraph =
 columns : (body_column (codes "Version: 1") ≡ 10) × (body_column (codes "Version:1") ≡ 9)
     × (body_column (codes "Depends: \t aa : b") ≡ 12) × (body_column (codes "Depends:") ≡ 9)
 columns = (refl, refl, refl, refl)
+
+-- what each code is about, by their numbers
+topics_of_codes : map topic_of
+    (code.NotUtf8 ∷ code.Armour ∷ code.Comment ∷ code.StrayContinuation ∷ code.BadFieldName
+    ∷ code.NoColon ∷ code.DuplicateField ∷ code.ParagraphTooLong ∷ code.FileTooLong
+    ∷ code.NoParagraph ∷ code.TooManyParagraphs ∷ code.MissingField ∷ [])
+    ≡ topics.Line ∷ topics.Line ∷ topics.Line ∷ topics.Line ∷ topics.Name ∷ topics.Line
+    ∷ topics.Name ∷ topics.Whole ∷ topics.Whole ∷ topics.Whole ∷ topics.Whole ∷ topics.Missing ∷ []
+topics_of_codes = refl
+
+topics_of_values : map topic_of
+    (code.NotOneLine ∷ code.BadName ∷ code.BadNumber ∷ code.BadWord ∷ code.BadArchitecture
+    ∷ code.BadVersion ∷ code.BadRelation ∷ code.AlternativesNotAllowed ∷ code.ProvidesBound
+    ∷ code.Wildcard ∷ code.BadEnvironment ∷ [])
+    ≡ topics.Value ∷ topics.Value ∷ topics.Value ∷ topics.Value ∷ topics.Value ∷ topics.Value
+    ∷ topics.Value ∷ topics.Value ∷ topics.Value ∷ topics.Whole ∷ topics.Whole ∷ []
+topics_of_values = refl

@@ -1,4 +1,4 @@
-//! What is wrong in a value, and where.
+//! Finds what is wrong in a version or a relation, and where.
 
 ghost use Rattle.std.specs.Prelude.{◌≡◌, ◌+◌, ◌≤◌, length, Some, None, IfOk};
 ghost use Rattle.std.specs.List.{position_or_len, prefix_len};
@@ -16,16 +16,16 @@ use std::alloc::{AllocError, Global};
 /// What is wrong in the body of a field.
 #[derive(Clone, Copy, Debug, PartialEq, Eq)]
 pub enum Cause {
-    /// A version has this fault, whose own place counts from the version's first byte; this stands
-    /// at the offset `start` of the body, which isn't 0 in the field Source alone (Debian Policy
+    /// A version has this fault. The fault's own offset counts from the first byte of the version,
+    /// which is at the offset `start` of the body: 0, except in the field Source (Debian Policy
     /// 5.6.1 and 5.6.12).
     Version { fault: BadVersion, start: usize },
-    /// The reading of a relation stops for this reason at the offset `at` of the body (Debian
-    /// Policy 7.1).
+    /// Reading a relation stops for this reason, at the offset `at` of the body (Debian Policy
+    /// 7.1).
     Relation { reason: Reason, at: usize },
 }
 
-/// What a word of the command line is taken for.
+/// What a command-line argument is read as.
 #[derive(Clone, Copy, Debug, PartialEq, Eq)]
 pub enum Word {
     /// A relation (Debian Policy 7.1).
@@ -34,12 +34,12 @@ pub enum Word {
     Version,
 }
 
-/// Finds what is wrong in a word of the command line: nothing exactly where it is a relation, or a
+/// Returns what is wrong in a command-line argument, or `None` exactly if it is a relation, or a
 /// version.
 ///
 /// # Errors
 ///
-/// Out of memory alone, and only for a relation.
+/// Out of memory only, and only for a relation.
 pub fn explain_word(alloc: Global, word: Word, text: &[u8]) -> Result<Option<Cause>, AllocError>
     ensures { IfOk result (λ cause. cause ≡ word_cause word text.now) }
 {
@@ -78,7 +78,7 @@ fn version_cause(kind: Kind, body: &[u8]) -> Option<Cause>
     }
 }
 
-/// What is wrong in the version that stands in the parentheses of the field Source.
+/// Returns what is wrong in the version in the parentheses of the field Source.
 fn source_cause(body: &[u8]) -> Option<Cause>
     ensures { result ≡ source_cause body.now }
 {
@@ -104,7 +104,7 @@ pub(crate) fn leading_blanks(text: &[u8]) -> usize
     text.iter().take_while(|byte| is_blank_byte(**byte)).count()
 }
 
-/// Where the first opening parenthesis stands, or the length where there is none.
+/// Returns the offset of the first opening parenthesis, or the length if there is none.
 fn open_at(body: &[u8]) -> usize
     ensures value { result ≡ position_or_len is_open body.now }
     ensures bound { result ≤ length body.now }
@@ -112,7 +112,7 @@ fn open_at(body: &[u8]) -> usize
     body.iter().take_while(|byte| **byte != b'(').count()
 }
 
-/// The fault of a version that stands at an offset of a body.
+/// Returns the fault of a version at an offset of a body.
 fn version_fault(start: usize, version: &[u8]) -> Option<Cause>
     ensures { result ≡ version_fault start version.now }
 {

@@ -1,4 +1,4 @@
-//! Explaining why a text is refused.
+//! Explains why a text is refused.
 
 ghost use Rattle.std.specs.Prelude.{◌≡◌, ℕ, List, Some, None, IfOk};
 ghost use Rattle.deb_syntax.specs.Paragraphs.{state_of};
@@ -16,19 +16,20 @@ use deb_field::Doc;
 use deb_syntax::Paragraphs;
 use std::alloc::{AllocError, Global};
 
-/// Judges a text as a document of a kind, and tells of its refusal what it is about (Debian Policy
-/// 5.1 and 5.3 to 5.6).
+/// Checks a text as a document of a kind, and returns what its refusal is about (Debian Policy 5.1
+/// and 5.3 to 5.6).
 ///
-/// The text is read twice, side by side, so that the paragraph that is refused is at hand. Beside
-/// the text, two of its paragraphs are kept, and a copy of what the refusal is about.
+/// The text is read twice in parallel, so that the refused paragraph is available. Two of its
+/// paragraphs are held in memory, and a copy of what the refusal is about.
 ///
 /// # Errors
 ///
-/// Want of memory alone.
+/// Out of memory only.
 pub fn explain(alloc: Global, doc: Doc, text: &[u8]) -> Result<Explained, AllocError>
-    ensures accepted { IfOk result (λ told. IfAccepted told (HasParagraphs doc text.now)) }
+    ensures accepted { IfOk result
+        (λ explained. IfAccepted explained (HasParagraphs doc text.now)) }
     ensures refused { IfOk result
-        (λ told. IfRefused told
+        (λ explained. IfRefused explained
         (λ explanation. explanation_of doc text.now ≡ Some (shown_by explanation))) }
 {
     let mut checked = Checked::new(alloc, doc);

@@ -1,17 +1,17 @@
-//! Why a file of Debian control data is refused, in full: the field that is meant, the name that is
-//! missing, and what is wrong in a value and where (Debian Policy 5.1, 5.3 to 5.6 and 7.1).
+//! Explains why a file of Debian control data is refused: which field is wrong or missing, and what
+//! is wrong in a value and where (Debian Policy 5.1, 5.3 to 5.6 and 7.1).
 //!
-//! - [`explain`] judges a text that lies in memory as `deb_control::check` judges a file, and tells
-//!   of the same refusal more than its code and its line.
+//! - [`explain`] checks a text in memory as `deb_control::check` checks a file, and returns more
+//!   about the same refusal than its code and line.
 //! - [`Explanation::write`] writes that in lines `key: value`.
-//! - [`explain_word`] finds what is wrong in a relation or a version of the command line, and
+//! - [`explain_word`] finds what is wrong in a relation or a version from the command line, and
 //!   [`write_refused_word`] writes that in such lines.
-//! - [`rule`] says in a sentence what a code means, and [`usually`] what its refusal usually is;
-//!   [`write_rule_of`] writes both. [`write_path`] writes a path so that it can be shown in a line.
+//! - [`write_rule_of`] writes what a code means, in a sentence, and its usual cause.
+//!   [`write_path`] writes a path so that it can be shown in a line.
 //!
 //! ```text
 //! let told = explain(alloc, Doc::Packages, b"Package: aa\nVersion: 1_2\n")?;
-//! // line 2, 18 BadVersion: the field Version, `1_2`, of which the byte at 1 can't stand there
+//! // line 2, 18 BadVersion: the field Version, `1_2`, in which the byte at 1 isn't allowed
 //! ```
 #![tactic(auto)]
 
@@ -19,15 +19,13 @@ mod cause;
 mod explained;
 mod explaining;
 mod paths;
-mod sentences;
 mod spot;
 mod subject;
-mod telling;
 mod topic;
+mod writing;
 
 pub use cause::{Cause, Word, explain_word};
 pub use explained::{Explained, Explanation, RefusedField, Subject};
 pub use explaining::explain;
 pub use paths::{write_file_line, write_path};
-pub use sentences::{rule, usually};
-pub use telling::{write_refused_word, write_rule_of};
+pub use writing::{write_refused_word, write_rule_of};

@@ -1,53 +1,57 @@
-//! The text of a path.
+//! Writes a path so that it can be shown in a line.
 
 ghost use Rattle.std.specs.Prelude.{◌≡◌, IfErr};
-ghost use Rattle.deb_base.specs.Devices.{write_failures_after, Puts, TellsWrites};
+ghost use Rattle.deb_base.specs.Devices.{write_failures_after, Puts, WriteFaultIffFailed};
 ghost use Rattle.deb_explain.specs.Paths.{has_control, is_plain, path_byte, shown_path};
-ghost use Rattle.deb_explain.specs.Telling.{file_line, path_line};
+ghost use Rattle.deb_explain.specs.Texts.{file_line, path_line};
 
-use crate::telling::write_byte;
+use crate::writing::write_byte;
 use deb_base::{Fault, Sink, put_all};
 
-/// Writes the line of a file's path, which is never shortened. Takes no memory.
+/// Writes the line `file: PATH` of an explanation; the path isn't shortened. Takes no memory.
 ///
 /// # Errors
 ///
-/// `Fault::Write` alone: a write failed in this call, and a prefix of the line was written before
+/// `Fault::Write` only: a write failed in this call, and a prefix of the line was written before
 /// it.
 pub fn write_file_line<W: Sink>(path: &[u8], out: &mut W) -> Result<(), Fault>
     ensures written { Puts (W.held out.old) (W.held out.new) result (file_line path.now) }
     ensures fault { IfErr result (λ fault. fault ≡ Fault.Write) }
-    ensures counted { W.failures out.new ≡ write_failures_after (W.failures out.old) result }
-    ensures told { TellsWrites (W.failures out.old) (W.failures out.new) result }
+    ensures counts_failure { W.failures out.new ≡ write_failures_after (W.failures out.old) result }
+    ensures fault_iff_write_failed { WriteFaultIffFailed (W.failures out.old) (W.failures out.new)
+        result }
 {
     write_path_line(b"file: ", path, out)
 }
 
 /// Writes the line of a path after its key.
-#[tactic(auto, using(deb_base::proofs::Writes::puts), unfolding(crate::specs::Telling::path_line))]
+#[tactic(auto, using(deb_base::proofs::Writes::puts), unfolding(crate::specs::Texts::path_line))]
 fn write_path_line<W: Sink>(key: &[u8], path: &[u8], out: &mut W) -> Result<(), Fault>
     ensures written { Puts (W.held out.old) (W.held out.new) result (path_line key.now path.now) }
     ensures fault { IfErr result (λ fault. fault ≡ Fault.Write) }
-    ensures counted { W.failures out.new ≡ write_failures_after (W.failures out.old) result }
-    ensures told { TellsWrites (W.failures out.old) (W.failures out.new) result }
+    ensures counts_failure { W.failures out.new ≡ write_failures_after (W.failures out.old) result }
+    ensures fault_iff_write_failed { WriteFaultIffFailed (W.failures out.old) (W.failures out.new)
+        result }
 {
     put_all(out, key)?;
     write_path(path, out)?;
     put_all(out, b"\n")
 }
 
-/// Writes a path so that it can be shown in a line: a control character and a backslash as `\n`,
-/// `\t`, `\\` or `\xNN`, all other text as it is. Where the path isn't UTF-8, or holds a control
+/// Writes a path so that it can be shown in a line: control characters and backslashes as `\n`,
+/// `\t`, `\\` or `\xNN`, other text unchanged. If the path isn't UTF-8, or contains a control
 /// character from U+0080 to U+009F, each byte beyond ASCII is written as `\xNN`. Takes no memory.
 ///
 /// # Errors
 ///
-/// `Fault::Write` alone: a write failed in this call, and a prefix of that was written before it.
+/// `Fault::Write` only: a write failed in this call, and a prefix of that text was written before
+/// it.
 pub fn write_path<W: Sink>(path: &[u8], out: &mut W) -> Result<(), Fault>
     ensures written { Puts (W.held out.old) (W.held out.new) result (shown_path path.now) }
     ensures fault { IfErr result (λ fault. fault ≡ Fault.Write) }
-    ensures counted { W.failures out.new ≡ write_failures_after (W.failures out.old) result }
-    ensures told { TellsWrites (W.failures out.old) (W.failures out.new) result }
+    ensures counts_failure { W.failures out.new ≡ write_failures_after (W.failures out.old) result }
+    ensures fault_iff_write_failed { WriteFaultIffFailed (W.failures out.old) (W.failures out.new)
+        result }
 {
     let plain = is_plain(path);
     for byte in path {
@@ -85,7 +89,7 @@ fn has_control(text: &[u8]) -> bool
 fn write_path_byte<W: Sink>(plain: bool, byte: u8, out: &mut W) -> Result<(), Fault>
     ensures written { Puts (W.held out.old) (W.held out.new) result (path_byte plain byte) }
     ensures fault { IfErr result (λ fault. fault ≡ Fault.Write) }
-    ensures counted { W.failures out.new ≡ write_failures_after (W.failures out.old) result }
+    ensures counts_failure { W.failures out.new ≡ write_failures_after (W.failures out.old) result }
 {
     if plain && byte >= 0x80 {
         put_all(out, &[byte])

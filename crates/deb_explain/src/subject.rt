@@ -1,4 +1,4 @@
-//! What a refusal is about.
+//! Finds the line, the name or the field that a refusal is about.
 
 ghost use Rattle.std.specs.Prelude.{◌≡◌, ◌≤◌, ◌==◌, not, length, map, option_map, IfOk};
 ghost use Rattle.std.specs.List.{before_first, position_or_len};
@@ -50,7 +50,7 @@ fn line_subject(alloc: Global, text: &[u8], number: u64) -> Result<Subject, Allo
     }
 }
 
-/// What stands before the first colon of the line of a number.
+/// Returns the text before the first colon of the line with a number.
 fn name_subject(alloc: Global, text: &[u8], number: u64) -> Result<Subject, AllocError>
     ensures { IfOk result (λ subject. about_of subject ≡ about_name number text.now) }
 {
@@ -68,14 +68,14 @@ fn line_numbered(text: &[u8], number: u64) -> Option<&[u8]>
         .nth(number.saturating_sub(1) as usize)
 }
 
-/// What stands before the first colon, or all where there is none.
+/// Returns the text before the first colon, or all if there is none.
 fn before_colon(line: &[u8]) -> &[u8]
     ensures { result.now ≡ before_first (λ b. b == colon) line.now }
 {
     &line[..colon_at(line)]
 }
 
-/// Where the first colon stands, or the length where there is none.
+/// Returns the offset of the first colon, or the length if there is none.
 fn colon_at(line: &[u8]) -> usize
     ensures value { result ≡ position_or_len (λ b. b == colon) line.now }
     ensures bound { result ≤ length line.now }

@@ -1,4 +1,4 @@
-//! What the codes of refusals are about.
+//! Which part of a file an error code is about. `subject` finds that part.
 
 ghost use Rattle.std.specs.Prelude.{◌≡◌};
 ghost use Rattle.deb_explain.specs.Subjects.{topic_of};
@@ -8,11 +8,11 @@ use deb_base::Code;
 /// What a code of refusals is about.
 #[derive(Clone, Copy)]
 pub(crate) enum Topic {
-    /// A length, a number of paragraphs, or the words of a query.
+    /// A length, a number of paragraphs, or the arguments of a query.
     Whole,
     /// A line.
     Line,
-    /// What stands before the colon of a line.
+    /// The text before the colon of a line.
     Name,
     /// A name that no field of a paragraph has.
     Missing,

@@ -25,3 +25,14 @@ pub record RefusalLaw (Meaning : Type 0) (spells : List ℕ → Meaning → Type
     (refusal : List ℕ → Option Code) : Type 0 where
   pub spelled : (body : List ℕ) → refusal body ≡ None → (m : Meaning) × spells body m
   pub unrefused : (body : List ℕ) (m : Meaning) → spells body m → refusal body ≡ None
+
+-- what spells a meaning of one kind spells the meaning among those of all kinds
+abbrev pub Through : {M V : Type 0} → (M → V) → (List ℕ → M → Type 0) → List ℕ → V → Type 0
+Through {M} inject spells body v = (m : M) × (v ≡ inject m) × spells body m
+
+-- a canonical text is at most twice as long as each body that spells the meaning
+length_of_texts : (Meaning : Type 0) (spells : List ℕ → Meaning → Type 0)
+    (text_of : Meaning → List ℕ) → CanonLaw Meaning spells text_of → (body : List ℕ)
+    (m : Meaning) → spells body m
+    → length (text_of m) ≤ 2 * length body
+length_of_texts Meaning spells text_of law = law.is_short

@@ -1,8 +1,10 @@
+-- Lemmas that the prover checks: nothing in this file needs to be believed.
+--
 -- What follows from the law of a kind, and the law of a kind of values among several.
 use Rattle.std.proofs.Common.{◌≡◌, ℕ, ◌*◌, ◌≤◌, List, length, Option, refl, sym, ap, ◌∙◌, subst}
 use Rattle.deb_base.specs.Bodies.{IsBody}
 use Rattle.deb_base.specs.declared.code.Code.{Code}
-use Rattle.deb_field.specs.CanonLaw.{CanonLaw, OneText, RefusalLaw}
+use Rattle.deb_field.specs.CanonLaw.{CanonLaw, OneText, RefusalLaw, Through}
 
 pub one_text : (M : Type 0) (spells : List ℕ → M → Type 0) (text_of : M → List ℕ)
     → CanonLaw M spells text_of → OneText M spells text_of
@@ -11,10 +13,6 @@ one_text M spells text_of law body other m n s t = (
       (subst (λ text. spells text n) (sym same) (law.reads_back other n t)),
   ap text_of,
 )
-
--- what spells a meaning of one kind spells the meaning among those of all kinds
-abbrev pub Through : {M V : Type 0} → (M → V) → (List ℕ → M → Type 0) → List ℕ → V → Type 0
-Through {M} inject spells body v = (m : M) × (v ≡ inject m) × spells body m
 
 pub law-through : (M V : Type 0) (inject : M → V) (spells : List ℕ → M → Type 0)
     (text_of : M → List ℕ) (text : V → List ℕ) → ((m : M) → text (inject m) ≡ text_of m)

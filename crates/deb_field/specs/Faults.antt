@@ -52,3 +52,19 @@ others_take_none : map takes_memory
     ∷ kinds.Flag ∷ kinds.MultiArch ∷ kinds.Number ∷ kinds.Line ∷ kinds.Folded ∷ kinds.Text ∷ [])
     ≡ false ∷ false ∷ false ∷ false ∷ false ∷ false ∷ false ∷ false ∷ false ∷ false ∷ false ∷ []
 others_take_none = refl
+
+-- what a fault says: only relations run out of memory, a code is that of the body, and if a body
+-- spells a value no code is returned
+memory_for_relations : (kind : Kind) (body : List ℕ) (m : ValueMeaning)
+    → (IsFaultOf kind body Memory → IsTrue (takes_memory kind))
+    × (IsRead kind (Err Memory) m → IsTrue (takes_memory kind))
+memory_for_relations kind body m = (λ is. is, λ is. is)
+
+codes_of_bodies : (kind : Kind) (body : List ℕ) (code : Code) (refusal : Option Code)
+    → (IsFaultOf kind body (Refused code) → kind_refusal kind body ≡ Some code)
+    × (IsFaultOrMemory refusal (Refused code) → refusal ≡ Some code)
+codes_of_bodies kind body code refusal = (λ is. is, λ is. is)
+
+no_code_of_values : (kind : Kind) (code : Code) (m : ValueMeaning)
+    → IsRead kind (Err (Refused code)) m → ⊥
+no_code_of_values kind code m none = none

@@ -1,6 +1,6 @@
 -- The words of Essential and of Multi-Arch. Debian Policy 5.6.9 (Essential); the words of
 -- Multi-Arch are those of deb-control(5).
-use Rattle.std.specs.Prelude.{◌≡◌, ℕ, ◌||◌, Bool, List, [], Option, Some, None, codes, refl}
+use Rattle.std.specs.Prelude.{◌≡◌, ℕ, ◌||◌, Bool, List, [], ◌∷◌, map, Option, Some, None, codes, refl}
 use Rattle.std.specs.Str.{bytes_eq}
 use Rattle.deb_base.specs.declared.code.Code.{Code}
 use Rattle.deb_base.specs.declared.code.Code.TheVariants.{NotOneLine, BadWord}
@@ -57,3 +57,27 @@ multi_arch_words = (refl, refl, refl, refl)
 no_multi_arch_words : (multi_arch_refusal (codes "Same") ≡ Some BadWord)
     × (multi_arch_refusal (codes "yes") ≡ Some BadWord) × (multi_arch_refusal [] ≡ Some BadWord)
 no_multi_arch_words = (refl, refl, refl)
+
+-- the words themselves
+texts_of_flags : map flag_text (flags.Yes ∷ flags.No ∷ []) ≡ codes "yes" ∷ codes "no" ∷ []
+texts_of_flags = refl
+
+texts_of_multi_arch : map multi_arch_text
+    (multi_archs.No ∷ multi_archs.Same ∷ multi_archs.Foreign ∷ multi_archs.Allowed ∷ [])
+    ≡ codes "no" ∷ codes "same" ∷ codes "foreign" ∷ codes "allowed" ∷ []
+texts_of_multi_arch = refl
+
+-- other words for the same, and words that only begin or end so
+other_flags : map flag_refusal
+    (codes "true" ∷ codes "1" ∷ codes "y" ∷ codes "YES" ∷ codes "yes " ∷ codes "yess"
+    ∷ codes "false" ∷ codes "none" ∷ codes "same" ∷ [])
+    ≡ Some BadWord ∷ Some BadWord ∷ Some BadWord ∷ Some BadWord ∷ Some BadWord ∷ Some BadWord
+    ∷ Some BadWord ∷ Some BadWord ∷ Some BadWord ∷ []
+other_flags = refl
+
+other_multi_arch : map multi_arch_refusal
+    (codes "none" ∷ codes "all" ∷ codes "any" ∷ codes "both" ∷ codes "allow" ∷ codes "foreign "
+    ∷ codes "NO" ∷ [])
+    ≡ Some BadWord ∷ Some BadWord ∷ Some BadWord ∷ Some BadWord ∷ Some BadWord ∷ Some BadWord
+    ∷ Some BadWord ∷ []
+other_multi_arch = refl

@@ -1,3 +1,5 @@
+-- Lemmas that the prover checks: nothing in this file needs to be believed.
+--
 -- The laws for numbers.
 use Rattle.std.proofs.Common.{◌≡◌, ℕ, ◌*◌, ◌≤◌, List, length, ◌==◌, not, true, IsTrue, refl, sym, ◌∙◌, arith, subst, rules, tests}
 use Rattle.std.specs.Char.{is_ascii_digit}

@@ -1,7 +1,7 @@
 -- Bodies of which one line is asked, and the refusal of a body by a test. Debian Policy 5.1 (simple
 -- fields); the order of the refusals is this project's own.
-use Rattle.std.specs.Prelude.{◌≡◌, ℕ, ◌==◌, Bool, true, false, cond, List, Option, Some, None, codes, refl}
-use Rattle.std.specs.List.{list_any}
+use Rattle.std.specs.Prelude.{◌≡◌, ℕ, ◌==◌, Bool, true, false, cond, List, [], ◌∷◌, Option, Some, None, codes, refl}
+use Rattle.std.specs.List.{list_any, filter, range_with_len}
 use Rattle.deb_base.specs.Bodies.{newline}
 use Rattle.deb_base.specs.declared.code.Code.{Code}
 use Rattle.deb_base.specs.declared.code.Code.TheVariants.{NotOneLine, BadName}
@@ -26,3 +26,12 @@ own_code = refl
 
 no_refusal : line_refusal (codes "aa") (refusal_unless true BadName) ≡ None
 no_refusal = refl
+
+-- of all bytes the one that ends a line: a carriage return ends none
+line_ends : filter (λ b. holds_newline (b ∷ [])) (range_with_len 0 256) ≡ 10 ∷ []
+line_ends = refl
+
+carriage_returns : (holds_newline (codes "a\rb\r") ≡ false)
+    × (line_refusal (codes "a\rb") None ≡ None)
+    × (line_refusal (codes "a\r\n b") None ≡ Some NotOneLine)
+carriage_returns = (refl, refl, refl)

@@ -1,3 +1,5 @@
+-- Lemmas that the prover checks: nothing in this file needs to be believed.
+--
 -- Facts about bodies of one line and about refusals by a test.
 use Rattle.std.proofs.Common.{◌≡◌, ℕ, ◌==◌, Bool, true, false, cond, List, [], ◌∷◌, Option, Some, None, refl, arith}
 use Rattle.std.proofs.lemmas.Bool.Decides.{nat_tests}

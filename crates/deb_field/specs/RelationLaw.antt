@@ -1,3 +1,5 @@
+-- Lemmas that the prover checks: nothing in this file needs to be believed.
+--
 -- The law for relationship fields, and what their refusals do.
 use Rattle.std.proofs.Common.{◌≡◌, ℕ, Bool, true, false, cond, List, Some, None, Result, Ok, Err, refl, ap, ◌∙◌}
 use Rattle.deb_base.specs.declared.code.Code.TheVariants.{AlternativesNotAllowed, ProvidesBound}

@@ -1,3 +1,5 @@
+-- Lemmas that the prover checks: nothing in this file needs to be believed.
+--
 -- Each `SourceName` is spelled by a body.
 use Rattle.std.proofs.Common.{ℕ, IsTrue, List, [], ◌∷◌, ◌++◌, Option, Some, None, refl}
 use Rattle.std.specs.Option.{option_map}

@@ -135,3 +135,22 @@ names_and_versions : (name_before (codes "aa \t(1 (2)") ≡ codes "aa")
     × (version_within (codes "aa ( 1 )") ≡ codes "1")
     × (version_within (codes "aa (1) (2)") ≡ codes "1) (2")
 names_and_versions = (refl, refl, refl)
+
+-- the first opening parenthesis counts, and the last byte; a name has no blank before it
+parentheses : (source_refusal (codes "aa ((1))") ≡ Some BadVersion)
+    × (source_refusal (codes "aa (1))") ≡ Some BadVersion)
+    × (source_refusal (codes "aa) (1)") ≡ Some BadName)
+    × (source_refusal (codes " aa (1)") ≡ Some BadName)
+    × (source_refusal (codes "aa (1)\t") ≡ Some BadName)
+    × (source_refusal (codes "aa 1)") ≡ Some BadName)
+    × (source_refusal (codes "aa [1]") ≡ Some BadName)
+    × (source_refusal (codes "aa (1 2)") ≡ Some BadVersion)
+unfolding first_fault
+parentheses = (refl, refl, refl, refl, refl, refl, refl, refl)
+
+-- a bad name goes before a bad version, and more than one line before both
+order_of_faults : (source_refusal (codes "a (1_)") ≡ Some BadName)
+    × (source_refusal (codes "aa (1_") ≡ Some BadName)
+    × (source_refusal (codes "a\n (1_)") ≡ Some NotOneLine)
+unfolding first_fault
+order_of_faults = (refl, refl, refl)

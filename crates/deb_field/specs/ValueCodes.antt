@@ -93,3 +93,8 @@ refusals_are_of_values Line body = from_line body None tt
 refusals_are_of_values Folded body = tt
 refusals_are_of_values (Relation sort) body = of_reading sort (relation_in body)
 refusals_are_of_values Text body = tt
+
+-- the codes from that of a body of more than one line to that of a bound in Provides
+codes_of_values : (code : Code) → IsCodeOfValues code
+    → (13 ≤ number_of code) × (number_of code ≤ 21)
+codes_of_values code is = is

@@ -1,3 +1,5 @@
+-- Lemmas that the prover checks: nothing in this file needs to be believed.
+--
 -- The laws for values of all kinds.
 use Rattle.std.proofs.Common.{◌≡◌, ℕ, Bool, true, false, cond, List, ◌∷◌, codes, refl, ap}
 use Rattle.std.specs.Str.{bytes_eq}
@@ -130,11 +132,3 @@ fields_of_any_are_texts name = same_kind (bytes_eq (folded (codes "Architecture"
 pub kind_of_canonical_name : KindOfCanonicalName
 kind_of_canonical_name doc name =
     kind_goes_by_name doc (canonical_name name) name (folded-canonical_name name)
-
-pub spells_canonical_name : (doc : Doc) (name : List ℕ)
-    → SpellsValue doc (canonical_name name) ≡ SpellsValue doc name
-spells_canonical_name doc name = ap SpellsKind (kind_of_canonical_name doc name)
-
-pub refusal_of_canonical_name : (doc : Doc) (name : List ℕ)
-    → value_refusal doc (canonical_name name) ≡ value_refusal doc name
-refusal_of_canonical_name doc name = ap kind_refusal (kind_of_canonical_name doc name)

@@ -8,7 +8,7 @@ use Rattle.deb_version.specs.Grammar.{SpellsVersion}
 use Rattle.deb_version.specs.Canonical.{version_text, digits_of}
 use Rattle.deb_relation.specs.Meaning.{Relation as RelationMeaning}
 use Rattle.deb_relation.specs.Texts.{relation_text}
-use Rattle.deb_field.specs.CanonLaws.{Through}
+use Rattle.deb_field.specs.CanonLaw.{Through}
 use Rattle.deb_field.specs.Flags.{flag_text, SpellsFlag, flag_refusal, multi_arch_text, SpellsMultiArch, multi_arch_refusal}
 use Rattle.deb_field.specs.Kinds.{kind_of}
 use Rattle.deb_field.specs.Numbers.{SpellsNumber, number_refusal}

@@ -1,3 +1,5 @@
+-- Lemmas that the prover checks, and words for them: nothing in this file needs to be believed.
+--
 -- How the words of a text are cut off, one after the other.
 use Rattle.std.proofs.Common.{◌≡◌, ℕ, suc, ◌+◌, ◌-◌, ◌==◌, Bool, true, false, not, cond, List, [], ◌∷◌, length, take, drop, refl, sym, ap, ◌∙◌, arith}
 use Rattle.std.specs.Prelude.{codes}

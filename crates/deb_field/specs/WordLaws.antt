@@ -1,3 +1,5 @@
+-- Lemmas that the prover checks, and words for them: nothing in this file needs to be believed.
+--
 -- The laws for folded fields and for the names of architectures.
 use Rattle.std.proofs.Common.{◌≡◌, ℕ, ◌*◌, ◌==◌, ◌<◌, ◌≤◌, Bool, true, false, cond, IsTrue, List, [], ◌∷◌, ◌++◌, length, append-nil, append_assoc, refl, sym, ap, ◌∙◌, subst, arith}
 use Rattle.std.proofs.lemmas.Bool.Decides.{nat_tests}

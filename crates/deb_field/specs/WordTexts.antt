@@ -1,3 +1,5 @@
+-- Lemmas that the prover checks, and words for them: nothing in this file needs to be believed.
+--
 -- The text of words with one space between two of them.
 use Rattle.std.proofs.Common.{◌≡◌, ℕ, ◌+◌, ◌≤◌, Bool, true, false, cond, List, [], ◌∷◌, ◌++◌, length, length-append, append-nil, append_assoc, refl, sym, ap, ◌∙◌, arith}
 use Rattle.std.specs.Prelude.{codes}

@@ -1,7 +1,7 @@
 -- The words of a text: the runs of bytes between white space, which is spaces, tabs and newlines.
 -- Debian Policy 5.1 (folded fields) and 5.6.8 (architectures).
 use Rattle.std.specs.Prelude.{◌≡◌, ℕ, ◌==◌, ◌||◌, not, Bool, List, [], ◌∷◌, length, Option, Some, None, IsTrue, codes, refl}
-use Rattle.std.specs.List.{filter, list_all, slice_split, join_with_byte}
+use Rattle.std.specs.List.{filter, list_all, slice_split, join_with_byte, range_with_len}
 use Rattle.deb_base.specs.Bodies.{newline, is_blank_byte}
 use Rattle.deb_base.specs.PackageNames.{is_arch_name}
 use Rattle.deb_base.specs.declared.code.Code.{Code}
@@ -56,3 +56,20 @@ architecture_words : (architectures_refusal [] ≡ None)
     × (architectures_refusal (codes "linux-any\n arm64") ≡ None)
     × (architectures_refusal (codes "any All") ≡ Some BadArchitecture)
 architecture_words = (refl, refl, refl, refl)
+
+-- of all bytes those of white space: neither a form feed, nor a vertical tab, nor a carriage return
+white_bytes : filter is_white (range_with_len 0 256) ≡ 9 ∷ 10 ∷ 32 ∷ []
+white_bytes = refl
+
+form_feed : words_of (97 ∷ 12 ∷ 98 ∷ 11 ∷ 99 ∷ []) ≡ (97 ∷ 12 ∷ 98 ∷ 11 ∷ 99 ∷ []) ∷ []
+form_feed = refl
+
+-- words keep their order, and one that comes twice is kept twice
+words_in_order : words_text (words_of (codes "b  a\tb")) ≡ codes "b a b"
+words_in_order = refl
+
+-- one word that is no architecture is enough, whichever it is
+bad_architecture_words : (architectures_refusal (codes "amd64, i386") ≡ Some BadArchitecture)
+    × (architectures_refusal (codes "-a any") ≡ Some BadArchitecture)
+    × (architectures_refusal (codes "any !i386") ≡ Some BadArchitecture)
+bad_architecture_words = (refl, refl, refl)

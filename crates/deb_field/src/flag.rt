@@ -1,4 +1,4 @@
-//! The words of Essential and of Multi-Arch.
+//! The values of Essential and of Multi-Arch: one of a few words.
 
 ghost use Rattle.std.specs.Prelude.{◌≡◌, Some, IfOk, IfErr, refl};
 ghost use Rattle.std.specs.Str.{bytes_eq};
@@ -9,7 +9,7 @@ use crate::one_line::holds_newline;
 use deb_base::Code;
 use std::alloc::AllocError;
 
-/// What the field Essential says (Debian Policy 5.6.9).
+/// The value of the field Essential (Debian Policy 5.6.9).
 #[derive(Clone, Copy, Debug, PartialEq, Eq)]
 pub enum Flag {
     /// `yes`
@@ -19,11 +19,11 @@ pub enum Flag {
 }
 
 impl Flag {
-    /// The flag that a body spells: `yes` or `no`, in lower case.
+    /// Parses a body: `yes` or `no`, in lower case.
     ///
     /// # Errors
     ///
-    /// `NotOneLine` for a body of more than one line, else `BadWord` for one that is neither word.
+    /// `NotOneLine` for a body of more than one line, else `BadWord` if it is neither word.
     pub fn parse(body: &[u8]) -> Result<Flag, Code>
         ensures ok { IfOk result (λ flag. SpellsFlag body.now flag) }
         ensures refused { IfErr result (λ code. flag_refusal body.now ≡ Some code) }
@@ -40,7 +40,7 @@ impl Flag {
         }
     }
 
-    /// The word of the flag.
+    /// Returns the word of the flag.
     pub fn word(self) -> &'static [u8]
         ensures { result.now ≡ flag_text self }
     {
@@ -80,7 +80,7 @@ impl Canon for Flag {
     }
 }
 
-/// What the field Multi-Arch says (deb-control(5)).
+/// The value of the field Multi-Arch (deb-control(5)).
 #[derive(Clone, Copy, Debug, PartialEq, Eq)]
 pub enum MultiArch {
     /// `no`
@@ -94,12 +94,11 @@ pub enum MultiArch {
 }
 
 impl MultiArch {
-    /// What a body spells: `no`, `same`, `foreign` or `allowed`, in lower case.
+    /// Parses a body: `no`, `same`, `foreign` or `allowed`, in lower case.
     ///
     /// # Errors
     ///
-    /// `NotOneLine` for a body of more than one line, else `BadWord` for one that is none of the
-    /// words.
+    /// `NotOneLine` for a body of more than one line, else `BadWord` if it is none of the words.
     pub fn parse(body: &[u8]) -> Result<MultiArch, Code>
         ensures ok { IfOk result (λ word. SpellsMultiArch body.now word) }
         ensures refused { IfErr result (λ code. multi_arch_refusal body.now ≡ Some code) }
@@ -120,7 +119,7 @@ impl MultiArch {
         }
     }
 
-    /// The word.
+    /// Returns the word.
     pub fn word(self) -> &'static [u8]
         ensures { result.now ≡ multi_arch_text self }
     {

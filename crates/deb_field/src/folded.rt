@@ -19,14 +19,14 @@ pub struct Folded<'a> {
 impl<'a> Folded<'a> {
     ghost use Rattle.deb_field.specs.Shown.{folded_words, words_left};
 
-    /// The words of a body: every body is folded.
+    /// Returns the words of a body. Every body is folded.
     pub fn new(body: &'a [u8]) -> Folded<'a>
         ensures { SpellsFolded body.now (folded_words result) }
     {
         Folded { body }
     }
 
-    /// The words, in order.
+    /// Returns the words, in order.
     pub fn words(&self) -> Words<'a>
         ensures { words_left result ≡ folded_words self.now }
     {
@@ -63,7 +63,7 @@ impl Canon for Folded<'_> {
     }
 }
 
-/// The names of architectures, in order, and perhaps none (Debian Policy 5.6.8).
+/// Names of architectures, in order; there may be none (Debian Policy 5.6.8).
 #[derive(Clone, Copy, Debug)]
 pub struct ArchitectureWords<'a> {
     body: &'a [u8],
@@ -73,11 +73,11 @@ pub struct ArchitectureWords<'a> {
 impl<'a> ArchitectureWords<'a> {
     ghost use Rattle.deb_field.specs.Shown.{architectures_named, words_left};
 
-    /// The names of architectures in a body, with white space between them.
+    /// Parses names of architectures, with white space between them.
     ///
     /// # Errors
     ///
-    /// `BadArchitecture` where a word of the body is no name of an architecture.
+    /// `BadArchitecture` if a word of the body isn't the name of an architecture.
     pub fn parse(body: &'a [u8]) -> Result<ArchitectureWords<'a>, Code>
         ensures ok { IfOk result
             (λ names. SpellsArchitectures body.now (architectures_named names)) }
@@ -89,7 +89,7 @@ impl<'a> ArchitectureWords<'a> {
         Ok(ArchitectureWords { body })
     }
 
-    /// The names, in order.
+    /// Returns the names, in order.
     pub fn names(&self) -> Words<'a>
         ensures { words_left result ≡ architectures_named self.now }
     {

@@ -1,4 +1,4 @@
-//! Laws of values. Each function does nothing, and its contract is the law.
+//! Laws of values. Each function does nothing; its contract is the law.
 
 ghost use Rattle.std.specs.Prelude.{ℕ, List};
 ghost use Rattle.deb_base.specs.declared.doc.Doc.{Doc};
@@ -47,7 +47,7 @@ pub fn kinds_have_canonical_text()
     ensures texts { CanonLaw (List ℕ) SpellsText text_itself }
 {}
 
-/// Values of a kind that are spelled have equal canonical text exactly where they are equal.
+/// The canonical texts of two values of a kind are equal exactly if the values are equal.
 pub fn canonical_text_tells_values()
     ensures of_fields { (doc : Doc) (name : List ℕ)
         → OneText ValueMeaning (SpellsValue doc name) value_text }
@@ -71,7 +71,7 @@ pub fn kinds_have_one_text()
     ensures texts { OneText (List ℕ) SpellsText text_itself }
 {}
 
-/// In a field, and as one of a kind, a body has a refusal exactly where it spells no value.
+/// A body has a refusal, in a field and as a value of a kind, exactly if it spells no value.
 pub fn bodies_are_spelled_or_refused()
     ensures of_fields { (doc : Doc) (name : List ℕ)
         → RefusalLaw ValueMeaning (SpellsValue doc name) (value_refusal doc name) }
@@ -84,14 +84,15 @@ pub fn refusals_are_of_values()
     ensures { RefusalsAreOfValues }
 {}
 
-/// The kind of a field goes by its name without case alone, so that it is the kind of the name's
-/// canonical spelling. What spells a value of the field, and what is refused, goes by its kind.
+/// The kind of a field depends only on its name without case, so the canonical spelling of the name
+/// has the same kind. What spells a value of the field, and what is refused, depends only on its
+/// kind.
 pub fn kinds_go_by_names()
     ensures same { KindGoesByName }
     ensures canonical { KindOfCanonicalName }
 {}
 
-/// In control data of which no value is judged each field is a text.
+/// Under `Doc::Any` each field is a text.
 pub fn fields_of_any_are_texts()
     ensures { FieldsOfAnyAreTexts }
 {}

@@ -1,11 +1,11 @@
-//! What the bodies of Debian control fields mean: the kind of each field's value, its meaning, its
-//! canonical text, and why a body is refused.
+//! The values of Debian control fields: the kind of each field's value, its meaning, its canonical
+//! text, and why a body is refused.
 //!
 //! - [`kind_of`] finds the kind of a field by its name, without ASCII case (Debian Policy 5.1,
 //!   5.6).
 //! - [`Value::parse`] reads a body as a value of that kind; [`Value`] has one variant for each
 //!   kind, with a type of its own. Values borrow the body, and only relations take memory.
-//! - [`Canon`] gives canonical text: two bodies of a field have equal canonical text exactly if
+//! - [`Canon`] writes canonical text: two bodies of a field have equal canonical text exactly if
 //!   they mean the same, and canonical text is a body that spells the same value.
 //!
 //! ```text

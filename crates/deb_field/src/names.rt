@@ -1,4 +1,4 @@
-//! The names of packages and of architectures.
+//! Values that are the name of a package or of an architecture.
 
 ghost use Rattle.std.specs.Prelude.{◌≡◌, ℕ, List, Some, IfOk, IfErr, IsTrue, refl};
 ghost use Rattle.deb_base.specs.PackageNames.{is_package_name, is_arch_name};
@@ -19,11 +19,11 @@ pub struct PackageName<'a> {
 impl<'a> PackageName<'a> {
     ghost use Rattle.deb_field.specs.Shown.{package_name};
 
-    /// The name of a package that a body spells.
+    /// Parses the name of a package.
     ///
     /// # Errors
     ///
-    /// `NotOneLine` for a body of more than one line, else `BadName` for one that is no name of a
+    /// `NotOneLine` for a body of more than one line, else `BadName` if it isn't the name of a
     /// package.
     pub fn parse(body: &'a [u8]) -> Result<PackageName<'a>, Code>
         ensures ok { IfOk result (λ name. SpellsName body.now (package_name name)) }
@@ -38,7 +38,7 @@ impl<'a> PackageName<'a> {
         Ok(PackageName { bytes: body })
     }
 
-    /// The bytes of the name.
+    /// Returns the bytes of the name.
     pub fn bytes(&self) -> &'a [u8]
         ensures { result.now ≡ package_name self.now }
     {
@@ -85,12 +85,12 @@ pub struct ArchitectureName<'a> {
 impl<'a> ArchitectureName<'a> {
     ghost use Rattle.deb_field.specs.Shown.{architecture_name};
 
-    /// The name of an architecture that a body spells.
+    /// Parses the name of an architecture.
     ///
     /// # Errors
     ///
-    /// `NotOneLine` for a body of more than one line, else `BadArchitecture` for one that is no
-    /// name of an architecture.
+    /// `NotOneLine` for a body of more than one line, else `BadArchitecture` if it isn't the name
+    /// of an architecture.
     pub fn parse(body: &'a [u8]) -> Result<ArchitectureName<'a>, Code>
         ensures ok { IfOk result (λ name. SpellsArchitecture body.now (architecture_name name)) }
         ensures refused { IfErr result (λ code. architecture_refusal body.now ≡ Some code) }
@@ -104,7 +104,7 @@ impl<'a> ArchitectureName<'a> {
         Ok(ArchitectureName { bytes: body })
     }
 
-    /// The bytes of the name.
+    /// Returns the bytes of the name.
     pub fn bytes(&self) -> &'a [u8]
         ensures { result.now ≡ architecture_name self.now }
     {

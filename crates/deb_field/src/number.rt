@@ -1,4 +1,4 @@
-//! Numbers in decimal, of any size.
+//! Decimal numbers of any size.
 
 ghost use Rattle.std.specs.Prelude.{◌≡◌, Some, IfOk, IfErr, IsTrue};
 ghost use Rattle.std.specs.Char.{is_ascii_digit};
@@ -12,7 +12,7 @@ use crate::one_line::holds_newline;
 use deb_base::Code;
 use std::alloc::AllocError;
 
-/// A number in decimal, of any size, without leading zeros. It means its value.
+/// A decimal number of any size, without leading zeros. It means its value.
 #[derive(Clone, Copy, Debug)]
 pub struct Number<'a> {
     digits: &'a [u8],
@@ -23,12 +23,12 @@ pub struct Number<'a> {
 impl<'a> Number<'a> {
     ghost use Rattle.deb_field.specs.Shown.{number_value};
 
-    /// The number that a body spells: one or more decimal digits, with leading zeros or without.
+    /// Parses one or more decimal digits, with or without leading zeros.
     ///
     /// # Errors
     ///
-    /// `NotOneLine` for a body of more than one line, else `BadNumber` for one that isn't one or
-    /// more digits.
+    /// `NotOneLine` for a body of more than one line, else `BadNumber` if it isn't one or more
+    /// digits.
     pub fn parse(body: &'a [u8]) -> Result<Number<'a>, Code>
         ensures ok { IfOk result (λ number. SpellsNumber body.now (number_value number)) }
         ensures refused { IfErr result (λ code. number_refusal body.now ≡ Some code) }
@@ -44,7 +44,7 @@ impl<'a> Number<'a> {
         })
     }
 
-    /// The digits of the number, without leading zeros; of zero it is one `0`.
+    /// Returns the digits of the number, without leading zeros; for zero, one `0`.
     pub fn digits(&self) -> &'a [u8]
         ensures { result.now ≡ digits_of (number_value self.now) }
     {

@@ -1,4 +1,4 @@
-//! Bodies of which one line is asked.
+//! The test that a body has only one line.
 
 ghost use Rattle.std.specs.Prelude.{◌≡◌};
 ghost use Rattle.deb_field.specs.OneLine.{holds_newline};

@@ -1,4 +1,4 @@
-//! Relationship fields.
+//! The values of relationship fields.
 
 ghost use Rattle.std.specs.Prelude.{◌≡◌, None, IfOk, IfErr};
 ghost use Rattle.deb_relation.specs.Meaning.{Relation as RelationMeaning};
@@ -14,7 +14,7 @@ use deb_base::Code;
 use deb_relation::{Relation, RelationFault, RelationText};
 use std::alloc::{AllocError, Global};
 
-/// What a relationship field holds: a set of groups of alternatives (Debian Policy 7.1).
+/// The value of a relationship field: a set of groups of alternatives (Debian Policy 7.1).
 #[derive(Debug, Drop)]
 pub struct RelationField<'a> {
     relationship: Relationship,
@@ -27,13 +27,13 @@ impl<'a> RelationField<'a> {
     ghost use Rattle.deb_field.specs.RelationSpelled.{relation_meaning};
     ghost use Rattle.deb_field.specs.Shown.{sort_of};
 
-    /// The relation that a body spells in a field of this sort.
+    /// Parses a relation in a field of this sort.
     ///
     /// # Errors
     ///
-    /// `BadRelation` where the body spells no relation; else `AlternativesNotAllowed` where a group
-    /// has two or more alternatives and the field takes none; else `ProvidesBound` where a bound
-    /// has an operator other than `=` and the field takes that alone. Or want of memory.
+    /// `BadRelation` if the body isn't a relation; else `AlternativesNotAllowed` if a group has two
+    /// or more alternatives and the field allows only one; else `ProvidesBound` if a version has an
+    /// operator other than `=` and the field allows only that. Or out of memory.
     pub fn parse(
         alloc: Global,
         relationship: Relationship,
@@ -58,18 +58,18 @@ impl<'a> RelationField<'a> {
         }
     }
 
-    /// The sort of the field.
+    /// Returns the sort of the field.
     pub fn relationship(&self) -> Relationship
         ensures { result ≡ sort_of self.now }
     {
         self.relationship
     }
 
-    /// The relation with its parts, which are read from the body at each call.
+    /// Returns the relation with its parts, which are read from the body at each call.
     ///
     /// # Errors
     ///
-    /// Want of memory alone.
+    /// Out of memory only.
     pub fn relation(&self, alloc: Global) -> Result<Relation<'a>, RelationFault>
         ensures { IsRead result (relation_meaning self.now) }
     {
@@ -108,7 +108,8 @@ impl Canon for RelationField<'_> {
     }
 }
 
-/// Why a relation can't stand in a field of this sort, or None: alternatives come before operators.
+/// Returns why a relation isn't allowed in a field of this sort, or None. Alternatives come before
+/// operators.
 fn refusal_in(relationship: Relationship, relation: &RelationText<'_>) -> Option<Code>
     ensures { result ≡ relation_refusal relationship (text_meaning relation.now) }
 {

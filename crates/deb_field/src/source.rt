@@ -1,4 +1,4 @@
-//! The field Source: the name of a source package, perhaps with a version.
+//! The field Source: the name of a source package, with or without a version.
 
 ghost use Rattle.std.specs.Prelude.{◌≡◌, ◌+◌, ◌++◌, ◌-◌, ◌^◌, ◌<◌, ◌≤◌, Some, IfOk, IfErr, IsTrue, OnOk, OnErr, MatchOption, true, false, length, take};
 ghost use Rattle.std.specs.List.{before_first, after_first, position_or_len};
@@ -14,7 +14,7 @@ use deb_base::{Code, is_package_name, trimmed, without_trailing_blanks};
 use deb_version::Version;
 use std::alloc::AllocError;
 
-/// The name of a source package, and its version where that is given (Debian Policy 5.6.1).
+/// The name of a source package, and its version if there is one (Debian Policy 5.6.1).
 #[derive(Clone, Copy, Debug)]
 pub struct SourceName<'a> {
     name: &'a [u8],
@@ -27,14 +27,14 @@ pub struct SourceName<'a> {
 impl<'a> SourceName<'a> {
     ghost use Rattle.deb_field.specs.SourceNames.{source_meaning, ReadsAround};
 
-    /// What a body spells: `name` or `name (version)`, with spaces and tabs before the parenthesis
-    /// and within it, or none.
+    /// Parses `name` or `name (version)`. Spaces and tabs may come before the parenthesis and
+    /// inside it.
     ///
     /// # Errors
     ///
-    /// `NotOneLine` for a body of more than one line; else `BadName` where the name is no name of a
-    /// package, or the body has an opening parenthesis and doesn't end with a closing one; else
-    /// `BadVersion` where what stands in the parentheses is no version.
+    /// `NotOneLine` for a body of more than one line; else `BadName` if the name isn't the name of
+    /// a package, or if the body has an opening parenthesis and doesn't end with a closing one;
+    /// else `BadVersion` if the text in the parentheses isn't a version.
     pub fn parse(body: &'a [u8]) -> Result<SourceName<'a>, Code>
         ensures ok { IfOk result (λ source. SpellsSource body.now (source_meaning source)) }
         ensures refused { IfErr result (λ code. source_refusal body.now ≡ Some code) }
@@ -54,21 +54,21 @@ impl<'a> SourceName<'a> {
         })
     }
 
-    /// The bytes of the name.
+    /// Returns the bytes of the name.
     pub fn name(&self) -> &'a [u8]
         ensures { result.now ≡ (source_meaning self.now).name }
     {
         self.name
     }
 
-    /// The version, where there is one.
+    /// Returns the version, if there is one.
     pub fn version(&self) -> Option<Version<'a>>
         ensures { option_map meaning_of result ≡ (source_meaning self.now).version }
     {
         self.version
     }
 
-    /// The source of what stands before the first opening parenthesis and behind it.
+    /// Returns the source of the texts before and after the first opening parenthesis.
     fn with_version(before: &'a [u8], behind: &'a [u8]) -> Result<SourceName<'a>, Code>
         requires { length before.now + length behind.now < 2 ^ 63 }
         ensures ok { IfOk result (λ source. ReadsAround before.now behind.now
@@ -89,7 +89,7 @@ impl<'a> SourceName<'a> {
     }
 }
 
-/// What stands before the first opening parenthesis, and what stands behind it.
+/// Returns the texts before and after the first opening parenthesis.
 fn cut_at_open(body: &[u8]) -> Option<(&[u8], &[u8])>
     ensures { MatchOption result (has_version body.now ≡ false)
         (λ cut. (has_version body.now ≡ true) × (cut.0.now ≡ before_first is_open body.now)
@@ -103,7 +103,7 @@ fn cut_at_open(body: &[u8]) -> Option<(&[u8], &[u8])>
     }
 }
 
-/// Where the first opening parenthesis stands, or the length where there is none.
+/// Returns the offset of the first opening parenthesis, or the length if there is none.
 fn open_at(body: &[u8]) -> usize
     ensures value { result ≡ position_or_len is_open body.now }
     ensures bound { result ≤ length body.now }

@@ -47,7 +47,7 @@ impl Canon for SourceName<'_> {
     }
 }
 
-/// Appends the canonical text, or a part of it where memory is wanting.
+/// Appends the canonical text, or a part of it after out of memory.
 fn append(source: &SourceName<'_>, out: &mut Vec<u8>) -> Result<(), AllocError>
     ensures ok { OnOk result (out.new.items
         ≡ out.old.items ++ source_text (source_meaning source.now)) }

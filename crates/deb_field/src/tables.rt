@@ -1,4 +1,4 @@
-//! The two tables: what a document of each kind holds, and which kind of value a field has.
+//! The two tables: which fields a kind of document requires, and which kind of value a field has.
 
 ghost use Rattle.std.specs.Prelude.{◌≡◌, ◌↔◌, IsTrue, map};
 ghost use Rattle.deb_base.specs.Names.{folded};
@@ -11,7 +11,7 @@ use deb_base::{Doc, same_name};
 /// A row of the table of documents: what a document of a kind holds.
 #[derive(Clone, Copy)]
 struct Document {
-    /// The fields that each paragraph has to have.
+    /// Returns the names of the fields that each paragraph of a document of this kind must have.
     required: &'static [&'static [u8]],
     /// What Architecture holds.
     architecture: Kind,
@@ -56,15 +56,16 @@ fn row_of(doc: Doc) -> Document
     }
 }
 
-/// The names of the fields that each paragraph of a document of this kind has to have.
+/// Returns the names of the fields that each paragraph of a document of this kind must have (Debian
+/// Policy 5.3 and 5.4).
 pub fn required(doc: Doc) -> &'static [&'static [u8]]
     ensures { map (λ name. name.now) result.now ≡ required doc }
 {
     row_of(doc).required
 }
 
-/// The kind of value that the field of this name has (Debian Policy 5.6 and 7). Names are found
-/// without ASCII case (5.1). Each field that has no row here is text.
+/// Returns the kind of value of the field with this name (Debian Policy 5.6 and 7). Names are found
+/// without ASCII case (5.1). A field without a row here is text.
 pub fn kind_of(doc: Doc, name: &[u8]) -> Kind
     ensures { result ≡ kind_of doc name.now }
 {

@@ -1,4 +1,4 @@
-//! Plain text, and lines.
+//! Text values: of any number of lines, or of one line.
 
 ghost use Rattle.std.specs.Prelude.{◌≡◌, ℕ, List, Some, IfOk, IfErr, IsTrue, refl};
 ghost use Rattle.deb_field.specs.LineBegins.{begins_with_newline};
@@ -9,7 +9,7 @@ use crate::one_line::holds_newline;
 use deb_base::Code;
 use std::alloc::AllocError;
 
-/// The body of a field as it stands, of any number of lines. It means its bytes.
+/// A body, unchanged, of any number of lines. It means its bytes.
 #[derive(Clone, Copy, Debug)]
 pub struct Text<'a> {
     bytes: &'a [u8],
@@ -18,21 +18,21 @@ pub struct Text<'a> {
 impl<'a> Text<'a> {
     ghost use Rattle.deb_field.specs.Shown.{text_bytes};
 
-    /// The text of a body: every body is one.
+    /// Returns the text of a body. Every body is one.
     pub fn new(body: &'a [u8]) -> Text<'a>
         ensures { SpellsText body.now (text_bytes result) }
     {
         Text { bytes: body }
     }
 
-    /// The bytes of the text.
+    /// Returns the bytes of the text.
     pub fn bytes(&self) -> &'a [u8]
         ensures { result.now ≡ text_bytes self.now }
     {
         self.bytes
     }
 
-    /// Whether the first byte is a newline.
+    /// Returns whether the first byte is a newline.
     pub fn begins_with_newline(&self) -> bool
         ensures { result ≡ begins_with_newline (text_bytes self.now) }
     {
@@ -80,7 +80,7 @@ pub struct Line<'a> {
 impl<'a> Line<'a> {
     ghost use Rattle.deb_field.specs.Shown.{line_bytes};
 
-    /// The line of a body, which may be empty.
+    /// Parses a body of one line, which may be empty.
     ///
     /// # Errors
     ///
@@ -95,7 +95,7 @@ impl<'a> Line<'a> {
         Ok(Line { bytes: body })
     }
 
-    /// The bytes of the line.
+    /// Returns the bytes of the line.
     pub fn bytes(&self) -> &'a [u8]
         ensures { result.now ≡ line_bytes self.now }
     {

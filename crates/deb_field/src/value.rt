@@ -1,4 +1,4 @@
-//! Values of all kinds.
+//! Values of all kinds: from a body to a value.
 
 use crate::flag::{Flag, MultiArch};
 use crate::folded::{ArchitectureWords, Folded};
@@ -14,41 +14,41 @@ use deb_base::{Code, Doc};
 use deb_version::Version;
 use std::alloc::Global;
 
-/// The value of a field: one variant for each kind that fields have.
+/// The value of a field: one variant for each kind.
 #[derive(Debug, Drop)]
 pub enum Value<'a> {
-    /// Of the field Package.
+    /// The value of Package.
     Name(PackageName<'a>),
-    /// Of the field Source.
+    /// The value of Source.
     Source(SourceName<'a>),
-    /// Of the field Version.
+    /// The value of Version.
     Version(Version<'a>),
-    /// Of the field Architecture of a binary package.
+    /// The value of Architecture of a binary package.
     Architecture(ArchitectureName<'a>),
-    /// Of the field Architecture of a source package.
+    /// The value of Architecture of a source package.
     ArchitectureWords(ArchitectureWords<'a>),
-    /// Of the field Essential.
+    /// The value of Essential.
     Flag(Flag),
-    /// Of the field Multi-Arch.
+    /// The value of Multi-Arch.
     MultiArch(MultiArch),
-    /// Of the fields Installed-Size and Size.
+    /// The value of Installed-Size or Size.
     Number(Number<'a>),
-    /// Of Maintainer and other fields of one line.
+    /// The value of Maintainer or another field of one line.
     Line(Line<'a>),
-    /// Of the fields Binary and Uploaders.
+    /// The value of Binary or Uploaders.
     Folded(Folded<'a>),
-    /// Of the relationship fields.
+    /// The value of a relationship field.
     Relation(RelationField<'a>),
-    /// Of each other field.
+    /// The value of any other field.
     Text(Text<'a>),
 }
 
-/// Why a body gave no value.
+/// Why a body has no value.
 #[derive(Clone, Copy, Debug, PartialEq, Eq)]
 pub enum ValueFault {
-    /// The body is refused, by a code from `NotOneLine` (13) on.
+    /// The body is refused, with a code of at least `NotOneLine` (13).
     Refused(Code),
-    /// A growth of memory was refused. Relations alone take memory.
+    /// A growth of memory was refused. Only relations take memory.
     Memory,
 }
 
@@ -72,16 +72,16 @@ impl<'a> Value<'a> {
     ghost use Rattle.deb_field.specs.ValueMeanings.{kind_of_value, value_meaning};
     ghost use Rattle.deb_field.specs.Values.{ValueMeaning, SpellsKind, SpellsValue, value_text};
 
-    /// The value that a body spells in the field of this name, in a document of this kind.
+    /// Parses a body as the value of the field with this name, in a document of this kind.
     ///
-    /// It borrows the body. Memory is taken for a relation alone.
+    /// The value borrows the body. Only a relation takes memory.
     ///
     /// # Errors
     ///
-    /// The refusal of the body: `NotOneLine` for a body of more than one line where one is asked,
-    /// else the code of the kind. In Source a bad name goes before a bad version, in relationship
-    /// fields a bad relation before alternatives and these before operators. Or want of memory, in
-    /// relationship fields.
+    /// The refusal of the body: `NotOneLine` for a body of more than one line if the field allows
+    /// only one, else the code of the kind. In Source a bad name comes before a bad version; in
+    /// relationship fields a bad relation comes before alternatives, and these before operators. Or
+    /// out of memory, in relationship fields.
     pub fn parse(
         alloc: Global,
         doc: Doc,
@@ -122,8 +122,8 @@ impl<'a> Value<'a> {
         }
     }
 
-    /// Whether the canonical text begins with a newline, so that it stands on the lines below the
-    /// field's name: some texts do, and no other value.
+    /// Returns whether the canonical text begins with a newline, so that it is on the lines below
+    /// the field's name. Only a text can.
     pub fn begins_with_newline(&self) -> bool
         ensures { result ≡ begins_with_newline (value_text (value_meaning self.now)) }
     {

@@ -1,4 +1,4 @@
-//! Words between white space.
+//! Iterates over the words of a text.
 
 ghost use Rattle.std.specs.Prelude.{◌≡◌, ◌+◌, ◌≤◌, ◌++◌, length, OnOk, OnErr, Some, MatchOption, List, [], ◌∷◌, not};
 ghost use Rattle.std.specs.List.{prefix_len};
@@ -91,7 +91,7 @@ pub(crate) fn words_len(text: &[u8]) -> u64
     len
 }
 
-/// Appends the words of a text with one space between two of them. For want of memory `out` is
+/// Appends the words of a text with one space between two of them. After out of memory `out` is
 /// unchanged.
 pub(crate) fn words_into(text: &[u8], out: &mut Vec<u8>) -> Result<(), AllocError>
     ensures ok { OnOk result (out.new.items ≡ out.old.items ++ words_text (words_of text.now)) }
@@ -105,8 +105,8 @@ pub(crate) fn words_into(text: &[u8], out: &mut Vec<u8>) -> Result<(), AllocErro
     written
 }
 
-/// Appends the words of a text with one space between two of them, or a part of that where memory
-/// is wanting.
+/// Appends the words of a text with one space between two of them, or a part of that after out of
+/// memory.
 fn append_words(text: &[u8], out: &mut Vec<u8>) -> Result<(), AllocError>
     ensures ok { OnOk result (out.new.items ≡ out.old.items ++ words_text (words_of text.now)) }
     ensures begun { OnErr result (Extends out.old.items out.new.items) }

@@ -1,5 +1,5 @@
-//! Files of each kind of document: each call once, short and long, in pieces of several sizes, and
-//! what the paragraphs that are given show.
+//! Tests of files of each kind of document: each call once, short and long, in pieces of several
+//! sizes, and what the returned paragraphs contain.
 
 mod comparing;
 mod failing;
@@ -111,7 +111,7 @@ fn normalise_pieces(
     normalise(alloc, doc, &mut Input::new(&mut *reader), &mut out)
 }
 
-/// Reads a file to its end, and answers how many paragraphs it has, or to a fault. Their canonical
+/// Reads a file to its end, and returns how many paragraphs it has, or to a fault. Their canonical
 /// texts are appended, with an empty line between them.
 fn read_all(
     rt: &impl Abort,

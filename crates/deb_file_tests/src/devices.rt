@@ -1,4 +1,4 @@
-//! Readers and writers of the tests' own.
+//! Readers and writers for the tests.
 
 use std::alloc::Global;
 use std::io::{self, ErrorKind, Read, Write};

@@ -1,5 +1,5 @@
-//! Indexes, and what they tell of relations: each call once, short and long, what is found, and
-//! devices that fail.
+//! Tests of indexes and their reports on relations: each call once, short and long, what is found,
+//! and devices that fail.
 
 use crate::devices::{Pieces, SIZES, Slow, Then};
 use deb_base::{Code, Fault, Input, Output, Refusal};

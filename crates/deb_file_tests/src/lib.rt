@@ -1,10 +1,9 @@
-//! Tests of the libraries that read documents and indexes, by their public calls: what rows over
-//! the program can't show. Each call once on its happy path, short and long, what paragraphs and
-//! reports show to a caller, devices that give or take a few bytes a call and fail, and want of
-//! memory.
+//! Tests of the libraries that read documents and indexes, by their public functions: what rows
+//! over the program can't show. Each call once when it succeeds, short and long; what paragraphs
+//! and reports return; devices that take or return a few bytes a call, and fail; and out of memory.
 //!
-//! They stand apart so that those crates are proved once in the gate, and not once more beside
-//! their tests.
+//! They are in a crate of their own so that the gate proves those crates only once, and not again
+//! with their tests.
 #![tactic(auto)]
 
 #[cfg(test)]

@@ -1,5 +1,5 @@
-//! Paragraphs and their fields, as a caller reads them, in pieces of several sizes, with and
-//! without `begins` before each `next`.
+//! Tests of paragraphs and their fields, as a caller reads them: in pieces of several sizes, with
+//! and without `begins` before each `next`.
 
 mod failing;
 mod raw;
@@ -11,7 +11,7 @@ use std::alloc::Global;
 use std::process::Abort;
 use std::test::Fail;
 
-/// Reads a file to its end, and answers how many lines it has, or to a fault. A line `@N` is told
+/// Reads a file to its end, and returns how many lines it has, or to a fault. A line `@N` is told
 /// for each paragraph, where N is its first line, and one for each of its fields: its line, its
 /// name, and its body or a long one's length.
 fn read_all(

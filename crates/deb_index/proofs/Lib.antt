@@ -1,4 +1,4 @@
-pub mod KeptFields
+pub mod PackageBuilder
 pub mod ListedValues
 pub mod Indexed
 pub mod Numbers

@@ -18,7 +18,7 @@ use Rattle.deb_control.proofs.Accepting.{accepted_means_one_thing, canonical_tex
 use Rattle.deb_index.specs.Listed.{Listed, provisions_in}
 use Rattle.deb_index.specs.Listing.{Lists, ListsAll}
 use Rattle.deb_index.specs.Reports.{report}
-use Rattle.deb_index.specs.Laws.{ListsOnce, CanonicalTextLists, TellAlike, CanonicalTextChangesNoAnswer}
+use Rattle.deb_index.specs.Laws.{ListsOnce, CanonicalTextLists, ReportAlike, CanonicalTextChangesNoAnswer}
 
 same_word : (a b : Option MultiArch) → option_map MultiArchMeans a ≡ option_map MultiArchMeans b → a ≡ b
 same_word None None e = refl
@@ -69,7 +69,7 @@ canonical_text_lists text meaning packages accepted lists = record {
 }
 
 -- equal packages and relations are told alike
-alike : (packages others : List Listed) (m n : Relation) → packages ≡ others → m ≡ n → TellAlike packages others m n
+alike : (packages others : List Listed) (m n : Relation) → packages ≡ others → m ≡ n → ReportAlike packages others m n
 alike packages others m n same is = record {
   reports = λ environment. ap (λ p. report p m environment) same ∙ ap (λ r. report others r environment) is;
   wildcards = ap some_wildcard is;

@@ -31,8 +31,8 @@ use Rattle.deb_control.proofs.PassingParagraphs.{field-body, none-passing, value
 use Rattle.deb_control.proofs.ValueBodies.{one_paragraph, value_at}
 use Rattle.deb_version.specs.Kept.{kept_version}
 use Rattle.deb_index.specs.Kept.{provision_of}
-use Rattle.deb_index.specs.KeptFields.{KeepsFields, bytes_in}
-use Rattle.deb_index.specs.declared.paragraph.KeptFields.{KeptFields}
+use Rattle.deb_index.specs.PackageBuilder.{KeepsFields, bytes_in}
+use Rattle.deb_index.specs.declared.paragraph.PackageBuilder.{PackageBuilder}
 use Rattle.deb_index.specs.Listed.{Provision}
 use Rattle.deb_index.specs.Listing.{HasProvisions, SeenLists}
 
@@ -151,7 +151,7 @@ lists-same seen n m v w a b word ps qs names versions architectures provisions l
     (subst (λ x. SeenLists seen (record { name = x; version = v; architecture = a; multi_arch = word; provisions = ps })) names lists)))
 
 -- what was kept of its fields is that package
-pub record ListsKept (kept : KeptFields) (seen : Seen) : Type 0 where
+pub record ListsKept (kept : PackageBuilder) (seen : Seen) : Type 0 where
   pub name : List ℕ
   pub version : Version
   pub architecture : List ℕ
@@ -160,7 +160,7 @@ pub record ListsKept (kept : KeptFields) (seen : Seen) : Type 0 where
   pub architecture_is : option_map bytes_in kept.architecture ≡ Some architecture
   pub lists : SeenLists seen (record { name = name; version = version; architecture = architecture; multi_arch = kept.multi_arch; provisions = map provision_of kept.provisions.entries.items })
 
-pub lists-kept : (kept : KeptFields) (seen : Seen) → KeepsValues KeepsFields kept Packages seen → ListsKept kept seen
+pub lists-kept : (kept : PackageBuilder) (seen : Seen) → KeepsValues KeepsFields kept Packages seen → ListsKept kept seen
 lists-kept kept seen keeps =
     let shown = keeps.shown in
     let passes : IsTrue (is_judged Packages seen) = ap is_ok (keeps.are (codes "Package")).are.passes in
@@ -173,14 +173,14 @@ lists-kept kept seen keeps =
       name = name.0;
       version = version.0;
       architecture = architecture.0;
-      name_is = keeps.kept.name.tells (Some name.0) name.1;
-      version_is = keeps.kept.version.tells (Some version.0) version.1;
-      architecture_is = keeps.kept.architecture.tells (Some architecture.0) architecture.1;
+      name_is = keeps.kept.name.follows (Some name.0) name.1;
+      version_is = keeps.kept.version.follows (Some version.0) version.1;
+      architecture_is = keeps.kept.architecture.follows (Some architecture.0) architecture.1;
       lists =
           lists-read seen name.0 version.0 architecture.0 kept.multi_arch (map provision_of kept.provisions.entries.items)
           (subst (HasValue Packages seen (codes "Package")) name.1 (keeps.are (codes "Package")))
           (subst (HasValue Packages seen (codes "Version")) version.1 (keeps.are (codes "Version")))
           (subst (HasValue Packages seen (codes "Architecture")) architecture.1 (keeps.are (codes "Architecture")))
-          (subst (HasValue Packages seen (codes "Multi-Arch")) (word.1 ∙ ap (option_map MultiArchMeans) (sym (keeps.kept.multi_arch.tells word.0 word.1))) (keeps.are (codes "Multi-Arch")))
-          (record { provides = provides.0; has = subst (HasValue Packages seen (codes "Provides")) provides.1 (keeps.are (codes "Provides")); are = keeps.kept.provisions.tells provides.0 provides.1 });
+          (subst (HasValue Packages seen (codes "Multi-Arch")) (word.1 ∙ ap (option_map MultiArchMeans) (sym (keeps.kept.multi_arch.follows word.0 word.1))) (keeps.are (codes "Multi-Arch")))
+          (record { provides = provides.0; has = subst (HasValue Packages seen (codes "Provides")) provides.1 (keeps.are (codes "Provides")); are = keeps.kept.provisions.follows provides.0 provides.1 });
     }

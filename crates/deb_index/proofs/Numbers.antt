@@ -22,4 +22,4 @@ none-found n environment group (p ∷ packages) none = rw (none-meets environmen
 -- what is told of a group of which these packages are found
 pub answered : (environment : Environment) (group : Group) (found packages : List Numbered) (text : List ℕ) (asked : Bool) (verdict : Verdict) → packages ≡ found → text ≡ group_text group → asked ≡ some_applies environment group → verdict ≡ verdict_of asked packages
     → record { text = text; verdict = verdict; packages = packages } ≡ answer_with environment group found
-answered environment group found packages text asked verdict are written is told = rw (told, is, written, are) refl
+answered environment group found packages text asked verdict are written is reported = rw (reported, is, written, are) refl

@@ -25,7 +25,7 @@ CanonicalTextLists =
     → ListsAll text packages → ListsAll (canonical_text meaning) packages
 
 -- what is told of two relations over two lists, for every environment: the same
-pub record TellAlike (packages others : List Listed) (m n : Relation) : Type 0 where
+pub record ReportAlike (packages others : List Listed) (m n : Relation) : Type 0 where
   pub reports : (environment : Environment)
       → report packages m environment ≡ report others n environment
   pub wildcards : some_wildcard m ≡ some_wildcard n
@@ -34,10 +34,10 @@ pub record TellAlike (packages others : List Listed) (m n : Relation) : Type 0 w
 pub record CanonicalTextChangesNoAnswer : Type 0 where
   pub files : (text : List ℕ) (meaning : Meaning) (packages others : List Listed) (m : Relation)
       → Accepted Packages text meaning → ListsAll text packages
-      → ListsAll (canonical_text meaning) others → TellAlike packages others m m
+      → ListsAll (canonical_text meaning) others → ReportAlike packages others m m
   pub relations : (text : List ℕ) (packages : List Listed) (m n : Relation) → SpellsRelation text m
-      → SpellsRelation (relation_text m) n → TellAlike packages packages m n
+      → SpellsRelation (relation_text m) n → ReportAlike packages packages m n
   pub both : (file : List ℕ) (meaning : Meaning) (packages others : List Listed) (text : List ℕ)
       (m n : Relation) → Accepted Packages file meaning → ListsAll file packages
       → ListsAll (canonical_text meaning) others → SpellsRelation text m
-      → SpellsRelation (relation_text m) n → TellAlike packages others m n
+      → SpellsRelation (relation_text m) n → ReportAlike packages others m n

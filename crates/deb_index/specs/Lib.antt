@@ -4,12 +4,14 @@ pub mod Meeting
 pub mod Reports
 pub mod ReportText
 pub mod Kept
-pub mod KeptFields
+pub mod PackageBuilder
 pub mod Named
 pub mod ProvidedNames
 pub mod Maps
 pub mod Listing
 pub mod Indexes
-pub mod Told
+pub mod Reported
+pub mod Questions
+pub mod Asked
 pub mod Laws
 pub mod ViewCases

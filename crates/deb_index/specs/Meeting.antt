@@ -222,3 +222,21 @@ worked-provided_other : map (qualified_name (codes "i386")) words
     ∷ (false ∷ true ∷ false ∷ false ∷ true ∷ false ∷ false ∷ [])
     ∷ []
 worked-provided_other = refl
+
+-- the architecture that is asked for is the target's, whichever it is
+abbrev other_target : List ℕ → Environment
+other_target name = record { target = name; profiles = [] }
+
+worked-other_targets : map
+    (λ name. map (λ architecture. meets (other_target name) (alone (codes "aa"))
+    (listed (codes "aa") architecture None []))
+    (codes "amd64" ∷ codes "i386" ∷ codes "all" ∷ []))
+    (codes "amd64" ∷ codes "i386" ∷ codes "arm64" ∷ [])
+    ≡ (true ∷ false ∷ true ∷ []) ∷ (false ∷ true ∷ true ∷ []) ∷ (false ∷ false ∷ true ∷ []) ∷ []
+worked-other_targets = refl
+
+worked-native_elsewhere : map
+    (λ architecture. meets (other_target (codes "i386"))
+    (with_qualifier (codes "aa") (codes "native")) (listed (codes "aa") architecture None []))
+    (codes "amd64" ∷ codes "i386" ∷ codes "all" ∷ []) ≡ false ∷ true ∷ true ∷ []
+worked-native_elsewhere = refl

@@ -17,8 +17,8 @@ verdict_word Unmet = codes "unmet"
 
 -- `met GROUP`, `unmet GROUP` or `ignored GROUP`
 abbrev pub group_line : Answer → List ℕ
-group_line told =
-    concat (verdict_word told.verdict ∷ codes " " ∷ told.text ∷ codes "\n" ∷ [])
+group_line reported =
+    concat (verdict_word reported.verdict ∷ codes " " ∷ reported.text ∷ codes "\n" ∷ [])
 
 -- ` NUMBER PACKAGE VERSION ARCHITECTURE`
 abbrev pub package_line : Numbered → List ℕ
@@ -28,7 +28,7 @@ package_line p =
 
 -- what is written of a group, and of all of them
 abbrev pub answer_text : Answer → List ℕ
-answer_text told = group_line told ++ flat_map package_line told.packages
+answer_text reported = group_line reported ++ flat_map package_line reported.packages
 
 abbrev pub report_text : List Answer → List ℕ
 report_text answers = flat_map answer_text answers

@@ -100,14 +100,14 @@ packages =
 abbrev numbers_of : List Numbered → List ℕ
 numbers_of found = map (λ p. p.0) found
 
-abbrev told : Group → Verdict × List ℕ
-told group = (
+abbrev reported : Group → Verdict × List ℕ
+reported group = (
   (answer environment packages group).verdict,
   numbers_of (answer environment packages group).packages,
 )
 
 -- one package, two of them in ascending order, and one by two alternatives
-worked-met : map told
+worked-met : map reported
     ((alone (codes "aa") ∷ []) ∷ (alone (codes "vv") ∷ alone (codes "aa") ∷ [])
     ∷ (alone (codes "bb") ∷ alone (codes "vv") ∷ [])
     ∷ (with_qualifier (codes "aa") (codes "any") ∷ []) ∷ [])
@@ -115,14 +115,14 @@ worked-met : map told
 worked-met = refl
 
 -- no package, also where one would meet an alternative that doesn't apply
-worked-unmet : map told
+worked-unmet : map reported
     ((alone (codes "dd") ∷ [])
     ∷ (with_list (codes "aa") true (codes "amd64") ∷ alone (codes "dd") ∷ []) ∷ [])
     ≡ (Unmet, []) ∷ (Unmet, []) ∷ []
 worked-unmet = refl
 
 -- nothing applies: by the list, by the formula, and by both
-worked-ignored : map told
+worked-ignored : map reported
     ((with_list (codes "aa") true (codes "amd64") ∷ [])
     ∷ (with_formula (codes "aa") (codes "nodoc") ∷ [])
     ∷ (with_list (codes "aa") false (codes "i386")
@@ -143,3 +143,7 @@ worked-no_packages : (all_met (report [] ((alone (codes "aa") ∷ []) ∷ []) en
     × (all_met (report [] ((with_list (codes "aa") true (codes "amd64") ∷ []) ∷ []) environment)
     ≡ true)
 worked-no_packages = (refl, refl)
+
+-- a report has the whole canonical text of each group
+worked-text : (group : Group) → (answer environment packages group).text ≡ group_text group
+worked-text group = refl

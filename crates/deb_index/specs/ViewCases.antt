@@ -17,10 +17,10 @@ use Rattle.deb_field.specs.declared.flag.MultiArch.TheVariants.{Foreign}
 use Rattle.deb_index.specs.Alternatives.{alone, with_bound}
 use Rattle.deb_index.specs.Indexes.{packages_of}
 use Rattle.deb_index.specs.Kept.{entry_provisions, listed_of, provision_of}
-use Rattle.deb_index.specs.KeptFields.{bytes_in, itself}
+use Rattle.deb_index.specs.PackageBuilder.{bytes_in, itself}
 use Rattle.deb_index.specs.Maps.{numbers_under}
 use Rattle.deb_index.specs.ProvidedNames.{name_of}
-use Rattle.deb_index.specs.Told.{answer_of, found_of, report_of}
+use Rattle.deb_index.specs.Reported.{answer_of, found_of, report_of}
 use Rattle.deb_index.specs.declared.index.Index.{Index}
 use Rattle.deb_index.specs.declared.names.Names.{Names}
 use Rattle.deb_index.specs.declared.package.Package.{Package}
@@ -160,10 +160,10 @@ worked-answer : (alloc : Global) (p q : Package) → answer_of (met alloc p q)
 worked-answer alloc p q = refl
 
 -- a report of two groups
-abbrev told : Global → Package → Package → Report
-told alloc p q = record { answers = vector alloc (met alloc p q ∷ ignored alloc ∷ []) refl }
+abbrev reported : Global → Package → Package → Report
+reported alloc p q = record { answers = vector alloc (met alloc p q ∷ ignored alloc ∷ []) refl }
 
-worked-report : (alloc : Global) (p q : Package) → report_of (told alloc p q)
+worked-report : (alloc : Global) (p q : Package) → report_of (reported alloc p q)
     ≡ record {
       text = codes "aa | bb";
       verdict = Met;

@@ -1,14 +1,14 @@
-//! The packages that meet a group, looked up by the names of its alternatives.
+//! Finds the packages that meet a group, by the names of its alternatives.
 
-ghost use Rattle.std.specs.Prelude.{◌≡◌, ◌≤◌, ◌++◌, ℕ, length, map, IfOk, OnOk};
+ghost use Rattle.std.specs.Prelude.{◌≡◌, ◌≤◌, ◌++◌, length, map, IfOk, OnOk};
 ghost use Rattle.std.specs.List.{All, filter};
 ghost use Rattle.deb_relation.specs.Environments.{environment_of};
 ghost use Rattle.deb_relation.specs.Views.{alternative_of};
 ghost use Rattle.deb_index.specs.Indexes.{packages_of};
 ghost use Rattle.deb_index.specs.Meeting.{meets};
-ghost use Rattle.deb_index.specs.Named.{has_name, numbers_of, passes_at, provides};
+ghost use Rattle.deb_index.specs.Named.{numbers_of, passes_at};
 ghost use Rattle.deb_index.specs.Reports.{meets_group, passing_from};
-ghost use Rattle.deb_index.specs.Told.{found_of};
+ghost use Rattle.deb_index.specs.Reported.{found_of};
 
 use crate::index::Index;
 use crate::report::Found;

@@ -1,11 +1,11 @@
-//! Why a relation got no answer.
+//! Why a query returned no report.
 
 use std::alloc::AllocError;
 
-/// Why an index told nothing of a relation.
+/// Why a query returned no report.
 #[derive(Clone, Copy, Debug, PartialEq, Eq)]
 pub enum QueryFault {
-    /// An architecture list of the relation holds a wildcard (Debian Policy 11.1).
+    /// An architecture list of the relation contains a wildcard (Debian Policy 11.1).
     Wildcard,
     /// A growth of memory was refused.
     Memory,

@@ -1,10 +1,10 @@
-//! Indexes of packages.
+//! Indexes: reading one, and the packages under a name. `report` answers queries.
 
 ghost use Rattle.std.specs.Prelude.{◌≡◌, ◌-◌, ◌≤◌, ℕ, List, map, Some, Err, IfOk, IfErr, IsTrue, length};
 ghost use Rattle.std.specs.List.{slice_get};
-ghost use Rattle.deb_base.specs.Devices.{read_failures_after, TellsReads};
+ghost use Rattle.deb_base.specs.Devices.{read_failures_after, ReadFaultIffFailed};
 ghost use Rattle.deb_base.specs.Faults.{IsReadersFault};
-ghost use Rattle.deb_syntax.specs.Ahead.{TakesNoMore};
+ghost use Rattle.deb_base.specs.Reading.{TakesNoMore};
 ghost use Rattle.deb_syntax.specs.Lines.{file_limit};
 ghost use Rattle.deb_control.specs.Calls.{IfRefused};
 ghost use Rattle.deb_control.specs.Checking.{IsRefusalOfDocument};
@@ -12,29 +12,32 @@ ghost use Rattle.deb_control.specs.Documents.{refusal_of};
 ghost use Rattle.deb_relation.specs.Environments.{environment_of};
 ghost use Rattle.deb_relation.specs.Relations.{relation_of};
 ghost use Rattle.deb_relation.specs.Tests.{some_wildcard};
+ghost use Rattle.deb_index.specs.Asked.{environment_asked, relation_asked};
 ghost use Rattle.deb_index.specs.Kept.{listed_of};
 ghost use Rattle.deb_index.specs.Listing.{ListsAll};
 ghost use Rattle.deb_index.specs.Maps.{numbers_under};
 ghost use Rattle.deb_index.specs.Named.{has_name, numbers_of, provides};
+ghost use Rattle.deb_index.specs.Questions.{ReportsOf};
 ghost use Rattle.deb_index.specs.Reports.{report};
-ghost use Rattle.deb_index.specs.Told.{report_of};
+ghost use Rattle.deb_index.specs.Reported.{report_of};
 
 use crate::fault::QueryFault;
 use crate::names::Names;
 use crate::package::Package;
-use crate::paragraph::KeptFields;
+use crate::paragraph::PackageBuilder;
+use crate::question::{Question, refusal};
 use crate::report::Report;
-use deb_base::{Fault, Source};
+use deb_base::{Code, Fault, Source};
 use deb_control::Checked;
 use deb_field::Doc;
 use deb_relation::{Env, Relation};
 use std::alloc::{AllocError, Global};
 
-/// The packages that a file lists, in its order.
+/// The packages that a file lists, in file order.
 ///
-/// It owns what it keeps of each: the name, the version, the architecture, Multi-Arch and what is
-/// provided. Beside the list it keeps which packages have a name and which provide it, so that they
-/// are looked up.
+/// It owns what it keeps of each package: the name, the version, the architecture, Multi-Arch and
+/// what it provides. It also keeps which packages have or provide a name, so that they are found
+/// without going over the list.
 #[derive(Debug, Drop)]
 pub struct Index {
     packages: Vec<Package>,
@@ -51,14 +54,14 @@ impl Index {
 
     /// Reads a file as an index of packages (Debian Policy 5.1, 5.3 and 5.6).
     ///
-    /// It takes one paragraph at a time, and at most 4,295,032,831 bytes from the reader: those
-    /// that a file may have, and one piece. What is said of the file's text holds for a reader
-    /// whose bytes are known.
+    /// One paragraph at a time is held in memory. At most 4,295,032,831 bytes are read: a file of
+    /// the most bytes, and one piece. Promises about the text of the file hold for a reader whose
+    /// bytes are known.
     ///
     /// # Errors
     ///
-    /// - `Fault::Refused`: the file isn't accepted. This is the first refusal, with a code from 1
-    ///   to 21 and a line of the file, which are counted from 1.
+    /// - `Fault::Refused`: the file isn't accepted. This is its first refusal, with a code from 1
+    ///   to 21 and a line of the file, counted from 1.
     /// - `Fault::Memory`: a growth of memory was refused.
     /// - `Fault::Read`: a read failed in this call.
     pub fn read<R: Source>(alloc: Global, reader: &mut R) -> Result<Index, Fault>
@@ -66,16 +69,18 @@ impl Index {
             → IfOk result (λ index. ListsAll text (packages_of index)) }
         ensures refused { (text : List ℕ) → R.left reader.old ≡ Some text
             → IfRefused result (λ refusal. refusal_of Doc.Packages text ≡ Some refusal) }
-        ensures taken { (text : List ℕ) → R.left reader.old ≡ Some text
+        ensures reads_at_most { (text : List ℕ) → R.left reader.old ≡ Some text
             → TakesNoMore text file_limit (R.left reader.new) }
 
         // Whether or not the reader's bytes are known.
         ensures fault { IfErr result (λ fault. IsReadersFault fault IsRefusalOfDocument) }
-        ensures reads { R.failures reader.new ≡ read_failures_after (R.failures reader.old) result }
-        ensures tells_reads { TellsReads (R.failures reader.old) (R.failures reader.new) result }
+        ensures counts_read_failure { R.failures reader.new ≡ read_failures_after
+            (R.failures reader.old) result }
+        ensures fault_iff_read_failed { ReadFaultIffFailed (R.failures reader.old)
+            (R.failures reader.new) result }
     {
         let mut checked = Checked::new(alloc, Doc::Packages);
-        let mut kept = KeptFields::new(alloc);
+        let mut kept = PackageBuilder::new(alloc);
         let mut packages = Vec::new(alloc);
         for count in 0..u64::MAX {
             if !checked.next_kept(&mut kept, reader)? {
@@ -103,22 +108,21 @@ impl Index {
         })
     }
 
-    /// The numbers of the packages that have a name, as their Package (Debian Policy 5.6.7), in
-    /// ascending order and each once. The first package of the index has the number 1. Without such
-    /// a package there is none. No memory is taken.
+    /// Returns the numbers of the packages with this name, as their Package (Debian Policy 5.6.7),
+    /// in ascending order without repeats; empty if there is no such package. The first package of
+    /// the index has the number 1. Takes no memory.
     pub fn packages(&self, name: &[u8]) -> &[u64]
         ensures { result.now ≡ numbers_of (has_name name.now) (packages_of self.now) }
     {
         self.named.of(name)
     }
 
-    /// The numbers of the packages that provide a name, in some version or without one (Debian
-    /// Policy 7.5): those with an entry of this name in Provides that has neither a qualifier nor
-    /// an architecture list nor a formula. They are in ascending order and each once, and the first
-    /// package of the index has the number 1. Without such a package there is none. No memory is
-    /// taken.
+    /// Returns the numbers of the packages that provide a name, in some version or without one
+    /// (Debian Policy 7.5): those with an entry of this name in Provides that has no qualifier, no
+    /// architecture list and no formula. They are in ascending order without repeats; empty if
+    /// there is no such package. The first package of the index has the number 1. Takes no memory.
     ///
-    /// A package isn't here for its own name, unless it provides that too.
+    /// A package is included for its own name only if it provides that too.
     pub fn providers(&self, name: &[u8]) -> &[u64]
         ensures { result.now ≡ numbers_of (provides name.now) (packages_of self.now) }
     {
@@ -135,13 +139,14 @@ impl Index {
     }
 
     /// Reports on a relation in an environment: for each group, in the order of the groups'
-    /// canonical texts, whether it is ignored, since none of its alternatives applies; met, since a
-    /// package meets one that applies, and by which packages; or unmet (Debian Policy 7.1).
+    /// canonical texts, whether it is ignored, because none of its alternatives applies; met,
+    /// because a package meets one that applies, and by which packages; or unmet (Debian Policy
+    /// 7.1).
     ///
     /// # Errors
     ///
-    /// `Wildcard` exactly if an architecture list of the relation contains a wildcard, whatever
-    /// memory there is; else out of memory.
+    /// `Wildcard` exactly if an architecture list of the relation contains a wildcard, with or
+    /// without memory; else out of memory.
     pub fn query(
         &self,
         alloc: Global,
@@ -149,8 +154,8 @@ impl Index {
         environment: &Env,
     ) -> Result<Report<'_>, QueryFault>
         ensures ok { IfOk result
-            (λ told. report_of told ≡ report (packages_of self.now) (relation_of relation.now)
-            (environment_of environment.now)) }
+            (λ reported. report_of reported ≡ report (packages_of self.now)
+            (relation_of relation.now) (environment_of environment.now)) }
         ensures wildcard { IsTrue (some_wildcard (relation_of relation.now))
             → result ≡ Err QueryFault.Wildcard }
         ensures refused { IfErr result
@@ -164,7 +169,25 @@ impl Index {
         Ok(report)
     }
 
-    /// How many packages there are.
+    /// Reports on a question, as [`Index::query`] does on its relation in its environment.
+    ///
+    /// # Errors
+    ///
+    /// - `Fault::Refused`: an architecture list of the relation contains a wildcard. The code is
+    ///   22, and the line 0.
+    /// - `Fault::Memory`: a growth of memory was refused.
+    pub fn ask(&self, alloc: Global, question: &Question<'_>) -> Result<Report<'_>, Fault>
+        ensures { ReportsOf (packages_of self.now) (relation_asked question.now)
+            (environment_asked question.now) result }
+    {
+        match self.query(alloc, &question.relation, &question.environment) {
+            Ok(report) => Ok(report),
+            Err(QueryFault::Wildcard) => Err(refusal(Code::Wildcard)),
+            Err(QueryFault::Memory) => Err(Fault::Memory),
+        }
+    }
+
+    /// Returns the number of packages.
     pub fn len(&self) -> usize
         ensures { result ≡ length (packages_of self.now) }
     {

@@ -1,4 +1,4 @@
-//! Numbers of packages under names.
+//! A map from names to the numbers of packages.
 
 ghost use Rattle.std.specs.Prelude.{◌≡◌, [], ℕ, List, map, if◌then◌else◌, IfOk, OnOk};
 ghost use Rattle.std.specs.List.{list_any};

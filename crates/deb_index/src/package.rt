@@ -1,4 +1,4 @@
-//! Listed packages.
+//! The packages of an index.
 
 ghost use Rattle.std.specs.Prelude.{◌≡◌};
 ghost use Rattle.std.specs.Option.{option_copied};
@@ -27,21 +27,21 @@ pub struct Package {
 impl Package {
     ghost use Rattle.deb_index.specs.Kept.{listed_of};
 
-    /// The name.
+    /// Returns the name.
     pub fn name(&self) -> &[u8]
         ensures { result.now ≡ (listed_of self.now).name }
     {
         &self.name
     }
 
-    /// The canonical text of the version.
+    /// Returns the canonical text of the version.
     pub fn version(&self) -> &[u8]
         ensures { result.now ≡ version_text (listed_of self.now).version }
     {
         self.version.text()
     }
 
-    /// The architecture, which may be `all`.
+    /// Returns the architecture, which may be `all`.
     pub fn architecture(&self) -> &[u8]
         ensures { result.now ≡ (listed_of self.now).architecture }
     {

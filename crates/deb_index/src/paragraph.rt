@@ -1,4 +1,4 @@
-//! What is kept of a paragraph.
+//! Keeps the values of a paragraph that an index needs, while the paragraph is checked.
 
 ghost use Rattle.std.specs.Prelude.{IsSomeAnd};
 ghost use Rattle.deb_control.specs.Keeping.{KeepsValues};
@@ -8,7 +8,7 @@ ghost use Rattle.deb_field.specs.Shown.{architecture_name, package_name};
 ghost use Rattle.deb_field.specs.Values.{NameMeans, VersionMeans, ArchitectureMeans, MultiArchMeans, RelationMeans};
 ghost use Rattle.deb_version.specs.Version.{meaning_of};
 ghost use Rattle.deb_index.specs.Kept.{listed_of};
-ghost use Rattle.deb_index.specs.KeptFields.{KeepsFields, KeepsMore};
+ghost use Rattle.deb_index.specs.PackageBuilder.{KeepsFields, KeepsMore};
 ghost use Rattle.deb_index.specs.Listing.{SeenLists};
 
 use crate::package::Package;
@@ -23,7 +23,7 @@ use std::mem;
 
 /// What is kept of the fields of a paragraph while it is judged.
 #[derive(Drop)]
-pub(crate) struct KeptFields {
+pub(crate) struct PackageBuilder {
     alloc: Global,
     name: Option<Vec<u8>>,
     version: Option<CanonicalVersion>,
@@ -32,10 +32,10 @@ pub(crate) struct KeptFields {
     provisions: Provisions,
 }
 
-impl KeptFields {
+impl PackageBuilder {
     /// Nothing is kept.
-    pub(crate) fn new(alloc: Global) -> KeptFields {
-        KeptFields {
+    pub(crate) fn new(alloc: Global) -> PackageBuilder {
+        PackageBuilder {
             alloc,
             name: None,
             version: None,
@@ -128,7 +128,7 @@ impl KeptFields {
     }
 }
 
-impl Keep for KeptFields {
+impl Keep for PackageBuilder {
     ghost Keeps = { KeepsFields };
 
     fn begin(&mut self) {

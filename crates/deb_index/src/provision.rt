@@ -1,4 +1,4 @@
-//! Names that packages provide.
+//! A name that a package provides, with its version if it has one.
 
 ghost use Rattle.std.specs.Prelude.{◌≡◌, IfOk, map};
 ghost use Rattle.std.specs.List.{list_any};
@@ -18,7 +18,7 @@ use deb_version::{CanonicalVersion, Version};
 use std::alloc::{AllocError, Global};
 use std::cmp::Ordering;
 
-/// A name that a package provides, with its version, if one is told (Debian Policy 7.5).
+/// A name that a package provides, with its version if it has one (Debian Policy 7.5).
 #[derive(Debug, Drop)]
 pub(crate) struct Provision {
     pub(crate) name: Vec<u8>,

@@ -1,4 +1,4 @@
-//! What a package provides.
+//! The names that a package provides, found by binary search.
 
 ghost use Rattle.std.specs.Prelude.{◌≡◌, [], IfOk, map};
 ghost use Rattle.std.specs.List.{AllPairs, filter, list_any};

@@ -1,4 +1,4 @@
-//! Which groups of a relation the packages of an index meet.
+//! Reports: which groups of a relation the packages of an index meet. `report_text` writes them.
 
 ghost use Rattle.std.specs.Prelude.{◌≡◌, IfOk, map, not};
 ghost use Rattle.std.specs.List.{list_all, list_any};
@@ -9,7 +9,7 @@ ghost use Rattle.deb_relation.specs.Views.{alternative_of};
 ghost use Rattle.deb_index.specs.Indexes.{packages_of};
 ghost use Rattle.deb_index.specs.Kept.{listed_of};
 ghost use Rattle.deb_index.specs.Reports.{all_met, answer, is_unmet, some_applies, verdict_of};
-ghost use Rattle.deb_index.specs.Told.{answer_of, found_of, report_of};
+ghost use Rattle.deb_index.specs.Reported.{answer_of, found_of, report_of};
 
 use crate::candidates::packages_meeting;
 use crate::index::Index;
@@ -26,14 +26,14 @@ pub struct Found<'a> {
 }
 
 impl<'a> Found<'a> {
-    /// Its number in the index, which is counted from 1.
+    /// Returns its number in the index, counted from 1.
     pub fn number(&self) -> u64
         ensures { result ≡ (found_of self.now).0 }
     {
         self.number
     }
 
-    /// What the index keeps of it.
+    /// Returns what the index keeps of it.
     pub fn package(&self) -> &'a Package
         ensures { listed_of result.now ≡ (found_of self.now).1 }
     {
@@ -41,7 +41,7 @@ impl<'a> Found<'a> {
     }
 }
 
-/// What is told of a group: its canonical text, the verdict, and the packages that meet it.
+/// The answer for a group: its canonical text, the verdict, and the packages that meet it.
 #[derive(Debug, Drop)]
 pub struct Answer<'a> {
     pub(crate) text: Vec<u8>,
@@ -50,29 +50,29 @@ pub struct Answer<'a> {
 }
 
 impl<'a> Answer<'a> {
-    /// The canonical text of the group.
+    /// Returns the canonical text of the group.
     pub fn text(&self) -> &[u8]
         ensures { result.now ≡ (answer_of self.now).text }
     {
         &self.text
     }
 
-    /// Whether the group is ignored, met or unmet.
+    /// Returns whether the group is ignored, met or unmet.
     pub fn verdict(&self) -> Verdict
         ensures { result ≡ (answer_of self.now).verdict }
     {
         self.verdict
     }
 
-    /// The listed packages that meet an alternative of the group that applies, in ascending order
-    /// of their numbers, each once.
+    /// Returns the listed packages that meet an alternative of the group that applies, in ascending
+    /// order of their numbers, without repeats.
     pub fn packages(&self) -> &[Found<'a>]
         ensures { map found_of result.now ≡ (answer_of self.now).packages }
     {
         &self.packages
     }
 
-    /// What is told of a group over the packages of an index.
+    /// Returns the answer for a group, over the packages of an index.
     fn of(
         alloc: Global,
         index: &'a Index,
@@ -80,7 +80,7 @@ impl<'a> Answer<'a> {
         environment: &Env,
     ) -> Result<Answer<'a>, AllocError>
         ensures { IfOk result
-            (λ told. answer_of told ≡ answer (environment_of environment.now)
+            (λ reported. answer_of reported ≡ answer (environment_of environment.now)
             (packages_of index.now) (group_of group.now)) }
     {
         let mut text = Vec::with_capacity(alloc, group.canon_len() as usize)?;
@@ -108,21 +108,21 @@ pub struct Report<'a> {
 }
 
 impl<'a> Report<'a> {
-    /// What is told of each group, in the order of the groups' canonical texts.
+    /// Returns the answer for each group, in the order of the groups' canonical texts.
     pub fn answers(&self) -> &[Answer<'a>]
         ensures { map answer_of result.now ≡ report_of self.now }
     {
         &self.answers
     }
 
-    /// Whether no group is unmet.
+    /// Returns whether no group is unmet.
     pub fn all_met(&self) -> bool
         ensures { result ≡ all_met (report_of self.now) }
     {
         none_unmet(&self.answers)
     }
 
-    /// What is told of groups over the packages of an index.
+    /// Returns the answers for groups, over the packages of an index.
     pub(crate) fn of(
         alloc: Global,
         index: &'a Index,
@@ -130,7 +130,7 @@ impl<'a> Report<'a> {
         environment: &Env,
     ) -> Result<Report<'a>, AllocError>
         ensures { IfOk result
-            (λ told. report_of told ≡ map (answer (environment_of environment.now)
+            (λ reported. report_of reported ≡ map (answer (environment_of environment.now)
             (packages_of index.now)) (map group_of groups.now)) }
     {
         let mut answers = Vec::new(alloc);
@@ -141,7 +141,7 @@ impl<'a> Report<'a> {
     }
 }
 
-/// The verdict on a group of which some alternative applies, or none, and these packages meet it.
+/// Returns the verdict on a group, given whether an alternative applies and which packages meet it.
 fn verdict_of(applies: bool, found: &[Found<'_>]) -> Verdict
     ensures { result ≡ verdict_of applies (map found_of found.now) }
 {
@@ -172,7 +172,7 @@ fn some_is_asked(group: &[Alternative<'_>], environment: &Env) -> bool
 }
 
 fn none_unmet(answers: &[Answer<'_>]) -> bool
-    ensures { result ≡ list_all (λ told. not (is_unmet told.verdict)) answers.now }
+    ensures { result ≡ list_all (λ reported. not (is_unmet reported.verdict)) answers.now }
 {
     answers
         .iter()

@@ -1,10 +1,10 @@
-//! The text of a report.
+//! Writes a report as text.
 
 ghost use Rattle.std.specs.Prelude.{◌≡◌, IfErr};
 ghost use Rattle.std.specs.List.{flat_map};
-ghost use Rattle.deb_base.specs.Devices.{write_failures_after, Puts, TellsWrites};
+ghost use Rattle.deb_base.specs.Devices.{write_failures_after, Puts, WriteFaultIffFailed};
 ghost use Rattle.deb_index.specs.ReportText.{answer_text, group_line, package_line, report_text, verdict_word};
-ghost use Rattle.deb_index.specs.Told.{answer_of, found_of, report_of};
+ghost use Rattle.deb_index.specs.Reported.{answer_of, found_of, report_of};
 
 use crate::report::{Answer, Found, Report};
 use crate::verdict::Verdict;
@@ -12,21 +12,23 @@ use deb_base::{Fault, Sink, put_pieces};
 use itoa::Buffer;
 
 impl Report<'_> {
-    /// Writes the report, without memory: for each group a line with its verdict and its canonical
-    /// text, as `met aa | bb`, `unmet cc` or `ignored dd [i386]`; after that of a met group a line
-    /// for each package that meets it, as ` 2 aa 1.0 all`: its number, name, canonical version and
-    /// architecture.
+    /// Writes the report: for each group a line with its verdict and its canonical text, such as
+    /// `met aa | bb`, `unmet cc` or `ignored dd [i386]`. After the line of a met group there is a
+    /// line for each package that meets it, such as ` 2 aa 1.0 all`: its number, name, canonical
+    /// version and architecture. Takes no memory.
     ///
     /// # Errors
     ///
-    /// `Fault::Write` alone: a write failed in this call, and a prefix of the report was written
+    /// `Fault::Write` only: a write failed in this call, and a prefix of the report was written
     /// before it.
     pub fn write<W: Sink>(&self, out: &mut W) -> Result<(), Fault>
         ensures written { Puts (W.held out.old) (W.held out.new) result
             (report_text (report_of self.now)) }
         ensures fault { IfErr result (λ fault. fault ≡ Fault.Write) }
-        ensures counted { W.failures out.new ≡ write_failures_after (W.failures out.old) result }
-        ensures told { TellsWrites (W.failures out.old) (W.failures out.new) result }
+        ensures counts_failure { W.failures out.new ≡ write_failures_after (W.failures out.old)
+            result }
+        ensures fault_iff_write_failed { WriteFaultIffFailed (W.failures out.old)
+            (W.failures out.new) result }
     {
         write_answers(&self.answers, out)
     }
@@ -34,9 +36,9 @@ impl Report<'_> {
 
 fn write_answers<W: Sink>(answers: &[Answer<'_>], out: &mut W) -> Result<(), Fault>
     ensures written { Puts (W.held out.old) (W.held out.new) result
-        (flat_map (λ told. answer_text (answer_of told)) answers.now) }
+        (flat_map (λ reported. answer_text (answer_of reported)) answers.now) }
     ensures fault { IfErr result (λ fault. fault ≡ Fault.Write) }
-    ensures counted { W.failures out.new ≡ write_failures_after (W.failures out.old) result }
+    ensures counts_failure { W.failures out.new ≡ write_failures_after (W.failures out.old) result }
 {
     for answer in answers {
         write_answer(answer, out)?;
@@ -49,7 +51,7 @@ fn write_answer<W: Sink>(answer: &Answer<'_>, out: &mut W) -> Result<(), Fault>
     ensures written { Puts (W.held out.old) (W.held out.new) result
         (answer_text (answer_of answer.now)) }
     ensures fault { IfErr result (λ fault. fault ≡ Fault.Write) }
-    ensures counted { W.failures out.new ≡ write_failures_after (W.failures out.old) result }
+    ensures counts_failure { W.failures out.new ≡ write_failures_after (W.failures out.old) result }
 {
     write_group(answer, out)?;
     write_packages(&answer.packages, out)
@@ -60,7 +62,7 @@ fn write_group<W: Sink>(answer: &Answer<'_>, out: &mut W) -> Result<(), Fault>
     ensures written { Puts (W.held out.old) (W.held out.new) result
         (group_line (answer_of answer.now)) }
     ensures fault { IfErr result (λ fault. fault ≡ Fault.Write) }
-    ensures counted { W.failures out.new ≡ write_failures_after (W.failures out.old) result }
+    ensures counts_failure { W.failures out.new ≡ write_failures_after (W.failures out.old) result }
 {
     put_pieces(
         out,
@@ -72,7 +74,7 @@ fn write_packages<W: Sink>(packages: &[Found<'_>], out: &mut W) -> Result<(), Fa
     ensures written { Puts (W.held out.old) (W.held out.new) result
         (flat_map (λ found. package_line (found_of found)) packages.now) }
     ensures fault { IfErr result (λ fault. fault ≡ Fault.Write) }
-    ensures counted { W.failures out.new ≡ write_failures_after (W.failures out.old) result }
+    ensures counts_failure { W.failures out.new ≡ write_failures_after (W.failures out.old) result }
 {
     for found in packages {
         write_package(found, out)?;
@@ -85,7 +87,7 @@ fn write_package<W: Sink>(found: &Found<'_>, out: &mut W) -> Result<(), Fault>
     ensures written { Puts (W.held out.old) (W.held out.new) result
         (package_line (found_of found.now)) }
     ensures fault { IfErr result (λ fault. fault ≡ Fault.Write) }
-    ensures counted { W.failures out.new ≡ write_failures_after (W.failures out.old) result }
+    ensures counts_failure { W.failures out.new ≡ write_failures_after (W.failures out.old) result }
 {
     let mut number = Buffer::new();
     let package = found.package;

@@ -1,12 +1,12 @@
 //! Verdicts on groups.
 
-/// What is told of a group of alternatives (Debian Policy 7.1).
+/// The verdict on a group of alternatives (Debian Policy 7.1).
 #[derive(Clone, Copy, Debug, PartialEq, Eq)]
 pub enum Verdict {
     /// None of its alternatives applies.
     Ignored,
     /// A listed package meets an alternative that applies.
     Met,
-    /// Some alternative applies, and no listed package meets one.
+    /// An alternative applies, and no listed package meets one that applies.
     Unmet,
 }

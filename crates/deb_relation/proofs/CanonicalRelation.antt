@@ -116,19 +116,19 @@ alternative_spelled before behind a w w' is = record {
     reordered : (before name q b l f behind : List ℕ) → before ++ ((name ++ (q ++ (b ++ (l ++ f)))) ++ behind) ≡ before ++ (name ++ (q ++ (b ++ (l ++ (f ++ behind)))))
     reordered before name q b l f behind = simp append_assoc refl
 
-alternatives_spelled : (before : List ℕ) (group : Group) → IsWhite before → group ≢ [] → AllByRecursion IsRegular group → SpellsGroup (before ++ joined (codes " | ") (map alternative_text group)) group
-alternatives_spelled before [] w some all = absurd (some refl)
-alternatives_spelled before (a ∷ []) w some all = alternative_spelled before [] a w tt all.0
-alternatives_spelled before (a ∷ next ∷ group) w some all =
+alternatives_spelled : (before behind : List ℕ) (group : Group) → IsWhite before → IsWhite behind → group ≢ [] → AllByRecursion IsRegular group → SpellsGroup (before ++ (joined (codes " | ") (map alternative_text group) ++ behind)) group
+alternatives_spelled before behind [] w w' some all = absurd (some refl)
+alternatives_spelled before behind (a ∷ []) w w' some all = subst (λ t. SpellsAlternative (before ++ (t ++ behind)) a) (sym (append-nil (alternative_text a))) (alternative_spelled before behind a w w' all.0)
+alternatives_spelled before behind (a ∷ next ∷ group) w w' some all =
     let more = joined (codes " | ") (map alternative_text (next ∷ group)) in
-    (before ++ (alternative_text a ++ space), space ++ more, reordered before (alternative_text a) more, alternative_spelled before space a w (refl, tt) all.0, alternatives_spelled space (next ∷ group) (refl, tt) (cons_not_nil next group) all.1)
+    (before ++ (alternative_text a ++ space), space ++ (more ++ behind), reordered before (alternative_text a) more, alternative_spelled before space a w (refl, tt) all.0, alternatives_spelled space behind (next ∷ group) (refl, tt) w' (cons_not_nil next group) all.1)
   where
-    reordered : (before text more : List ℕ) → before ++ (text ++ (32 ∷ 124 ∷ 32 ∷ more)) ≡ (before ++ (text ++ (32 ∷ []))) ++ (124 ∷ 32 ∷ more)
+    reordered : (before text more : List ℕ) → before ++ ((text ++ (32 ∷ 124 ∷ 32 ∷ more)) ++ behind) ≡ (before ++ (text ++ (32 ∷ []))) ++ (124 ∷ 32 ∷ (more ++ behind))
     reordered before text more = simp append_assoc refl
 
-group_spelled : (before : List ℕ) (group : Group) → IsWhite before → IsRegularGroup group → SpellsGroup (before ++ group_text group) group
+pub group_spelled : (before behind : List ℕ) (group : Group) → IsWhite before → IsWhite behind → IsRegularGroup group → SpellsGroup (before ++ (group_text group ++ behind)) group
 unfolding group_text
-group_spelled before group w is = alternatives_spelled before group w is.some is.each
+group_spelled before behind group w w' is = alternatives_spelled before behind group w w' is.some is.each
 
 -- the pieces of canonical text: the groups
 pieces_with : Relation → List (Option Group)
@@ -137,17 +137,17 @@ pieces_with (group ∷ groups) = Some group ∷ pieces_with groups
 
 groups-spelled : (before : List ℕ) (group : Group) (groups : Relation) → IsWhite before → AllByRecursion IsRegularGroup (group ∷ groups) → SpellBetween 44 SpellsPiece (before ++ joined (codes ", ") (map group_text (group ∷ groups))) (pieces_with (group ∷ groups))
 unfolding pieces_with
-groups-spelled before group [] w all = subst (λ t. SpellsGroup (before ++ t) group) (sym (append-nil (group_text group))) (group_spelled before group w all.0)
+groups-spelled before group [] w all = group_spelled before [] group w tt all.0
 groups-spelled before group (next ∷ groups) w all =
     let more = joined (codes ", ") (map group_text (next ∷ groups)) in
-    (before ++ group_text group, space ++ more, sym (append_assoc before (group_text group) (44 ∷ 32 ∷ more)), group_spelled before group w all.0, groups-spelled space next groups (refl, tt) all.1)
+    (before ++ group_text group, space ++ more, sym (append_assoc before (group_text group) (44 ∷ 32 ∷ more)), subst (λ t. SpellsGroup (before ++ t) group) (append-nil (group_text group)) (group_spelled before [] group w tt all.0), groups-spelled space next groups (refl, tt) all.1)
 
 groups_of-pieces : (m : Relation) → groups_of (pieces_with m) ≡ m
 unfolding pieces_with
 groups_of-pieces [] = refl
 groups_of-pieces (group ∷ groups) = ap (λ gs. group ∷ gs) (groups_of-pieces groups)
 
-relation_spelled : (m : Relation) → IsRegularRelation m → SpellsRelation (relation_text m) m
+pub relation_spelled : (m : Relation) → IsRegularRelation m → SpellsRelation (relation_text m) m
 relation_spelled [] is = record { pieces = None ∷ []; spell_pieces = tt; set = refl }
 relation_spelled (group ∷ groups) is = record {
   pieces = pieces_with (group ∷ groups);

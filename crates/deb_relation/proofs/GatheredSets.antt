@@ -3,7 +3,7 @@ use Rattle.std.proofs.Common.{◌≡◌, ℕ, zero, suc, List, [], length, Optio
 use Rattle.deb_relation.specs.Grammar.{set_of}
 use Rattle.deb_relation.specs.Groups.{append_piece}
 use Rattle.deb_relation.specs.Meaning.{Group, Relation}
-use Rattle.deb_relation.specs.Reading.{Reading, Next, and_next, append, gathered, gather, put_piece}
+use Rattle.deb_relation.specs.Reading.{Next, and_next, append, mapped, gathered, gather, put_piece}
 use Rattle.deb_relation.specs.Sets.{insert_by}
 use Rattle.deb_relation.specs.Stops.{Gives}
 use Rattle.deb_relation.specs.Texts.{group_text}
@@ -11,10 +11,6 @@ use Rattle.deb_relation.specs.declared.fault.Stop.{Stop}
 use Rattle.deb_relation.specs.declared.fault.Stop.TheVariants.{Bad, Memory}
 use Rattle.deb_relation.proofs.Gathering.{gives-err}
 use Rattle.deb_relation.proofs.Inserting.{set_with-append}
-
-abbrev pub mapped : {S T : Type 0} → (S → T) → Reading S → Reading T
-mapped f (Ok p) = Ok (f p.0, p.1)
-mapped f (Err stopped) = Err stopped
 
 -- One gathers what the other does, seen in another way.
 module _ {A S T : Type 0} (step : List ℕ → Next A) (put : A → S → S) (put' : A → T → T) (f : S → T) (same : (a : A) (all : S) → f (put a all) ≡ put' a (f all)) where

@@ -11,6 +11,7 @@ pub mod FaultPlaces
 pub mod Faultless
 pub mod GatheredSets
 pub mod Gathering
+pub mod InPlace
 pub mod Inserting
 pub mod Joining
 pub mod Mapped
@@ -28,6 +29,5 @@ pub mod SpelledLists
 pub mod SpelledParts
 pub mod SpelledRelation
 pub mod Summed
-pub mod ToldAlternatives
 pub mod Versions
 pub mod Viewed

@@ -18,7 +18,7 @@ use Rattle.deb_version.specs.PartsLemmas.{cons_not_nil}
 use Rattle.deb_relation.proofs.SetLemmas.{all-set_with, ascends-set_with}
 use Rattle.deb_relation.proofs.SpelledLists.{set_of-some}
 
-qualifier_regular : (text : List ℕ) (q : Option (List ℕ)) → SpellsQualifier text q → IfSome q (λ q. IsTrue (is_arch_name q))
+pub qualifier_regular : (text : List ℕ) (q : Option (List ℕ)) → SpellsQualifier text q → IfSome q (λ q. IsTrue (is_arch_name q))
 qualifier_regular text None is = tt
 qualifier_regular text (Some q) is = is.1
 

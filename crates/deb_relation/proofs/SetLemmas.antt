@@ -53,3 +53,7 @@ module _ {A : Type 0} (text : A → List ℕ) where
   -- an ascending list is the set of its members
   pub set_of-ascends : (xs : List A) → Ascends text xs → set_of text xs ≡ xs
   set_of-ascends xs a = set_with-ascends xs [] a
+
+  -- the set of a set is that set
+  pub set_again : (xs : List A) → set_of text (set_of text xs) ≡ set_of text xs
+  set_again xs = set_of-ascends (set_of text xs) (ascends-set_with xs [] tt)

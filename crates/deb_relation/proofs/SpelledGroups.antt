@@ -16,7 +16,7 @@ use Rattle.deb_relation.proofs.SpelledRelation.{Starts, is_end, alternative_read
 use Rattle.deb_version.specs.PartsLemmas.{cons_not_nil}
 
 -- what may stand behind a piece
-abbrev is_piece_end : ℕ → Bool
+abbrev pub is_piece_end : ℕ → Bool
 is_piece_end b = b == 44
 
 piece_end : (rest : List ℕ) → Starts is_piece_end rest → Starts is_end rest

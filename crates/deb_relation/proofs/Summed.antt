@@ -1,76 +1,31 @@
 -- What is read of groups as a field needs them is what is read of the groups themselves.
-use Rattle.std.proofs.Common.{◌≡◌, ℕ, ◌-◌, ◌||◌, ◌&&◌, Bool, true, false, cond, List, [], ◌∷◌, ◌++◌, length, map, drop, codes, Option, Some, None, Ok, Err, refl, sym, ap, ◌∙◌, arith, append_assoc, append-nil, length-append}
+use Rattle.std.proofs.Common.{◌≡◌, ℕ, ◌-◌, ◌||◌, Bool, true, false, cond, List, [], ◌∷◌, length, map, drop, codes, Option, Some, None, Ok, Err, refl, sym, ap, ◌∙◌}
 use Rattle.std.specs.List.{list_all, list_any}
 use Rattle.std.specs.Option.{option_map}
-use Rattle.std.proofs.Math.Bool.{and-true}
-use Rattle.std.proofs.lemmas.Bool.{le-leb}
-use Rattle.std.proofs.lemmas.List.Folds.{list_all-append}
 use Rattle.deb_relation.specs.declared.fault.Reason.{Reason}
 use Rattle.deb_relation.specs.declared.group_summary.GroupSummary.{GroupSummary}
 use Rattle.deb_relation.specs.declared.fault.Reason.TheVariants.{Trailing}
 use Rattle.deb_relation.specs.Bodies.{meaning_of, meaning_in}
 use Rattle.deb_relation.specs.Faults.{fault_of, first_fault}
 use Rattle.deb_relation.specs.Grammar.{set_of}
-use Rattle.deb_relation.specs.Meaning.{Alternative, Group, Relation}
-use Rattle.deb_relation.specs.Reading.{Reading, Next, and_then, gather, begins, is_at_end, behind_white, read_alternative, next_alternative, append, read_group, piece_behind, next_piece, put_piece, placed, read_relation, relation_in}
-use Rattle.deb_relation.specs.Summaries.{Summary, summary_with, summary_of, summary_key, told_alternative, first_summary, add_told, next_told, read_summary, summary_behind, next_summary, append_summary, put_summary}
+use Rattle.deb_relation.specs.Meaning.{Group, Relation}
+use Rattle.deb_relation.specs.Reading.{Reading, Next, and_then, mapped, gather, begins, is_at_end, behind_white, read_group, piece_behind, next_piece, put_piece, placed, read_relation, relation_in}
+use Rattle.deb_relation.specs.Summaries.{Summary, summary_of, summary_key, read_summary, summary_behind, next_summary, append_summary, put_summary}
 use Rattle.deb_relation.specs.SummaryViews.{told_of}
-use Rattle.deb_relation.specs.Tests.{has_equal_bound, has_alternatives, only_equals}
-use Rattle.deb_relation.specs.Texts.{separated, joined, alternative_text, group_text, relation_text}
-use Rattle.deb_relation.proofs.GatheredSets.{mapped, gather-mapped, put_member}
+use Rattle.deb_relation.specs.Tests.{has_alternatives, only_equals}
+use Rattle.deb_relation.specs.Texts.{joined, group_text, relation_text}
+use Rattle.deb_relation.proofs.GatheredSets.{put_member}
 use Rattle.deb_relation.proofs.Gathering.{IsStep}
 use Rattle.deb_relation.proofs.Inserting.{map-insert_by}
 use Rattle.deb_relation.proofs.Mapped.{any-map, all-map}
 use Rattle.deb_relation.proofs.ReadParts.{ok-same}
 use Rattle.deb_relation.proofs.ReadRelation.{step-next_piece}
-use Rattle.deb_relation.proofs.ToldAlternatives.{told_read, told_viewed}
 use Rattle.deb_relation.proofs.Viewed.{mapped_next, gather-viewed, step-viewed}
 
--- one alternative more
-separated-append : (separator : List ℕ) (more : Group) (x : Alternative) → separated separator (map alternative_text (append x more)) ≡ separated separator (map alternative_text more) ++ (separator ++ alternative_text x)
-separated-append separator [] x = ap (λ t. separator ++ t) (append-nil (alternative_text x))
-separated-append separator (y ∷ ys) x =
-    ap (λ t. separator ++ (alternative_text y ++ t)) (separated-append separator ys x)
-    ∙ simp append_assoc refl
-
-pub summary_same : (s t : List ℕ) (a b c d : Bool) → s ≡ t → a ≡ b → c ≡ d → summary_with s a c ≡ summary_with t b d
-summary_same s t a b c d p q r = rw (p, q, r) refl
-
-add_same : (a x : Alternative) (more : Group) → summary_of (a ∷ append x more) ≡ add_told (told_alternative x) (summary_of (a ∷ more))
-unfolding group_text
-add_same a x more =
-    summary_same _ _ _ _ _ _
-    (ap (λ t. alternative_text a ++ t) (separated-append (codes " | ") more x) ∙ sym (append_assoc (alternative_text a) (separated (codes " | ") (map alternative_text more)) (codes " | " ++ alternative_text x)))
-    (le-leb 2 (length (a ∷ append x more)) (omega (arith, length-append more (x ∷ []))))
-    (list_all-append has_equal_bound (a ∷ more) (x ∷ []) ∙ ap (λ b. list_all has_equal_bound (a ∷ more) && b) (and-true (has_equal_bound x)))
-
-first_same : (a : Alternative) → first_summary (told_alternative a) ≡ summary_of (a ∷ [])
-unfolding group_text
-first_same a = summary_same _ _ _ _ _ _ (sym (append-nil (alternative_text a))) refl (sym (and-true (has_equal_bound a)))
-
-summary_read : (text : List ℕ) → read_summary text ≡ mapped summary_of (read_group text)
-unfolding read_summary read_group
-summary_read text =
-    ap (λ r. and_then r (λ a rest. gather next_told add_told (first_summary a) rest)) (told_read text)
-    ∙ from (read_alternative text)
-  where
-    both : (a : Alternative) (rest : List ℕ) (r : Reading Group) → mapped (λ more. summary_of (a ∷ more)) r ≡ mapped summary_of (mapped (λ more. a ∷ more) r)
-    both a rest (Ok p) = refl
-    both a rest (Err stopped) = refl
-
-    from : (r : Reading Alternative) → and_then (mapped told_alternative r) (λ a rest. gather next_told add_told (first_summary a) rest) ≡ mapped summary_of (and_then r (λ a rest. gather next_alternative append (a ∷ []) rest))
-    from (Err stopped) = refl
-    from (Ok p) =
-        ap (λ s. gather next_told add_told s p.1) (first_same p.0)
-        ∙ gather-viewed next_alternative next_told told_alternative told_viewed append add_told (λ more. summary_of (p.0 ∷ more)) (add_same p.0) [] p.1
-        ∙ both p.0 p.1 (gather next_alternative append [] p.1)
-        ∙ ap (mapped summary_of) (sym (gather-mapped next_alternative append append (λ more. p.0 ∷ more) (λ x all. refl) [] p.1))
-
 next_viewed : (text : List ℕ) → next_summary text ≡ mapped_next (option_map summary_of) (next_piece text)
-unfolding next_summary next_piece
+unfolding next_summary next_piece read_summary
 next_viewed text =
-    ap (λ r. cond (is_at_end (behind_white text)) (Ok None) (cond (begins 44 (behind_white text)) (Ok (Some (None, drop 1 (behind_white text)))) (and_then r summary_behind))) (summary_read (behind_white text))
-    ∙ by_tests (is_at_end (behind_white text)) (begins 44 (behind_white text)) (read_group (behind_white text))
+    by_tests (is_at_end (behind_white text)) (begins 44 (behind_white text)) (read_group (behind_white text))
   where
     behind : (group : Group) (rest : List ℕ) → summary_behind (summary_of group) rest ≡ mapped_next (option_map summary_of) (piece_behind group rest)
     behind group rest = by_end (is_at_end rest || begins 44 rest)

@@ -1,7 +1,6 @@
 -- Steps of which others are views.
 use Rattle.std.proofs.Common.{◌≡◌, ℕ, zero, suc, ◌<◌, List, [], length, Some, None, Ok, Err, refl, sym, ap, ◌∙◌, arith}
-use Rattle.deb_relation.specs.Reading.{Reading, Next, and_then, and_next, gathered, gather}
-use Rattle.deb_relation.proofs.GatheredSets.{mapped}
+use Rattle.deb_relation.specs.Reading.{Next, and_next, mapped, gathered, gather}
 use Rattle.deb_relation.proofs.Gathering.{IsStep}
 use Rattle.deb_relation.proofs.ReadLists.{none_some, some_same}
 
@@ -41,8 +40,3 @@ module _ {A B : Type 0} (step : List ℕ → Next A) (step' : List ℕ → Next 
           let same = ap (λ q. length q.1) (some_same (view p.0, p.1) (b, behind) e) in
           let less = is.shrinks rest p.0 p.1 was in
           omega (arith, same, less)
-
--- one step and then another, of what is a view
-pub then-mapped : {A B C : Type 0} (f : B → C) (r : Reading A) (next : A → List ℕ → Reading B) (next' : A → List ℕ → Reading C) → ((a : A) (rest : List ℕ) → next' a rest ≡ mapped f (next a rest)) → and_then r next' ≡ mapped f (and_then r next)
-then-mapped f (Ok p) next next' same = same p.0 p.1
-then-mapped f (Err stopped) next next' same = refl

@@ -116,3 +116,31 @@ worked-list_alone : applies
     })
     (record { target = codes "amd64"; profiles = codes "nocheck" ∷ [] }) ≡ false
 worked-list_alone = refl
+
+-- for the target amd64 with the profile nocheck: a list that applies or doesn't, with a formula
+-- that does or doesn't
+abbrev with_both : List ℕ → Bool → Bool
+with_both name negated =
+    applies
+    (record {
+      name = codes "aa";
+      qualifier = None;
+      bound = None;
+      architectures = Some (false, name ∷ []);
+      formula = ((negated, codes "nocheck") ∷ []) ∷ [];
+    })
+    (record { target = codes "amd64"; profiles = codes "nocheck" ∷ [] })
+
+worked-both : (with_both (codes "amd64") false ≡ true) × (with_both (codes "i386") false ≡ false)
+    × (with_both (codes "amd64") true ≡ false) × (with_both (codes "i386") true ≡ false)
+worked-both = (refl, refl, refl, refl)
+
+-- names are compared whole, and with case
+worked-names : (is_among (codes "amd64") (codes "amd" ∷ codes "amd640" ∷ codes "AMD64" ∷ [])
+    ≡ false) × (is_among (codes "b") (codes "a" ∷ codes "b" ∷ []) ≡ true) × (is_among [] [] ≡ false)
+worked-names = (refl, refl, refl)
+
+-- without profiles an item with `!` holds
+worked-no_profiles : (formula_applies (((true, codes "nocheck") ∷ []) ∷ []) [] ≡ true)
+    × (formula_applies (((false, codes "nocheck") ∷ []) ∷ []) [] ≡ false)
+worked-no_profiles = (refl, refl)

@@ -5,6 +5,7 @@ pub mod Faults
 pub mod Formulas
 pub mod Grammar
 pub mod Groups
+pub mod InPlace
 pub mod KeptTexts
 pub mod Laws
 pub mod Meaning

@@ -38,6 +38,11 @@ abbrev pub and_then : {A B : Type 0} → Reading A → (A → List ℕ → Resul
 and_then (Ok p) next = next p.0 p.1
 and_then (Err stopped) next = Err stopped
 
+-- what was read, seen in another way
+abbrev pub mapped : {A B : Type 0} → (A → B) → Reading A → Reading B
+mapped view (Ok p) = Ok (view p.0, p.1)
+mapped view (Err stopped) = Err stopped
+
 -- a step again and again
 abbrev pub and_next : {A B : Type 0} → Next A → Result B Stopped → (A → List ℕ → Result B Stopped)
     → Result B Stopped

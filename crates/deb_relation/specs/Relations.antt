@@ -33,3 +33,15 @@ IsRead (Err Memory) m = Unit {0}
 abbrev pub RelationSpells : Groups → Type 0
 RelationSpells relation =
     SpellsRelation (relation_text (relation_of relation)) (relation_of relation)
+
+-- a reported fault has the reason and the offset of the first one
+told_whole : (fault : Option (Reason × ℕ)) (reason : Reason) (at : ℕ) → Tells fault (Bad reason at)
+    → fault ≡ Some (reason, at)
+told_whole fault reason at told = told
+
+-- what is read means this, and a text that spells a relation has no fault
+read_whole : (relation : Groups) (m : Relation) → IsRead (Ok relation) m → relation_of relation ≡ m
+read_whole relation m is = is
+
+read_without_fault : (reason : Reason) (at : ℕ) (m : Relation) → IsRead (Err (Bad reason at)) m → ⊥
+read_without_fault reason at m none = none

@@ -3,7 +3,7 @@
 use Rattle.std.specs.Prelude.{◌≡◌, ℕ, not, List, Some, Result, Ok, Err, filter}
 use Rattle.std.specs.Prelude.{codes, refl}
 use Rattle.std.specs.List.{range_with_len}
-use Rattle.deb_version.specs.declared.fault.BadVersion.TheVariants.{Empty, UpstreamByte}
+use Rattle.deb_version.specs.declared.fault.BadVersion.TheVariants.{Empty, UpstreamByte, UpstreamEmpty}
 use Rattle.deb_version.specs.Faults.{first_fault as version_fault}
 use Rattle.deb_relation.specs.declared.fault.Reason.{Reason}
 use Rattle.deb_relation.specs.declared.fault.Reason.TheVariants.{NameExpected, NameBad}
@@ -421,3 +421,48 @@ former-1 = refl
 former-2 : text_of (relation_in (codes "aa(>1.)")) ≡ Ok (codes "aa (>= 1.0)")
 unfolding steps relation_in group_text
 former-2 = refl
+
+-- Qualifiers: any name of an architecture, and nothing else.
+qualifier-1 : text_of (relation_in (codes "aa:any, bb:native, cc:linux-any, dd:all"))
+    ≡ Ok (codes "aa:any, bb:native, cc:linux-any, dd:all")
+unfolding steps relation_in group_text
+qualifier-1 = refl
+
+qualifier-2 : text_of (relation_in (codes "aa:3-,aa:x(=1)")) ≡ Ok (codes "aa:3-, aa:x (= 1)")
+unfolding steps relation_in group_text
+qualifier-2 = refl
+
+qualifier-3 : first_fault (codes "aa:-a") ≡ Some (QualifierBad, 3)
+unfolding steps relation_in group_text
+qualifier-3 = refl
+
+qualifier-4 : first_fault (codes "aa:a+") ≡ Some (QualifierBad, 3)
+unfolding steps relation_in group_text
+qualifier-4 = refl
+
+qualifier-5 : first_fault (codes "bb, aa:[x]") ≡ Some (QualifierBad, 7)
+unfolding steps relation_in group_text
+qualifier-5 = refl
+
+-- Repeats: a group's alternatives keep theirs, and lists, formulas and relations lose them.
+repeats-1 : text_of (relation_in (codes "aa|aa,aa|aa,bb")) ≡ Ok (codes "aa | aa, bb")
+unfolding steps relation_in group_text
+repeats-1 = refl
+
+repeats-2 : text_of (relation_in (codes "aa[x x y]<b><b><a a>")) ≡ Ok (codes "aa [x y] <a> <b>")
+unfolding steps relation_in group_text
+repeats-2 = refl
+
+-- Names of one byte: of an architecture and of a profile, and not of a package.
+short-1 : text_of (relation_in (codes "aa [x] <y>")) ≡ Ok (codes "aa [x] <y>")
+unfolding steps relation_in group_text
+short-1 = refl
+
+-- A place counts bytes from the text's begin, white space and earlier groups among them.
+place-1 : first_fault (codes "\n aa,\n bb (>> 1:)") ≡ Some (VersionBad UpstreamEmpty, 14)
+unfolding steps relation_in group_text
+place-1 = refl
+
+place-2 : first_fault (codes "aa | bb [x !y], cc") ≡ Some (MixedSigns, 11)
+unfolding steps relation_in group_text
+place-2 = refl

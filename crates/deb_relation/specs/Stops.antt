@@ -1,5 +1,6 @@
 -- How an answer of the code stands to a reading of the specification.
 use Rattle.std.specs.Prelude.{◌≡◌, ℕ, List, length, codes, refl, Option, Some, None, Result, Ok, Err}
+use Rattle.deb_relation.specs.declared.fault.Reason.{Reason}
 use Rattle.deb_relation.specs.declared.fault.Stop.{Stop}
 use Rattle.deb_relation.specs.declared.fault.Stop.TheVariants.{Bad, Memory}
 use Rattle.deb_relation.specs.Reading.{Stopped}
@@ -18,3 +19,12 @@ next_of view (Some a) = Some (view a)
 worked-next_of : (next_of {A = List ℕ} {B = ℕ} length None ≡ None)
     × (next_of {A = List ℕ} {B = ℕ} length (Some (codes "aa")) ≡ Some 2)
 worked-next_of = (refl, refl)
+
+-- a step that fails has the reading's reason and place, and what was read is the reading's
+stopped_whole : (A B : Type 0) (view : A → B) (reading : Result B Stopped) (reason : Reason)
+    (left : ℕ) → Gives (Err (Bad reason left)) view reading → reading ≡ Err (reason, left)
+stopped_whole A B view reading reason left gives = gives
+
+given_whole : (A B : Type 0) (view : A → B) (reading : Result B Stopped) (a : A)
+    → Gives (Ok a) view reading → reading ≡ Ok (view a)
+given_whole A B view reading a gives = gives

@@ -1,11 +1,11 @@
 -- What the summaries of the code stand for.
-use Rattle.std.specs.Prelude.{◌≡◌, ℕ, Bool, true, false, List, Option, Some, None, codes, refl}
+use Rattle.std.specs.Prelude.{◌≡◌, ℕ, true, false, List, Option, Some, None, codes, refl}
 use Rattle.std.specs.Option.{option_map}
 use denote.Ref.{Bor}
 use Rattle.deb_relation.specs.declared.group_summary.GroupSummary.{GroupSummary}
 use Rattle.deb_relation.specs.declared.kept_text.KeptText.TheVariants.{Lent}
 use Rattle.deb_relation.specs.KeptTexts.{bytes_of}
-use Rattle.deb_relation.specs.Summaries.{Summary, Told, summary_with, told_with}
+use Rattle.deb_relation.specs.Summaries.{Summary, summary_with}
 use Rattle.deb_version.specs.Lent.{lent}
 
 abbrev pub told_of : GroupSummary → Summary
@@ -18,10 +18,6 @@ told_key group = bytes_of group.text
 -- a piece's summary and the text behind it
 abbrev pub told_behind : Option GroupSummary × Bor (List ℕ) → Option Summary × List ℕ
 told_behind p = (option_map told_of p.0, p.1.now)
-
--- what is told of an alternative whose text was written, and the text behind it
-abbrev pub written_behind : List ℕ → Bool × Bor (List ℕ) → Told × List ℕ
-written_behind text p = (told_with text p.0, p.1.now)
 
 -- a group of one name and a bound
 abbrev bounded : GroupSummary
@@ -47,7 +43,3 @@ worked-behind : (told_behind (Some bounded, lent (codes ",cc"))
     ≡ (Some (summary_with (codes "aa (>= 1)") false false), codes ",cc"))
     × (told_behind (None, lent (codes ",cc")) ≡ (None, codes ",cc"))
 worked-behind = (refl, refl)
-
-worked-written : written_behind (codes "aa") (true, lent (codes "|cc"))
-    ≡ (record { text = codes "aa"; is_equal = true }, codes "|cc")
-worked-written = refl

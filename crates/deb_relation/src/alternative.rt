@@ -1,4 +1,4 @@
-//! An alternative: a name, and what is asked of a package of that name.
+//! An alternative of a group: a package name with its conditions.
 
 ghost use Rattle.std.specs.Prelude.{◌≡◌, ◌++◌, OnOk, map};
 ghost use Rattle.std.specs.List.{list_all, list_any};
@@ -24,7 +24,7 @@ use deb_base::is_wildcard;
 use deb_version::Version;
 use std::alloc::{AllocError, Global};
 
-/// A name, and what is asked of a package of that name (Debian Policy 7.1).
+/// A package name with its conditions (Debian Policy 7.1).
 #[derive(Debug, Drop)]
 pub struct Alternative<'a> {
     pub(crate) name: &'a [u8],
@@ -40,21 +40,21 @@ impl<'a> Alternative<'a> {
     ghost use Rattle.deb_relation.specs.Tests.{has_equal_bound, has_wildcard};
     ghost use Rattle.deb_relation.specs.Views.{alternative_of, lent_bound_of, lent_list_of};
 
-    /// The name of the package.
+    /// Returns the name of the package.
     pub fn name(&self) -> &'a [u8]
         ensures { result.now ≡ (alternative_of self.now).name }
     {
         self.name
     }
 
-    /// The qualifier behind the name's colon: `any`, `native`, or the name of an architecture.
+    /// Returns the qualifier after the colon: `any`, `native`, or the name of an architecture.
     pub fn qualifier(&self) -> Option<&'a [u8]>
         ensures { option_copied result ≡ (alternative_of self.now).qualifier }
     {
         self.qualifier
     }
 
-    /// The operator and the version of the bound.
+    /// Returns the operator and the version of the bound.
     pub fn bound(&self) -> Option<(Op, &Version<'a>)>
         ensures { option_map lent_bound_of result ≡ (alternative_of self.now).bound }
     {
@@ -64,7 +64,8 @@ impl<'a> Alternative<'a> {
         }
     }
 
-    /// The architecture list: whether its names have `!`, and the names, ascending and each once.
+    /// Returns the architecture list: whether its names have `!`, and the names, ascending and each
+    /// once.
     pub fn architectures(&self) -> Option<(bool, &[&'a [u8]])>
         ensures { option_map lent_list_of result ≡ (alternative_of self.now).architectures }
     {
@@ -74,7 +75,7 @@ impl<'a> Alternative<'a> {
         }
     }
 
-    /// The restriction formula: its lists, each of items that are profiles with `!` (true) or
+    /// Returns the lists of the restriction formula. Each item is a profile with `!` (true) or
     /// without. Items and lists ascend by their texts, each once.
     pub fn formula(&self) -> &[Vec<(bool, &'a [u8])>]
         ensures { map restrictions_of result.now ≡ (alternative_of self.now).formula }
@@ -82,9 +83,10 @@ impl<'a> Alternative<'a> {
         &self.formula
     }
 
-    /// Whether this applies to an environment: its architecture list holds the target, or with `!`
-    /// doesn't; and all items of one list of its formula hold, an item if its profile is active, or
-    /// with `!` if it isn't. Without a list and without a formula it applies.
+    /// Returns whether the alternative applies to an environment: its architecture list contains
+    /// the target, or with `!` doesn't; and all items of one list of its formula hold. An item
+    /// holds if its profile is active, or with `!` if it isn't. An alternative without a list and
+    /// a formula applies.
     pub fn applies(&self, environment: &Env) -> bool
         ensures { result ≡ applies (alternative_of self.now) (environment_of environment.now) }
     {
@@ -92,7 +94,7 @@ impl<'a> Alternative<'a> {
             && formula_applies(&self.formula, environment)
     }
 
-    /// Whether the architecture list holds a wildcard.
+    /// Whether the architecture list contains a wildcard.
     pub(crate) fn has_wildcard(&self) -> bool
         ensures { result ≡ has_wildcard (alternative_of self.now) }
     {
@@ -109,7 +111,7 @@ impl<'a> Alternative<'a> {
         bound_is_equal(&self.bound)
     }
 
-    /// The alternative, and what is left behind it and white space.
+    /// The alternative, and what is left after it and white space.
     #[tactic(auto, unfolding(crate::specs::Reading::read_alternative))]
     pub(crate) fn read(alloc: Global, text: &'a [u8]) -> Result<(Alternative<'a>, &'a [u8]), Stop>
         ensures { Gives result (λ p. (alternative_of p.0, p.1.now)) (read_alternative text.now) }

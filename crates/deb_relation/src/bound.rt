@@ -98,7 +98,7 @@ pub(crate) fn bound_is_equal(bound: &Option<(Op, Version<'_>)>) -> bool
     ensures { result ≡ bound_is_equal (option_map bound_of bound.now) }
 {
     match bound {
-        Some((operator, _)) => matches!(operator, Op::Equal),
+        Some((operator, _)) => operator.is_equal(),
         None => true,
     }
 }

@@ -1,4 +1,4 @@
-//! What relations are asked for: a target architecture and the build profiles that are active.
+//! The environment that relations are asked for: a target architecture and active build profiles.
 
 ghost use Rattle.std.specs.Prelude.{◌≡◌, ◌==◌, ◌++◌, IfOk, IfErr, IsTrue, IsFalse, Err, map};
 ghost use Rattle.std.specs.List.{list_all, list_any};
@@ -10,20 +10,20 @@ ghost use Rattle.deb_relation.specs.Views.{name_key, names_of};
 use deb_base::{is_arch_name, is_profile_name, is_wildcard};
 use std::alloc::{AllocError, AllocFailed, Global};
 
-/// A target architecture, and the build profiles that are active.
+/// A target architecture and the build profiles that are active (Debian Policy 7.1).
 #[derive(Debug, Drop)]
 pub struct Env {
     pub(crate) target: Vec<u8>,
     pub(crate) profiles: Vec<Vec<u8>>,
 }
 
-/// Why there is no environment.
+/// Why there is no such environment.
 #[derive(Clone, Copy, Debug, PartialEq, Eq)]
 pub enum EnvFault {
-    /// The target is no name of an architecture, or a wildcard, or `all`; or a profile is no name
-    /// of a build profile.
+    /// The target isn't an architecture name, or is a wildcard or `all`; or a profile isn't the
+    /// name of a build profile.
     BadEnvironment,
-    /// Memory is wanting.
+    /// A growth of memory was refused.
     Memory,
 }
 
@@ -51,12 +51,13 @@ impl Env {
     ghost use Rattle.deb_relation.specs.Applying.{is_among};
     ghost use Rattle.deb_relation.specs.Environments.{environment_of, environment_with};
 
-    /// The environment of a target and of profiles.
+    /// Copies a target and profiles.
     ///
     /// # Errors
     ///
-    /// `BadEnvironment` exactly where the target is no name of an architecture, or a wildcard, or
-    /// `all`, or where a profile is no name of a build profile; else want of memory.
+    /// - `BadEnvironment`, exactly if the target isn't an architecture name, or is a wildcard or
+    ///   `all`, or a profile isn't the name of a build profile.
+    /// - `Memory`, if a growth of memory was refused.
     pub fn new(alloc: Global, target: &[u8], profiles: &[&[u8]]) -> Result<Env, EnvFault>
         ensures ok { IfOk result
             (λ environment. environment_of environment
@@ -66,7 +67,7 @@ impl Env {
         ensures refused { IfErr result
             (λ fault. fault ≡ EnvFault.BadEnvironment
             → IsFalse (is_environment target.now (names_of profiles.now))) }
-        ensures told { IsFalse (is_environment target.now (names_of profiles.now))
+        ensures bad_is_refused { IsFalse (is_environment target.now (names_of profiles.now))
             → result ≡ Err EnvFault.BadEnvironment }
     {
         if !is_environment(target, profiles) {
@@ -77,14 +78,14 @@ impl Env {
         Ok(Env { target, profiles })
     }
 
-    /// The target architecture.
+    /// Returns the target architecture.
     pub fn target(&self) -> &[u8]
         ensures { result.now ≡ (environment_of self.now).target }
     {
         &self.target
     }
 
-    /// Whether this profile is active.
+    /// Returns whether this profile is active.
     pub fn active(&self, profile: &[u8]) -> bool
         ensures { result ≡ is_among profile.now (environment_of self.now).profiles }
     {

@@ -1,46 +1,46 @@
-//! Why a text is no relation.
+//! The faults of a text that isn't a relation.
 
 use deb_version::BadVersion;
 use std::alloc::{AllocError, AllocFailed};
 
-/// Why a text is no relation: the reason of the first step that fails, reading from the left.
+/// Why a text isn't a relation: the reason of the first step that fails, reading from the left.
 #[derive(Clone, Copy, Debug, PartialEq, Eq)]
 pub enum Reason {
-    /// No name stands where one has to.
+    /// A name is missing.
     NameExpected,
-    /// What stands there is no name of a package (Debian Policy 5.6.1).
+    /// The name isn't a package name (Debian Policy 5.6.1).
     NameBad,
-    /// What stands behind a colon is no name of an architecture.
+    /// The text after a colon isn't an architecture name.
     QualifierBad,
-    /// What stands behind an opening parenthesis is none of `<<`, `<=`, `=`, `>=` and `>>`, nor of
-    /// the former `<` and `>` (Debian Policy 7.1).
+    /// The text after an opening parenthesis isn't an operator: `<<`, `<=`, `=`, `>=`, `>>`, or the
+    /// obsolete `<` and `>` (Debian Policy 7.1).
     OperatorBad,
-    /// What stands behind an operator is no version, by this fault, whose own place counts from the
-    /// version's start.
+    /// The text after an operator isn't a version, for this reason. Its offset counts from the
+    /// start of the version.
     Version(BadVersion),
-    /// A bound lacks its closing parenthesis; or the text ends within a list.
+    /// A closing parenthesis is missing, or the text ends within a list.
     Unclosed,
-    /// An item of a list is no name of an architecture, or of a build profile, with at most one `!`
-    /// before it.
+    /// An item of a list isn't the name of an architecture, or of a build profile, after at most
+    /// one `!`.
     ItemBad,
-    /// An architecture list has items with `!` and items without.
+    /// An architecture list has items with and without `!`.
     MixedSigns,
-    /// A list has no item.
+    /// A list is empty.
     ListEmpty,
-    /// Neither `,` nor `|` nor the end of the text follows an alternative.
+    /// An alternative isn't followed by `,`, `|` or the end of the text.
     Trailing,
 }
 
-/// Why there is no relation.
+/// Why a relation wasn't read.
 #[derive(Clone, Copy, Debug, PartialEq, Eq)]
 pub enum RelationFault {
-    /// The text is none: a step fails for this reason at this place, an offset in the whole text.
+    /// The text isn't a relation, for this reason. `at` is an offset in the whole text, from 0.
     Bad { reason: Reason, at: usize },
-    /// Memory is wanting.
+    /// A growth of memory was refused.
     Memory,
 }
 
-/// Why reading stops: a step fails with so many bytes left from its place on, or memory is wanting.
+/// Why reading stops: a step fails with so many bytes left from its place on, or out of memory.
 #[derive(Clone, Copy)]
 pub(crate) enum Stop {
     Bad { reason: Reason, left: usize },

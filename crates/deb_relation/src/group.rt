@@ -1,4 +1,4 @@
-//! A group: alternatives of which one is enough.
+//! A group of alternatives.
 
 ghost use Rattle.std.specs.Prelude.{◌≡◌, ◌++◌, IfOk, OnErr, OnOk, codes, length, map};
 ghost use Rattle.std.specs.List.{list_all, list_any};
@@ -13,7 +13,7 @@ use crate::cursor::{begins, skip_white};
 use crate::fault::Stop;
 use std::alloc::{AllocError, Global};
 
-/// Alternatives in their order, of which one is enough (Debian Policy 7.1).
+/// Alternatives in their order; a package that meets one of them is enough (Debian Policy 7.1).
 #[derive(Debug, Drop)]
 pub struct Group<'a> {
     pub(crate) alternatives: Vec<Alternative<'a>>,
@@ -25,46 +25,47 @@ impl<'a> Group<'a> {
     ghost use Rattle.deb_relation.specs.Groups.{group_of};
     ghost use Rattle.deb_relation.specs.Tests.{has_two};
 
-    /// The alternatives, in the order of the text, repeats kept.
+    /// Returns the alternatives in the order of the text, repeats kept.
     pub fn alternatives(&self) -> &[Alternative<'a>]
         ensures { map alternative_of result.now ≡ group_of self.now }
     {
         &self.alternatives
     }
 
-    /// Whether there are two or more alternatives.
+    /// Returns whether there are two or more alternatives.
     pub(crate) fn has_two(&self) -> bool
         ensures { result ≡ has_two (group_of self.now) }
     {
         self.alternatives.len() >= 2
     }
 
-    /// Whether an architecture list holds a wildcard.
+    /// Returns whether an architecture list contains a wildcard (Debian Policy 11.1).
     pub(crate) fn has_wildcard(&self) -> bool
         ensures { result ≡ list_any has_wildcard (group_of self.now) }
     {
         some_has_wildcard(&self.alternatives)
     }
 
-    /// Whether no bound has an operator other than `=`.
+    /// Returns whether no bound has an operator other than `=`.
     pub(crate) fn only_equals(&self) -> bool
         ensures { result ≡ list_all has_equal_bound (group_of self.now) }
     {
         each_has_equal_bound(&self.alternatives)
     }
 
-    /// The length in bytes of the canonical text, which `canon_into` appends.
+    /// Returns the length in bytes of the canonical text, which `canon_into` appends.
     pub fn canon_len(&self) -> u64
         ensures { result ≡ length (group_text (group_of self.now)) }
     {
         self.text.len() as u64
     }
 
-    /// Appends the canonical text: the alternatives in their order, with ` | ` between.
+    /// Appends the canonical text to `out`: the alternatives in their order, with ` | ` between
+    /// them.
     ///
     /// # Errors
     ///
-    /// Want of memory, and `out` is then unchanged.
+    /// Out of memory; `out` is then unchanged.
     pub fn canon_into(&self, out: &mut Vec<u8>) -> Result<(), AllocError>
         ensures ok { OnOk result (out.new.items ≡ out.old.items ++ group_text (group_of self.now)) }
         ensures unchanged { OnErr result (out.new.items ≡ out.old.items) }
@@ -72,7 +73,7 @@ impl<'a> Group<'a> {
         out.extend_from_slice(&self.text)
     }
 
-    /// The group, and what is left behind it and white space.
+    /// The group, and what is left after it and white space.
     #[tactic(auto, unfolding(crate::specs::Reading::read_group))]
     pub(crate) fn read(alloc: Global, text: &'a [u8]) -> Result<(Group<'a>, &'a [u8]), Stop>
         ensures { Gives result (λ p. (group_of p.0, p.1.now)) (read_group text.now) }
@@ -86,7 +87,7 @@ impl<'a> Group<'a> {
     }
 }
 
-/// The next alternative, and what is left behind it and white space.
+/// The next alternative, and what is left after it and white space.
 #[tactic(auto, unfolding(crate::specs::Reading::next_alternative))]
 fn next_alternative(alloc: Global, text: &[u8]) -> Result<Option<(Alternative<'_>, &[u8])>, Stop>
     ensures value { Gives result (next_of (λ p. (alternative_of p.0, p.1.now)))

@@ -1,20 +1,24 @@
 //! Groups as a field needs them: their canonical texts and two tests, without their parts.
 
-ghost use Rattle.std.specs.Prelude.{◌≡◌, ◌++◌, ◌&&◌, [], OnOk, codes, false, map};
+ghost use Rattle.std.specs.Prelude.{◌≡◌, ◌||◌, [], IfSome, Ok, OnOk, map};
 ghost use Rattle.std.specs.Option.{option_map};
 ghost use Rattle.deb_relation.specs.Grammar.{set_of};
-ghost use Rattle.deb_relation.specs.Reading.{gather};
+ghost use Rattle.deb_relation.specs.Reading.{begins, gather, is_at_end};
 ghost use Rattle.deb_relation.specs.Sets.{byte_cmp};
 ghost use Rattle.deb_relation.specs.Stops.{Gives, next_of};
-ghost use Rattle.deb_relation.specs.Summaries.{add_told, append_summary, next_summary, next_told, put_summary, read_summary, summary_key, summary_with};
+ghost use Rattle.deb_relation.specs.Summaries.{append_summary, next_summary, put_summary, read_summary, summary_key};
 ghost use Rattle.deb_relation.specs.SummaryViews.{told_behind, told_key, told_of};
 
-use crate::alternative_summary::{write_alternative, write_next};
 use crate::cursor::{begins, skip_white};
 use crate::fault::{Reason, Stop};
+use crate::group::Group;
+use crate::in_place::cut_group;
 use crate::kept_text::KeptText;
 use std::alloc::{AllocError, Global};
 use std::cmp::Ordering;
+
+/// How many groups there are at least when repeats among them are dropped.
+const FEW: usize = 1_000;
 
 /// A group's canonical text, whether it has two alternatives or more, and whether no bound of it
 /// has an operator other than `=`.
@@ -25,90 +29,60 @@ pub(crate) struct GroupSummary<'a> {
     pub(crate) only_equals: bool,
 }
 
-/// Appends a bar and the text of a further alternative.
-fn append_next(out: &mut Vec<u8>, next: &[u8]) -> Result<(), AllocError>
-    ensures { OnOk result (out.new.items ≡ out.old.items ++ (codes " | " ++ next.now)) }
+/// Whether a text ends, or goes on with a comma.
+fn ends_piece(text: &[u8]) -> bool
+    ensures { result ≡ (is_at_end text.now || begins 44 text.now) }
 {
-    out.extend_from_slice(b" | ")?;
-    out.extend_from_slice(next)
+    text.is_empty() || begins(text, b',')
 }
 
-/// Whether no bound has an operator other than `=`, with one alternative more.
-fn still_equals(only_equals: bool, is_equal: bool) -> bool
-    ensures { result ≡ (only_equals && is_equal) }
+/// The group, and what is left after it and white space, where it is canonical and has no lists.
+fn cut_summary(text: &[u8]) -> Option<(GroupSummary<'_>, &[u8])>
+    ensures { IfSome result (λ p. read_summary text.now ≡ Ok (told_of p.0, p.1.now)) }
 {
-    only_equals && is_equal
-}
-
-/// Appends the texts of the alternatives behind the first, whose bound is none or has `=`; tells
-/// whether there are any and whether no bound has an operator other than `=`, and what is left.
-#[tactic(auto, using(crate::proofs::ToldAlternatives::no_more))]
-fn append_rest<'a>(
-    alloc: Global,
-    out: &mut Vec<u8>,
-    first_equals: bool,
-    text: &'a [u8],
-) -> Result<(bool, bool, &'a [u8]), Stop>
-    ensures { Gives result (λ p. (summary_with out.new.items p.0 p.1, p.2.now))
-        (gather next_told add_told
-        (summary_with out.old.items false first_equals) text.now) }
-{
-    if !begins(text, b'|') {
-        return Ok((false, first_equals, text));
+    let (front, has_two, only_equals, behind) = cut_group(text)?;
+    let rest = skip_white(behind);
+    if !ends_piece(rest) {
+        return None;
     }
-    let mut next = Vec::new(alloc);
-    let mut has_two = false;
-    let mut only_equals = first_equals;
-    let mut rest = text;
-    while let Some((is_equal, behind)) = write_next(alloc, &mut next, rest)? {
-        append_next(out, &next)?;
-        has_two = true;
-        only_equals = still_equals(only_equals, is_equal);
-        rest = behind;
-    }
-    Ok((has_two, only_equals, rest))
+    let group = GroupSummary {
+        text: KeptText::Lent(front),
+        has_two,
+        only_equals,
+    };
+    Some((group, rest))
 }
 
-/// Writes the text of a group in place of what was there, and tells as `append_rest`.
+/// The group, read part by part, and what is left after it and white space.
 #[tactic(auto, unfolding(crate::specs::Summaries::read_summary))]
-fn write_group<'a>(
-    alloc: Global,
-    out: &mut Vec<u8>,
-    text: &'a [u8],
-) -> Result<(bool, bool, &'a [u8]), Stop>
-    ensures { Gives result (λ p. (summary_with out.new.items p.0 p.1, p.2.now))
-        (read_summary text.now) }
-{
-    let (is_equal, rest) = write_alternative(alloc, out, text)?;
-    append_rest(alloc, out, is_equal, rest)
-}
-
-/// The group, and what is left behind it and white space.
-fn read_group<'a>(
-    alloc: Global,
-    scratch: &mut Vec<u8>,
-    text: &'a [u8],
-) -> Result<(GroupSummary<'a>, &'a [u8]), Stop>
+fn read_parts(alloc: Global, text: &[u8]) -> Result<(GroupSummary<'_>, &[u8]), Stop>
     ensures { Gives result (λ p. (told_of p.0, p.1.now)) (read_summary text.now) }
 {
-    let (has_two, only_equals, rest) = write_group(alloc, scratch, text)?;
-    let text = KeptText::begun(alloc, text, scratch)?;
+    let (group, rest) = Group::read(alloc, text)?;
+    let has_two = group.has_two();
+    let only_equals = group.only_equals();
     let group = GroupSummary {
-        text,
+        text: KeptText::Owned(group.text),
         has_two,
         only_equals,
     };
     Ok((group, rest))
 }
 
+/// The group, and what is left after it and white space.
+fn read_group(alloc: Global, text: &[u8]) -> Result<(GroupSummary<'_>, &[u8]), Stop>
+    ensures { Gives result (λ p. (told_of p.0, p.1.now)) (read_summary text.now) }
+{
+    match cut_summary(text) {
+        Some(read) => Ok(read),
+        None => read_parts(alloc, text),
+    }
+}
+
 /// The next piece between commas, a group or white space alone, and what is left behind it and its
 /// comma.
 #[tactic(auto, unfolding(crate::specs::Summaries::next_summary))]
-fn next_piece<'a>(
-    alloc: Global,
-    scratch: &mut Vec<u8>,
-    text: &'a [u8],
-) -> Result<Option<(Option<GroupSummary<'a>>, &'a [u8])>, Stop>
+fn next_piece(alloc: Global, text: &[u8]) -> Result<Option<(Option<GroupSummary<'_>>, &[u8])>, Stop>
     ensures value { Gives result (next_of told_behind) (next_summary text.now) }
 {
     let text = skip_white(text);
@@ -118,7 +92,7 @@ fn next_piece<'a>(
     if begins(text, b',') {
         return Ok(Some((None, &text[1..])));
     }
-    let (group, rest) = read_group(alloc, scratch, text)?;
+    let (group, rest) = read_group(alloc, text)?;
     if rest.is_empty() {
         return Ok(Some((Some(group), rest)));
     }
@@ -145,21 +119,6 @@ fn push_piece<'a>(
     Ok(())
 }
 
-/// The groups of a whole text in their order, repeats kept.
-fn gather_groups(alloc: Global, text: &[u8]) -> Result<(Vec<GroupSummary<'_>>, &[u8]), Stop>
-    ensures { Gives result (λ p. (map told_of p.0.items, p.1.now))
-        (gather next_summary append_summary [] text.now) }
-{
-    let mut groups = Vec::with_capacity(alloc, 8)?;
-    let mut scratch = Vec::with_capacity(alloc, text.len())?;
-    let mut rest = text;
-    while let Some((piece, behind)) = next_piece(alloc, &mut scratch, rest)? {
-        push_piece(&mut groups, piece)?;
-        rest = behind;
-    }
-    Ok((groups, rest))
-}
-
 /// Two groups, in the byte order of their texts.
 fn compare_groups(a: &GroupSummary<'_>, b: &GroupSummary<'_>) -> Ordering
     ensures { result ≡ byte_cmp (told_key a.now) (told_key b.now) }
@@ -177,7 +136,19 @@ fn sort_groups(groups: &mut Vec<GroupSummary<'_>>) -> Result<(), AllocError>
     Ok(())
 }
 
-/// The set of the groups of a whole text.
+/// Drops repeats once there are `most` groups, and lets those that are left become twice as many.
+fn drop_repeats(groups: &mut Vec<GroupSummary<'_>>, most: &mut usize) -> Result<(), AllocError>
+    ensures { OnOk result (set_of summary_key (map told_of groups.new.items)
+        ≡ set_of summary_key (map told_of groups.old.items)) }
+{
+    if groups.len() >= *most {
+        sort_groups(groups)?;
+        *most = groups.len().saturating_mul(2).max(FEW);
+    }
+    Ok(())
+}
+
+/// The set of the groups of a whole text, and what is left after it.
 pub(crate) fn read_groups(
     alloc: Global,
     text: &[u8],
@@ -185,7 +156,14 @@ pub(crate) fn read_groups(
     ensures { Gives result (λ p. (map told_of p.0.items, p.1.now))
         (gather next_summary put_summary [] text.now) }
 {
-    let (mut groups, rest) = gather_groups(alloc, text)?;
+    let mut groups = Vec::with_capacity(alloc, 8)?;
+    let mut most = FEW;
+    let mut rest = text;
+    while let Some((piece, behind)) = next_piece(alloc, rest)? {
+        push_piece(&mut groups, piece)?;
+        drop_repeats(&mut groups, &mut most)?;
+        rest = behind;
+    }
     sort_groups(&mut groups)?;
     Ok((groups, rest))
 }

@@ -1,6 +1,6 @@
 //! Laws of relations.
 //!
-//! Each function here does nothing: its contract is a law, which holds of all texts, or of all
+//! Each function here does nothing. Its contract is a law, which holds for all texts, or for all
 //! relations.
 
 ghost use Rattle.deb_relation.specs.Laws.{CanonicalTextDecides, CanonicalTextIsBody, CanonicalTextIsShort, CanonicalTextSpells, CanonicalTextStays, FaultsStandInTheirText, GroupsAscend, SetsAscend, SpellsOneRelation, SpellsWhereFaultless};
@@ -17,7 +17,7 @@ pub fn spells_one_relation()
     ensures { SpellsOneRelation }
 {}
 
-/// A text spells a relation exactly where no step of its reading fails.
+/// A text spells a relation exactly if no step of its reading fails.
 pub fn spells_where_faultless()
     ensures { SpellsWhereFaultless }
 {}
@@ -32,8 +32,8 @@ pub fn relation_text_spells(relation: &RelationText<'_>)
     ensures { RelationTextSpells relation.now }
 {}
 
-/// What a text spells has no empty group and no empty list, its names are names, its versions have
-/// a text, and its sets ascend.
+/// A relation that a text spells has no empty group and no empty list, its names are valid, some
+/// text spells each of its versions, and its sets ascend.
 pub fn what_is_spelled_is_regular()
     ensures { SpelledIsRegular }
 {}
@@ -43,12 +43,12 @@ pub fn canonical_text_spells()
     ensures { CanonicalTextSpells }
 {}
 
-/// Two relations have one canonical text exactly if they mean the same.
+/// Two relations have the same canonical text exactly if they mean the same.
 pub fn canonical_text_decides()
     ensures { CanonicalTextDecides }
 {}
 
-/// The canonical text of what canonical text spells is that text.
+/// The canonical text of a relation that canonical text spells is that text.
 pub fn canonical_text_stays()
     ensures { CanonicalTextStays }
 {}
@@ -58,12 +58,12 @@ pub fn canonical_text_is_short()
     ensures { CanonicalTextIsShort }
 {}
 
-/// Canonical text can be the body of a field: one line without blanks at its ends, or nothing.
+/// Canonical text can be the body of a field: it is empty, or one line without blanks at its ends.
 pub fn canonical_text_is_body()
     ensures { CanonicalTextIsBody }
 {}
 
-/// The groups of what a text spells ascend by their canonical texts, each once.
+/// The groups of a relation that a text spells ascend by their canonical texts, each once.
 pub fn groups_ascend()
     ensures { GroupsAscend }
 {}

@@ -11,13 +11,12 @@
 //! assert_eq!(rt; fault, Some(RelationFault::Bad { reason, at: 4 }));
 //! ```
 //!
-//! A relation means a set of groups (Debian Policy 7.1). What a text means, or the first step that
-//! fails with its place, is a function of the text, and `Relation::parse` answers it. The groups
-//! ascend by their canonical texts, each once, and so do the lists within them.
+//! A relation means a set of groups (Debian Policy 7.1). [`Relation::parse`] returns what a text
+//! means, or the reason and the offset of the first step that fails. The groups ascend by their
+//! canonical texts, each once, and so do the lists within them.
 #![tactic(auto)]
 
 mod alternative;
-mod alternative_summary;
 mod architectures;
 mod bound;
 mod cursor;
@@ -26,10 +25,10 @@ mod fault;
 mod formula;
 mod group;
 mod group_summary;
+mod in_place;
 mod items;
 mod kept_text;
 pub mod laws;
-mod list_texts;
 mod name;
 mod operator;
 mod relation;

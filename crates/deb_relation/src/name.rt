@@ -36,7 +36,7 @@ fn begins_small_or_digit(name: &[u8]) -> bool
 /// The name, and what is left behind it, where the bytes of package names that a text begins with
 /// are one: so that a good name is passed over once.
 #[tactic(auto, using(crate::proofs::Names::name_begun))]
-fn read_good_name(text: &[u8]) -> Option<(&[u8], &[u8])>
+pub(crate) fn read_good_name(text: &[u8]) -> Option<(&[u8], &[u8])>
     ensures { IfSome result (λ p. read_name text.now ≡ Ok (text_behind p)) }
 {
     let (name, behind) = text.split_at(package_len(text));

@@ -1,10 +1,10 @@
-//! The operators of version bounds.
+//! The operators of bounds on a version.
 
 ghost use Rattle.std.specs.Prelude.{◌≡◌};
 
 use std::cmp::Ordering;
 
-/// How a package's version has to stand to the version of a bound (Debian Policy 7.1).
+/// How the version of a package must compare with that of a bound (Debian Policy 7.1).
 #[derive(Clone, Copy, Debug, PartialEq, Eq)]
 pub enum Op {
     /// `<<`: strictly earlier.
@@ -21,8 +21,16 @@ pub enum Op {
 
 impl Op {
     ghost use Rattle.deb_relation.specs.Applying.{holds};
+    ghost use Rattle.deb_relation.specs.Tests.{is_equal};
 
-    /// Whether this holds of a version that compares so to the version of the bound.
+    /// Returns whether this is `=`.
+    pub(crate) fn is_equal(self) -> bool
+        ensures { result ≡ is_equal self }
+    {
+        matches!(self, Op::Equal)
+    }
+
+    /// Returns whether a version that compares so with that of the bound meets it.
     pub fn holds(self, order: Ordering) -> bool
         ensures { result ≡ holds self order }
     {

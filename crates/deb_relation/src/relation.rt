@@ -1,4 +1,4 @@
-//! A relation: a set of groups, each of which has to be met.
+//! A relation: a set of groups.
 
 ghost use Rattle.std.specs.Prelude.{◌≡◌, ◌++◌, [], Ok, IfOk, IfErr, OnErr, OnOk, codes, length, map};
 ghost use Rattle.std.specs.List.{list_all, list_any};
@@ -17,7 +17,7 @@ use crate::group::Group;
 use std::alloc::{AllocError, Global};
 use std::cmp::Ordering;
 
-/// A set of groups, each of which has to be met (Debian Policy 7.1).
+/// A set of groups, each of which must be met (Debian Policy 7.1).
 #[derive(Debug, Drop)]
 pub struct Relation<'a> {
     pub(crate) groups: Vec<Group<'a>>,
@@ -27,7 +27,7 @@ pub struct Relation<'a> {
         ≡ Ok (map group_of groups.items) },
 }
 
-/// The next piece between commas, a group or white space alone, and what is left behind it and its
+/// The next piece between commas, a group or white space alone, and what is left after it and its
 /// comma.
 #[tactic(auto, unfolding(crate::specs::Reading::next_piece))]
 fn next_piece(alloc: Global, text: &[u8]) -> Result<Option<(Option<Group<'_>>, &[u8])>, Stop>
@@ -158,15 +158,16 @@ impl<'a> Relation<'a> {
     ghost use Rattle.deb_relation.specs.Relations.{IsRead, Tells, relation_of};
     ghost use Rattle.deb_relation.specs.Tests.{has_alternatives, only_equals, some_wildcard};
 
-    /// The relation that a text spells: groups with commas between, alternatives with bars between
+    /// Parses a relation: groups with commas between them, of alternatives with bars between them
     /// (Debian Policy 7.1).
     ///
-    /// It borrows names and versions from the text. A group that stands twice is one; empty pieces
+    /// It borrows names and versions from the text. A repeated group is kept once; empty pieces
     /// between commas are ignored.
     ///
     /// # Errors
     ///
-    /// The first step that fails, reading from the left, with its place; or want of memory.
+    /// The reason and the offset of the first step that fails, reading from the left; or out of
+    /// memory.
     #[tactic(auto, unfolding(crate::specs::Reading::relation_in, crate::specs::Reading::read_relation))]
     pub fn parse(alloc: Global, text: &'a [u8]) -> Result<Relation<'a>, RelationFault>
         ensures ok { IfOk result (λ relation. SpellsRelation text.now (relation_of relation)) }
@@ -186,9 +187,9 @@ impl<'a> Relation<'a> {
         }
     }
 
-    /// The groups, ascending by their canonical texts, each once; and so do the names of each
+    /// Returns the groups, ascending by their canonical texts, each once. So do the names of each
     /// architecture list, the lists of each formula and the items of each list. No group and no
-    /// list is empty, and each name and version is one.
+    /// list is empty, and each name and version is valid.
     pub fn groups(&self) -> &[Group<'a>]
         ensures value { map group_of result.now ≡ relation_of self.now }
         ensures ascend { Ascends group_text (relation_of self.now) }
@@ -198,40 +199,40 @@ impl<'a> Relation<'a> {
         &self.groups
     }
 
-    /// Whether some group has two or more alternatives.
+    /// Returns whether some group has two or more alternatives.
     pub fn has_alternatives(&self) -> bool
         ensures { result ≡ has_alternatives (relation_of self.now) }
     {
         some_has_two(&self.groups)
     }
 
-    /// Whether an architecture list holds a wildcard (Debian Policy 11.1).
+    /// Returns whether an architecture list contains a wildcard (Debian Policy 11.1).
     pub fn has_wildcard(&self) -> bool
         ensures { result ≡ some_wildcard (relation_of self.now) }
     {
         some_has_wildcard(&self.groups)
     }
 
-    /// Whether no bound has an operator other than `=`.
+    /// Returns whether no bound has an operator other than `=`.
     pub fn only_equals(&self) -> bool
         ensures { result ≡ only_equals (relation_of self.now) }
     {
         each_has_only_equals(&self.groups)
     }
 
-    /// The length in bytes of the canonical text, which `canon_into` appends.
+    /// Returns the length in bytes of the canonical text, which `canon_into` appends.
     pub fn canon_len(&self) -> u64
         ensures { result ≡ length (relation_text (relation_of self.now)) }
     {
         self.text.len() as u64
     }
 
-    /// Appends the canonical text: the groups in the byte order of their texts, each once, and a
-    /// comma and a space between two of them.
+    /// Appends the canonical text to `out`: the groups in the byte order of their texts, each once,
+    /// with a comma and a space between them.
     ///
     /// # Errors
     ///
-    /// Want of memory, and `out` is then unchanged.
+    /// Out of memory; `out` is then unchanged.
     pub fn canon_into(&self, out: &mut Vec<u8>) -> Result<(), AllocError>
         ensures ok { OnOk result
             (out.new.items ≡ out.old.items ++ relation_text (relation_of self.now)) }

@@ -1,7 +1,6 @@
-//! A relation as a field needs it: its canonical text and what a field asks of it, without its
-//! parts.
+//! A relation without its parts: its canonical text, and what fields ask of it.
 
-ghost use Rattle.std.specs.Prelude.{◌≡◌, ◌++◌, Ok, IfOk, IfErr, IfSome, IsTrue, OnErr, OnOk, codes, length, map};
+ghost use Rattle.std.specs.Prelude.{◌≡◌, ◌++◌, Ok, IfOk, IfErr, OnErr, OnOk, codes, length, map};
 ghost use Rattle.std.specs.List.{list_all, list_any};
 ghost use Rattle.deb_relation.specs.Bodies.{meaning_in};
 ghost use Rattle.deb_relation.specs.KeptTexts.{bytes_of};
@@ -13,12 +12,13 @@ ghost use Rattle.deb_relation.specs.Texts.{joined, relation_text, separated};
 
 use crate::fault::{RelationFault, Stop};
 use crate::group_summary::{GroupSummary, read_groups};
+use crate::in_place::in_place;
 use crate::kept_text::KeptText;
 use crate::relation::Relation;
 use std::alloc::{AllocError, Global};
 
-/// What a body spells, as a field needs it: its canonical text, lent where the body is that text,
-/// and whether alternatives and which operators stand in it (Debian Policy 7.1).
+/// The relation that a body spells, without its parts: its canonical text, which is the body itself
+/// if that is canonical, and what fields ask of it (Debian Policy 7.1).
 #[derive(Debug, Drop)]
 pub struct RelationText<'a> {
     body: &'a [u8],
@@ -61,64 +61,6 @@ fn joined_texts(
     Ok(text)
 }
 
-/// What is left of a body behind a text, where the body begins with it.
-fn behind_text<'a>(body: &'a [u8], text: &[u8]) -> Option<&'a [u8]>
-    ensures { IfSome result (λ behind. body.now ≡ text.now ++ behind.now) }
-{
-    match body.split_at_checked(text.len()) {
-        Some((front, behind)) if front == text => Some(behind),
-        _ => None,
-    }
-}
-
-/// Whether a body is the texts of groups, each with a comma before it.
-fn is_more_texts(body: &[u8], groups: &[GroupSummary<'_>]) -> bool
-    ensures { IsTrue result
-        → body.now ≡ separated (codes ", ") (map summary_key (map told_of groups.now)) }
-{
-    let mut rest = body;
-    for group in groups {
-        let Some(next) = behind_text(rest, b", ") else {
-            return false;
-        };
-        let Some(behind) = behind_text(next, group.text.bytes()) else {
-            return false;
-        };
-        rest = behind;
-    }
-    rest.is_empty()
-}
-
-/// Whether a body is the texts of groups with commas between.
-fn is_joined_texts(body: &[u8], groups: &[GroupSummary<'_>]) -> bool
-    ensures { IsTrue result
-        → body.now ≡ joined (codes ", ") (map summary_key (map told_of groups.now)) }
-{
-    match groups {
-        [] => body.is_empty(),
-        [first, rest @ ..] => match behind_text(body, first.text.bytes()) {
-            Some(behind) => is_more_texts(behind, rest),
-            None => false,
-        },
-    }
-}
-
-/// The texts of groups with commas between, lent from a body that is spelled so.
-fn kept_text<'a>(
-    alloc: Global,
-    body: &'a [u8],
-    groups: &[GroupSummary<'_>],
-) -> Result<KeptText<'a>, AllocError>
-    ensures { IfOk result
-        (λ kept. bytes_of kept ≡ joined (codes ", ") (map summary_key (map told_of groups.now))) }
-{
-    if is_joined_texts(body, groups) {
-        return Ok(KeptText::Lent(body));
-    }
-    let text = joined_texts(alloc, body.len(), groups)?;
-    Ok(KeptText::Owned(text))
-}
-
 fn some_has_two(groups: &[GroupSummary<'_>]) -> bool
     ensures { result ≡ list_any (λ group. group.has_two) groups.now }
 {
@@ -138,15 +80,34 @@ impl<'a> RelationText<'a> {
     ghost use Rattle.deb_relation.specs.RelationTexts.{IsTextRead, text_meaning};
     ghost use Rattle.deb_relation.specs.Relations.{IsRead, Tells};
 
-    /// What a body spells: the same bodies as `Relation::parse` reads, with the same faults.
+    /// Parses the relation that a body spells. It accepts the same bodies as [`Relation::parse`],
+    /// and returns the same faults.
     ///
-    /// It borrows the body, and keeps no text where the body is canonical.
+    /// It borrows the body, and takes no memory if the body is canonical and has no lists.
     ///
     /// # Errors
     ///
-    /// The first step that fails, reading from the left, with its place; or want of memory.
-    #[tactic(auto, using(crate::proofs::Summed::told_fault))]
+    /// The reason and the offset of the first step that fails, reading from the left; or out of
+    /// memory.
     pub fn parse(alloc: Global, body: &'a [u8]) -> Result<RelationText<'a>, RelationFault>
+        ensures ok { IfOk result (λ relation. SpellsRelation body.now (text_meaning relation)) }
+        ensures accepted { (m : Meaning) → SpellsRelation body.now m → IsTextRead result m }
+        ensures refused { IfErr result (Tells (first_fault body.now)) }
+    {
+        match in_place(body) {
+            Some((some_alternatives, equals_alone)) => Ok(RelationText {
+                body,
+                text: KeptText::Lent(body),
+                some_alternatives,
+                equals_alone,
+            }),
+            None => RelationText::read(alloc, body),
+        }
+    }
+
+    /// The same for any body, which is read group by group.
+    #[tactic(auto, using(crate::proofs::Summed::told_fault))]
+    fn read(alloc: Global, body: &'a [u8]) -> Result<RelationText<'a>, RelationFault>
         ensures ok { IfOk result (λ relation. SpellsRelation body.now (text_meaning relation)) }
         ensures accepted { (m : Meaning) → SpellsRelation body.now m → IsTextRead result m }
         ensures refused { IfErr result (Tells (first_fault body.now)) }
@@ -154,10 +115,10 @@ impl<'a> RelationText<'a> {
         match read_groups(alloc, body) {
             Ok((groups, _)) => {
                 let groups: &[GroupSummary<'_>] = &groups;
-                match kept_text(alloc, body, groups) {
+                match joined_texts(alloc, body.len(), groups) {
                     Ok(text) => Ok(RelationText {
                         body,
-                        text,
+                        text: KeptText::Owned(text),
                         some_alternatives: some_has_two(groups),
                         equals_alone: each_has_only_equals(groups),
                     }),
@@ -172,43 +133,43 @@ impl<'a> RelationText<'a> {
         }
     }
 
-    /// The relation with its parts.
+    /// Returns the relation with its parts.
     ///
     /// # Errors
     ///
-    /// Want of memory alone.
+    /// Out of memory only.
     pub fn relation(&self, alloc: Global) -> Result<Relation<'a>, RelationFault>
         ensures { IsRead result (text_meaning self.now) }
     {
         Relation::parse(alloc, self.body)
     }
 
-    /// Whether some group has two or more alternatives.
+    /// Returns whether some group has two or more alternatives.
     pub fn has_alternatives(&self) -> bool
         ensures { result ≡ has_alternatives (text_meaning self.now) }
     {
         self.some_alternatives
     }
 
-    /// Whether no bound has an operator other than `=`.
+    /// Returns whether no bound has an operator other than `=`.
     pub fn only_equals(&self) -> bool
         ensures { result ≡ only_equals (text_meaning self.now) }
     {
         self.equals_alone
     }
 
-    /// The length in bytes of the canonical text, which `canon_into` appends.
+    /// Returns the length in bytes of the canonical text, which `canon_into` appends.
     pub fn canon_len(&self) -> u64
         ensures { result ≡ length (relation_text (text_meaning self.now)) }
     {
         self.text.bytes().len() as u64
     }
 
-    /// Appends the canonical text.
+    /// Appends the canonical text to `out`.
     ///
     /// # Errors
     ///
-    /// Want of memory, and `out` is then unchanged.
+    /// Out of memory; `out` is then unchanged.
     pub fn canon_into(&self, out: &mut Vec<u8>) -> Result<(), AllocError>
         ensures ok { OnOk result
             (out.new.items ≡ out.old.items ++ relation_text (text_meaning self.now)) }

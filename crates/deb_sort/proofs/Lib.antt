@@ -1,7 +1,6 @@
 pub mod LastPieces
 pub mod Mapped
 pub mod Meanings
-pub mod ReadTexts
 pub mod Refusals
 pub mod SortedFiles
 pub mod WrittenLines

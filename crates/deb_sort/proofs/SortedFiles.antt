@@ -8,15 +8,15 @@ use Rattle.deb_base.specs.Faults.{RefusedOrMemory}
 use Rattle.deb_base.specs.declared.code.Code.TheVariants.{FileTooLong}
 use Rattle.deb_base.specs.declared.fault.Fault.{Fault}
 use Rattle.deb_base.specs.declared.fault.Fault.TheVariants.{Refused, Memory, Read, Write}
+use Rattle.deb_base.specs.Reading.{IsEnough, IsMemoryOrRead, ReadsEnough}
 use Rattle.deb_sort.specs.Files.{SortsFile}
-use Rattle.deb_sort.specs.Reading.{IsEnough, IsMemoryOrRead, ReadsEnough}
 use Rattle.deb_sort.specs.Refusals.{refusal_of}
 use Rattle.deb_sort.specs.Sorting.{Sorts}
 use Rattle.deb_sort.proofs.Refusals.{beyond}
 use Rattle.deb_syntax.specs.Lines.{file_limit, lines_of, with_newlines}
 
 -- what was read has the refusal of the whole file
-refusal_of_read : (text read : List ℕ) → IsEnough text read → refusal_of text ≡ refusal_of read
+refusal_of_read : (text read : List ℕ) → IsEnough file_limit text read → refusal_of text ≡ refusal_of read
 refusal_of_read text read enough = elim enough.enough [
   | inl nothing ↦ ap refusal_of (enough.whole ∙ ap (λ rest. read ++ rest) nothing ∙ append-nil read)
   | inr long ↦
@@ -27,7 +27,7 @@ refusal_of_read text read enough = elim enough.enough [
 ]
 
 -- a file without refusal was read whole
-whole_read : (text read : List ℕ) → IsEnough text read → refusal_of read ≡ None → text ≡ read
+whole_read : (text read : List ℕ) → IsEnough file_limit text read → refusal_of read ≡ None → text ≡ read
 whole_read text read enough good = elim enough.enough [
   | inl nothing ↦ enough.whole ∙ ap (λ rest. read ++ rest) nothing ∙ append-nil read
   | inr long ↦ let bad : Some (record { code = FileTooLong; line = length (pieces_of (take file_limit read)) }) ≡ None = sym (beyond read long) ∙ good in absurd (true≢false (ap is_some bad))
@@ -41,7 +41,7 @@ module _ {W : Type 0} (reverse : Bool) (left : Option (List ℕ)) (count count_a
   unread Read is counted = record { ok = λ _ _. tt; refused = λ _ _. tt; write = λ _ _. tt; refusal = tt; unwritten = refl; reads = counted; writes = refl }
   unread Write is counted = absurd is
 
-  module _ (read : List ℕ) (enough : ReadsEnough left read) (counted : count_after ≡ count) where
+  module _ (read : List ℕ) (enough : ReadsEnough file_limit left read) (counted : count_after ≡ count) where
     pub refused : (fault : Fault) → RefusedOrMemory fault (λ refusal. refusal_of read ≡ Some refusal) → SortsFile {T = ⊤} reverse left count count_after held failures old old (Err fault)
     refused (Refused refusal) is = record {
       ok = λ _ _. tt;

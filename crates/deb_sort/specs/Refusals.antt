@@ -88,3 +88,8 @@ worked-order : map (λ most. refusal_under most (codes "-\n2\n_")) (5 ∷ 4 ∷ 
     ∷ Some (record { code = FileTooLong; line = 3 }) ∷ []
 unfolding first_fault
 worked-order = refl
+
+-- a file may have 4,294,967,295 bytes
+worked-limit : (text : List ℕ) → refusal_of text ≡ refusal_under 4294967295 text
+unfolding file_limit
+worked-limit text = refl

@@ -36,3 +36,17 @@ later = (refl, refl)
 equal : (stands_before false (codes "1.0") (codes "0:1.00-0") ≡ false)
     × (stands_before false (codes "0:1.00-0") (codes "1.0") ≡ false)
 equal = (refl, refl)
+
+-- of sorted lines none comes before the one in front of it, in the order that is asked
+in_reverse : (lines sorted : List Line) → Sorts true lines sorted
+    → IsSortedBy (λ a b. is_earlier b a) sorted
+in_reverse lines sorted sorts = sorts.in_order
+
+not_in_reverse : (lines sorted : List Line) → Sorts false lines sorted
+    → IsSortedBy is_earlier sorted
+not_in_reverse lines sorted sorts = sorts.in_order
+
+-- lines of equal versions keep their order in either
+stable_in_reverse : (lines sorted : List Line) → Sorts true lines sorted
+    → IsStableBy (λ a b. is_earlier b a) lines sorted
+stable_in_reverse lines sorted sorts = sorts.stable

@@ -1,4 +1,4 @@
-//! Cutting a text into lines that are versions.
+//! Cuts a text into lines that are versions, or returns the first line that isn't one.
 
 ghost use Rattle.std.specs.Prelude.{◌≡◌, None, Some, map, length, take, IfOk, IfErr};
 ghost use Rattle.deb_base.specs.Bodies.{pieces_of};

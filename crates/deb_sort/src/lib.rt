@@ -1,4 +1,4 @@
-//! The lines of a file, each a Debian version, in Debian's order.
+//! Sorts the lines of a file, each a Debian version, in Debian's order (deb-version(7)).
 //!
 //! ```
 //! let mut source = Input::new(b"1.10\n1.9\n1.10~rc1\n1.09".as_slice());
@@ -7,16 +7,14 @@
 //! assert_eq!(rt; held.as_slice(), b"1.9\n1.09\n1.10~rc1\n1.10\n".as_slice());
 //! ```
 //!
-//! - What [`sort`] writes is the lines of the file, each as it was spelled, in Debian's order or in
-//!   reverse; lines of equal versions keep the order that they had.
-//! - The first line that is no version is refused, at its number, and nothing is written then.
-//! - The whole file is held in memory, and beside it a version for each line.
+//! - [`sort`] writes the lines of the file in Debian's order or in reverse order. They keep their
+//!   spelling, and lines of equal versions keep their order.
+//! - It refuses the first line that isn't a version, with its number, and then writes nothing.
+//! - The whole file is held in memory, with a version for each line.
 #![tactic(auto)]
 
 mod cut;
-mod reading;
 mod sorting;
 mod version_line;
 
-pub use reading::read_text;
 pub use sorting::sort;

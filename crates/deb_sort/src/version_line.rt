@@ -1,4 +1,4 @@
-//! A line that is a version.
+//! A line and the version that it spells.
 
 ghost use Rattle.std.specs.Prelude.{◌≡◌};
 ghost use Rattle.deb_version.specs.Grammar.{spelling};

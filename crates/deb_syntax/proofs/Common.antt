@@ -51,10 +51,11 @@ pub use Rattle.deb_base.specs.declared.fault.Fault.{Fault}
 pub use Rattle.deb_base.specs.declared.fault.Fault.TheVariants.{Memory, Read, Refused, Write}
 pub use Rattle.deb_base.specs.declared.refusal.Refusal.{Refusal}
 pub use Rattle.memchr.specs.Find.{IsFirstByte, is_byte}
-pub use Rattle.deb_syntax.specs.Ahead.{DropsLine, EndsInSight, HasFirst, HasNewline, HidesLine, IsAhead, IsDropped, IsExtentAhead, IsExtentOf, IsFirst, IsNear, IsNextRun, KeepsLine, PassesAll, PassesBlanks, PassesParagraph, SameCounts, TakesNoMore, TextAfterLine, left_answer, left_begin, room_ahead}
+pub use Rattle.deb_base.specs.Reading.{TakesNoMore, piece_limit}
+pub use Rattle.deb_syntax.specs.Ahead.{DropsLine, EndsInSight, HasFirst, HasNewline, HidesLine, IsAhead, IsDropped, IsExtentAhead, IsExtentOf, IsFirst, IsNear, IsNextRun, KeepsLine, PassesAll, PassesBlanks, PassesParagraph, SameCounts, TextAfterLine, left_answer, left_begin, room_ahead}
 pub use Rattle.deb_syntax.specs.Answers.{Seen, answer_of_first, begin_of_first, is_line, line_beyond, line_too_long, next_answer, next_begin, paragraph_answer, paragraphs_within, part_within, seen_from, whole_lines, with_whole}
 pub use Rattle.deb_syntax.specs.Extents.{AreBlank, AreNotBlank}
-pub use Rattle.deb_syntax.specs.Feeding.{Comes, FeedState, IsTail, KeepsFirst, PassesOn, Sees, Stays, Takes, buffer_of, feed_state, had, left_count, piece_limit, room_of, start_of}
+pub use Rattle.deb_syntax.specs.Feeding.{Comes, FeedState, IsTail, KeepsFirst, PassesOn, Sees, Stays, Takes, buffer_of, feed_state, had, left_count, room_of, start_of}
 pub use Rattle.deb_syntax.specs.Fields.{AreDistinct, Field, IsShort, SpellsField, SpellsFields, SpellsParagraph, are_fields, are_numbered, has_name, is_field}
 pub use Rattle.deb_syntax.specs.Judging.{begins_armour, begins_comment, begun, continuation_line, continued, ended, field_line, has_colon, is_named, judged, line_judged, lines_judged, with_text}
 pub use Rattle.deb_syntax.specs.Laws.{AreRuns, IsFirstRefusal, IsLineRefusal, IsRefusalWithin, IsRun, IsTextRefusal, StandsAmong, body_at, body_of, with_last_newline}

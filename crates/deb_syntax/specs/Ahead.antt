@@ -9,11 +9,12 @@ use Rattle.deb_base.specs.Faults.{IsReadersFault}
 use Rattle.deb_base.specs.declared.code.Code.TheVariants.{FileTooLong}
 use Rattle.deb_base.specs.declared.fault.Fault.{Fault}
 use Rattle.deb_base.specs.declared.refusal.Refusal.{Refusal}
+use Rattle.deb_base.specs.Reading.{piece_limit}
 use Rattle.deb_syntax.specs.Answers.{Seen, part_within, line_beyond, answer_of_first, begin_of_first, seen_from}
 use Rattle.deb_syntax.specs.Extents.{AreBlank, AreNotBlank}
 use Rattle.deb_syntax.specs.Judging.{judged}
 use Rattle.deb_syntax.specs.Lines.{IsClosed}
-use Rattle.deb_syntax.specs.Feeding.{FeedState, piece_limit}
+use Rattle.deb_syntax.specs.Feeding.{FeedState}
 use Rattle.deb_syntax.specs.Lines.{Paragraph, lines_of, with_newlines, paragraphs_from, total_length, file_limit}
 use Rattle.deb_syntax.specs.Walking.{Describes, StandInFront}
 use Rattle.deb_syntax.specs.declared.begun.Begun.{Begun}
@@ -42,12 +43,6 @@ pub record IsAhead (text hidden : List ℕ) (feed : FeedState) (left : Option (L
   pub told : left ≡ Some rest
   pub whole : text ≡ hidden ++ (feed.unread ++ rest)
   pub ended : IsTrue feed.ended → rest ≡ []
-
--- Of a text of which so many bytes may be looked at, at most one piece beyond these was taken.
-pub record TakesNoMore (text : List ℕ) (room : ℕ) (left : Option (List ℕ)) : Type 0 where
-  pub rest : List ℕ
-  pub told : left ≡ Some rest
-  pub few : length text ≤ room + piece_limit + length rest
 
 -- Behind each newline among these bytes stand no more than one piece.
 abbrev pub IsNear : List ℕ → Type 0
@@ -244,3 +239,8 @@ room_of_five : room_ahead (record {
 }) ≡ 5
 unfolding file_limit
 room_of_five = refl
+
+-- at most one piece beyond a line's end
+pieces_behind_lines : (bytes front more : List ℕ) → IsNear bytes → bytes ≡ front ++ newline ∷ more
+    → length more ≤ 65536
+pieces_behind_lines bytes front more near whole = near front more whole

@@ -3,6 +3,7 @@
 use Rattle.std.specs.Prelude.{◌≡◌, ℕ, ◌+◌, ◌-◌, ◌<◌, ◌≤◌, Bool, false, List, [], ◌++◌, length, take, drop, slice_range, vec_len, Option, Some, None, IsSome, Result, OnOk, OnErr, IfErr, IsErrOf, IsTrue, IsFalse, codes, refl}
 use Rattle.std.specs.Io.KnownBytes.{Consumes, IsAtEnd}
 use Rattle.deb_base.specs.Devices.{Shown, read_failures_after}
+use Rattle.deb_base.specs.Reading.{piece_limit, IsMemoryOrRead}
 use Rattle.deb_base.specs.declared.fault.Fault.{Fault}
 use Rattle.deb_base.specs.declared.fault.Fault.TheVariants.{Refused, Memory, Read, Write}
 use Rattle.deb_syntax.specs.Lines.{file_limit}
@@ -11,17 +12,6 @@ use Rattle.deb_syntax.specs.declared.feed.Feed.{Feed}
 use Rattle.deb_syntax.specs.declared.feed.Sight.{Sight}
 use Rattle.deb_syntax.specs.declared.feed.Tail.{Tail}
 use Rattle.deb_syntax.specs.declared.feed.Tail.TheVariants.{More, Nothing, Beyond}
-
--- the most bytes that one read is lent
-abbrev pub piece_limit : ℕ
-piece_limit = 65536
-
--- want of memory, or a read that failed
-abbrev pub IsMemoryOrRead : Fault → Type 0
-IsMemoryOrRead (Refused refusal) = ⊥
-IsMemoryOrRead Memory = Unit {0}
-IsMemoryOrRead Read = Unit {0}
-IsMemoryOrRead Write = ⊥
 
 -- the bytes of a window that haven't passed
 abbrev pub unread_of : Window → List ℕ

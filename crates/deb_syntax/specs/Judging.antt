@@ -1,7 +1,7 @@
 -- What is judged of a paragraph's lines, one after another: its fields, or the first refusal of a
 -- line. Debian Policy 5.1; deb822(5), "Syntax". The order of the refusals is this project's own.
 use Rattle.std.specs.Prelude.{◌≡◌, ℕ, ◌+◌, ◌==◌, ◌&&◌, Bool, true, false, cond, not, nat_lt, List, [], ◌∷◌, ◌++◌, length, take, slice_index, map, Result, Ok, Err, codes, refl}
-use Rattle.std.specs.List.{list_any, starts_with, before_first, after_first}
+use Rattle.std.specs.List.{list_any, starts_with, before_first, after_first, filter, range_with_len}
 use Rattle.std.specs.Str.{is_utf8, chars}
 use lib.Utf8.{encode}
 use Rattle.deb_base.specs.declared.code.Code.TheVariants.{NotUtf8, Armour, Comment, StrayContinuation, BadFieldName, NoColon, DuplicateField}
@@ -220,3 +220,39 @@ named_front : (is_named (codes "A: x") 1 ≡ true) × (is_named (codes "A: x") 0
     × (is_named (codes "A") 1 ≡ false) × (is_named (codes ":x") 0 ≡ false)
     × (is_named (codes "-A:") 2 ≡ false)
 named_front = (refl, refl, refl, refl, refl)
+
+-- of all bytes the one that begins a comment
+comment_bytes : filter (λ b. begins_comment (b ∷ [])) (range_with_len 0 256) ≡ codes "#"
+comment_bytes = refl
+
+-- the mark of an armour alone is one; its last line is none, nor is a mark in lower case, with
+-- another number of hyphens, or after other bytes
+armour_marks : (begins_armour (codes "-----BEGIN PGP") ≡ true)
+    × (begins_armour (codes "-----BEGIN PG") ≡ false)
+    × (begins_armour (codes "-----END PGP SIGNATURE-----") ≡ false)
+    × (begins_armour (codes "-----begin pgp") ≡ false)
+    × (begins_armour (codes "----BEGIN PGP") ≡ false)
+    × (begins_armour (codes "------BEGIN PGP") ≡ false)
+    × (begins_armour (codes "a-----BEGIN PGP") ≡ false)
+armour_marks = (refl, refl, refl, refl, refl, refl, refl)
+
+end_of_armour : (judged 1 (codes "-----END PGP SIGNATURE-----" ∷ [])
+    ≡ Err (record { code = NoColon; line = 1 }))
+    × (judged 1 (codes "-----END PGP: x" ∷ []) ≡ Err (record { code = BadFieldName; line = 1 }))
+unfolding is_utf8 chars encode
+end_of_armour = (refl, refl)
+
+-- the first colon ends a name, and others are the body's
+later_colons : judged 1 (codes "A:b:c:" ∷ [])
+    ≡ Ok (record { name = codes "A"; line = 1; body = codes "b:c:" } ∷ [])
+unfolding is_utf8 chars encode
+later_colons = refl
+
+-- a duplicate is reported after a bad name and a comment, at the line of the second field
+duplicate_among_steps : (judged 1 (codes "A: 1" ∷ codes "A : 2" ∷ [])
+    ≡ Err (record { code = BadFieldName; line = 2 }))
+    × (judged 1 (codes "A: 1" ∷ codes "#A: 2" ∷ []) ≡ Err (record { code = Comment; line = 2 }))
+    × (judged 7 (codes "A: 1" ∷ codes "B: 2" ∷ codes "b: 3" ∷ [])
+    ≡ Err (record { code = DuplicateField; line = 9 }))
+unfolding is_utf8 chars encode
+duplicate_among_steps = (refl, refl, refl)

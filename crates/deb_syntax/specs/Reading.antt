@@ -1,7 +1,7 @@
 -- What a reader of paragraphs is to its callers, which texts fit it, and what its calls say of
 -- them. Debian Policy 5.1; what is kept and how far is read is this project's own.
 use Rattle.std.specs.Prelude.{◌≡◌, ℕ, ◌+◌, ◌≤◌, ◌⊎◌, Bool, true, false, List, [], ◌∷◌, ◌++◌, length, Option, Some, None, IfSome, IfNone, Result, Ok, Err, IfOk, IfErr, MatchResult, IsTrue, codes, refl}
-use Rattle.std.proofs.Common.{inl, inr}
+use Rattle.std.proofs.Common.{inl, inr, subst}
 use Rattle.std.proofs.lemmas.Bool.{false≢true}
 use Rattle.deb_base.specs.Bodies.{HasNoNewline, paragraph_limit}
 use Rattle.deb_base.specs.Codes.{number_of}
@@ -9,11 +9,12 @@ use Rattle.deb_base.specs.Devices.{Shown, read_failures_after}
 use Rattle.deb_base.specs.Faults.{IsReadersFault}
 use Rattle.deb_base.specs.declared.fault.Fault.{Fault}
 use Rattle.deb_base.specs.declared.refusal.Refusal.{Refusal}
+use Rattle.deb_base.specs.Reading.{TakesNoMore, piece_limit}
 use Rattle.deb_syntax.specs.declared.first.First.{First}
 use Rattle.deb_syntax.specs.declared.first.First.TheVariants.{End, Kept, Dropped}
-use Rattle.deb_syntax.specs.Ahead.{IsNear, TakesNoMore}
+use Rattle.deb_syntax.specs.Ahead.{IsNear}
 use Rattle.deb_syntax.specs.Answers.{Seen, paragraphs_within, next_answer, next_begin}
-use Rattle.deb_syntax.specs.Feeding.{FeedState, piece_limit}
+use Rattle.deb_syntax.specs.Feeding.{FeedState}
 use Rattle.deb_syntax.specs.Fields.{IsShort}
 use Rattle.deb_syntax.specs.Judging.{judged}
 use Rattle.deb_syntax.specs.Lines.{lines_of, IsClosed, Paragraph, paragraphs_of, file_limit}
@@ -317,3 +318,39 @@ paragraphs_passed = (refl, refl)
 answers_of_end : (fault : Fault) → (tells_end {A = ℕ} (Ok None) ≡ true)
     × (tells_end {A = ℕ} (Ok (Some 1)) ≡ false) × (tells_end {A = ℕ} (Err fault) ≡ false)
 answers_of_end fault = (refl, refl, refl)
+
+-- an error is answered again, and nothing changes
+error_again : (A : Type 0) (Goes : Moment → Result A Fault → Moment → Type 0) (fault : Fault)
+    (before after : Moment) (answer : Result A Fault) → before.state.fault ≡ Some fault
+    → KeepsErrors Goes before answer after → (answer ≡ Err fault) × (after ≡ before)
+error_again A Goes fault before after answer failed call =
+    subst (λ kept. IfSome kept (λ fault. (answer ≡ Err fault) × (after ≡ before))) failed
+    call.repeats
+
+-- the first error is kept, and no other answer leaves one
+errors_kept : (A : Type 0) (Goes : Moment → Result A Fault → Moment → Type 0) (fault : Fault)
+    (a : A) (after : Moment)
+    → (KeepsErrors Goes (moment_of (reader_of [] 0 0 0) None 0) (Err fault) after
+    → after.state.fault ≡ Some fault)
+    × (KeepsErrors Goes (moment_of (reader_of [] 0 0 0) None 0) (Ok a) after
+    → after.state.fault ≡ None)
+errors_kept A Goes fault a after = (λ call. call.keeps, λ call. call.keeps)
+
+-- refusals of a file's text have the codes up to that of a file that is too long
+codes_of_text : (refusal : Refusal) → IsRefusalOfText refusal
+    → (1 ≤ number_of refusal.code) × (number_of refusal.code ≤ 9) × (1 ≤ refusal.line)
+codes_of_text refusal is = (is.least, is.most, is.line)
+
+-- after a paragraph at most one piece is unread, and after the end nothing but the end is answered
+near_paragraphs : (text passed : List ℕ) (seen : Seen) (new : State) (left : Option (List ℕ))
+    → GivesNext text passed seen new left → length new.unread ≤ 65536
+near_paragraphs text passed seen new left gives = gives.near
+
+end_again : (before after : Moment) (answer : Result (Option Seen) Fault)
+    (line : Result (Option ℕ) Fault) → IsTrue before.state.finished
+    → (Advances before answer after → answer ≡ Ok None)
+    × (Begins before line after → line ≡ Ok None)
+end_again before after answer line finished = (
+  λ call. call.ended finished,
+  λ call. call.ended finished,
+)

@@ -1,4 +1,4 @@
-//! Lines that come in pieces: what was seen of a line so far (Debian Policy 5.1).
+//! The part of a line that has been seen so far, for lines that come in pieces (Debian Policy 5.1).
 
 ghost use Rattle.std.specs.Prelude.{◌≡◌, ◌+◌, ◌<◌, ◌≤◌, ◌^◌, ◌++◌, ℕ, List, [], length};
 ghost use Rattle.deb_base.specs.Bodies.{HasNoNewline, is_blank};

@@ -1,13 +1,14 @@
-//! A line that is read to its end and not kept (this project's own: a paragraph's lines have a
-//! limit).
+//! Reads a line to its end without keeping it, since a paragraph's lines have a limit (this
+//! project's own).
 
 ghost use Rattle.std.specs.Prelude.{◌≡◌, ◌+◌, ◌≤◌, [], length, drop, IfErr, IsFalse};
 ghost use Rattle.deb_base.specs.Devices.{read_failures_after};
 ghost use Rattle.deb_base.specs.Faults.{IsReadersFault};
+ghost use Rattle.deb_base.specs.Reading.{piece_limit};
 ghost use Rattle.deb_syntax.specs.Ahead.{room_ahead, IsDropped, SameCounts};
 ghost use Rattle.deb_syntax.specs.Reading.{IsRefusalOfText};
 ghost use Rattle.deb_syntax.specs.Lines.{file_limit};
-ghost use Rattle.deb_syntax.specs.Feeding.{piece_limit, feed_state, had, Takes};
+ghost use Rattle.deb_syntax.specs.Feeding.{feed_state, had, Takes};
 ghost use Rattle.deb_syntax.specs.Walking.{Describes};
 
 use crate::begun::{Begun, along};

@@ -1,14 +1,15 @@
-//! Where the next paragraph ends (Debian Policy 5.1).
+//! Finds the end of the next paragraph (Debian Policy 5.1).
 
 ghost use Rattle.std.specs.Prelude.{◌≡◌, ◌+◌, ◌-◌, ◌<◌, ◌≤◌, ◌^◌, ℕ, List, [], Option, length, IfErr, IsTrue, IsFalse};
 ghost use Rattle.deb_base.specs.Bodies.{paragraph_limit};
 ghost use Rattle.deb_base.specs.Devices.{read_failures_after};
 ghost use Rattle.deb_base.specs.Faults.{IsReadersFault};
 ghost use Rattle.deb_base.specs.declared.fault.Fault.TheVariants.{Refused};
+ghost use Rattle.deb_base.specs.Reading.{piece_limit};
 ghost use Rattle.deb_syntax.specs.Ahead.{room_ahead, IsAhead, KeepsLine, HasExtent, IsExtentAhead, SameCounts};
 ghost use Rattle.deb_syntax.specs.Reading.{IsRefusalOfText};
 ghost use Rattle.deb_syntax.specs.Lines.{file_limit};
-ghost use Rattle.deb_syntax.specs.Feeding.{piece_limit, feed_state, had, Takes};
+ghost use Rattle.deb_syntax.specs.Feeding.{feed_state, had, Takes};
 ghost use Rattle.deb_syntax.specs.Walking.{Stops};
 ghost use Rattle.deb_syntax.specs.declared.line_run.Stop.TheVariants.{Open};
 
@@ -54,7 +55,7 @@ pub(crate) fn paragraph_extent<R: Source>(
         (file_limit + piece_limit) (R.left reader.new) }
     ensures fault { IfErr result (λ fault. IsReadersFault fault IsRefusalOfText) }
     ensures counted { R.failures reader.new ≡ read_failures_after (R.failures reader.old) result }
-    ensures quiet { IsTrue (feed_state feed.old).ended → reader.new ≡ reader.old }
+    ensures source_untouched { IsTrue (feed_state feed.old).ended → reader.new ≡ reader.old }
 {
     let mut run = Run {
         bytes: 0,

@@ -1,4 +1,4 @@
-//! The unread bytes of a file that is read by pieces, and how far the file may be looked at.
+//! The unread bytes of a file that is read in pieces, up to the limit of a file.
 
 ghost use Rattle.std.specs.Prelude.{◌≡◌, ◌+◌, ◌<◌, ◌≤◌, ◌^◌, vec_len, length};
 ghost use Rattle.deb_syntax.specs.Lines.{file_limit};
@@ -7,7 +7,7 @@ use crate::window::Window;
 use deb_base::{Fault, PARAGRAPH_LIMIT, Source};
 use std::alloc::Global;
 
-/// The most bytes that a file may have, and that its canonical text may have (this project's own).
+/// The most bytes that a file may have, and its canonical text (this project's own).
 pub const FILE_LIMIT: u64 = 4_294_967_295;
 
 /// What stands behind the unread bytes that may be looked at.

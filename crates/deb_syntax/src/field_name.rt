@@ -1,4 +1,4 @@
-//! Names of fields.
+//! Names of fields: where they end, and whether they are valid.
 
 ghost use Rattle.std.specs.Prelude.{◌≡◌, ◌≤◌, length, take, IsTrue};
 ghost use Rattle.std.specs.List.{list_all, prefix_len};

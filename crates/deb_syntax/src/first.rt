@@ -1,12 +1,13 @@
-//! The first line ahead that isn't blank (Debian Policy 5.1).
+//! Finds the first line that isn't blank (Debian Policy 5.1).
 
 ghost use Rattle.std.specs.Prelude.{◌≡◌, ◌+◌, ◌≤◌, ℕ, List, [], length, Option, Ok, IfErr, IsTrue, IsFalse};
 ghost use Rattle.deb_base.specs.Devices.{read_failures_after};
 ghost use Rattle.deb_base.specs.Faults.{IsReadersFault};
+ghost use Rattle.deb_base.specs.Reading.{piece_limit};
 ghost use Rattle.deb_syntax.specs.Ahead.{room_ahead, IsAhead, IsNear, IsFirst, HasFirst};
 ghost use Rattle.deb_syntax.specs.Reading.{IsRefusalOfText};
 ghost use Rattle.deb_syntax.specs.Lines.{file_limit};
-ghost use Rattle.deb_syntax.specs.Feeding.{piece_limit, feed_state, had, Takes};
+ghost use Rattle.deb_syntax.specs.Feeding.{feed_state, had, Takes};
 ghost use Rattle.deb_syntax.specs.Walking.{Describes};
 
 use crate::begun::Begun;
@@ -44,7 +45,7 @@ pub(crate) fn first_line<R: Source>(feed: &mut Feed, reader: &mut R) -> Result<F
     ensures fault { IfErr result (λ fault. IsReadersFault fault IsRefusalOfText) }
     ensures counted { R.failures reader.new ≡ read_failures_after (R.failures reader.old) result }
     ensures stays { IsTrue (feed_state feed.old).ended → IsTrue (feed_state feed.new).ended }
-    ensures quiet { IsTrue (feed_state feed.old).ended → reader.new ≡ reader.old }
+    ensures source_untouched { IsTrue (feed_state feed.old).ended → reader.new ≡ reader.old }
 {
     let mut begun = Begun::nothing();
     'pieces: loop {

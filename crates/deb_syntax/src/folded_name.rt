@@ -1,4 +1,4 @@
-//! Names of fields that are compared without ASCII case.
+//! Names of fields, compared without ASCII case.
 
 ghost use Rattle.std.specs.Prelude.{◌≡◌, fold, bytes_eq};
 ghost use Rattle.std.proofs.Common.{rules};

@@ -1,4 +1,4 @@
-//! Judging the bytes of one paragraph.
+//! Checks the bytes of one paragraph, and finds its fields.
 
 ghost use Rattle.std.specs.Prelude.{◌≡◌, ℕ, ◌+◌, ◌-◌, ◌^◌, ◌<◌, ◌≤◌, List, [], ◌∷◌, ◌++◌, length, take, drop, slice_index, slice_range, if◌then◌else◌, ◌↔◌, IsTrue, IsFalse, IsUtf8, Some, IfOk, IfErr, OnOk};
 ghost use Rattle.std.specs.List.{list_all};

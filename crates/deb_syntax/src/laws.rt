@@ -1,27 +1,27 @@
-//! Laws of the definitions of the reader. Each function does nothing, and its contract is the law.
+//! Laws of the definitions of the reader. Each function does nothing; its contract is the law.
 
 #![tactic(auto, using(crate::proofs::LawProofs::laws))]
 
 ghost use Rattle.deb_syntax.specs.Laws.{JudgedIsSpelled, SpelledIsJudged, RefusedIsNotSpelled, ParagraphHasOneReading, TextHasOneMeaning, TextIsMeantOrRefused, ParagraphsAreRuns, ParagraphsStandInText, LinesGiveTextBack, TextGivesLinesBack, PiecesGiveTextBack, MeaningIsItsBodies, MeaningHasBodies, OrderIsNoMeaning, AcceptedIsNeverRefused, NeverRefusedIsAccepted, RefusalIsOfText, AnswersEnd};
 
-/// What is judged of the lines of a paragraph that is within its limit of length is what the lines
-/// spell.
+/// The fields that are read from the lines of a paragraph within its limit of length are those that
+/// the lines spell.
 pub fn what_is_judged_is_spelled()
     ensures { JudgedIsSpelled }
 {}
 
-/// The fields that the lines of a paragraph spell are those that are judged.
+/// The fields that the lines of a paragraph spell are those that are read from them.
 pub fn what_is_spelled_is_judged()
     ensures { SpelledIsJudged }
 {}
 
-/// A refusal of a paragraph's lines has the number of one of them and a code from 1 to 7, and then
-/// no fields are spelled by the lines.
+/// A refusal of a paragraph's lines has the number of one of them and a code from 1 to 7, and the
+/// lines spell no fields.
 pub fn what_is_refused_is_not_spelled()
     ensures { RefusedIsNotSpelled }
 {}
 
-/// A paragraph is spelled by at most one list of fields.
+/// A paragraph spells at most one list of fields.
 pub fn a_paragraph_has_one_reading()
     ensures { ParagraphHasOneReading }
 {}
@@ -37,25 +37,25 @@ pub fn a_text_is_meant_or_refused()
     ensures { TextIsMeantOrRefused }
 {}
 
-/// The paragraphs of lines are the maximal runs of lines that aren't blank, and there is one such
-/// list.
+/// The paragraphs of a list of lines are the maximal runs of lines that aren't blank; there is one
+/// such list of paragraphs.
 pub fn paragraphs_are_maximal_runs()
     ensures { ParagraphsAreRuns }
 {}
 
-/// Each paragraph of a text stands among the lines of the text, at the number of its first line; it
-/// has a line, and none of its lines is blank.
+/// Each paragraph of a text is among the lines of the text, at the number of its first line. It has
+/// at least one line, and none of its lines is blank.
 pub fn paragraphs_stand_in_their_text()
     ensures { ParagraphsStandInText }
 {}
 
-/// The lines of a text, each with its newline, are the text, with a newline at its end where it
-/// lacked.
+/// The lines of a text, each with its newline, are the text, with a newline at its end if it had
+/// none.
 pub fn lines_give_the_text_back()
     ensures { LinesGiveTextBack }
 {}
 
-/// Lines without newlines are the lines of the text that they make.
+/// Lines without newlines are the lines of the text that they form.
 pub fn a_text_gives_its_lines_back()
     ensures { TextGivesLinesBack }
 {}
@@ -65,18 +65,17 @@ pub fn pieces_give_the_text_back()
     ensures { PiecesGiveTextBack }
 {}
 
-/// Two paragraphs mean the same where the same body stands under each name.
+/// Two paragraphs mean the same if the same body is under each name.
 pub fn a_meaning_is_its_bodies()
     ensures { MeaningIsItsBodies }
 {}
 
-/// Under the canonical spelling of a name stands the body of the field that has the name, without
-/// ASCII case.
+/// In a paragraph's meaning, the body of each field is under the canonical spelling of its name.
 pub fn a_meaning_has_each_body()
     ensures { MeaningHasBodies }
 {}
 
-/// Fields in another order mean the same.
+/// Fields in another order have the same meaning.
 pub fn the_order_of_fields_means_nothing()
     ensures { OrderIsNoMeaning }
 {}
@@ -91,14 +90,14 @@ pub fn what_is_never_refused_is_accepted()
     ensures { NeverRefusedIsAccepted }
 {}
 
-/// A refusal that a reader of paragraphs answers has the number of one of the file's lines and a
+/// A refusal that a reader of paragraphs returns has the number of one of the file's lines and a
 /// code from 1 to 9.
 pub fn a_refusal_is_of_the_text()
     ensures { RefusalIsOfText }
 {}
 
-/// A reader of paragraphs answers that there is no further one exactly behind the last one of a
-/// file that isn't too long.
+/// A reader of paragraphs returns that there is no further one exactly after the last paragraph of
+/// a file that isn't too long.
 pub fn answers_end()
     ensures { AnswersEnd }
 {}

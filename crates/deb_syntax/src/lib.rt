@@ -1,5 +1,5 @@
-//! The paragraphs of a Debian control file, and their fields: deb822 as Debian Policy 5.1 and
-//! deb822(5) say it.
+//! Reads the paragraphs of a Debian control file and their fields, as Debian Policy 5.1 and
+//! deb822(5) define them.
 //!
 //! ```
 //! let mut reader = Input::new(b"Package: hello\nversion: 2.10-3\n".as_slice());
@@ -8,11 +8,10 @@
 //! assert_eq!(rt; paragraph.get(b"Version").map(|field| field.body), Some(b"2.10-3".as_slice()));
 //! ```
 //!
-//! - What `next` answers is exactly the next paragraph of the file's bytes, however they come in
-//!   pieces, and `None` comes only where there is no further one.
-//! - A file that the grammar spells within the limits isn't refused, and one that is refused isn't
-//!   spelled.
-//! - An error repeats for good, and a read that failed is never taken for the end.
+//! - `next` returns exactly the next paragraph of the file's bytes, whatever the pieces in which
+//!   they are read, and `None` only if there is no further one.
+//! - A file is refused exactly if the grammar doesn't spell it within the limits.
+//! - An error repeats at each later call, and a failed read is never taken for the end.
 #![tactic(auto)]
 
 mod begun;

@@ -1,4 +1,4 @@
-//! The lines of a paragraph, taken from where a run of them has come so far (Debian Policy 5.1).
+//! Finds the lines of a paragraph, continuing where the last call stopped (Debian Policy 5.1).
 
 ghost use Rattle.std.specs.Prelude.{◌+◌, ◌≤◌};
 ghost use Rattle.deb_syntax.specs.Walking.{CanGoOn, Stops};

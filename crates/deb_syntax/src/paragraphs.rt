@@ -1,8 +1,9 @@
 //! The reader of paragraphs (Debian Policy 5.1; deb822(5)).
 
 ghost use Rattle.std.specs.Prelude.{◌≡◌, ◌+◌, ◌≤◌, ◌⊎◌, ℕ, List, [], Some, None, true, false, length, IsTrue, IfErr, IfOk, OnOk};
+ghost use Rattle.deb_base.specs.Reading.{piece_limit};
 ghost use Rattle.deb_syntax.specs.Ahead.{IsAhead, IsNear, KeepsLine};
-ghost use Rattle.deb_syntax.specs.Feeding.{feed_state, buffer_of, piece_limit, had, Takes};
+ghost use Rattle.deb_syntax.specs.Feeding.{feed_state, buffer_of, had, Takes};
 ghost use Rattle.deb_syntax.specs.Lines.{file_limit};
 ghost use Rattle.deb_syntax.specs.Standing.{HidesLong, stands_within, standing_answer, IsPassed};
 ghost use Rattle.deb_base.specs.Devices.{read_failures_after};
@@ -29,11 +30,10 @@ pub(crate) struct Standing {
 
 /// Reads the paragraphs of a file, one after another (Debian Policy 5.1).
 ///
-/// A file has at most 4,294,967,295 bytes, and the lengths of a paragraph's lines, with their
-/// newlines, add up to at most 16,777,216. Each call is handed the file's reader: the file is what
-/// was taken so far, followed by what that reader has left. It is taken by pieces of at most 65,536
-/// bytes; one paragraph and the rest of one piece are kept. The reader's end is asked for once:
-/// after a read of no byte it isn't read again.
+/// A file has at most 4,294,967,295 bytes, and the lines of a paragraph, with their newlines, at
+/// most 16,777,216. Each call takes the file's reader: the file is what was read so far, followed
+/// by what that reader has left. It is read in pieces of at most 65,536 bytes. One paragraph and
+/// the rest of one piece are held. After a read that returns no byte the reader isn't read again.
 #[derive(Drop)]
 pub struct Paragraphs {
     feed: Feed,
@@ -42,7 +42,8 @@ pub struct Paragraphs {
     hidden: u64,
     /// Whether it was answered that no paragraph follows.
     finished: bool,
-    /// The paragraph that was found last, and where its fields stand in its bytes.
+    /// Returns the paragraph that the last `advance` or `next` found, or `None` if it found none or
+    /// failed, or if `begins` was called since.
     current: Option<Standing>,
     places: Vec<Place>,
     fault: Option<Fault>,
@@ -64,7 +65,7 @@ impl Paragraphs {
     ghost use Rattle.deb_syntax.specs.Paragraphs.{state_of, seen_of, answer_of, advance_answer};
     ghost use Rattle.deb_syntax.specs.Paragraphs.{end_answer, ShowsFirst, IsQuiet};
 
-    /// A reader of paragraphs that has read nothing: whatever its source has left is the file.
+    /// Returns a reader of paragraphs that has read nothing: the file is what its source has left.
     /// Takes no memory.
     pub fn new(alloc: Global) -> Paragraphs
         ensures state { state_of result
@@ -92,8 +93,8 @@ impl Paragraphs {
         }
     }
 
-    /// The length in bytes of the buffer, the one list of bytes that is kept: at most 16,842,752,
-    /// the most that a paragraph may have and one piece.
+    /// Returns the length of the buffer in bytes: at most 16,842,752, a paragraph of the most bytes
+    /// and one piece. No other list of bytes is held.
     pub fn held(&self) -> usize
         ensures value { result ≡ (state_of self.now).held }
         ensures bounded { result ≤ 16842752 }
@@ -101,8 +102,9 @@ impl Paragraphs {
         self.feed.held()
     }
 
-    /// How many lines the file has, once it was answered that no paragraph follows, and else 0. At
-    /// most 4,294,967,295: a line has a byte, and a file at most that many.
+    /// Returns the number of lines of the file, once a call has returned that no paragraph follows,
+    /// and 0 before that. At most 4,294,967,295: a line has at least one byte, and a file at most
+    /// that many.
     pub fn lines(&self) -> u64
         ensures finished { (state_of self.now).finished ≡ true
             → result ≡ (state_of self.now).lines }
@@ -112,8 +114,8 @@ impl Paragraphs {
         if self.finished { self.feed.lines() } else { 0 }
     }
 
-    /// The paragraph that the last `advance` or `next` found, or `None` where it found none or
-    /// failed, or `begins` was called since.
+    /// Returns the paragraph that the last `advance` or `next` found, or `None` if it found none or
+    /// failed, or if `begins` was called since.
     pub fn current(&self) -> Option<Raw<'_>>
         ensures { option_map seen_of result ≡ (state_of self.now).current }
     {
@@ -125,23 +127,23 @@ impl Paragraphs {
         ))
     }
 
-    /// The line at which the next paragraph begins, or `None` where there is no further one. Blank
-    /// lines before it pass; `next` answers afterwards what it would have answered before. After
-    /// `None` it goes on answering `None`.
+    /// Returns the line at which the next paragraph begins, counted from 1, or `None` if there is
+    /// no further one. Blank lines before it are passed; `next` afterwards returns what it would
+    /// have returned before. After `None`, every later call returns `None`.
     ///
     /// # Errors
     ///
-    /// After an error every later call answers the same error, and reads nothing.
+    /// After an error every later call returns the same error, and reads nothing.
     ///
-    /// - `Fault::Refused`: the file is too long, and no line of a further paragraph ends within
-    ///   what it may have (`FileTooLong`, at the line that is cut off).
+    /// - `Fault::Refused`: the file is too long, and no line of a further paragraph ends within the
+    ///   limit (`FileTooLong`, at the line that is cut off).
     /// - `Fault::Memory`: a growth of memory was refused.
     /// - `Fault::Read`: a read of `reader` failed in this call.
     pub fn begins<R: Source>(&mut self, reader: &mut R) -> Result<Option<u64>, Fault>
         ensures passes { KeepsErrors Begins (moment_of (state_of self.old) (R.left reader.old)
             (R.failures reader.old)) result (moment_of (state_of self.new) (R.left reader.new)
             (R.failures reader.new)) }
-        ensures quiet { IsQuiet (state_of self.old) → reader.new ≡ reader.old }
+        ensures source_untouched { IsQuiet (state_of self.old) → reader.new ≡ reader.old }
     {
         if let Some(fault) = self.fault {
             return Err(fault);
@@ -153,20 +155,21 @@ impl Paragraphs {
         answer
     }
 
-    /// The next paragraph of the file, or `None` where there is no further one. After `None` it
-    /// goes on answering `None`. Once the answer is let go, this is as `advance` leaves it.
+    /// Returns the next paragraph of the file, or `None` if there is no further one. After `None`,
+    /// every later call returns `None`. Once the paragraph is no longer borrowed, the reader is as
+    /// `advance` leaves it.
     ///
     /// # Errors
     ///
-    /// After an error every later call answers the same error, and reads nothing.
+    /// After an error every later call returns the same error, and reads nothing.
     ///
-    /// - `Fault::Refused`: the file is refused there, for the first of these. The paragraph's lines
-    ///   are too long (`ParagraphTooLong`, at the line with which they are), the file is too long
-    ///   and no blank line behind the paragraph was seen before (`FileTooLong`, at the line that is
-    ///   cut off), or a line is refused, the first such one: it isn't UTF-8, begins an armoured
-    ///   message or a comment, continues no field, has no colon, has no field's name before its
-    ///   colon, or one that stood before in its paragraph. Behind the last paragraph: the file is
-    ///   too long.
+    /// - `Fault::Refused`: the file is refused, for the first of these. The paragraph's lines are
+    ///   too long (`ParagraphTooLong`, at the line that takes them past the limit). The file is too
+    ///   long, and no blank line after the paragraph was seen before that (`FileTooLong`, at the
+    ///   line that is cut off). A line is refused, the first such one: it isn't UTF-8, begins a
+    ///   signed message or a comment, continues no field, has no colon, or the text before its
+    ///   colon isn't a field name or is one that the paragraph already has. After the last
+    ///   paragraph: the file is too long.
     /// - `Fault::Memory`: a growth of memory was refused.
     /// - `Fault::Read`: a read of `reader` failed in this call.
     pub fn next<'a, R: Source>(&'a mut self, reader: &mut R) -> Result<Option<Raw<'a>>, Fault>
@@ -174,7 +177,7 @@ impl Paragraphs {
             (λ new. KeepsErrors Advances (moment_of (state_of self.old) (R.left reader.old)
             (R.failures reader.old)) (answer_of result) (moment_of (state_of new)
             (R.left reader.new) (R.failures reader.new)))) }
-        ensures quiet { IsQuiet (state_of self.old) → reader.new ≡ reader.old }
+        ensures source_untouched { IsQuiet (state_of self.old) → reader.new ≡ reader.old }
     {
         if self.advance(reader)? {
             Ok(self.current())
@@ -183,14 +186,17 @@ impl Paragraphs {
         }
     }
 
-    /// Goes on to the next paragraph, which `current` then gives, and says whether there is one.
-    /// The answers, errors among them, are those of `next`.
+    /// Moves to the next paragraph, which `current` then returns, and returns whether there is one.
+    ///
+    /// # Errors
+    ///
+    /// Those of `next`.
     pub fn advance<R: Source>(&mut self, reader: &mut R) -> Result<bool, Fault>
         ensures passes { KeepsErrors Advances (moment_of (state_of self.old) (R.left reader.old)
             (R.failures reader.old)) (advance_answer (state_of self.new) result)
             (moment_of (state_of self.new) (R.left reader.new) (R.failures reader.new)) }
         ensures found { IfOk result (λ found. IsTrue found ↔ IsSome (state_of self.new).current) }
-        ensures quiet { IsQuiet (state_of self.old) → reader.new ≡ reader.old }
+        ensures source_untouched { IsQuiet (state_of self.old) → reader.new ≡ reader.old }
     {
         if let Some(fault) = self.fault {
             return Err(fault);
@@ -207,7 +213,8 @@ impl Paragraphs {
         ensures begins { Begins (moment_of (state_of self.old) (R.left reader.old)
             (R.failures reader.old)) result (moment_of (state_of self.new) (R.left reader.new)
             (R.failures reader.new)) }
-        ensures quiet { IsTrue (state_of self.old).ended ⊎ IsTrue (state_of self.old).finished
+        ensures source_untouched { IsTrue (state_of self.old).ended ⊎ IsTrue
+            (state_of self.old).finished
             → reader.new ≡ reader.old }
         ensures kept { self.new.fault ≡ self.old.fault }
     {
@@ -225,7 +232,8 @@ impl Paragraphs {
             (R.failures reader.old)) (advance_answer (state_of self.new) result)
             (moment_of (state_of self.new) (R.left reader.new) (R.failures reader.new)) }
         ensures found { IfOk result (λ found. IsTrue found ↔ IsSome (state_of self.new).current) }
-        ensures quiet { IsTrue (state_of self.old).ended ⊎ IsTrue (state_of self.old).finished
+        ensures source_untouched { IsTrue (state_of self.old).ended ⊎ IsTrue
+            (state_of self.old).finished
             → reader.new ≡ reader.old }
         ensures kept { self.new.fault ≡ self.old.fault }
     {
@@ -257,7 +265,8 @@ impl Paragraphs {
         ensures fault { IfErr result (λ fault. IsReadersFault fault IsRefusalOfText) }
         ensures counted { R.failures reader.new
             ≡ read_failures_after (R.failures reader.old) result }
-        ensures quiet { IsTrue (state_of self.old).ended ⊎ IsTrue (state_of self.old).finished
+        ensures source_untouched { IsTrue (state_of self.old).ended ⊎ IsTrue
+            (state_of self.old).finished
             → reader.new ≡ reader.old }
         ensures stays { IsTrue (state_of self.old).ended → IsTrue (state_of self.new).ended }
         ensures kept { self.new.fault ≡ self.old.fault }
@@ -309,7 +318,7 @@ impl Paragraphs {
         ensures fault { IfErr result (λ fault. IsReadersFault fault IsRefusalOfText) }
         ensures counted { R.failures reader.new
             ≡ read_failures_after (R.failures reader.old) result }
-        ensures quiet { IsTrue (state_of self.old).ended → reader.new ≡ reader.old }
+        ensures source_untouched { IsTrue (state_of self.old).ended → reader.new ≡ reader.old }
         ensures kept { self.new.fault ≡ self.old.fault }
     {
         match pass_paragraph(self.alloc, &mut self.feed, begun, reader, &mut self.places) {
@@ -347,7 +356,7 @@ fn pass_paragraph<R: Source>(
         (file_limit + piece_limit) (R.left reader.new) }
     ensures fault { IfErr result (λ fault. IsReadersFault fault IsRefusalOfText) }
     ensures counted { R.failures reader.new ≡ read_failures_after (R.failures reader.old) result }
-    ensures quiet { IsTrue (feed_state feed.old).ended → reader.new ≡ reader.old }
+    ensures source_untouched { IsTrue (feed_state feed.old).ended → reader.new ≡ reader.old }
 {
     let extent = paragraph_extent(feed, begun, reader)?;
     let first_line = feed.lines() + 1;

@@ -1,4 +1,4 @@
-//! Where the fields of a paragraph stand in its bytes.
+//! The places of a paragraph's fields in its bytes.
 
 /// Where a field stands in the bytes of its paragraph.
 #[derive(Clone, Copy)]

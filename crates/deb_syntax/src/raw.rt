@@ -1,4 +1,4 @@
-//! The fields of a paragraph, as a view of its bytes.
+//! A view of the fields of a paragraph.
 
 ghost use Rattle.std.specs.Prelude.{◌≡◌, ◌≤◌, ◌↔◌, [], length, slice_get, option_map, IsTrue, IfSome};
 ghost use Rattle.std.specs.List.{list_all};
@@ -13,12 +13,12 @@ use deb_base::{same_name, trimmed};
 /// A field of a paragraph, as slices of the paragraph's bytes (Debian Policy 5.1).
 #[derive(Clone, Copy, Debug)]
 pub struct RawField<'a> {
-    /// The name as it is spelled.
+    /// The name as spelled in the file.
     pub name: &'a [u8],
-    /// The number of the field's first line in its file, which is counted from 1.
+    /// The number of the field's first line in its file, counted from 1.
     pub line: u64,
-    /// What stands behind the colon, through the field's continuation lines, with spaces and tabs
-    /// cut at both ends alone. Line ends, and spaces and tabs beside them, stay.
+    /// The text after the colon, with the field's continuation lines, without the spaces and tabs
+    /// at both ends. Line ends inside it, and the spaces and tabs next to them, stay.
     pub body: &'a [u8],
 }
 
@@ -41,10 +41,10 @@ impl<'a> RawField<'a> {
     }
 }
 
-/// A paragraph, as a view of its bytes: its fields, each with the name and a body of a field, of
-/// which no two have one name, and lines that are counted from 1 (Debian Policy 5.1).
+/// A view of a paragraph: its fields, each with a valid name and a body, and no two with the same
+/// name; lines are counted from 1 (Debian Policy 5.1).
 ///
-/// No call takes memory.
+/// No function takes memory.
 #[derive(Clone, Copy)]
 pub struct Raw<'a> {
     text: &'a [u8],
@@ -74,7 +74,7 @@ impl<'a> Raw<'a> {
         }
     }
 
-    /// The number of the paragraph's first line in its file, which is counted from 1.
+    /// Returns the number of the paragraph's first line in its file, counted from 1.
     pub fn first_line(&self) -> u64
         ensures value { result ≡ first_line_of self.now }
         ensures line { 1 ≤ result }
@@ -82,21 +82,21 @@ impl<'a> Raw<'a> {
         self.first_line
     }
 
-    /// How many fields the paragraph has.
+    /// Returns the number of fields.
     pub fn len(&self) -> usize
         ensures { result ≡ length (fields_of self.now) }
     {
         self.places.len()
     }
 
-    /// Whether it has none.
+    /// Returns whether there are no fields.
     pub fn is_empty(&self) -> bool
         ensures { IsTrue result ↔ (fields_of self.now ≡ []) }
     {
         self.places.is_empty()
     }
 
-    /// The field at an index from 0, in the order of the file, or `None` where there are no more.
+    /// Returns the field at an index from 0, in file order, or `None` if there are no more.
     #[tactic(auto, using(crate::proofs::FieldTests::testing))]
     pub fn field(&self, index: usize) -> Option<RawField<'a>>
         ensures field { option_map field_of result ≡ slice_get (fields_of self.now) index }
@@ -107,8 +107,8 @@ impl<'a> Raw<'a> {
         Some(RawField::at(self.text, *place))
     }
 
-    /// The field of a name, where names that differ in ASCII case alone are the same, or `None`
-    /// where there is no such field.
+    /// Returns the field with a name, or `None` if there is no such field. ASCII case in names
+    /// doesn't matter.
     #[tactic(auto, using(crate::proofs::Lookups::looking))]
     pub fn get(&self, name: &[u8]) -> Option<RawField<'a>>
         ensures field { option_map field_of result ≡ field_named name.now (fields_of self.now) }
@@ -123,7 +123,7 @@ impl<'a> Raw<'a> {
         None
     }
 
-    /// The fields in the order of the file.
+    /// Returns the fields in file order.
     pub fn fields(&self) -> Fields<'a>
         ensures { fields_left result ≡ fields_of self.now }
     {
@@ -134,7 +134,7 @@ impl<'a> Raw<'a> {
     }
 }
 
-/// The fields of a paragraph that are left, in the order of the file.
+/// The remaining fields of a paragraph, in file order.
 #[derive(Clone, Copy)]
 pub struct Fields<'a> {
     text: &'a [u8],

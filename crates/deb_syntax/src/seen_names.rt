@@ -1,4 +1,4 @@
-//! The names of a paragraph's fields, as far as they have come, without ASCII case.
+//! The set of the field names of a paragraph so far, without ASCII case.
 
 ghost use Rattle.std.specs.Prelude.{◌≡◌, ◌++◌, [], ◌∷◌, ◌||◌, ◌==◌, ◌<◌, ℕ, List, false, get_or, length, map, not, IsTrue, IfOk, IfErr, OnOk};
 ghost use Rattle.std.specs.List.{list_all};
@@ -36,7 +36,7 @@ impl<'a> Names<'a> {
 }
 
 /// Adds a name behind those at the places, and says whether it is new. Memory: a growth of the set
-/// was refused. Where it isn't new, or after want of memory, the set is of no further use.
+/// was refused. Where it isn't new, or after out of memory, the set is of no further use.
 pub(crate) fn add<'a>(
     names: &mut Names<'a>,
     text: &'a [u8],

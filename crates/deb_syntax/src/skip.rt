@@ -1,5 +1,5 @@
-//! The blank lines before a paragraph, where what was seen of the first of them isn't looked at
-//! again (Debian Policy 5.1).
+//! Skips the blank lines before a paragraph. The part of the first one that was seen isn't looked
+//! at again (Debian Policy 5.1).
 
 ghost use Rattle.std.specs.Prelude.{◌≤◌, length, take};
 ghost use Rattle.deb_syntax.specs.Walking.{Describes, GoesThroughBlanks, SkipsBlanks};

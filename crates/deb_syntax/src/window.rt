@@ -1,18 +1,14 @@
-//! The one buffer: a window on the file, whose bytes stay where they are until no room is left
-//! behind them.
+//! The buffer: a window on the file. Its bytes move only if there is no room after them.
 
 ghost use Rattle.std.specs.Prelude.{◌≡◌, ◌+◌, ◌<◌, ◌≤◌, cond, vec_len, IfOk, IfErr, OnOk, OnErr, IsErrOf, length, take, drop};
 ghost use Rattle.std.specs.Io.KnownBytes.{Keeps, ReadConsumes};
 ghost use Rattle.deb_base.specs.Devices.{read_failures_after, failures_after};
 
-use deb_base::{Failed, Fault, PARAGRAPH_LIMIT, Source};
+use deb_base::{Failed, Fault, PARAGRAPH_LIMIT, PIECE_LIMIT, Source};
 use std::alloc::Global;
 
-/// The most bytes that one read is lent.
-const PIECE: usize = 65_536;
-
 /// The most bytes that the buffer has: those of a paragraph, and one piece.
-const MOST_HELD: usize = PARAGRAPH_LIMIT + PIECE;
+const MOST_HELD: usize = PARAGRAPH_LIMIT + PIECE_LIMIT;
 
 /// A window on the file. `buffer[start..filled]` are its unread bytes. Those before them have
 /// passed; behind them is room: bytes of no meaning, which are written once, when the buffer grows,
@@ -29,7 +25,8 @@ pub(crate) struct Window {
 
 impl Window {
     ghost use Rattle.std.specs.Prelude.{[], slice_range};
-    ghost use Rattle.deb_syntax.specs.Feeding.{unread_of, Fills, IsMemoryOrRead};
+    ghost use Rattle.deb_base.specs.Reading.{IsMemoryOrRead};
+    ghost use Rattle.deb_syntax.specs.Feeding.{unread_of, Fills};
 
     /// A window without bytes. Takes no memory.
     pub(crate) fn new(alloc: Global) -> Window
@@ -159,7 +156,7 @@ impl Window {
         ensures fault { IfErr result (λ fault. fault ≡ Fault.Memory) }
     {
         let held = self.buffer.len();
-        let wanted = (2 * held).max(2 * PIECE).min(MOST_HELD);
+        let wanted = (2 * held).max(2 * PIECE_LIMIT).min(MOST_HELD);
         if grown(&mut self.buffer, wanted) {
             Ok(())
         } else {
@@ -184,11 +181,11 @@ fn read_behind<R: Source>(buffer: &mut [u8], filled: usize, reader: &mut R) -> R
     requires { filled < length buffer.old }
     ensures kept { take filled buffer.new ≡ take filled buffer.old }
     ensures within { IfOk result (λ count. filled + count ≤ length buffer.new) }
-    ensures short { IfOk result (λ count. count ≤ PIECE) }
+    ensures short { IfOk result (λ count. count ≤ PIECE_LIMIT) }
     ensures bytes { ReadConsumes (R.left reader.old) (R.left reader.new) result
         (drop filled buffer.new) }
     ensures counted { R.failures reader.new ≡ failures_after (R.failures reader.old) result }
 {
-    let end = buffer.len().min(filled + PIECE);
+    let end = buffer.len().min(filled + PIECE_LIMIT);
     reader.read(&mut buffer[filled..end])
 }

@@ -1,4 +1,5 @@
-//! Devices that give or take a few bytes a call, and fail; and what the body of a field can be.
+//! Tests of devices that take or return a few bytes a call, and fail; and of what the body of a
+//! field can be.
 
 use deb_base::*;
 use std::alloc::Global;

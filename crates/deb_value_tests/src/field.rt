@@ -1,4 +1,4 @@
-//! Values: one of each kind and a long one, with their canonical text.
+//! Tests of values: one of each kind and a long one, with their canonical text.
 
 use deb_base::is_body;
 use deb_field::*;

@@ -1,9 +1,9 @@
-//! Tests of the libraries that judge values and words, by their public calls.
+//! Tests of the libraries that check values and arguments, by their public functions.
 //!
-//! They show what no row over the program can: that each call which takes memory gives its exact
-//! answer where there is memory, for a short and for a long argument; at which place a version or a
-//! relation is refused, and why; what devices see; and that `out` stays as it was where memory is
-//! wanting.
+//! They show what no row over the program can: that each call that takes memory returns its exact
+//! answer if there is memory, for a short and for a long argument; at which offset a version or a
+//! relation is refused, and why; how devices are called; and that `out` is unchanged after out of
+//! memory.
 #![tactic(auto)]
 
 #[cfg(test)]

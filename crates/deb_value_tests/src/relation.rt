@@ -1,5 +1,5 @@
-//! Relations: the first step that fails and its place, the parts of a worked one, canonical text of
-//! short and of long ones; and environments.
+//! Tests of relations: the first step that fails and its offset, the parts of a relation, canonical
+//! text of short and long ones; and environments.
 
 use deb_relation::{Alternative, Env, EnvFault, Group, Op, Reason, Relation, RelationFault};
 use deb_version::BadVersion;
@@ -348,7 +348,7 @@ fn no_environments(rt: HostRuntime) {
 }
 
 /// Appends the canonical text twice to a list without room. Whether the list has after each call
-/// what was appended, and where memory is wanting what it had before.
+/// what was appended, and after out of memory what it had before.
 fn has_all_or_none(alloc: Global, relation: &Relation<'_>) -> bool {
     let mut out = Vec::new(alloc);
     let first = relation.canon_into(&mut out).is_ok();

@@ -1,5 +1,5 @@
-//! Versions: the first fault of a text that is none, and canonical text and order of short and of
-//! long ones.
+//! Tests of versions: the first fault of a text that isn't one, and canonical text and order of
+//! short and long ones.
 
 use deb_version::{BadVersion, Version};
 use indexmap::IndexMap;
@@ -176,7 +176,7 @@ fn order_of_many_tildes(rt: HostRuntime) -> Result<(), Fail> {
 }
 
 /// Appends the canonical text to a list with room for the epoch alone, which is written by then.
-/// Whether the list then has the text, or where memory is wanting what it had before.
+/// Whether the list then has the text, or after out of memory what it had before.
 fn has_all_or_none(alloc: Global, version: &Version<'_>) -> Option<bool> {
     let mut out = Vec::with_capacity(alloc, 8).ok()?;
     out.extend_from_slice(b"====").ok()?;

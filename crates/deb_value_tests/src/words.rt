@@ -1,6 +1,6 @@
-//! What words ask for, and what is told of those that ask for nothing.
+//! Tests of arguments: the tasks that they ask for, and the errors.
 
-use debctl_words::{Call, Job, Task, job_of};
+use debctl_args::{Call, Job, Task, job_of};
 use std::alloc::{AllocError, Global};
 use std::process::Abort;
 use std::test::Fail;

@@ -1,5 +1,6 @@
 -- The canonical text of a component, cut by cut.
-use Rattle.deb_version.proofs.Common.{◌≡◌, ◌≢◌, ℕ, ◌+◌, ◌-◌, ◌*◌, ◌<◌, ◌==◌, ◌&&◌, ◌||◌, Bool, true, false, cond, List, [], ◌∷◌, ◌++◌, length, refl, sym, ap, ◌∙◌, arith, IsTrue, ◌⊎◌, inl, inr, is_ascii_digit, list_any, append-nil, list_any-append, false≢true, true≢false, ne_eqb, nat_tests, value_of, Cut, Part, joined, IsDigits, AreCuts, part_of, parts_of_cuts, with_digit, with_byte, cuts_of, parts_of, cuts_after, digits_of, ends_in_letter, last_digits_of, component_text, is_no_revision, cons_not_nil, joined-cuts_of, AreCuts-cuts_of}
+use Rattle.deb_version.proofs.Common.{◌≡◌, ◌≢◌, ℕ, ◌+◌, ◌-◌, ◌*◌, ◌<◌, ◌==◌, ◌&&◌, ◌||◌, Bool, true, false, not, cond, List, [], ◌∷◌, ◌++◌, length, Some, refl, sym, ap, ◌∙◌, arith, IsTrue, ◌⊎◌, inl, inr, is_ascii_digit, list_any, append-nil, list_any-append, false≢true, true≢false, ne_eqb, nat_tests, value_of, Cut, Part, joined, IsDigits, AreCuts, part_of, parts_of_cuts, with_digit, with_byte, cuts_of, parts_of, cuts_after, digits_of, ends_in_letter, last_digits_of, component_text, is_no_revision, cons_not_nil, joined-cuts_of, AreCuts-cuts_of}
+use Rattle.std.specs.List.{slice_get}
 use Rattle.deb_version.proofs.Emptiness.{nil_of_length}
 use Rattle.deb_version.proofs.ByteLemmas.{empty-fact, none_equal}
 use Rattle.deb_version.proofs.ValueLemmas.{value_after-le}
@@ -67,12 +68,23 @@ first_positive b run digit other =
     omega (arith, above, value_after-le (10 * 0 + (b - 48)) run)
 
 -- a run that begins with no zero is the number in canonical digits, and that isn't 0
-number_left : (left : List ℕ) → IsDigits left → StartsWith is_nonzero left → left ≢ [] → (left ≡ digits_of (value_of left)) × ((value_of left == 0) ≡ false)
+pub number_left : (left : List ℕ) → IsDigits left → StartsWith is_nonzero left → left ≢ [] → (left ≡ digits_of (value_of left)) × ((value_of left == 0) ≡ false)
 number_left [] digits starts some = absurd (some refl)
 number_left (b ∷ left) digits starts some =
     let other = λ (is : b ≡ 48). true≢false (sym starts ∙ ap is_nonzero is) in
     let positive = first_positive b left digits.0 other in
     (sym (digits_of-value_of b left digits other), ne_eqb (value_of (b ∷ left)) 0 (λ e. omega arith))
+
+-- so it is the number in canonical text
+pub number_as_spelled : (text run : List ℕ) (b : ℕ) → IsDigits run → Some b ≡ slice_get run 0 → b ≢ 48 → (is_last : Bool) → number_text (text, run) is_last ≡ run
+number_as_spelled text [] b digits first other is_last = absurd cc
+number_as_spelled text (d ∷ run) b digits first other is_last =
+    let same : b ≡ d = cc in
+    let number = number_left (d ∷ run) digits (ap not (ne_eqb d 48 (λ e. other (same ∙ e)))) (cons_not_nil d run) in
+    elim is_last as (λ v. number_text (text, d ∷ run) v ≡ d ∷ run) [
+      | true ↦ ap (λ v. cond (v && ends_in_letter text) [] (digits_of (value_of (d ∷ run)))) number.1 ∙ sym number.0
+      | false ↦ sym number.0
+    ]
 
 -- So is what is left without leading zeros, if anything.
 module _ (run : List ℕ) (digits : IsDigits run) (some : without_zeros run ≢ []) where

@@ -1,5 +1,5 @@
 -- The laws of canonical text.
-use Rattle.deb_version.proofs.Common.{◌≡◌, ◌≢◌, ℕ, ◌*◌, ◌≤◌, ◌==◌, ◌&&◌, ◌||◌, Bool, true, false, not, cond, List, [], ◌∷◌, ◌++◌, length, Option, Some, None, is_some, IfSome, IfNone, refl, sym, ap, ◌∙◌, subst, arith, IsTrue, ◌⊎◌, inl, inr, is_ascii_digit, AllByRecursion, list_any, length-append, Decides-eqb, false≢true, eqb-true, not-true, Part, HasParts, Meaning, no_revision, is_revision_byte, is_upstream_byte, epoch_text, revision_text, epoch_value, revision_parts, meaning_of_components, SpellsVersion, digits_of, component_text, is_no_revision, holds_colon, holds_hyphen, canonical_epoch, canonical_revision, canonical_components, version_text, CanonicalTextSpells, CanonicalTextDecides, CanonicalTextStays, CanonicalTextIsShort, has_parts, one_parts}
+use Rattle.deb_version.proofs.Common.{◌≡◌, ◌≢◌, ℕ, ◌*◌, ◌≤◌, ◌==◌, ◌&&◌, ◌||◌, Bool, true, false, not, cond, List, [], ◌∷◌, ◌++◌, length, Option, Some, None, is_some, IfSome, IfNone, refl, sym, ap, ◌∙◌, subst, arith, IsTrue, ◌⊎◌, inl, inr, is_ascii_digit, AllByRecursion, list_any, length-append, Decides-eqb, false≢true, eqb-true, not-true, Part, HasParts, Meaning, no_revision, is_revision_byte, is_upstream_byte, epoch_text, revision_text, epoch_value, revision_parts, meaning_of_components, are_components, SpellsVersion, digits_of, component_text, is_no_revision, holds_colon, holds_hyphen, canonical_epoch, canonical_revision, canonical_components, version_text, CanonicalTextSpells, CanonicalTextDecides, CanonicalTextStays, CanonicalTextIsShort, has_parts, one_parts}
 use Rattle.deb_version.proofs.AllowedLemmas.{AreComponents, IsEpoch, IsRevision, are_components-fact, are_components-test}
 use Rattle.deb_version.proofs.Choices.{left_or_written}
 use Rattle.deb_version.proofs.Emptiness.{nil_of_length, some_length}
@@ -100,17 +100,20 @@ module _ (text : List ℕ) (m : Meaning) (spells : SpellsVersion text m) where
       λ i. record { epoch = epoch_stays.2 i; upstream = upstream i; revision = revision_stays.2 i }
 
 -- Canonical text is accepted, with the same meaning.
+pub canonical_allowed : (text : List ℕ) (m : Meaning) → SpellsVersion text m → are_components (canonical_components m) ≡ true
+canonical_allowed text m spells = are_components-test (canonical_components m) (record {
+  epoch = (epoch_stays text m spells).0;
+  upstream_some = component_text-some spells.components.upstream m.upstream (upstream_means text m spells);
+  upstream_bytes = (epoch_stays text m spells).1;
+  upstream_hyphen = (revision_stays text m spells).1;
+  revision = (revision_stays text m spells).0;
+})
+
 pub canonical_text_spells : CanonicalTextSpells
 canonical_text_spells text m spells = record {
   components = canonical_components m;
   spelt = refl;
-  allowed = are_components-test (canonical_components m) (record {
-    epoch = (epoch_stays text m spells).0;
-    upstream_some = component_text-some spells.components.upstream m.upstream (upstream_means text m spells);
-    upstream_bytes = (epoch_stays text m spells).1;
-    upstream_hyphen = (revision_stays text m spells).1;
-    revision = (revision_stays text m spells).0;
-  });
+  allowed = canonical_allowed text m spells;
   means = meaning_stays text m spells;
 }
 
@@ -125,11 +128,11 @@ canonical_text_stays text m n spells spells_n =
     ap version_text (one_version (version_text m) n m spells_n (canonical_text_spells text m spells))
 
 -- an absent epoch stays absent, and so does an absent revision
-epoch_none : (m : Meaning) → m.epoch ≡ 0 → holds_colon (component_text m.upstream) ≡ false → canonical_epoch m ≡ None
+pub epoch_none : (m : Meaning) → m.epoch ≡ 0 → holds_colon (component_text m.upstream) ≡ false → canonical_epoch m ≡ None
 epoch_none m zero_is none =
     ap (λ e. cond ((e == 0) && not (holds_colon (component_text m.upstream))) None (Some (digits_of e))) zero_is ∙ ap (λ v. cond (not v) None (Some (digits_of 0))) none
 
-revision_none : (m : Meaning) → m.revision ≡ no_revision → holds_hyphen (component_text m.upstream) ≡ false → canonical_revision m ≡ None
+pub revision_none : (m : Meaning) → m.revision ≡ no_revision → holds_hyphen (component_text m.upstream) ≡ false → canonical_revision m ≡ None
 revision_none m none_is none =
     ap (λ r. cond (is_no_revision r && not (holds_hyphen (component_text m.upstream))) None (Some (component_text r))) none_is
     ∙ ap (λ v. cond (not v) None (Some (component_text no_revision))) none

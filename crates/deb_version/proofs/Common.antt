@@ -18,7 +18,7 @@ pub use Rattle.deb_version.specs.Canonical.{Extends, canonical_components, canon
 pub use Rattle.deb_version.specs.CanonicalLaws.{CanonicalTextDecides, CanonicalTextIsShort, CanonicalTextSpells, CanonicalTextStays, EqualVersionsHaveOneText}
 pub use Rattle.deb_version.specs.Cuts.{cut_of, cuts_after}
 pub use Rattle.deb_version.specs.Faults.{first_fault}
-pub use Rattle.deb_version.specs.Grammar.{Components, SpellsVersion, are_components, epoch_faults, epoch_text, epoch_value, fault_if, fault_of, first_of, is_bad_in_revision, is_cut_at_hyphen, is_empty, is_no_digit, is_revision_byte, is_upstream_byte, meaning_of_components, revision_parts, revision_text, some_passes, spelling}
+pub use Rattle.deb_version.specs.Grammar.{Components, SpellsVersion, are_components, components_with, epoch_faults, epoch_text, epoch_value, fault_if, fault_of, first_of, is_bad_in_revision, is_cut_at_hyphen, is_empty, is_no_digit, is_revision_byte, is_upstream_byte, meaning_of_components, revision_parts, revision_text, some_passes, spelling}
 pub use Rattle.deb_version.specs.Hashes.{component_writes}
 pub use Rattle.deb_version.specs.Order.{component_cmp, continued_cmp, empty_part, end_rank, part_cmp, rank_of, text_cmp, version_cmp}
 pub use Rattle.deb_version.specs.OrderLemmas.{HasTexts-from_spelled, component_total, equal_trans, first_difference, ge_trans, le_total, le_trans, part_total, version_same, version_total}

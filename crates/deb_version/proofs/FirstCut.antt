@@ -3,6 +3,7 @@ use Rattle.deb_version.proofs.Common.{◌≡◌, ◌≢◌, ℕ, ◌-◌, ◌≤
 use Rattle.std.proofs.lemmas.List.{length-drop}
 use Rattle.deb_version.proofs.FirstPlace.{StartsWith, before_place, first_place, from_place, place_here, place_later}
 use Rattle.deb_version.proofs.ByteLemmas.{all_pass-test}
+use Rattle.deb_version.proofs.Runs.{Stops}
 
 -- a byte that isn't a digit
 abbrev pub is_other : ℕ → Bool
@@ -24,8 +25,7 @@ after_text bytes = drop (position_or_len is_ascii_digit bytes) bytes
 
 -- a list that is empty or begins with no digit
 abbrev pub StartsWithOther : List ℕ → Type 0
-StartsWithOther [] = Unit {0}
-StartsWithOther (b ∷ bs) = is_ascii_digit b ≡ false
+StartsWithOther bytes = Stops is_ascii_digit bytes
 
 -- a text in front of cuts of which the first has none
 pub cuts_of-text : (text rest run : List ℕ) (cuts : List Cut) → HasNoDigit text → cuts_of rest ≡ ([], run) ∷ cuts → cuts_of (text ++ rest) ≡ (text, run) ∷ cuts

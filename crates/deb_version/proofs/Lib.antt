@@ -10,7 +10,9 @@ mod BadBytes
 pub mod ParseLemmas
 pub mod KeptVersions
 pub mod FirstPlace
+pub mod Runs
 pub mod FirstCut
+pub mod FrontCut
 pub mod NumberOrder
 pub mod Emptiness
 pub mod Choices
@@ -25,3 +27,5 @@ pub mod CanonicalFits
 pub mod EqualTexts
 pub mod Walks
 pub mod CommonFront
+pub mod CanonicalPrefix
+pub mod PrefixRuns

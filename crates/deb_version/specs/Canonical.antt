@@ -179,3 +179,15 @@ worked-letter_number = refl
 worked-digits : map (λ s. canonical_text_of None s None)
     (codes "0123" ∷ codes "0456" ∷ codes "0789" ∷ []) ≡ codes "123" ∷ codes "456" ∷ codes "789" ∷ []
 worked-digits = refl
+
+-- an epoch without its zeros in front, and none of an epoch of zeros
+worked-zeros_of_epochs : (canonical_text_of (Some (codes "00")) (codes "1") None ≡ codes "1")
+    × (canonical_text_of (Some (codes "010")) (codes "1") None ≡ codes "10:1")
+    × (canonical_text_of (Some (codes "000")) (codes "1-1") (Some (codes "1")) ≡ codes "1-1-1")
+worked-zeros_of_epochs = (refl, refl, refl)
+
+-- a revision of several zeros is that of none, and zeros in front of a revision's number go
+worked-zeros_of_revisions : (canonical_text_of None (codes "1") (Some (codes "000")) ≡ codes "1")
+    × (canonical_text_of None (codes "1") (Some (codes "00a00")) ≡ codes "1-0a")
+    × (canonical_text_of None (codes "1") (Some (codes "~")) ≡ codes "1-~0")
+worked-zeros_of_revisions = (refl, refl, refl)

@@ -1,6 +1,8 @@
 -- Which fault of a text is answered, and at which byte: the first one of the components that stand
 -- in it. Debian Policy 5.6.12; the order and the places are this project's.
-use Rattle.std.specs.Prelude.{◌≡◌, ℕ, List, Option, Some, None, codes, refl}
+use Rattle.std.specs.Prelude.{◌≡◌, ℕ, List, [], ◌∷◌, Option, Some, None, codes, refl}
+use Rattle.std.specs.List.{filter, range_with_len}
+use Rattle.std.specs.Option.{is_none}
 use Rattle.deb_version.specs.declared.fault.BadVersion.{BadVersion}
 use Rattle.deb_version.specs.declared.fault.BadVersion.TheVariants.{Empty, EpochEmpty, EpochNotNumber, RevisionEmpty, UpstreamEmpty, UpstreamByte, RevisionByte}
 use Rattle.deb_version.specs.Grammar.{fault_of}
@@ -119,3 +121,42 @@ worked-absent_upstream = refl
 worked-no_fault : first_fault (codes "1:2-3") ≡ None
 unfolding first_fault
 worked-no_fault = refl
+
+-- Of all bytes those that are a version by themselves, and that may begin one: no digit is asked.
+worked-single_bytes : filter (λ b. is_none (first_fault (b ∷ []))) (range_with_len 0 256)
+    ≡ codes "+.0123456789ABCDEFGHIJKLMNOPQRSTUVWXYZabcdefghijklmnopqrstuvwxyz~"
+unfolding first_fault
+worked-single_bytes = refl
+
+worked-first_bytes : filter (λ b. is_none (first_fault (b ∷ codes "-1"))) (range_with_len 0 256)
+    ≡ codes "+-.0123456789ABCDEFGHIJKLMNOPQRSTUVWXYZabcdefghijklmnopqrstuvwxyz~"
+unfolding first_fault
+worked-first_bytes = refl
+
+worked-first_hyphen : first_fault (codes "-1-1") ≡ None
+unfolding first_fault
+worked-first_hyphen = refl
+
+-- The last byte of a revision is any that a revision may have, and so is its first one.
+worked-revision_bytes : filter (λ b. is_none (first_fault (49 ∷ 45 ∷ b ∷ [])))
+    (range_with_len 0 256)
+    ≡ codes "+.0123456789ABCDEFGHIJKLMNOPQRSTUVWXYZabcdefghijklmnopqrstuvwxyz~"
+unfolding first_fault
+worked-revision_bytes = refl
+
+-- An epoch may be zero, have zeros in front, and have digits alone.
+worked-zero_epochs : (first_fault (codes "0:1") ≡ None) × (first_fault (codes "000:1") ≡ None)
+    × (first_fault (codes "007:1-1") ≡ None) × (first_fault (codes "0:") ≡ Some UpstreamEmpty)
+unfolding first_fault
+worked-zero_epochs = (refl, refl, refl, refl)
+
+worked-epoch_bytes : filter (λ b. is_none (first_fault (b ∷ codes ":1"))) (range_with_len 0 256)
+    ≡ codes "0123456789"
+unfolding first_fault
+worked-epoch_bytes = refl
+
+worked-last_epoch_byte : (first_fault (codes "1+:1") ≡ Some EpochNotNumber)
+    × (first_fault (codes "1~:1") ≡ Some EpochNotNumber)
+    × (first_fault (codes " 1:1") ≡ Some EpochNotNumber)
+unfolding first_fault
+worked-last_epoch_byte = (refl, refl, refl)

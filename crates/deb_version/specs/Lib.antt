@@ -11,6 +11,7 @@ pub mod Version
 pub mod Pieces
 pub mod Kept
 pub mod Cuts
+pub mod Fronts
 pub mod Canonical
 pub mod CanonicalLaws
 pub mod Hashes

@@ -5,7 +5,7 @@ use Rattle.std.specs.Char.{is_ascii_alphabetic}
 use Rattle.std.specs.List.{range_with_len}
 use Rattle.std.specs.Ordering.{nat_cmp, ordering_then}
 use Rattle.std.specs.declared.cmp.Ordering.{Ordering}
-use Rattle.std.specs.declared.cmp.Ordering.TheVariants.{Less, Equal}
+use Rattle.std.specs.declared.cmp.Ordering.TheVariants.{Less, Equal, Greater}
 use Rattle.deb_version.specs.Parts.{Part, Meaning, no_revision, parts_of}
 
 -- two lists: the first place at which they differ decides, where the shorter list is continued by
@@ -164,3 +164,32 @@ worked-text_first = refl
 worked-upstream_first : version_cmp (meaning 0 (codes "1") (parts_of (codes "9")))
     (meaning 0 (codes "2") no_revision) ≡ Less
 worked-upstream_first = refl
+
+-- epochs are numbers, and go before all else
+worked-epochs : version_cmp (meaning 9 (codes "z") no_revision) (meaning 10 (codes "a") no_revision)
+    ≡ Less
+worked-epochs = refl
+
+-- numbers within revisions are compared as such, and a tilde in a revision comes before its end
+worked-revisions : (version_cmp (meaning 0 (codes "1") (parts_of (codes "9")))
+    (meaning 0 (codes "1") (parts_of (codes "10"))) ≡ Less)
+    × (version_cmp (meaning 0 (codes "1") (parts_of (codes "1~bpo1")))
+    (meaning 0 (codes "1") (parts_of (codes "1"))) ≡ Less)
+    × (version_cmp (meaning 0 (codes "1") (parts_of (codes "~")))
+    (meaning 0 (codes "1") no_revision) ≡ Less)
+worked-revisions = (refl, refl, refl)
+
+-- the order the other way round
+worked-greater : (upstream_cmp (codes "1") (codes "1~") ≡ Greater)
+    × (upstream_cmp (codes "1.10") (codes "1.9") ≡ Greater)
+    × (upstream_cmp (codes "1+") (codes "1a") ≡ Greater)
+    × (upstream_cmp (codes "1.0") (codes "1") ≡ Greater)
+    × (upstream_cmp (codes "b1") (codes "a9") ≡ Greater)
+worked-greater = (refl, refl, refl, refl, refl)
+
+-- the first part that differs decides, wherever it is
+worked-third_part : upstream_cmp (codes "1.2.9.0") (codes "1.2.10") ≡ Less
+worked-third_part = refl
+
+worked-long_numbers : upstream_cmp (codes "2") (codes "18446744073709551617") ≡ Less
+worked-long_numbers = refl

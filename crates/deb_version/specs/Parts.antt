@@ -1,6 +1,6 @@
 -- The parts of an upstream version or a revision: texts without digits and numbers, in turns.
 -- deb-version(7), "Sorting algorithm"; Debian Policy 5.6.12.
-use Rattle.std.specs.Prelude.{◌≡◌, ◌≢◌, ℕ, ◌+◌, ◌-◌, ◌*◌, cond, List, [], ◌∷◌, ◌++◌, map, refl, IsTrue, IsFalse, codes}
+use Rattle.std.specs.Prelude.{◌≡◌, ◌≢◌, ℕ, ◌+◌, ◌-◌, ◌*◌, ◌^◌, cond, List, [], ◌∷◌, ◌++◌, map, refl, IsTrue, IsFalse, codes}
 use Rattle.std.specs.Char.{is_ascii_digit}
 use Rattle.std.specs.List.{AllByRecursion}
 
@@ -118,3 +118,9 @@ worked-no_digits = refl
 cuts_joined : (joined [] ≡ [])
     × (joined ((codes "a", codes "1") ∷ (codes ".", codes "02") ∷ []) ≡ codes "a1.02")
 cuts_joined = (refl, refl)
+
+-- numbers of any size: none wraps at a machine's limit
+worked-long_numbers : parts_of
+    (codes "18446744073709551616.0340282366920938463463374607431768211456")
+    ≡ ([], 2 ^ 64) ∷ (codes ".", 2 ^ 128) ∷ []
+worked-long_numbers = refl

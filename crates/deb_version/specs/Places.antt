@@ -66,3 +66,17 @@ worked-hyphen_in_epoch = refl
 worked-version : version_in (codes "01:1.02-3")
     ≡ record { epoch = 1; upstream = ([], 1) ∷ (codes ".", 2) ∷ []; revision = ([], 3) ∷ [] }
 worked-version = refl
+
+-- zeros in front of an epoch, and an epoch of zeros, which is that of a version without one
+worked-zeros : (version_in (codes "000:1") ≡ version_in (codes "1"))
+    × ((version_in (codes "010:1")).epoch ≡ 10) × ((version_in (codes "00100:0")).epoch ≡ 100)
+worked-zeros = (refl, refl, refl)
+
+-- a colon after the first one is the upstream version's, and so is each hyphen but the last one
+worked-later_colons : components_in (codes "1:2:3:4")
+    ≡ record { epoch = Some (codes "1"); upstream = codes "2:3:4"; revision = None }
+worked-later_colons = refl
+
+worked-later_hyphens : components_in (codes "1-2-3-4")
+    ≡ record { epoch = None; upstream = codes "1-2-3"; revision = Some (codes "4") }
+worked-later_hyphens = refl

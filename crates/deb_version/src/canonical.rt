@@ -1,22 +1,22 @@
-//! The canonical text of a version.
+//! Writes the canonical text of a version, and computes its length.
 
-ghost use Rattle.std.specs.Prelude.{◌≡◌, ◌+◌, ◌*◌, ◌≤◌, ◌==◌, ◌++◌, length, drop, IsTrue, OnOk, OnErr, if◌then◌else◌};
+ghost use Rattle.std.specs.Prelude.{◌≡◌, ◌+◌, ◌*◌, ◌≤◌, ◌==◌, ◌++◌, length, take, drop, IfSome, IsTrue, OnOk, OnErr, if◌then◌else◌};
 ghost use Rattle.std.specs.List.{prefix_len};
 ghost use Rattle.std.specs.Option.{option_copied, option_map};
 ghost use Rattle.deb_version.specs.Cuts.{cut_of};
 ghost use Rattle.deb_version.specs.Parts.{part_of, value_of, parts_of};
 ghost use Rattle.deb_version.specs.Canonical.{digits_of, ends_in_letter, last_digits_of, component_text, is_no_revision, canonical_epoch, canonical_revision, version_text, Extends};
-ghost use Rattle.deb_version.specs.Grammar.{spelling};
+ghost use Rattle.deb_version.specs.Grammar.{is_revision_byte, spelling};
 ghost use Rattle.deb_version.specs.Version.{components_of, meaning_of};
 
-use crate::cut::Cut;
+use crate::cut::{Cut, text_len};
 use crate::run::without_zeros;
 use crate::version::Version;
 use std::alloc::AllocError;
 
 impl Version<'_> {
-    /// The length in bytes of the canonical text, which `canon_into` appends: at most twice that of
-    /// the text that was parsed. No memory is taken.
+    /// Returns the length in bytes of the canonical text, which `canon_into` appends. It is at most
+    /// twice the length of the text that was parsed. Takes no memory.
     pub fn canon_len(&self) -> u64
         ensures value { result ≡ length (version_text (meaning_of self.now)) }
         ensures short { result ≤ 2 * length (spelling (components_of self.now)) }
@@ -31,17 +31,17 @@ impl Version<'_> {
         len
     }
 
-    /// Appends the canonical text, a function of what the version means: spellings of versions that
-    /// are equal in Debian's order have one canonical text (deb-version(7), "Sorting algorithm").
+    /// Appends the canonical text to `out`. Two versions have the same canonical text exactly if
+    /// they are equal in Debian's order (deb-version(7), "Sorting algorithm").
     ///
     /// Numbers are written without leading zeros. At the end of the upstream version and of the
-    /// revision the number 0 is left out exactly if a letter stands before it. An epoch of 0 is
-    /// written only if the upstream version holds a colon, a revision of 0 only if it holds a
-    /// hyphen.
+    /// revision the number 0 is left out exactly if a letter comes before it. An epoch of 0 is
+    /// written only if the upstream version contains a colon, and a revision of 0 only if the
+    /// upstream version contains a hyphen.
     ///
     /// # Errors
     ///
-    /// Want of memory, and `out` is then unchanged.
+    /// Out of memory; `out` is then unchanged.
     pub fn canon_into(&self, out: &mut Vec<u8>) -> Result<(), AllocError>
         ensures ok { OnOk result
             (out.new.items ≡ out.old.items ++ version_text (meaning_of self.now)) }
@@ -55,7 +55,7 @@ impl Version<'_> {
         written
     }
 
-    /// Appends the canonical text, or a part of it where memory is wanting.
+    /// Appends the canonical text, or a prefix of it if it runs out of memory.
     fn append_to(&self, out: &mut Vec<u8>) -> Result<(), AllocError>
         ensures ok { OnOk result
             (out.new.items ≡ out.old.items ++ version_text (meaning_of self.now)) }
@@ -73,8 +73,8 @@ impl Version<'_> {
         Ok(())
     }
 
-    /// The digits of the epoch, where canonical text has one: it isn't 0, or the upstream version
-    /// holds a colon.
+    /// The digits of the epoch, if canonical text has one: it isn't 0, or the upstream version
+    /// contains a colon.
     fn written_epoch(&self) -> Option<&[u8]>
         ensures { option_copied result ≡ canonical_epoch (meaning_of self.now) }
     {
@@ -88,8 +88,8 @@ impl Version<'_> {
         }
     }
 
-    /// The revision, where canonical text has one: it isn't that of an absent one, or the upstream
-    /// version holds a hyphen.
+    /// The revision, if canonical text has one: it doesn't mean the same as an absent one, or the
+    /// upstream version contains a hyphen.
     fn written_revision(&self) -> Option<&[u8]>
         ensures { option_map (λ revision. component_text (parts_of revision)) (option_copied result)
             ≡ canonical_revision (meaning_of self.now) }
@@ -120,7 +120,7 @@ fn component_len(component: &[u8]) -> u64
     }
 }
 
-/// Appends the canonical text of a component, or a part of it where memory is wanting.
+/// Appends the canonical text of a component, or a prefix of it if it runs out of memory.
 fn append_component(component: &[u8], out: &mut Vec<u8>) -> Result<(), AllocError>
     ensures ok { OnOk result
         (out.new.items ≡ out.old.items ++ component_text (parts_of component.now)) }
@@ -141,20 +141,34 @@ fn append_component(component: &[u8], out: &mut Vec<u8>) -> Result<(), AllocErro
     }
 }
 
-/// Whether a component is spelled as its canonical text, which most are.
+/// Whether a component is spelled as its canonical text, as most are; `false` says nothing.
 fn is_canonical(component: &[u8]) -> bool
     ensures { IsTrue result → component_text (parts_of component.now) ≡ component.now }
 {
-    let mut rest = component;
+    matches!(canonical_component(component), Some(len) if len == component.len())
+}
+
+/// The length of the component that a text begins with, if it is spelled as its canonical text: it
+/// ends before the first byte that isn't allowed in a revision.
+pub(crate) fn canonical_component(text: &[u8]) -> Option<usize>
+    ensures bound { IfSome result (λ n. n ≤ length text.now) }
+    ensures run { IfSome result (λ n. n ≡ prefix_len is_revision_byte text.now) }
+    ensures canonical { IfSome result
+        (λ n. component_text (parts_of (take n text.now)) ≡ take n text.now) }
+{
+    let mut rest = text;
+    let mut len = text_len(rest);
     loop {
-        let (cut, after) = Cut::first(rest);
-        if !has_canonical_digits(cut, after.is_empty()) {
-            return false;
+        let (cut, after) = Cut::front(rest, len);
+        let next_len = text_len(after);
+        if !has_canonical_digits(cut, next_len == 0) {
+            return None;
         }
-        if after.is_empty() {
-            return true;
+        if next_len == 0 {
+            return Some(text.len() - after.len());
         }
         rest = after;
+        len = next_len;
     }
 }
 
@@ -164,7 +178,12 @@ fn has_canonical_digits(cut: Cut<'_>, is_last: bool) -> bool
         (if is_last then last_digits_of (part_of (cut_of cut.entry)) else digits_of
         (value_of cut.entry.run.now)) ≡ cut.entry.run.now }
 {
-    canonical_digits(cut, is_last) == cut.run
+    let leaves_out_zero = is_last && ends_in_letter(cut.text);
+    match cut.run.first() {
+        None => leaves_out_zero,
+        Some(b'0') => cut.run.len() == 1 && !leaves_out_zero,
+        Some(_) => true,
+    }
 }
 
 /// The number of a cut without leading zeros; in the last cut the number 0 is left out exactly if
@@ -190,8 +209,8 @@ fn ends_in_letter(text: &[u8]) -> bool
     text.last().is_some_and(|b| b.is_ascii_alphabetic())
 }
 
-/// Whether a revision means the same as an absent one: it is made of zeros alone.
-fn is_no_revision(revision: &[u8]) -> bool
+/// Whether a revision means the same as an absent one: it consists of zeros.
+pub(crate) fn is_no_revision(revision: &[u8]) -> bool
     ensures { result ≡ is_no_revision (parts_of revision.now) }
 {
     without_zeros(revision).is_empty()

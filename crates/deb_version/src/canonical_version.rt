@@ -1,4 +1,4 @@
-//! Versions that are kept.
+//! A version that owns its text.
 
 ghost use Rattle.std.specs.Prelude.{◌≡◌, None, IfOk};
 ghost use Rattle.deb_version.specs.Canonical.{version_text};
@@ -9,7 +9,7 @@ ghost use Rattle.deb_version.specs.Places.{version_in};
 use crate::version::Version;
 use std::alloc::{AllocError, Global};
 
-/// A version that owns its text, which is the canonical one (Debian Policy 5.6.12).
+/// A version that owns its canonical text (Debian Policy 5.6.12).
 #[derive(Debug, Drop)]
 pub struct CanonicalVersion {
     text: Vec<u8>,
@@ -20,11 +20,11 @@ pub struct CanonicalVersion {
 impl CanonicalVersion {
     ghost use Rattle.deb_version.specs.Kept.{kept_version};
 
-    /// Keeps a version, as its canonical text.
+    /// Copies the canonical text of a version.
     ///
     /// # Errors
     ///
-    /// Want of memory.
+    /// Out of memory.
     pub fn of(alloc: Global, version: &Version<'_>) -> Result<CanonicalVersion, AllocError>
         ensures { IfOk result (λ kept. kept_version kept ≡ meaning_of version.now) }
     {
@@ -33,14 +33,14 @@ impl CanonicalVersion {
         Ok(CanonicalVersion { text })
     }
 
-    /// The version, which borrows the text. It isn't judged again, and no memory is taken.
+    /// Returns the version, which borrows the text. Takes no memory.
     pub fn version(&self) -> Version<'_>
         ensures { meaning_of result ≡ kept_version self.now }
     {
         Version::of_faultless(&self.text)
     }
 
-    /// Its canonical text.
+    /// Returns the canonical text.
     pub fn text(&self) -> &[u8]
         ensures { result.now ≡ version_text (kept_version self.now) }
     {

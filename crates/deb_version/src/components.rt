@@ -1,4 +1,4 @@
-//! The components of a version text: where they stand, and whether they are allowed.
+//! Cuts a text into the components of a version, and checks their bytes.
 
 ghost use Rattle.std.specs.Prelude.{◌≡◌, ◌^◌, ◌<◌, length, option_copied};
 ghost use Rattle.std.specs.List.{position};
@@ -6,6 +6,7 @@ ghost use Rattle.std.specs.Result.{result_err};
 ghost use Rattle.deb_version.specs.Grammar.{components_with, epoch_text, spelling, is_upstream_byte, is_revision_byte, is_empty, some_passes, is_bad_in_upstream, is_bad_in_revision, first_of, epoch_faults, rest_faults};
 ghost use Rattle.deb_version.specs.Places.{epoch_in, rest_in, upstream_in, revision_in};
 
+use crate::cut::is_text_byte;
 use crate::fault::BadVersion;
 
 // The epoch, which ends at the first colon, if there is a colon; and what follows it.
@@ -30,10 +31,10 @@ fn cut_revision(rest: &[u8]) -> (&[u8], Option<&[u8]>)
     }
 }
 
-fn is_allowed_in_revision(b: u8) -> bool
+pub(crate) fn is_allowed_in_revision(b: u8) -> bool
     ensures { result ≡ is_revision_byte b }
 {
-    b.is_ascii_alphanumeric() || b == b'+' || b == b'.' || b == b'~'
+    is_text_byte(b) || b.is_ascii_digit()
 }
 
 fn is_allowed_in_upstream(has_epoch: bool, b: u8) -> bool
@@ -94,7 +95,7 @@ fn bad_in_revision(revision: &[u8]) -> Option<usize>
     revision.iter().position(|&b| !is_allowed_in_revision(b))
 }
 
-/// The texts of the components that stand in a text, allowed or not.
+/// The texts of the components of a text, allowed or not.
 #[derive(Clone, Copy)]
 pub(crate) struct Pieces<'a> {
     pub(crate) epoch: Option<&'a [u8]>,
@@ -107,7 +108,7 @@ impl<'a> Pieces<'a> {
     ghost use Rattle.deb_version.specs.Places.{components_in};
     ghost use Rattle.deb_version.specs.Pieces.{pieces_of};
 
-    /// The components that stand in a text.
+    /// The components of a text.
     pub(crate) fn of(text: &'a [u8]) -> Self
         ensures { pieces_of result ≡ components_in text.now }
     {
@@ -120,7 +121,7 @@ impl<'a> Pieces<'a> {
         }
     }
 
-    /// The first fault of the components that stand in a text.
+    /// The first fault of the components of a text.
     pub(crate) fn first_fault(self, text: &[u8]) -> Option<BadVersion>
         requires { pieces_of self ≡ components_in text.now }
         ensures { result ≡ fault_of (pieces_of self.entry) }

@@ -1,28 +1,28 @@
-//! Why a text is no version.
+//! The faults of a text that isn't a version.
 
-/// Why a text is no version: the first of these faults that it has, in this order.
+/// Why a text isn't a version: the first of these faults that it has, in this order.
 ///
-/// A place `at` is the offset in the whole version text of the first byte of that component that
-/// isn't allowed there.
+/// `at` is the offset in the whole text, from 0, of the first byte of the component that isn't
+/// allowed there.
 #[derive(Clone, Copy, Debug, PartialEq, Eq)]
 pub enum BadVersion {
     /// The text is empty.
     Empty,
-    /// Nothing stands before the first colon.
+    /// The text begins with a colon.
     EpochEmpty,
-    /// What stands before the first colon isn't made of decimal digits alone.
+    /// The text before the first colon contains a byte that isn't a decimal digit.
     EpochNotNumber,
-    /// Never given: an epoch may have any size. It stands here for callers that match on it.
+    /// Never returned, since an epoch may have any size.
     EpochTooBig,
-    /// Nothing follows the last hyphen after the epoch.
+    /// The text ends with a hyphen, and the revision is empty.
     RevisionEmpty,
-    /// No upstream version stands between the epoch and the revision.
+    /// The upstream version, between the epoch and the revision, is empty.
     UpstreamEmpty,
-    /// A byte of the upstream version is no ASCII letter or digit and none of `+`, `-`, `.` and
-    /// `~` (Debian Policy 5.6.12). It is never a colon: behind an epoch a colon is allowed, and a
-    /// text without epoch holds none, since the first colon of a text ends its epoch.
+    /// A byte of the upstream version isn't an ASCII letter or digit, `+`, `-`, `.` or `~` (Debian
+    /// Policy 5.6.12). It is never a colon: after an epoch a colon is allowed, and a text without
+    /// an epoch contains none.
     UpstreamByte { at: usize },
-    /// A byte of the revision is no ASCII letter or digit and none of `+`, `.` and `~` (Debian
-    /// Policy 5.6.12).
+    /// A byte of the revision isn't an ASCII letter or digit, `+`, `.` or `~` (Debian Policy
+    /// 5.6.12).
     RevisionByte { at: usize },
 }

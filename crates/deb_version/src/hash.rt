@@ -1,4 +1,4 @@
-//! Hashing of versions: equal versions hash equally.
+//! Hashes versions, so that equal versions hash equally.
 
 ghost use Rattle.std.specs.Prelude.{◌≡◌, fold};
 ghost use Rattle.deb_version.specs.HashLaws.{equal_feed_alike};
@@ -11,8 +11,8 @@ use crate::cut::Cut;
 use crate::version::Version;
 use std::hash::{Hash, Hasher};
 
-/// What is fed to the hasher follows from what the version means: the epoch's digits, and each text
-/// and number of its components, a number without leading zeros. No memory is taken.
+/// Feeds the hasher with the digits of the epoch and each text and number of the components,
+/// without leading zeros, so that equal versions hash equally. Takes no memory.
 impl Hash for Version<'_> {
     ghost hash_input = { λ v. version_writes (meaning_of v) };
 

@@ -1,6 +1,6 @@
 //! Laws of the grammar of versions, of Debian's order of versions, and of their canonical text.
 //!
-//! Each function here does nothing: its contract is a law, which holds of all texts, or of the
+//! Each function here does nothing. Its contract is a law, which holds for all texts, or for the
 //! meanings of all versions.
 
 ghost use Rattle.deb_version.specs.CanonicalLaws.{CanonicalTextSpells, CanonicalTextDecides, CanonicalTextStays, CanonicalTextIsShort, EqualVersionsHaveOneText};
@@ -15,18 +15,18 @@ pub fn spells_one_version()
     ensures { SpellsOneVersion }
 {}
 
-/// A text spells a version exactly where it has none of the faults of `BadVersion`.
+/// A text spells a version exactly if it has none of the faults of `BadVersion`.
 pub fn spells_where_faultless()
     ensures { SpellsWhereFaultless }
 {}
 
-/// A text has one list of parts: texts without digits and numbers, in turns.
+/// A text has exactly one list of parts, which are texts without digits and numbers by turns.
 pub fn has_one_list_of_parts()
     ensures { HasOneListOfParts }
 {}
 
-/// The epoch, the upstream version and the revision that stand in a text spell it, and allowed
-/// ones stand in their spelling.
+/// The epoch, the upstream version and the revision of a text spell it, and allowed ones are the
+/// components of their spelling.
 pub fn components_stand()
     ensures spell { ComponentsSpell }
     ensures stand { AllowedComponentsStand }
@@ -87,8 +87,8 @@ pub fn equal_versions_hash_equally()
     ensures { EqualVersionsHashEqually }
 {}
 
-/// Where two texts without digits first differ, tilde stands first, before the end of a text, then
-/// the end, then letters, then all other bytes (deb-version(7), "Sorting algorithm").
+/// At the first difference of two texts without digits, a tilde sorts first, then the end of a
+/// text, then letters, then all other bytes (deb-version(7), "Sorting algorithm").
 pub fn first_difference_decides()
     ensures { FirstDifferenceDecides }
 {}
@@ -98,7 +98,7 @@ pub fn canonical_text_spells()
     ensures { CanonicalTextSpells }
 {}
 
-/// Two versions have one canonical text exactly if they mean the same.
+/// Two versions have the same canonical text exactly if they mean the same.
 pub fn canonical_text_decides()
     ensures { CanonicalTextDecides }
 {}
@@ -113,7 +113,7 @@ pub fn canonical_text_is_short()
     ensures { CanonicalTextIsShort }
 {}
 
-/// Two versions are equal in Debian's order exactly if they have one canonical text.
+/// Two versions are equal in Debian's order exactly if they have the same canonical text.
 pub fn equal_versions_have_one_text()
     ensures { EqualVersionsHaveOneText }
 {}

@@ -13,9 +13,10 @@
 //! assert_eq!(rt; fault, Some(BadVersion::UpstreamByte { at: 3 }));
 //! ```
 //!
-//! Accepted is exactly what spells a version (Debian Policy 5.6.12); all else has a first fault.
-//! The order is Debian's (deb-version(7)), a total one; a run of digits may have any length.
-//! Versions are equal in it exactly if they have one canonical text, and this text spells them.
+//! [`Version::parse`] accepts exactly the texts that spell a version (Debian Policy 5.6.12), and
+//! returns the first fault of any other. The order is Debian's (deb-version(7)); it is total, and a
+//! run of digits may have any length. Two versions are equal in it exactly if they have the same
+//! canonical text, which spells them.
 #![tactic(auto)]
 
 mod canonical;
@@ -26,9 +27,11 @@ mod fault;
 mod hash;
 pub mod laws;
 mod order;
+mod prefix;
 mod run;
 mod version;
 
 pub use canonical_version::CanonicalVersion;
 pub use fault::BadVersion;
+pub use prefix::canonical_prefix;
 pub use version::Version;

@@ -1,4 +1,4 @@
-//! Debian's order of versions.
+//! Compares versions in Debian's order.
 
 ghost use Rattle.std.specs.Prelude.{◌≡◌, ◌↔◌, ◌≢◌, ◌≤◌, ◌-◌, length, take, IsTrue, IsFalse};
 ghost use Rattle.std.specs.Char.{is_ascii_digit};
@@ -20,8 +20,8 @@ use crate::run::without_zeros;
 use crate::version::Version;
 use std::cmp::Ordering;
 
-/// Versions of different spelling can be equal, as `1.01` and `0:1.1-0`: exactly those are whose
-/// canonical texts are one.
+/// Versions with different spellings can be equal, such as `1.01` and `0:1.1-0`. Versions are equal
+/// exactly if they have the same canonical text.
 impl PartialEq for Version<'_> {
     ghost eq = { on meaning_of (eq_by_cmp version_cmp) };
 
@@ -47,7 +47,7 @@ impl PartialOrd for Version<'_> {
 }
 
 /// Debian's order: by epoch, then by upstream version, then by revision (Debian Policy 5.6.12;
-/// deb-version(7), "Sorting algorithm"). Numbers have no largest length. No memory is taken.
+/// deb-version(7), "Sorting algorithm"). Numbers may have any length. Takes no memory.
 impl Ord for Version<'_> {
     ghost cmp = { on meaning_of version_cmp };
 
@@ -84,8 +84,8 @@ fn compare_epochs(a: &Version<'_>, b: &Version<'_>) -> Ordering
     compare_runs(a.epoch.unwrap_or(&[]), b.epoch.unwrap_or(&[]))
 }
 
-/// Two upstream versions, or two revisions: what both begin with doesn't decide, and behind it the
-/// first cuts that differ do.
+/// Two upstream versions, or two revisions: what both begin with doesn't decide, and the first cuts
+/// after it that differ do.
 fn compare_components(a: &[u8], b: &[u8]) -> Ordering
     ensures { result ≡ component_cmp (parts_of a.now) (parts_of b.now) }
 {
@@ -112,8 +112,8 @@ fn same_len(a: &[u8], b: &[u8]) -> usize
     len
 }
 
-/// How much of a text stands before the run of digits in which it ends. A run goes on behind it,
-/// so it is compared whole.
+/// The length of a text before the run of digits in which it ends. The run may go on after it, and
+/// is compared whole.
 fn len_before_run(text: &[u8]) -> usize
     ensures within { result ≤ length text.now }
     ensures other_before { (result ≢ 0)

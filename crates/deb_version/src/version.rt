@@ -1,4 +1,4 @@
-//! A version, cut into its components.
+//! Parses a version into its components.
 
 ghost use Rattle.std.specs.Prelude.{◌^◌, ◌<◌, length, IsTrue, option_copied};
 ghost use Rattle.deb_version.specs.Grammar.{components_with, are_components, spelling};
@@ -28,10 +28,10 @@ impl<'a> Version<'a> {
     ghost use Rattle.deb_version.specs.Places.{version_in};
     ghost use Rattle.deb_version.specs.Version.{components_of, meaning_of};
 
-    /// The version that a text spells: `[epoch:]upstream[-revision]` (Debian Policy 5.6.12).
+    /// Parses a version, `[epoch:]upstream[-revision]` (Debian Policy 5.6.12).
     ///
     /// The epoch ends at the first colon, and may have any size. The revision follows the last
-    /// hyphen after that. The version borrows the text, and no memory is taken.
+    /// hyphen after that. The version borrows the text, and takes no memory.
     ///
     /// # Errors
     ///

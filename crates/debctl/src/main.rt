@@ -1,5 +1,5 @@
-//! A program that checks and normalises files of Debian control data, tells whether two mean the
-//! same and which packages of an index meet a relation, and compares versions.
+//! A program that checks, normalises and compares files of Debian control data, finds the packages
+//! of an index that meet a relation, and compares and sorts versions.
 //!
 //! ```text
 //! $ printf 'vERSION: 01.0-0\npackage:hello\nArchitecture: amd64\n' | debctl normalise
@@ -11,7 +11,7 @@
 //! ```
 #![tactic(auto)]
 
-use debctl_jobs::run_program;
+use debctl_commands::run_program;
 use std::process::ExitCode;
 
 fn main(rt: HostRuntime) -> ExitCode {

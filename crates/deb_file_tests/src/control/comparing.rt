@@ -1,4 +1,5 @@
-//! Pairs of files: whether they mean the same, and which of them is refused or can't be read.
+//! Tests of pairs of files: whether they mean the same, and which of them is refused or can't be
+//! read.
 
 use super::*;
 use deb_control::{Side, SideFault, same};

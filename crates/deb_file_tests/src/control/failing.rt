@@ -1,4 +1,4 @@
-//! Readers and writers that fail: what is answered, and what was written by then.
+//! Tests of readers and writers that fail: what is returned, and what was written by then.
 
 use super::*;
 use crate::devices::{Slow, Then};

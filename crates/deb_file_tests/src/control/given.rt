@@ -1,4 +1,4 @@
-//! What a paragraph that is given shows: its fields as they stand in the file, and their values.
+//! Tests of a returned paragraph: its fields as they are in the file, and their values.
 
 use super::*;
 use deb_control::{Accepted, Judged, Paragraph};

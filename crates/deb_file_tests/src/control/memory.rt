@@ -1,5 +1,5 @@
-//! Want of memory. `rt try --test --fail-alloc 200 -- want_of_memory` refuses the 200th growth of
-//! each test and no other.
+//! Tests of out of memory. `rt try --test --fail-alloc 200 -- want_of_memory` refuses the 200th
+//! growth of each test and no other.
 
 use super::*;
 

@@ -1,4 +1,4 @@
-//! Readers that fail or never end, how far a reader is asked, and want of memory.
+//! Tests of readers that fail or never end, of how much is read, and of out of memory.
 
 use super::*;
 use crate::devices::Endless;
@@ -21,7 +21,7 @@ fn a_failed_read_is_no_end(rt: HostRuntime) -> Result<(), Fail> {
     Ok(())
 }
 
-/// Reads the file with one call that fails, where there are so many, and answers how many calls
+/// Reads the file with one call that fails, where there are so many, and returns how many calls
 /// there were.
 fn assert_failing(
     rt: &impl Abort,

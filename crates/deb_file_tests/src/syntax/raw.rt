@@ -1,5 +1,5 @@
-//! What a paragraph shows of its fields, and a caller's loop that is proved from the clauses of
-//! `next`.
+//! Tests of what a paragraph returns about its fields, and a caller's loop that is proved from the
+//! clauses of `next`.
 
 ghost use Rattle.std.specs.Prelude.{◌≡◌, ℕ, List, Some, length, IfOk};
 ghost use Rattle.deb_syntax.specs.Lines.{paragraphs_of};

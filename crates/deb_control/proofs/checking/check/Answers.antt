@@ -9,5 +9,5 @@ returns-clause-ok g c = λ text told. counted_all c.args.doc text c.count_rest.r
 pub returns-clause-refused : goal.returns-clause-refused
 returns-clause-refused g c = λ text told. (reads-file text c.new.ensures.doc c.new.ensures.fits told c.count_rest.ensures.on).refused
 
-pub returns-clause-taken : goal.returns-clause-taken
-returns-clause-taken g c = λ text told. (reads-file text c.new.ensures.doc c.new.ensures.fits told c.count_rest.ensures.on).taken
+pub returns-clause-reads_at_most : goal.returns-clause-reads_at_most
+returns-clause-reads_at_most g c = λ text told. (reads-file text c.new.ensures.doc c.new.ensures.fits told c.count_rest.ensures.on).taken

@@ -9,15 +9,15 @@ returns-in-Ok-true-clause-same g c = λ text other fits fits_too.
     let equal = rw c.in-Ok-true.field-0-test at c.in-Ok-true.ensures.agrees text other fits fits_too in
     tells_same c.args.one.now.doc text other true equal.passes equal.other_passes equal
 
-pub returns-in-Ok-true-clause-taken_second : goal.returns-in-Ok-true-clause-taken_second
-returns-in-Ok-true-clause-taken_second g c = λ text fits. (reads-new text c.requires.doc fits c.in-Ok-true.ensures.second).taken
+pub returns-in-Ok-true-clause-second_reads_at_most : goal.returns-in-Ok-true-clause-second_reads_at_most
+returns-in-Ok-true-clause-second_reads_at_most g c = λ text fits. (reads-new text c.requires.doc fits c.in-Ok-true.ensures.second).taken
 
 pub returns-in-Err-count_rest-clause-first : goal.returns-in-Err-count_rest-clause-first
 returns-in-Err-count_rest-clause-first g c =
     rw c.at_first.ensures (reads-fault (reads-then _ _ _ _ _ _ c.in-Ok-false.ensures.first _ c.in-Err-count_rest.ensures.on))
 
-pub returns-in-Err-count_rest-clause-taken_second : goal.returns-in-Err-count_rest-clause-taken_second
-returns-in-Err-count_rest-clause-taken_second g c = λ text fits. (reads-new text c.requires.doc fits c.in-Ok-false.ensures.second).taken
+pub returns-in-Err-count_rest-clause-second_reads_at_most : goal.returns-in-Err-count_rest-clause-second_reads_at_most
+returns-in-Err-count_rest-clause-second_reads_at_most g c = λ text fits. (reads-new text c.requires.doc fits c.in-Ok-false.ensures.second).taken
 
 pub returns-in-Err-count_rest-2-clause-refused : goal.returns-in-Err-count_rest-2-clause-refused
 returns-in-Err-count_rest-2-clause-refused g c = λ text other fits fits_too.
@@ -32,22 +32,22 @@ pub returns-in-Err-count_rest-2-clause-first : goal.returns-in-Err-count_rest-2-
 returns-in-Err-count_rest-2-clause-first g c =
     rw c.at_second.ensures (reads-well (reads-then _ _ _ _ _ _ c.in-Ok-false.ensures.first _ c.in_default.ensures.on))
 
-pub returns-in-Err-count_rest-2-clause-taken_second : goal.returns-in-Err-count_rest-2-clause-taken_second
-returns-in-Err-count_rest-2-clause-taken_second g c = λ text fits.
+pub returns-in-Err-count_rest-2-clause-second_reads_at_most : goal.returns-in-Err-count_rest-2-clause-second_reads_at_most
+returns-in-Err-count_rest-2-clause-second_reads_at_most g c = λ text fits.
     (reads-new text c.requires.doc fits (reads-then _ _ _ _ _ _ c.in-Ok-false.ensures.second _ c.in-Err-count_rest-2.ensures.on)).taken
 
 pub returns-in-First-clause-first : goal.returns-in-First-clause-first
 returns-in-First-clause-first g c = rw c.at_first-in-First.ensures (rw c.in-First.is at c.in-Err.ensures.first)
 
-pub returns-in-First-clause-taken_second : goal.returns-in-First-clause-taken_second
-returns-in-First-clause-taken_second g c = λ text fits. (reads-new text c.requires.doc fits c.in-Err.ensures.second).taken
+pub returns-in-First-clause-second_reads_at_most : goal.returns-in-First-clause-second_reads_at_most
+returns-in-First-clause-second_reads_at_most g c = λ text fits. (reads-new text c.requires.doc fits c.in-Err.ensures.second).taken
 
 pub returns-in-Err-count_rest-3-clause-first : goal.returns-in-Err-count_rest-3-clause-first
 returns-in-Err-count_rest-3-clause-first g c =
     rw c.at_first-in-Err-count_rest-3.ensures (reads-fault (reads-then _ _ _ _ _ _ (rw c.in-Second.is at c.in-Err.ensures.first) _ c.in-Err-count_rest-3.ensures.on))
 
-pub returns-in-Err-count_rest-3-clause-taken_second : goal.returns-in-Err-count_rest-3-clause-taken_second
-returns-in-Err-count_rest-3-clause-taken_second g c = λ text fits. (reads-new text c.requires.doc fits c.in-Err.ensures.second).taken
+pub returns-in-Err-count_rest-3-clause-second_reads_at_most : goal.returns-in-Err-count_rest-3-clause-second_reads_at_most
+returns-in-Err-count_rest-3-clause-second_reads_at_most g c = λ text fits. (reads-new text c.requires.doc fits c.in-Err.ensures.second).taken
 
 pub returns-in_default-count_rest-clause-same : goal.returns-in_default-count_rest-clause-same
 returns-in_default-count_rest-clause-same g c = λ text other fits fits_too.

@@ -40,16 +40,16 @@ returns-in_err-put_pieces-clause-write g c = λ text told.
     let counted = sym so_far.checked.fits.counted ∙ c.loop-count.invariant.count in
     rw (p.1, p.2, c.in_err-put_pieces.ensures.fault) (paragraph_failed _ text so_far.checked.before _ _ _ _ _ _ _ c.loop-count.count counted c.canonical_text.ensures so_far.written (answers_on so_far.checked c.loop-count.invariant.fault passes.0) (rw c.separator.ensures at c.in_err-put_pieces.ensures.written))
 
-pub returns-in_err-paragraph-clause-taken : goal.returns-in_err-paragraph-clause-taken
-returns-in_err-paragraph-clause-taken g c = λ text told.
+pub returns-in_err-paragraph-clause-reads_at_most : goal.returns-in_err-paragraph-clause-reads_at_most
+returns-in_err-paragraph-clause-reads_at_most g c = λ text told.
     taken_on (c.loop-count.invariant.text text told).checked c.loop-count.invariant.fault (rw c.loop-count.invariant.doc at c.next.follows.holds-at-none.0)
 
-pub returns-in_default-clause-taken : goal.returns-in_default-clause-taken
-returns-in_default-clause-taken g c = λ text told.
+pub returns-in_default-clause-reads_at_most : goal.returns-in_default-clause-reads_at_most
+returns-in_default-clause-reads_at_most g c = λ text told.
     taken_on (c.loop-count.invariant.text text told).checked c.loop-count.invariant.fault (rw c.loop-count.invariant.doc at c.next.follows.holds-at-none.0)
 
-pub returns-in_err-put_pieces-clause-taken : goal.returns-in_err-put_pieces-clause-taken
-returns-in_err-put_pieces-clause-taken g c = λ text told.
+pub returns-in_err-put_pieces-clause-reads_at_most : goal.returns-in_err-put_pieces-clause-reads_at_most
+returns-in_err-put_pieces-clause-reads_at_most g c = λ text told.
     taken_on (c.loop-count.invariant.text text told).checked c.loop-count.invariant.fault (rw c.loop-count.invariant.doc at c.next.follows.holds-at-none.0)
 
 pub loop-count-preserved : goal.loop-count-preserved
@@ -60,7 +60,7 @@ loop-count-preserved g c =
       doc = passes.1;
       fault = sound_on _ _ _ _ c.loop-count.invariant.fault passes.0;
       reads = checks.counted ∙ c.loop-count.invariant.reads;
-      writes = c.in_ok-put_pieces.ensures.counted ∙ c.loop-count.invariant.writes;
+      writes = c.in_ok-put_pieces.ensures.counts_failure ∙ c.loop-count.invariant.writes;
       count = checks.count ∙ ap (λ n. n + 1) c.loop-count.invariant.count;
       few = checks.few;
       text = λ text told.

@@ -1,6 +1,6 @@
 use Rattle.std.proofs.Common.{ap, arith}
 use Rattle.deb_control.proofs.CheckedSoFar.{goes_on, sound_on, all_checked}
-use Rattle.deb_explain.proofs.Following.{start_together, goes_ahead, passes_one, together_on, explains, tells_explanation}
+use Rattle.deb_explain.proofs.Following.{start_together, goes_ahead, passes_one, together_on, explains, is_explanation}
 use Rattle.deb_explain.proofs.explaining.explain.Goals as goal
 
 pub loop-count-init : goal.loop-count-init
@@ -29,7 +29,7 @@ returns-in-Err-Refused-clause-refused c =
     let shown = goes_ahead _ text _ _ _ _ _ _ c.loop-count.invariant.together c.in_ok-show_next.ensures in
     let checks = goes_on _ _ _ _ c.loop-count.invariant.fault passes.0 in
     let told = explains _ text _ _ _ _ shown c.in-Err-Refused.refusal (checks.answers text shown.before shown.fits) in
-    tells_explanation c.args.doc text _ c.in-Err-Refused.refusal _ _ _ _ told c.in-Err-Refused.refusal-is c.in_ok-subject-in-Err-Refused.ensures c.current.ensures
+    is_explanation c.args.doc text _ c.in-Err-Refused.refusal _ _ _ _ told c.in-Err-Refused.refusal-is c.in_ok-subject-in-Err-Refused.ensures c.current.ensures
 
 pub loop-count-preserved : goal.loop-count-preserved
 loop-count-preserved c =

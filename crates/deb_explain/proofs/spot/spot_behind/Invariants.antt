@@ -1,5 +1,5 @@
 use Rattle.std.proofs.Common.{◌≡◌, ◌+◌, ◌≤◌, drop}
-use Rattle.deb_explain.specs.Telling.{spot_behind}
+use Rattle.deb_explain.specs.Texts.{spot_behind}
 use Rattle.deb_explain.proofs.spot.spot_behind.Given as goal
 
 abbrev pub invariant-loop-byte : goal.invariant-loop-byte

@@ -6,7 +6,7 @@ use Rattle.deb_relation.specs.Views.{alternative_of}
 use Rattle.deb_index.specs.Indexes.{packages_of}
 use Rattle.deb_index.specs.Named.{numbers_of}
 use Rattle.deb_index.specs.Reports.{meets_group}
-use Rattle.deb_index.specs.Told.{found_of}
+use Rattle.deb_index.specs.Reported.{found_of}
 use Rattle.deb_index.proofs.Picked.{picked}
 use Rattle.deb_index.proofs.candidates.packages_meeting.Given as goal
 

@@ -1,7 +1,7 @@
 use Rattle.std.proofs.lemmas.List.Folds.{flat_map-map}
 use Rattle.deb_base.proofs.Writes.{Puts-then}
 use Rattle.deb_index.specs.ReportText.{group_line, package_line}
-use Rattle.deb_index.specs.Told.{answer_of, found_of}
+use Rattle.deb_index.specs.Reported.{answer_of, found_of}
 use Rattle.deb_index.proofs.report_text.write_answer.Goals as goal
 
 pub returns-clause-written : goal.returns-clause-written

@@ -2,11 +2,11 @@ use Rattle.std.proofs.Common.{◌≡◌, take}
 use Rattle.std.specs.List.{flat_map}
 use Rattle.std.specs.Io.KnownBytes.{Appends}
 use Rattle.deb_index.specs.ReportText.{answer_text}
-use Rattle.deb_index.specs.Told.{answer_of}
+use Rattle.deb_index.specs.Reported.{answer_of}
 use Rattle.deb_index.proofs.report_text.write_answers.Given as goal
 
 abbrev pub invariant-loop-answer : goal.invariant-loop-answer
 invariant-loop-answer g l = record {
-  bytes : Appends (g.W.Sink.held l.initial.out) (g.W.Sink.held l.out) (flat_map (λ told. answer_text (answer_of told)) (take l.answer-index l.answers));
+  bytes : Appends (g.W.Sink.held l.initial.out) (g.W.Sink.held l.out) (flat_map (λ reported. answer_text (answer_of reported)) (take l.answer-index l.answers));
   counted : g.W.Sink.failures l.out ≡ g.W.Sink.failures l.initial.out;
 }

@@ -1,6 +1,6 @@
 use Rattle.std.proofs.lemmas.Result.{err_from_is_err_and}
 use Rattle.deb_index.specs.ReportText.{package_line}
-use Rattle.deb_index.specs.Told.{found_of}
+use Rattle.deb_index.specs.Reported.{found_of}
 use Rattle.deb_index.proofs.WrittenParts.{AppendsFront-part}
 use Rattle.deb_index.proofs.report_text.write_packages.Goals as goal
 

@@ -2,7 +2,7 @@ use Rattle.std.proofs.Common.{◌≡◌, take}
 use Rattle.std.specs.List.{flat_map}
 use Rattle.std.specs.Io.KnownBytes.{Appends}
 use Rattle.deb_index.specs.ReportText.{package_line}
-use Rattle.deb_index.specs.Told.{found_of}
+use Rattle.deb_index.specs.Reported.{found_of}
 use Rattle.deb_index.proofs.report_text.write_packages.Given as goal
 
 abbrev pub invariant-loop-found : goal.invariant-loop-found

@@ -1,16 +1,30 @@
-use Rattle.std.proofs.Common.{[], map}
+use Rattle.std.proofs.Common.{rules, map, [], Ok, ap, sym, ◌∙◌}
 use Rattle.std.proofs.lemmas.Result.{err_from_is_err_and}
+use Rattle.std.specs.Option.{option_map}
 use Rattle.deb_relation.specs.Grammar.{set_of}
-use Rattle.deb_relation.specs.Summaries.{append_summary, next_summary, put_summary, summary_key}
-use Rattle.deb_relation.specs.SummaryViews.{told_of}
-use Rattle.deb_relation.proofs.GatheredSets.{mapped-ok, mapped-stop}
-use Rattle.deb_relation.proofs.Summed.{put_told}
+use Rattle.deb_relation.specs.Stops.{next_of}
+use Rattle.deb_relation.specs.Summaries.{next_summary, put_summary, summary_key}
+use Rattle.deb_relation.specs.SummaryViews.{told_behind, told_of}
+use Rattle.deb_relation.proofs.Gathering.{read-more, read-last, loop-stop}
+use Rattle.deb_relation.proofs.Summed.{step-next_summary, put_told}
 use Rattle.deb_relation.proofs.group_summary.read_groups.Goals as goal
 
-pub returns-in_err-groups : goal.returns-in_err-groups
-returns-in_err-groups c =
-    let p = err_from_is_err_and c.from_residual.result c.from_residual.ensures.1 in
-    mapped-stop next_summary append_summary put_summary (set_of summary_key) put_told [] c.args.text.now (λ p. (map told_of p.0.items, p.1.now)) (λ p. (map told_of p.0.items, p.1.now)) c.from_residual.result p.0 _ p.1 p.2 c.in_err-groups.ensures
+pub returns-in_err-piece : goal.returns-in_err-piece
+returns-in_err-piece c =
+    let p = err_from_is_err_and c.from_residual-in_err-piece.result c.from_residual-in_err-piece.ensures.1 in
+    loop-stop next_summary put_summary step-next_summary [] c.args.text.now (set_of summary_key (map told_of c.loop-groups.groups.items)) c.loop-groups.rest.now c.loop-groups.invariant (next_of told_behind) _ c.from_residual-in_err-piece.result p.0 _ p.1 p.2 c.in_err-piece.ensures.value
+
+pub loop-groups-smaller : goal.loop-groups-smaller
+loop-groups-smaller c = step-next_summary.shrinks c.loop-groups.rest.now (option_map told_of c.in-Some.piece) c.in-Some.behind.now (c.in_ok-piece.ensures.value ∙ ap (λ o. Ok (next_of told_behind o)) c.in-Some.is)
+
+pub loop-groups-preserved : goal.loop-groups-preserved
+loop-groups-preserved c =
+    let all = map told_of c.loop-groups.groups.items in
+    let piece = option_map told_of c.in-Some.piece in
+    let kept = c.in_ok-drop_repeats.ensures ∙ ap (set_of summary_key) c.in_ok-push_piece.ensures ∙ put_told piece all in
+    read-more next_summary put_summary step-next_summary [] c.args.text.now (set_of summary_key all) c.loop-groups.rest.now c.loop-groups.invariant piece (set_of summary_key (map told_of c.drop_repeats.new.groups.items)) c.in-Some.behind.now (c.in_ok-piece.ensures.value ∙ ap (λ o. Ok (next_of told_behind o)) c.in-Some.is) kept
 
 pub returns : goal.returns
-returns c = mapped-ok next_summary append_summary put_summary (set_of summary_key) put_told [] c.args.text.now (map told_of c.in_ok-groups.groups.items) (map told_of c.sort_groups.new.groups.items) c.in_ok-groups.rest.now c.in_ok-groups.ensures c.in_ok-sort_groups.ensures
+returns c =
+    read-last next_summary put_summary step-next_summary [] c.args.text.now (set_of summary_key (map told_of c.loop-groups.groups.items)) c.loop-groups.rest.now c.loop-groups.invariant (search rules)
+    ∙ ap (λ all. Ok (all, c.loop-groups.rest.now)) (sym c.in_ok-sort_groups.ensures)

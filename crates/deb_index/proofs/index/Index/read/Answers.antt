@@ -29,13 +29,13 @@ returns-in_err-next_kept-clause-fault g c =
     let p = err_from_is_err_and c.from_residual.result c.from_residual.ensures.1 in
     rw (p.1, p.2) (goes_on _ _ _ _ c.loop-count.invariant.fault c.in_err-next_kept.ensures.passes.checks).fault
 
-pub returns-in_err-next_kept-clause-reads : goal.returns-in_err-next_kept-clause-reads
-returns-in_err-next_kept-clause-reads g c =
+pub returns-in_err-next_kept-clause-counts_read_failure : goal.returns-in_err-next_kept-clause-counts_read_failure
+returns-in_err-next_kept-clause-counts_read_failure g c =
     let p = err_from_is_err_and c.from_residual.result c.from_residual.ensures.1 in
     rw (p.1, p.2) (counted_on Index _ _ c.in_err-next_kept.field-0.0 _ _ (goes_on _ _ _ _ c.loop-count.invariant.fault c.in_err-next_kept.ensures.passes.checks) c.loop-count.invariant.reads)
 
-pub returns-in_err-next_kept-clause-taken : goal.returns-in_err-next_kept-clause-taken
-returns-in_err-next_kept-clause-taken g c = λ text left.
+pub returns-in_err-next_kept-clause-reads_at_most : goal.returns-in_err-next_kept-clause-reads_at_most
+returns-in_err-next_kept-clause-reads_at_most g c = λ text left.
     let passes = rw c.loop-count.invariant.doc at c.in_err-next_kept.ensures.passes.checks in
     let so_far = (c.loop-count.invariant.text text left).checked in
     (goes_on _ _ _ _ c.loop-count.invariant.fault passes).taken text so_far.before so_far.fits
@@ -47,25 +47,25 @@ returns-then-not-branch-clause-ok g c = λ text left.
     let checks = goes_on _ _ _ _ c.loop-count.invariant.fault passes in
     rw c.in_ok-of.ensures (lists_all text _ _ _ _ (map listed_of c.loop-count.packages.items) so_far (checks.answers text so_far.checked.before so_far.checked.fits))
 
-pub returns-then-not-branch-clause-reads : goal.returns-then-not-branch-clause-reads
-returns-then-not-branch-clause-reads g c =
+pub returns-then-not-branch-clause-counts_read_failure : goal.returns-then-not-branch-clause-counts_read_failure
+returns-then-not-branch-clause-counts_read_failure g c =
     let passes = rw c.if-not-branch.true at c.in_ok-next_kept.ensures.passes.checks in
     (goes_on _ _ _ _ c.loop-count.invariant.fault passes).counted ∙ c.loop-count.invariant.reads
 
-pub returns-then-not-branch-clause-taken : goal.returns-then-not-branch-clause-taken
-returns-then-not-branch-clause-taken g c = λ text left.
+pub returns-then-not-branch-clause-reads_at_most : goal.returns-then-not-branch-clause-reads_at_most
+returns-then-not-branch-clause-reads_at_most g c = λ text left.
     let passes = rw (c.if-not-branch.true, c.loop-count.invariant.doc) at c.in_ok-next_kept.ensures.passes.checks in
     let so_far = (c.loop-count.invariant.text text left).checked in
     (goes_on _ _ _ _ c.loop-count.invariant.fault passes).taken text so_far.before so_far.fits
 
-pub returns-in_err-of-clause-taken : goal.returns-in_err-of-clause-taken
-returns-in_err-of-clause-taken g c = λ text left.
+pub returns-in_err-of-clause-reads_at_most : goal.returns-in_err-of-clause-reads_at_most
+returns-in_err-of-clause-reads_at_most g c = λ text left.
     let passes = rw (c.if-not-branch.true, c.loop-count.invariant.doc) at c.in_ok-next_kept.ensures.passes.checks in
     let so_far = (c.loop-count.invariant.text text left).checked in
     (goes_on _ _ _ _ c.loop-count.invariant.fault passes).taken text so_far.before so_far.fits
 
-pub returns-in_err-push-clause-taken : goal.returns-in_err-push-clause-taken
-returns-in_err-push-clause-taken g c = λ text left.
+pub returns-in_err-push-clause-reads_at_most : goal.returns-in_err-push-clause-reads_at_most
+returns-in_err-push-clause-reads_at_most g c = λ text left.
     let passes = rw (c.if-not-branch.false, c.loop-count.invariant.doc) at c.in_ok-next_kept.ensures.passes.checks in
     let so_far = (c.loop-count.invariant.text text left).checked in
     (goes_on _ _ _ _ c.loop-count.invariant.fault passes).taken text so_far.before so_far.fits

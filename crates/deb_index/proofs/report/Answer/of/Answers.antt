@@ -3,7 +3,7 @@ use Rattle.deb_relation.specs.Environments.{environment_of}
 use Rattle.deb_relation.specs.Groups.{group_of}
 use Rattle.deb_index.specs.Indexes.{packages_of}
 use Rattle.deb_index.specs.Reports.{Numbered, meets_group, passing_from, verdict_of}
-use Rattle.deb_index.specs.Told.{found_of}
+use Rattle.deb_index.specs.Reported.{found_of}
 use Rattle.deb_index.proofs.Numbers.{answered, none-found}
 use Rattle.deb_index.proofs.report.Answer.of.Goals as goal
 use Rattle.deb_index.proofs.report.Answer.of.Goals.{then-applies+in_ok-packages, else-applies}

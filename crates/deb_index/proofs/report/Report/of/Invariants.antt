@@ -3,7 +3,7 @@ use Rattle.deb_relation.specs.Environments.{environment_of}
 use Rattle.deb_relation.specs.Groups.{group_of}
 use Rattle.deb_index.specs.Indexes.{packages_of}
 use Rattle.deb_index.specs.Reports.{answer}
-use Rattle.deb_index.specs.Told.{answer_of}
+use Rattle.deb_index.specs.Reported.{answer_of}
 use Rattle.deb_index.proofs.report.Report.of.Given as goal
 
 abbrev pub invariant-loop-group : goal.invariant-loop-group

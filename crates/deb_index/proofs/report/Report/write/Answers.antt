@@ -1,6 +1,6 @@
 use Rattle.std.proofs.lemmas.List.Folds.{flat_map-map}
 use Rattle.deb_index.specs.ReportText.{answer_text}
-use Rattle.deb_index.specs.Told.{answer_of}
+use Rattle.deb_index.specs.Reported.{answer_of}
 use Rattle.deb_index.proofs.report.Report.write.Goals as goal
 
 pub returns-clause-written : goal.returns-clause-written

@@ -1,0 +1,4 @@
+pub mod Answering
+pub mod Shapes
+pub mod TakenArguments
+pub mod UnmixedKinds

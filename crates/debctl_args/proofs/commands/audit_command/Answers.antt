@@ -1,0 +1,14 @@
+use Rattle.std.proofs.Common.{rules}
+use Rattle.std.proofs.lemmas.Result.{IfOk-weaker}
+use Rattle.clap.specs.Simple.{new_app}
+use Rattle.debctl_args.specs.Commands.{audit_word, IsShaped}
+use Rattle.debctl_args.proofs.Shapes.{shaped_with_rule}
+use Rattle.debctl_args.proofs.commands.audit_command.Goals as goal
+
+pub returns : goal.returns
+returns c =
+    let named : IsShaped (new_app audit_word) c.after_help.result = search rules in
+    let one = shaped_with_rule _ _ _ _ _ named c.kind_option.ensures.rule c.kind_option.ensures.local c.in_ok-arg.ensures in
+    let two = shaped_with_rule _ _ _ _ _ one c.list_option.ensures.rule c.list_option.ensures.local c.in_ok-arg-2.ensures in
+    let three = shaped_with_rule _ _ _ _ _ two c.null_option.ensures.rule c.null_option.ensures.local c.in_ok-arg-3.ensures in
+    IfOk-weaker c.arg-4.result _ _ (λ m adds. shaped_with_rule _ _ _ _ _ three c.paths.ensures.rule c.paths.ensures.local adds) c.arg-4.ensures

@@ -1,0 +1,419 @@
+-- What the program's words ask, as a function of what `clap` makes of them. (The words are this
+-- project's own.)
+use Rattle.std.specs.Prelude.{◌≡◌, ◌⊎◌, ◌==◌, ◌&&◌, Bool, true, false, not, List, [], ◌∷◌, ◌||◌, is_some, find, nat_lt, count_by, map, Option, Some, None, unwrap_or, option_map, if◌then◌else◌, codes, string_bytes, bytes_eq, Result, Ok, Err}
+use Rattle.std.specs.Fmt.{decimal}
+use Rattle.std.specs.List.{list_any, slice_split}
+use Rattle.std.specs.Option.{option_map_or}
+use Rattle.clap.specs.Kinds.{Kinds}
+use Rattle.clap.specs.Simple.{subcommand_of}
+use Rattle.clap.specs.Walk.{Row, Text, all_of, first_of}
+use Rattle.clap.specs.declared.error.kind.ErrorKind.{ErrorKind}
+use Rattle.clap.specs.declared.error.kind.ErrorKind.TheVariants.{DisplayHelp, DisplayVersion, OutOfMemory}
+use Rattle.debctl_args.specs.Commands.{debctl_app, audit_word, check_word, explain_word, normalise_word, same_word, compare_word, canon_version_word, sort_word, query_word, help_word}
+use Rattle.deb_base.specs.Codes.{number_of}
+use Rattle.deb_base.specs.declared.code.Code.{Code}
+use Rattle.deb_base.specs.declared.code.Code.TheVariants as code
+use Rattle.deb_base.specs.Docs.{doc_named}
+use Rattle.deb_base.specs.declared.doc.Doc.{Doc}
+use Rattle.deb_base.specs.declared.doc.Doc.TheVariants.{Packages}
+use Rattle.debctl_args.specs.declared.jobs.Cmp.{Cmp}
+use Rattle.debctl_args.specs.declared.jobs.Cmp.TheVariants as cmp
+use Rattle.debctl_args.specs.declared.jobs.Explain.TheVariants as explain
+use Rattle.debctl_args.specs.declared.jobs.Files.{Files}
+use Rattle.debctl_args.specs.declared.jobs.Files.TheVariants as files
+use Rattle.debctl_args.specs.declared.jobs.Job.{Job}
+use Rattle.debctl_args.specs.declared.jobs.Job.TheVariants as job
+use Rattle.debctl_args.specs.declared.jobs.LineEnd.{LineEnd}
+use Rattle.debctl_args.specs.declared.jobs.LineEnd.TheVariants.{Newline, Nul}
+use Rattle.debctl_args.specs.declared.jobs.Task.{Task}
+use Rattle.debctl_args.specs.declared.jobs.Task.TheVariants as task
+use Rattle.debctl_args.specs.declared.arguments.UsageFault.{UsageFault}
+use Rattle.debctl_args.specs.declared.arguments.UsageFault.TheVariants.{Usage, Help, Memory}
+
+-- ---- words
+
+-- the kind that is asked for: a list of packages where no word names one
+unfoldable pub kind_asked : Option Text → Option Doc
+kind_asked None = Some Packages
+kind_asked (Some word) = doc_named word
+
+-- the operator that a word names, also as it stands in a relation
+abbrev pub operator_named : Text → Option Cmp
+operator_named word =
+    if bytes_eq word (codes "lt") then Some cmp.Less
+    else if bytes_eq word (codes "<<") then Some cmp.Less
+    else if bytes_eq word (codes "le") then Some cmp.LessOrEqual
+    else if bytes_eq word (codes "<=") then Some cmp.LessOrEqual
+    else if bytes_eq word (codes "eq") then Some cmp.Equal
+    else if bytes_eq word (codes "=") then Some cmp.Equal
+    else if bytes_eq word (codes "ne") then Some cmp.NotEqual
+    else if bytes_eq word (codes "ge") then Some cmp.GreaterOrEqual
+    else if bytes_eq word (codes ">=") then Some cmp.GreaterOrEqual
+    else if bytes_eq word (codes "gt") then Some cmp.Greater
+    else if bytes_eq word (codes ">>") then Some cmp.Greater
+    else None
+
+-- the codes, by their numbers
+abbrev pub all_codes : List Code
+all_codes =
+    code.NotUtf8 ∷ code.Armour ∷ code.Comment ∷ code.StrayContinuation ∷ code.BadFieldName
+    ∷ code.NoColon ∷ code.DuplicateField ∷ code.ParagraphTooLong ∷ code.FileTooLong
+    ∷ code.NoParagraph ∷ code.TooManyParagraphs ∷ code.MissingField ∷ code.NotOneLine
+    ∷ code.BadName ∷ code.BadNumber ∷ code.BadWord ∷ code.BadArchitecture ∷ code.BadVersion
+    ∷ code.BadRelation ∷ code.AlternativesNotAllowed ∷ code.ProvidesBound ∷ code.Wildcard
+    ∷ code.BadEnvironment ∷ []
+
+-- the code whose number a word is, in decimal as it is told
+abbrev pub code_named : Text → Option Code
+code_named word = find (λ code. bytes_eq word (decimal (number_of code))) all_codes
+
+-- what stands between the commas (44) of a text
+abbrev pub comma_pieces : Text → List Text
+comma_pieces text = slice_split (λ b. b == 44) text
+
+-- the profiles that are named: none where no word names them
+abbrev pub profiles_asked : Option Text → List Text
+profiles_asked None = []
+profiles_asked (Some word) = comma_pieces word
+
+-- whether a flag is given: `clap` reads one that is given as `true`
+abbrev pub flag_asked : Option Text → Bool
+flag_asked None = false
+flag_asked (Some word) = bytes_eq word (codes "true")
+
+-- what ends each record of an audit: a byte 0 where that is asked for
+abbrev pub end_asked : Bool → LineEnd
+end_asked false = Newline
+end_asked true = Nul
+
+-- the word names a command
+abbrev pub is_command : Text → Bool
+is_command word =
+    if bytes_eq word check_word then true
+    else if bytes_eq word explain_word then true
+    else if bytes_eq word audit_word then true
+    else if bytes_eq word normalise_word then true
+    else if bytes_eq word same_word then true
+    else if bytes_eq word compare_word then true
+    else if bytes_eq word canon_version_word then true
+    else if bytes_eq word sort_word then true
+    else if bytes_eq word query_word then true
+    else bytes_eq word help_word
+
+-- ---- requests
+
+-- the files of `audit`: those of these paths, or those that a file lists
+pub data Audited : Type 0 where
+  paths : List Text → Audited
+  listed : Text → Audited
+
+-- a task, with the bytes of its words
+pub data Wanted : Type 0 where
+  checks : Doc → Wanted
+  normalises : Doc → Wanted
+  compares_files : Doc → Wanted
+  compares : Text → Cmp → Text → Wanted
+  canonicalises : Text → Wanted
+  sorts : Bool → Wanted
+  queries : Text → List Text → Text → Wanted
+  explains : Doc → Wanted
+  explains_rule : Code → Wanted
+  explains_relation : Text → Wanted
+  explains_version : Text → Wanted
+  audits : Doc → Audited → LineEnd → Wanted
+
+-- what is wanted, and the paths of the files, two at most, that it reads if it is no audit
+pub record Request : Type 0 where
+  pub wanted : Wanted
+  pub first : Option Text
+  pub second : Option Text
+
+abbrev pub wanted_of : Job → Wanted
+wanted_of (job.Check kind) = checks kind
+wanted_of (job.Normalise kind) = normalises kind
+wanted_of (job.Same kind) = compares_files kind
+wanted_of (job.Compare left operator right) =
+    compares (string_bytes left) operator (string_bytes right)
+wanted_of (job.CanonVersion version) = canonicalises (string_bytes version)
+wanted_of (job.Sort reverse) = sorts reverse
+wanted_of (job.Query arch profiles relation) =
+    queries (string_bytes arch) (map string_bytes profiles.items) (string_bytes relation)
+
+abbrev pub audited_of : Files → Audited
+audited_of (files.Paths given) = paths (map string_bytes given.items)
+audited_of (files.Listed path) = listed (string_bytes path)
+
+abbrev pub request_of : Task → Request
+request_of (task.Run call) =
+    record {
+      wanted = wanted_of call.job;
+      first = option_map string_bytes call.first;
+      second = option_map string_bytes call.second;
+    }
+request_of (task.Explain (explain.File kind path)) =
+    record { wanted = explains kind; first = option_map string_bytes path; second = None }
+request_of (task.Explain (explain.Rule code)) =
+    record { wanted = explains_rule code; first = None; second = None }
+request_of (task.Explain (explain.Relation text)) =
+    record { wanted = explains_relation (string_bytes text); first = None; second = None }
+request_of (task.Explain (explain.Version text)) =
+    record { wanted = explains_version (string_bytes text); first = None; second = None }
+request_of (task.Audit audit) =
+    record {
+      wanted = audits audit.doc (audited_of audit.files) audit.end;
+      first = None;
+      second = None;
+    }
+
+-- ---- what is asked
+
+-- a request, help, something that isn't known, standard input for two files, or words that don't
+-- go together
+pub data Asked : Type 0 where
+  asks : Request → Asked
+  asks_help : Asked
+  unknown_kind : Asked
+  unknown_operator : Asked
+  unknown_command : Asked
+  unknown_code : Asked
+  standard_input_twice : Asked
+  explain_takes_one : Asked
+  paths_or_list : Asked
+
+-- a word that a command has to have; `clap` refuses words without it
+abbrev pub word_in : Text → List Row → Text
+word_in id rows = unwrap_or (first_of id rows) []
+
+-- `check`, `normalise`, and `explain` without a code
+abbrev pub document_asked : (Doc → Wanted) → List Row → Asked
+document_asked wanted rows = option_map_or
+    (λ kind. asks (record
+    { wanted = wanted kind; first = first_of (codes "path") rows; second = None }))
+    (kind_asked (first_of (codes "kind") rows)) unknown_kind
+
+-- the path stands for standard input
+abbrev pub is_standard_input : Text → Bool
+is_standard_input path = bytes_eq path (codes "-")
+
+-- `same`, which has two paths, not both of which are standard input
+abbrev pub same_asked : List Row → Asked
+same_asked rows = option_map_or
+    (λ kind. if is_standard_input (word_in (codes "first") rows)
+    && is_standard_input (word_in (codes "second") rows) then standard_input_twice
+    else asks (record {
+      wanted = compares_files kind;
+      first = Some (word_in (codes "first") rows);
+      second = Some (word_in (codes "second") rows);
+    }))
+    (kind_asked (first_of (codes "kind") rows)) unknown_kind
+
+-- a kind or a path is given: the words of `explain` are about a file
+abbrev pub names_file : List Row → Bool
+names_file rows = is_some (first_of (codes "kind") rows) || is_some (first_of (codes "path") rows)
+
+-- `explain --version-text`, with a text and nothing else
+abbrev pub version_asked : List Row → Text → Asked
+version_asked rows text =
+    if names_file rows then explain_takes_one
+    else asks (record { wanted = explains_version text; first = None; second = None })
+
+-- `explain --relation`, with a text and nothing else
+abbrev pub relation_asked : List Row → Text → Asked
+relation_asked rows text =
+    if names_file rows || is_some (first_of (codes "version-text") rows) then explain_takes_one
+    else asks (record { wanted = explains_relation text; first = None; second = None })
+
+-- `explain --code`, with the word for a code and nothing else
+abbrev pub rule_asked : List Row → Text → Asked
+rule_asked rows word =
+    if names_file rows || is_some (first_of (codes "relation") rows)
+    || is_some (first_of (codes "version-text") rows) then explain_takes_one
+    else option_map_or
+    (λ code. asks (record { wanted = explains_rule code; first = None; second = None }))
+    (code_named word) unknown_code
+
+-- `explain`, of a relation, of a version or of a file
+abbrev pub text_asked : List Row → Asked
+text_asked rows =
+    option_map_or (relation_asked rows) (first_of (codes "relation") rows)
+    (option_map_or (version_asked rows) (first_of (codes "version-text") rows)
+    (document_asked explains rows))
+
+-- `explain`, of a code or of what else it tells of
+abbrev pub explain_asked : List Row → Asked
+explain_asked rows =
+    option_map_or (rule_asked rows) (first_of (codes "code") rows) (text_asked rows)
+
+-- the files of `audit`, of which its words name either paths or a list
+abbrev pub audited_by : Option (List Text) → Option Text → Option Audited
+audited_by (Some given) None = Some (paths given)
+audited_by None (Some path) = Some (listed path)
+audited_by None None = None
+audited_by (Some given) (Some path) = None
+
+-- two of the paths are standard input
+abbrev pub has_standard_input_twice : Audited → Bool
+has_standard_input_twice (paths given) = nat_lt 1 (count_by is_standard_input given)
+has_standard_input_twice (listed path) = false
+
+-- an audit of files of this kind, with this end of each record
+abbrev pub files_asked : LineEnd → Option Audited → Doc → Asked
+files_asked end None kind = paths_or_list
+files_asked end (Some audited) kind =
+    if has_standard_input_twice audited then standard_input_twice
+    else asks (record { wanted = audits kind audited end; first = None; second = None })
+
+-- `audit`
+abbrev pub audit_asked : List Row → Asked
+audit_asked rows = option_map_or
+    (files_asked (end_asked (flag_asked (first_of (codes "null") rows)))
+    (audited_by (all_of (codes "path") rows) (first_of (codes "files0-from") rows)))
+    (kind_asked (first_of (codes "kind") rows)) unknown_kind
+
+abbrev pub compare_asked : List Row → Asked
+compare_asked rows = option_map_or
+    (λ operator. asks (record {
+      wanted = compares (word_in (codes "left") rows) operator (word_in (codes "right") rows);
+      first = None;
+      second = None;
+    }))
+    (operator_named (word_in (codes "operator") rows)) unknown_operator
+
+abbrev pub canon_version_asked : List Row → Asked
+canon_version_asked rows =
+    asks (record {
+      wanted = canonicalises (word_in (codes "version") rows);
+      first = None;
+      second = None;
+    })
+
+-- `sort`, by its order
+abbrev pub sort_asked : List Row → Asked
+sort_asked rows =
+    asks (record {
+      wanted = sorts (flag_asked (first_of (codes "reverse") rows));
+      first = first_of (codes "path") rows;
+      second = None;
+    })
+
+-- `query`, by its architecture, its profiles and its relation
+abbrev pub query_asked : List Row → Asked
+query_asked rows =
+    asks (record {
+      wanted = queries (word_in (codes "arch") rows)
+          (profiles_asked (first_of (codes "profiles") rows)) (word_in (codes "relation") rows);
+      first = first_of (codes "path") rows;
+      second = None;
+    })
+
+abbrev pub help_asked : Option Text → Asked
+help_asked None = asks_help
+help_asked (Some word) = if is_command word then asks_help else unknown_command
+
+-- what a command asks with its words
+abbrev pub asked_by : Text → List Row → Asked
+asked_by name rows =
+    if bytes_eq name check_word then document_asked checks rows
+    else if bytes_eq name explain_word then explain_asked rows
+    else if bytes_eq name audit_word then audit_asked rows
+    else if bytes_eq name normalise_word then document_asked normalises rows
+    else if bytes_eq name same_word then same_asked rows
+    else if bytes_eq name compare_word then compare_asked rows
+    else if bytes_eq name canon_version_word then canon_version_asked rows
+    else if bytes_eq name sort_word then sort_asked rows
+    else if bytes_eq name query_word then query_asked rows
+    else help_asked (first_of (codes "command") rows)
+
+-- what the command that `clap` met asks
+abbrev pub asked_in : Option (Text × List Row) → Option Asked
+asked_in = option_map (λ met. asked_by met.0 met.1)
+
+-- what the program's words ask, the program's name first
+abbrev pub asked_of : List Text → Option Asked
+asked_of words = asked_in (subcommand_of debctl_app words)
+
+-- ---- answers
+
+-- the text names what isn't known, what stands twice, or what doesn't go together
+abbrev pub IsUsage : Asked → Text → Type 0
+IsUsage unknown_kind text = text ≡ codes "usage: unknown kind"
+IsUsage unknown_operator text = text ≡ codes "usage: unknown operator"
+IsUsage unknown_command text = text ≡ codes "usage: unknown command"
+IsUsage unknown_code text = text ≡ codes "usage: unknown code"
+IsUsage standard_input_twice text = text ≡ codes "usage: standard input twice"
+IsUsage explain_takes_one text =
+    text ≡ codes "usage: explain takes one file, code, relation or version"
+IsUsage paths_or_list text = text ≡ codes "usage: audit takes paths, or --files0-from"
+IsUsage (asks _) text = ⊥
+IsUsage asks_help text = ⊥
+
+-- an error that answers what is asked
+abbrev pub AnswersError : Asked → UsageFault → Type 0
+AnswersError asked (Usage text) = IsUsage asked (string_bytes text)
+AnswersError asked (Help text) = asked ≡ asks_help
+AnswersError asked Memory = Unit {0}
+
+-- an answer to what is asked: the task itself, and an error only where there is none, or for want
+-- of memory
+abbrev pub Answers : Asked → Result Task UsageFault → Type 0
+Answers asked (Ok task) = asked ≡ asks (request_of task)
+Answers asked (Err error) = AnswersError asked error
+
+-- `clap`'s kinds of error: a call for help or for the version, and a mistake
+abbrev pub is_request_kind : ErrorKind → Bool
+is_request_kind DisplayHelp = true
+is_request_kind DisplayVersion = true
+is_request_kind _ = false
+
+abbrev pub has_request : Kinds → Bool
+has_request = list_any is_request_kind
+
+abbrev pub has_mistake : Kinds → Bool
+has_mistake = list_any (λ kind. not (is_request_kind kind))
+
+-- an answer to words that `clap` takes
+abbrev pub AnswersMet : Option Asked → Result Task UsageFault → Type 0
+AnswersMet None result = ⊥
+AnswersMet (Some asked) result = Answers asked result
+
+-- all of the kinds are mistakes, and all are calls for help or for the version; there is one at
+-- least
+abbrev pub AreMistakes : Kinds → Type 0
+AreMistakes kinds = (has_mistake kinds ≡ true) × (has_request kinds ≡ false)
+
+abbrev pub AreRequests : Kinds → Type 0
+AreRequests kinds = (has_request kinds ≡ true) × (has_mistake kinds ≡ false)
+
+-- why words give no task: by the kinds of `clap`'s error, or where that has none, by what is asked
+abbrev pub MeansError : Kinds → Option Asked → UsageFault → Type 0
+MeansError kinds asked (Usage text) =
+    AreMistakes kinds ⊎ ((kinds ≡ []) × AnswersMet asked (Err (Usage text)))
+MeansError kinds asked (Help text) =
+    AreRequests kinds ⊎ ((kinds ≡ []) × AnswersMet asked (Err (Help text)))
+MeansError kinds asked Memory = Unit {0}
+
+-- ---- what the parts of `job_of` answer
+
+-- the kind that is asked for, or a fault that says that it isn't known
+abbrev pub MeansKind : Option Doc → Result Doc UsageFault → Type 0
+MeansKind asked (Ok kind) = asked ≡ Some kind
+MeansKind (Some kind) (Err error) = error ≡ Memory
+MeansKind None (Err error) = AnswersError unknown_kind error
+
+-- help, or want of memory
+abbrev pub IsHelp : UsageFault → Type 0
+IsHelp (Usage text) = ⊥
+IsHelp (Help text) = Unit {0}
+IsHelp Memory = Unit {0}
+
+-- a usage fault with this text, or want of memory
+abbrev pub UsesText : Text → UsageFault → Type 0
+UsesText text (Usage told) = string_bytes told ≡ text
+UsesText text (Help told) = ⊥
+UsesText text Memory = Unit {0}
+
+-- what an error of `clap` of this kind comes to
+abbrev pub FitsKind : ErrorKind → UsageFault → Type 0
+FitsKind kind (Usage text) = (is_request_kind kind ≡ false) × ((kind ≡ OutOfMemory) → ⊥)
+FitsKind kind (Help text) = is_request_kind kind ≡ true
+FitsKind kind Memory = Unit {0}

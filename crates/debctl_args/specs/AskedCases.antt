@@ -1,0 +1,504 @@
+-- Worked cases of what words ask: rows of words, with what `clap` and this project make of them.
+use Rattle.std.specs.Fmt.{digits}
+use Rattle.std.specs.Prelude.{◌≡◌, List, [], map, ◌∷◌, Option, Some, None, true, false, codes, refl}
+use Rattle.clap.proofs.OnLiterals.{clap_on_literals}
+use Rattle.clap.specs.Faults.{fault_of}
+use Rattle.clap.specs.Takes.{takes}
+use Rattle.clap.specs.Walk.{Text}
+use Rattle.clap.specs.declared.error.kind.ErrorKind.TheVariants as kind
+use Rattle.debctl_args.specs.Asked.{asked_of, asks, asks_help, audits, code_named, explain_takes_one, explains, explains_relation, explains_version, listed, paths, paths_or_list, explains_rule, unknown_code, canonicalises, checks, comma_pieces, compares, kind_asked, normalises, profiles_asked, queries, sorts, compares_files, unknown_command, unknown_kind, unknown_operator, standard_input_twice, operator_named, Asked}
+use Rattle.debctl_args.specs.Commands.{debctl_app}
+use Rattle.deb_base.specs.declared.code.Code.TheVariants as code
+use Rattle.deb_base.specs.declared.doc.Doc.TheVariants.{Any, Binary, Packages, Source, Sources}
+use Rattle.debctl_args.specs.declared.jobs.Cmp.TheVariants as cmp
+use Rattle.debctl_args.specs.declared.jobs.LineEnd.TheVariants.{Newline, Nul}
+
+-- words behind the program's name
+abbrev line : List Text → List Text
+line words = codes "debctl" ∷ words
+
+check_alone : asked_of (line (codes "check" ∷ []))
+    ≡ Some (asks (record { wanted = checks Packages; first = None; second = None }))
+unfolding clap_on_literals kind_asked
+check_alone = refl
+
+kind_and_path : asked_of (line (codes "normalise" ∷ codes "--kind=source" ∷ codes "x" ∷ []))
+    ≡ Some (asks (record { wanted = normalises Source; first = Some (codes "x"); second = None }))
+unfolding clap_on_literals kind_asked
+kind_and_path = refl
+
+index_of_sources : asked_of (line (codes "check" ∷ codes "--kind" ∷ codes "sources" ∷ []))
+    ≡ Some (asks (record { wanted = checks Sources; first = None; second = None }))
+unfolding clap_on_literals kind_asked
+index_of_sources = refl
+
+any_control_data : asked_of
+    (line (codes "same" ∷ codes "x" ∷ codes "y" ∷ codes "--kind=any" ∷ []))
+    ≡ Some (asks (record {
+      wanted = compares_files Any;
+      first = Some (codes "x");
+      second = Some (codes "y");
+    }))
+unfolding clap_on_literals kind_asked
+any_control_data = refl
+
+unknown_kind_word : asked_of (line (codes "check" ∷ codes "--kind" ∷ codes "foo" ∷ []))
+    ≡ Some unknown_kind
+unfolding clap_on_literals kind_asked
+unknown_kind_word = refl
+
+short_kind : asked_of (line (codes "check" ∷ codes "-k" ∷ codes "source" ∷ codes "-" ∷ []))
+    ≡ Some (asks (record { wanted = checks Source; first = Some (codes "-"); second = None }))
+unfolding clap_on_literals kind_asked
+short_kind = refl
+
+short_kind_with_its_word : asked_of (line (codes "check" ∷ codes "-kany" ∷ []))
+    ≡ Some (asks (record { wanted = checks Any; first = None; second = None }))
+unfolding clap_on_literals kind_asked
+short_kind_with_its_word = refl
+
+standard_input_and_a_file : asked_of (line (codes "same" ∷ codes "x" ∷ codes "-" ∷ []))
+    ≡ Some (asks (record {
+      wanted = compares_files Packages;
+      first = Some (codes "x");
+      second = Some (codes "-");
+    }))
+unfolding clap_on_literals kind_asked
+standard_input_and_a_file = refl
+
+standard_input_for_both : asked_of (line (codes "same" ∷ codes "-" ∷ codes "-" ∷ []))
+    ≡ Some standard_input_twice
+unfolding clap_on_literals kind_asked
+standard_input_for_both = refl
+
+unknown_kind_goes_first : asked_of
+    (line (codes "same" ∷ codes "-k" ∷ codes "foo" ∷ codes "-" ∷ codes "-" ∷ []))
+    ≡ Some unknown_kind
+unfolding clap_on_literals kind_asked
+unknown_kind_goes_first = refl
+
+two_paths : asked_of
+    (line (codes "same" ∷ codes "--kind" ∷ codes "binary" ∷ codes "x" ∷ codes "y" ∷ []))
+    ≡ Some (asks (record {
+      wanted = compares_files Binary;
+      first = Some (codes "x");
+      second = Some (codes "y");
+    }))
+unfolding clap_on_literals kind_asked
+two_paths = refl
+
+comparison : asked_of (line (codes "compare" ∷ codes "1" ∷ codes "lt" ∷ codes "2" ∷ []))
+    ≡ Some (asks (record {
+      wanted = compares (codes "1") cmp.Less (codes "2");
+      first = None;
+      second = None;
+    }))
+unfolding clap_on_literals
+comparison = refl
+
+operators_of_relations : (operator_named (codes "<<") ≡ Some cmp.Less)
+    × (operator_named (codes "<=") ≡ Some cmp.LessOrEqual)
+    × (operator_named (codes "=") ≡ Some cmp.Equal)
+    × (operator_named (codes ">=") ≡ Some cmp.GreaterOrEqual)
+    × (operator_named (codes ">>") ≡ Some cmp.Greater)
+operators_of_relations = (refl, refl, refl, refl, refl)
+
+operators_in_letters : map operator_named
+    (codes "lt" ∷ codes "le" ∷ codes "eq" ∷ codes "ne" ∷ codes "ge" ∷ codes "gt" ∷ codes "LT"
+    ∷ codes "==" ∷ codes "!=" ∷ [] ∷ [])
+    ≡ Some cmp.Less ∷ Some cmp.LessOrEqual ∷ Some cmp.Equal ∷ Some cmp.NotEqual
+    ∷ Some cmp.GreaterOrEqual ∷ Some cmp.Greater ∷ None ∷ None ∷ None ∷ None ∷ []
+operators_in_letters = refl
+
+former_operators : (operator_named (codes "<") ≡ None) × (operator_named (codes ">") ≡ None)
+former_operators = (refl, refl)
+
+unknown_operator_word : asked_of (line (codes "compare" ∷ codes "1" ∷ codes "xx" ∷ codes "2" ∷ []))
+    ≡ Some unknown_operator
+unfolding clap_on_literals
+unknown_operator_word = refl
+
+-- a version that begins with a hyphen comes after `--`
+version_with_hyphen : asked_of (line (codes "canon-version" ∷ codes "--" ∷ codes "-1-1" ∷ []))
+    ≡ Some (asks (record { wanted = canonicalises (codes "-1-1"); first = None; second = None }))
+unfolding clap_on_literals
+version_with_hyphen = refl
+
+sort_alone : asked_of (line (codes "sort" ∷ []))
+    ≡ Some (asks (record { wanted = sorts false; first = None; second = None }))
+unfolding clap_on_literals
+sort_alone = refl
+
+sort_in_reverse : asked_of (line (codes "sort" ∷ codes "--reverse" ∷ codes "x" ∷ []))
+    ≡ Some (asks (record { wanted = sorts true; first = Some (codes "x"); second = None }))
+unfolding clap_on_literals
+sort_in_reverse = refl
+
+-- the pieces of a text between its commas, and the profiles where nothing names them
+two_pieces : comma_pieces (codes "a,b") ≡ codes "a" ∷ codes "b" ∷ []
+two_pieces = refl
+
+one_empty_piece : comma_pieces [] ≡ [] ∷ []
+one_empty_piece = refl
+
+empty_piece_between : comma_pieces (codes "a,,x") ≡ codes "a" ∷ [] ∷ codes "x" ∷ []
+empty_piece_between = refl
+
+no_profiles : profiles_asked None ≡ []
+no_profiles = refl
+
+-- words of `query` behind its architecture
+abbrev query_line : List Text → List Text
+query_line words = line (codes "query" ∷ codes "--arch" ∷ codes "amd64" ∷ words)
+
+-- what is asked of `aa` for amd64
+abbrev asks_of_aa : List Text → Option Text → Option Asked
+asks_of_aa profiles path =
+    Some (asks (record {
+      wanted = queries (codes "amd64") profiles (codes "aa");
+      first = path;
+      second = None;
+    }))
+
+query_with_profiles : asked_of
+    (query_line (codes "--profiles" ∷ codes "a,b" ∷ codes "aa" ∷ codes "x" ∷ []))
+    ≡ asks_of_aa (codes "a" ∷ codes "b" ∷ []) (Some (codes "x"))
+unfolding clap_on_literals
+query_with_profiles = refl
+
+query_without_profiles : asked_of (query_line (codes "aa" ∷ codes "x" ∷ []))
+    ≡ asks_of_aa [] (Some (codes "x"))
+unfolding clap_on_literals
+query_without_profiles = refl
+
+query_with_empty_profile : asked_of
+    (query_line (codes "--profiles" ∷ [] ∷ codes "aa" ∷ codes "x" ∷ []))
+    ≡ asks_of_aa ([] ∷ []) (Some (codes "x"))
+unfolding clap_on_literals
+query_with_empty_profile = refl
+
+query_without_path : asked_of (query_line (codes "--profiles=a,,x" ∷ codes "aa" ∷ []))
+    ≡ asks_of_aa (codes "a" ∷ [] ∷ codes "x" ∷ []) None
+unfolding clap_on_literals
+query_without_path = refl
+
+-- ---- `explain`
+
+explain_alone : asked_of (line (codes "explain" ∷ []))
+    ≡ Some (asks (record { wanted = explains Packages; first = None; second = None }))
+unfolding clap_on_literals kind_asked
+explain_alone = refl
+
+explain_a_file : asked_of
+    (line (codes "explain" ∷ codes "-k" ∷ codes "source" ∷ codes "x" ∷ []))
+    ≡ Some (asks (record { wanted = explains Source; first = Some (codes "x"); second = None }))
+unfolding clap_on_literals kind_asked
+explain_a_file = refl
+
+explain_of_no_kind : asked_of (line (codes "explain" ∷ codes "--kind" ∷ codes "foo" ∷ []))
+    ≡ Some unknown_kind
+unfolding clap_on_literals kind_asked
+explain_of_no_kind = refl
+
+explain_a_code : asked_of (line (codes "explain" ∷ codes "--code" ∷ codes "18" ∷ []))
+    ≡ Some (asks (record { wanted = explains_rule code.BadVersion; first = None; second = None }))
+unfolding clap_on_literals digits
+explain_a_code = refl
+
+codes_have_two_digits_at_most : map code_named
+    (codes "1" ∷ codes "9" ∷ codes "10" ∷ codes "23" ∷ [])
+    ≡ Some code.NotUtf8 ∷ Some code.FileTooLong ∷ Some code.NoParagraph ∷ Some code.BadEnvironment
+    ∷ []
+unfolding digits
+codes_have_two_digits_at_most = refl
+
+no_codes : map code_named
+    (codes "0" ∷ codes "24" ∷ codes "01" ∷ codes "+1" ∷ codes "BadVersion" ∷ codes "1 " ∷ [] ∷ [])
+    ≡ None ∷ None ∷ None ∷ None ∷ None ∷ None ∷ None ∷ []
+unfolding digits
+no_codes = refl
+
+unknown_code_word : asked_of (line (codes "explain" ∷ codes "--code=24" ∷ []))
+    ≡ Some unknown_code
+unfolding clap_on_literals digits
+unknown_code_word = refl
+
+code_beside_a_path : asked_of (line (codes "explain" ∷ codes "--code" ∷ codes "1" ∷ codes "-" ∷ []))
+    ≡ Some explain_takes_one
+unfolding clap_on_literals
+code_beside_a_path = refl
+
+code_beside_a_kind : asked_of
+    (line (codes "explain" ∷ codes "--kind=foo" ∷ codes "--code=24" ∷ []))
+    ≡ Some explain_takes_one
+unfolding clap_on_literals
+code_beside_a_kind = refl
+
+explain_a_relation : asked_of
+    (line (codes "explain" ∷ codes "--relation" ∷ codes "bb cc" ∷ []))
+    ≡ Some (asks (record {
+      wanted = explains_relation (codes "bb cc");
+      first = None;
+      second = None;
+    }))
+unfolding clap_on_literals
+explain_a_relation = refl
+
+explain_a_version : asked_of (line (codes "explain" ∷ codes "--version-text=-1" ∷ []))
+    ≡ Some (asks (record { wanted = explains_version (codes "-1"); first = None; second = None }))
+unfolding clap_on_literals
+explain_a_version = refl
+
+-- each of the three is given alone
+relation_beside_a_path : asked_of
+    (line (codes "explain" ∷ codes "--relation" ∷ codes "aa" ∷ codes "-" ∷ []))
+    ≡ Some explain_takes_one
+unfolding clap_on_literals
+relation_beside_a_path = refl
+
+version_beside_a_kind : asked_of
+    (line (codes "explain" ∷ codes "-k" ∷ codes "any" ∷ codes "--version-text" ∷ codes "1" ∷ []))
+    ≡ Some explain_takes_one
+unfolding clap_on_literals
+version_beside_a_kind = refl
+
+version_beside_a_relation : asked_of
+    (line (codes "explain" ∷ codes "--version-text=1" ∷ codes "--relation=aa" ∷ []))
+    ≡ Some explain_takes_one
+unfolding clap_on_literals
+version_beside_a_relation = refl
+
+relation_beside_a_code : asked_of
+    (line (codes "explain" ∷ codes "--relation=aa" ∷ codes "--code=1" ∷ []))
+    ≡ Some explain_takes_one
+unfolding clap_on_literals
+relation_beside_a_code = refl
+
+version_beside_a_code : asked_of
+    (line (codes "explain" ∷ codes "--code=1" ∷ codes "--version-text=1" ∷ []))
+    ≡ Some explain_takes_one
+unfolding clap_on_literals
+version_beside_a_code = refl
+
+-- ---- `audit`
+
+-- the paths that an audit of packages is asked of
+abbrev audits_paths : List Text → Option Asked
+audits_paths given =
+    Some (asks (record {
+      wanted = audits Packages (paths given) Newline;
+      first = None;
+      second = None;
+    }))
+
+audit_of_one : asked_of (line (codes "audit" ∷ codes "x" ∷ []))
+    ≡ audits_paths (codes "x" ∷ [])
+unfolding clap_on_literals kind_asked
+audit_of_one = refl
+
+audit_in_order : asked_of
+    (line (codes "audit" ∷ codes "y" ∷ codes "-" ∷ codes "x" ∷ codes "y" ∷ []))
+    ≡ audits_paths (codes "y" ∷ codes "-" ∷ codes "x" ∷ codes "y" ∷ [])
+unfolding clap_on_literals kind_asked
+audit_in_order = refl
+
+kind_between_paths : asked_of
+    (line (codes "audit" ∷ codes "x" ∷ codes "--kind" ∷ codes "any" ∷ codes "y" ∷ []))
+    ≡ Some (asks (record {
+      wanted = audits Any (paths (codes "x" ∷ codes "y" ∷ [])) Newline;
+      first = None;
+      second = None;
+    }))
+unfolding clap_on_literals kind_asked
+kind_between_paths = refl
+
+-- a path that begins with a hyphen comes after `--`
+path_with_hyphen : asked_of
+    (line (codes "audit" ∷ codes "x" ∷ codes "--" ∷ codes "--kind" ∷ codes "any" ∷ []))
+    ≡ audits_paths (codes "x" ∷ codes "--kind" ∷ codes "any" ∷ [])
+unfolding clap_on_literals kind_asked
+path_with_hyphen = refl
+
+audit_of_a_list : asked_of
+    (line (codes "audit" ∷ codes "-ksource" ∷ codes "--files0-from" ∷ codes "-" ∷ []))
+    ≡ Some (asks (record {
+      wanted = audits Source (listed (codes "-")) Newline;
+      first = None;
+      second = None;
+    }))
+unfolding clap_on_literals kind_asked
+audit_of_a_list = refl
+
+audit_with_bytes_0 : asked_of
+    (line (codes "audit" ∷ codes "x" ∷ codes "--null" ∷ codes "y" ∷ []))
+    ≡ Some (asks (record {
+      wanted = audits Packages (paths (codes "x" ∷ codes "y" ∷ [])) Nul;
+      first = None;
+      second = None;
+    }))
+unfolding clap_on_literals kind_asked
+audit_with_bytes_0 = refl
+
+short_null : asked_of
+    (line (codes "audit" ∷ codes "-0kany" ∷ codes "--files0-from" ∷ codes "x" ∷ []))
+    ≡ Some (asks (record {
+      wanted = audits Any (listed (codes "x")) Nul;
+      first = None;
+      second = None;
+    }))
+unfolding clap_on_literals kind_asked
+short_null = refl
+
+audit_of_nothing : asked_of (line (codes "audit" ∷ [])) ≡ Some paths_or_list
+unfolding clap_on_literals kind_asked
+audit_of_nothing = refl
+
+paths_beside_a_list : asked_of
+    (line (codes "audit" ∷ codes "--files0-from" ∷ codes "list" ∷ codes "-" ∷ codes "-" ∷ []))
+    ≡ Some paths_or_list
+unfolding clap_on_literals kind_asked
+paths_beside_a_list = refl
+
+standard_input_twice_among_paths : asked_of
+    (line (codes "audit" ∷ codes "-" ∷ codes "x" ∷ codes "-" ∷ []))
+    ≡ Some standard_input_twice
+unfolding clap_on_literals kind_asked
+standard_input_twice_among_paths = refl
+
+audit_of_no_kind : asked_of (line (codes "audit" ∷ codes "--kind" ∷ codes "foo" ∷ []))
+    ≡ Some unknown_kind
+unfolding clap_on_literals kind_asked
+audit_of_no_kind = refl
+
+-- ---- help, and words that `clap` refuses
+
+help_on_command : asked_of (line (codes "help" ∷ codes "check" ∷ [])) ≡ Some asks_help
+unfolding clap_on_literals
+help_on_command = refl
+
+help_on_query : asked_of (line (codes "help" ∷ codes "query" ∷ [])) ≡ Some asks_help
+unfolding clap_on_literals
+help_on_query = refl
+
+help_on_explain : asked_of (line (codes "help" ∷ codes "explain" ∷ [])) ≡ Some asks_help
+unfolding clap_on_literals
+help_on_explain = refl
+
+help_on_audit : asked_of (line (codes "help" ∷ codes "audit" ∷ [])) ≡ Some asks_help
+unfolding clap_on_literals
+help_on_audit = refl
+
+help_on_nothing_known : asked_of (line (codes "help" ∷ codes "frob" ∷ [])) ≡ Some unknown_command
+unfolding clap_on_literals
+help_on_nothing_known = refl
+
+taken : takes debctl_app (line (codes "compare" ∷ codes "1" ∷ codes "lt" ∷ codes "2" ∷ [])) ≡ true
+unfolding clap_on_literals
+taken = refl
+
+no_words : fault_of debctl_app (line []) ≡ kind.MissingSubcommand ∷ []
+unfolding clap_on_literals
+no_words = refl
+
+too_many_words : fault_of debctl_app (line (codes "check" ∷ codes "a" ∷ codes "b" ∷ []))
+    ≡ kind.UnknownArgument ∷ []
+unfolding clap_on_literals
+too_many_words = refl
+
+missing_word : fault_of debctl_app (line (codes "compare" ∷ codes "1" ∷ codes "lt" ∷ []))
+    ≡ kind.MissingRequiredArgument ∷ []
+unfolding clap_on_literals
+missing_word = refl
+
+missing_path : fault_of debctl_app (line (codes "same" ∷ codes "x" ∷ []))
+    ≡ kind.MissingRequiredArgument ∷ []
+unfolding clap_on_literals
+missing_path = refl
+
+reverse_twice : fault_of debctl_app
+    (line (codes "sort" ∷ codes "--reverse" ∷ codes "--reverse" ∷ []))
+    ≡ kind.ArgumentConflict ∷ []
+unfolding clap_on_literals
+reverse_twice = refl
+
+kind_twice : fault_of debctl_app
+    (line (codes "check" ∷ codes "--kind" ∷ codes "source" ∷ codes "--kind" ∷ codes "source" ∷ []))
+    ≡ kind.ArgumentConflict ∷ []
+unfolding clap_on_literals
+kind_twice = refl
+
+missing_architecture : fault_of debctl_app (line (codes "query" ∷ codes "aa" ∷ []))
+    ≡ kind.MissingRequiredArgument ∷ []
+unfolding clap_on_literals
+missing_architecture = refl
+
+missing_relation : fault_of debctl_app (query_line []) ≡ kind.MissingRequiredArgument ∷ []
+unfolding clap_on_literals
+missing_relation = refl
+
+architecture_twice : fault_of debctl_app
+    (query_line (codes "--arch" ∷ codes "i386" ∷ codes "aa" ∷ []))
+    ≡ kind.ArgumentConflict ∷ []
+unfolding clap_on_literals
+architecture_twice = refl
+
+word_behind_a_path : fault_of debctl_app
+    (query_line (codes "aa" ∷ codes "x" ∷ codes "y" ∷ []))
+    ≡ kind.UnknownArgument ∷ []
+unfolding clap_on_literals
+word_behind_a_path = refl
+
+code_twice : fault_of debctl_app
+    (line (codes "explain" ∷ codes "--code=1" ∷ codes "--code=2" ∷ []))
+    ≡ kind.ArgumentConflict ∷ []
+unfolding clap_on_literals
+code_twice = refl
+
+list_twice : fault_of debctl_app
+    (line (codes "audit" ∷ codes "--files0-from=x" ∷ codes "--files0-from=y" ∷ []))
+    ≡ kind.ArgumentConflict ∷ []
+unfolding clap_on_literals
+list_twice = refl
+
+many_paths : takes debctl_app
+    (line (codes "audit" ∷ codes "x" ∷ codes "--kind=any" ∷ codes "y" ∷ codes "x" ∷ [])) ≡ true
+unfolding clap_on_literals
+many_paths = refl
+
+call_for_help : fault_of debctl_app (line (codes "check" ∷ codes "--help" ∷ [])) ≡ kind.DisplayHelp
+    ∷ []
+unfolding clap_on_literals
+call_for_help = refl
+
+call_for_help_on_query : fault_of debctl_app (line (codes "query" ∷ codes "--help" ∷ []))
+    ≡ kind.DisplayHelp ∷ []
+unfolding clap_on_literals
+call_for_help_on_query = refl
+
+call_for_version : fault_of debctl_app (line (codes "-V" ∷ [])) ≡ kind.DisplayVersion ∷ []
+unfolding clap_on_literals
+call_for_version = refl
+
+help_alone : asked_of (line (codes "help" ∷ [])) ≡ Some asks_help
+unfolding clap_on_literals
+help_alone = refl
+
+help_on_help : asked_of (line (codes "help" ∷ codes "help" ∷ [])) ≡ Some asks_help
+unfolding clap_on_literals
+help_on_help = refl
+
+help_on_each_command : map (λ word. asked_of (line (codes "help" ∷ word ∷ [])))
+    (codes "normalise" ∷ codes "same" ∷ codes "compare" ∷ codes "canon-version" ∷ codes "sort" ∷ [])
+    ≡ Some asks_help ∷ Some asks_help ∷ Some asks_help ∷ Some asks_help ∷ Some asks_help ∷ []
+unfolding clap_on_literals
+help_on_each_command = refl
+
+missing_version : fault_of debctl_app (line (codes "canon-version" ∷ []))
+    ≡ kind.MissingRequiredArgument ∷ []
+unfolding clap_on_literals
+missing_version = refl
+
+no_short_reverse : fault_of debctl_app (line (codes "sort" ∷ codes "-r" ∷ []))
+    ≡ kind.UnknownArgument ∷ []
+unfolding clap_on_literals
+no_short_reverse = refl

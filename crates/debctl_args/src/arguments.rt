@@ -1,0 +1,391 @@
+//! Parses the command-line arguments: which task they ask for, or why there is none.
+
+ghost use Rattle.std.specs.Prelude.{◌≡◌, [], Some, None, map, true, codes, string_bytes, option_map, IfOk, IfErr, option_copied};
+ghost use Rattle.clap.specs.Words.{fault_of, first_of, found_of, has_subcommand, kind_of, rows_of, subcommand_rows_of, takes};
+ghost use Rattle.debctl_args.specs.Asked.{asked_by, asked_in, asked_of, asks, audit_asked, canon_version_asked, checks, compare_asked, document_asked, explain_asked, help_asked, normalises, query_asked, relation_asked, request_of, rule_asked, same_asked, sort_asked, text_asked, version_asked, word_in, Answers, AnswersError, AnswersMet, IsHelp, MeansError, Request, FitsKind, UsesText};
+ghost use Rattle.debctl_args.specs.Commands.{debctl_app};
+
+use crate::code_argument::code_named;
+use crate::commands::{
+    audit_command, canon_version_command, check_command, compare_command, debctl_command,
+    explain_command, help_command, kinds_help, normalise_command, query_command, same_command,
+    sort_command,
+};
+use crate::found_arguments::{
+    end_in, flag_in, given, is_standard_input_twice, kind_in, names_file, owned_paths, path_in,
+    paths_in, profiles_in, word_in,
+};
+use crate::jobs::{Audit, Call, Explain, Files, Job, Task};
+use crate::operator_argument::operator_named;
+use clap::error::{Error, ErrorKind};
+use clap::{ArgMatches, Command};
+use std::alloc::{AllocError, Global};
+
+/// The text for an `explain` of two things.
+const EXPLAIN_ONE: &str = "usage: explain takes one file, code, relation or version";
+
+/// The text for an audit of neither paths nor a list, and for one of both.
+const PATHS_OR_LIST: &str = "usage: audit takes paths, or --files0-from";
+
+/// Why there is no task. A text has no newline at its end.
+#[derive(Debug, PartialEq, Eq, Drop, thiserror::Error)]
+pub enum UsageFault {
+    /// The arguments are wrong, as the text says.
+    #[error("{0}")]
+    Usage(String),
+    /// The arguments ask for help or for the version, which is the text.
+    #[error("{0}")]
+    Help(String),
+    /// A growth of memory was refused.
+    #[error("fault: memory")]
+    Memory,
+}
+
+impl From<AllocError> for UsageFault {
+    ghost use Rattle.debctl_args.specs.declared.arguments.UsageFault.TheVariants.{Memory};
+
+    ghost from_gives = { λ _ fault. fault ≡ Memory };
+
+    fn from(_: AllocError) -> UsageFault {
+        UsageFault::Memory
+    }
+}
+
+/// Returns the task that the arguments ask for; the first of `words` is the program's name.
+///
+/// `check [--kind K] [PATH]`, `explain [--kind K] [PATH]`, `explain --code N`, `explain --relation
+/// TEXT`, `explain --version-text TEXT`, `normalise [--kind K] [PATH]`, `same [--kind K] PATH
+/// PATH`, `compare V OP V`, `canon-version V`, `sort [--reverse] [PATH]`, `query --arch A
+/// [--profiles P,P] RELATION [PATH]`, `audit [--kind K] [--null] PATH ..` and `audit [--kind K]
+/// [--null] --files0-from PATH` ask for a task. `help [COMMAND]`, `--help` and `--version` ask for
+/// help.
+///
+/// The profiles of `query` are the texts between the commas of its P,P; without the option there
+/// are none. A version, an architecture, a profile or a relation may be any text here: the job
+/// checks it. `-k` is short for `--kind`, and `-0` for `--null`. The path `-` is returned as it is;
+/// the program reads standard input for it. N is the number of an error code, from 1 to 23, in
+/// decimal.
+///
+/// # Errors
+///
+/// - `UsageFault::Usage`: an argument is wrong or missing. The text is `usage: unknown kind`,
+///   `usage: unknown operator`, `usage: unknown command` or `usage: unknown code` for a K, an OP, a
+///   COMMAND or an N that isn't known; `usage: standard input twice` for `same - -`, and for an
+///   audit with two paths `-`; `usage: explain takes one file, code, relation or version` for an
+///   `explain` with two of these, where a kind or a path names a file; `usage: audit takes paths,
+///   or --files0-from` for an audit with neither paths nor a list, or with both; otherwise that of
+///   `clap`.
+/// - `UsageFault::Help`: the arguments ask for help or for the version.
+/// - `UsageFault::Memory`: a growth of memory was refused.
+pub fn job_of(alloc: Global, words: &[String]) -> Result<Task, UsageFault>
+    // A task is what `clap` takes the words for.
+    ensures clap_takes { IfOk result (λ _. takes debctl_app (map string_bytes words.now) ≡ true) }
+    ensures faultless { IfOk result (λ _. fault_of debctl_app (map string_bytes words.now) ≡ []) }
+    ensures ok { IfOk result
+        (λ task. asked_of (map string_bytes words.now) ≡ Some (asks (request_of task))) }
+
+    // An error comes by what `clap` refuses, or by what isn't known.
+    ensures refused { IfErr result
+        (MeansError (fault_of debctl_app (map string_bytes words.now))
+        (asked_of (map string_bytes words.now))) }
+
+    // Words that `clap` takes, and that ask for a task, aren't refused.
+    ensures accepted { takes debctl_app (map string_bytes words.now) ≡ true → (request : Request)
+        → asked_of (map string_bytes words.now) ≡ Some (asks request)
+        → IfErr result (λ error. error ≡ UsageFault.Memory) }
+{
+    let kinds = kinds_help(alloc)?;
+    let command = debctl_command(alloc, &kinds)?;
+    match command.try_get_matches_from(words) {
+        Ok(matches) => task_of(alloc, &matches),
+        Err(error) => Err(refusal_of(alloc, &error)),
+    }
+}
+
+/// What `clap`'s error comes to.
+fn refusal_of(alloc: Global, error: &Error) -> UsageFault
+    ensures { FitsKind (kind_of error.now) result }
+{
+    match error.kind() {
+        ErrorKind::OutOfMemory => UsageFault::Memory,
+        ErrorKind::DisplayHelp | ErrorKind::DisplayVersion => match text_of(alloc, error) {
+            Ok(text) => UsageFault::Help(text),
+            Err(_) => UsageFault::Memory,
+        },
+        _ => match text_of(alloc, error) {
+            Ok(text) => UsageFault::Usage(text),
+            Err(_) => UsageFault::Memory,
+        },
+    }
+}
+
+/// The text of `clap`'s error, without its last newline.
+fn text_of(alloc: Global, error: &Error) -> Result<String, AllocError> {
+    let text = format!(in alloc; "{error}")?;
+    String::from_str(alloc, text.trim_end())
+}
+
+/// The task that the parsed words ask for.
+fn task_of(alloc: Global, matches: &ArgMatches<'_>) -> Result<Task, UsageFault>
+    requires { has_subcommand matches.now ≡ true }
+    ensures { AnswersMet (asked_in (subcommand_rows_of matches.now)) result }
+{
+    let Some((name, found)) = matches.subcommand() else {
+        unreachable!()
+    };
+    task_by(alloc, name, found)
+}
+
+/// The task that a command asks for with its words.
+fn task_by(alloc: Global, name: &str, found: &ArgMatches<'_>) -> Result<Task, UsageFault>
+    ensures { Answers (asked_by name.now (rows_of (found_of found.now))) result }
+{
+    match name {
+        "check" => check_task(alloc, found),
+        "explain" => explain_task(alloc, found),
+        "audit" => audit_task(alloc, found),
+        "normalise" => normalise_task(alloc, found),
+        "same" => same_task(alloc, found),
+        "compare" => compare_task(alloc, found),
+        "canon-version" => canon_version_task(alloc, found),
+        "sort" => sort_task(alloc, found),
+        "query" => query_task(alloc, found),
+        _ => Err(help_on(alloc, given(found, "command"))),
+    }
+}
+
+fn check_task(alloc: Global, found: &ArgMatches<'_>) -> Result<Task, UsageFault>
+    ensures { Answers (document_asked checks (rows_of (found_of found.now))) result }
+{
+    let kind = kind_in(alloc, found)?;
+    Ok(Task::Run(Call {
+        job: Job::Check(kind),
+        first: path_in(alloc, found)?,
+        second: None,
+    }))
+}
+
+fn explain_task(alloc: Global, found: &ArgMatches<'_>) -> Result<Task, UsageFault>
+    ensures { Answers (explain_asked (rows_of (found_of found.now))) result }
+{
+    if let Some(word) = given(found, "code") {
+        return rule_task(alloc, found, word);
+    }
+    text_task(alloc, found)
+}
+
+/// `explain` without `--code`.
+fn text_task(alloc: Global, found: &ArgMatches<'_>) -> Result<Task, UsageFault>
+    ensures { Answers (text_asked (rows_of (found_of found.now))) result }
+{
+    if let Some(text) = given(found, "relation") {
+        return relation_task(alloc, found, text);
+    }
+    if let Some(text) = given(found, "version-text") {
+        return version_task(alloc, found, text);
+    }
+    let doc = kind_in(alloc, found)?;
+    let path = path_in(alloc, found)?;
+    Ok(Task::Explain(Explain::File { doc, path }))
+}
+
+/// `explain --relation`, with the relation.
+fn relation_task(alloc: Global, found: &ArgMatches<'_>, text: &str) -> Result<Task, UsageFault>
+    ensures { Answers (relation_asked (rows_of (found_of found.now)) text.now) result }
+{
+    if names_file(found) || given(found, "version-text").is_some() {
+        return Err(usage(alloc, EXPLAIN_ONE));
+    }
+    Ok(Task::Explain(Explain::Relation(String::from_str(alloc, text)?)))
+}
+
+/// `explain --version-text`, with the version.
+fn version_task(alloc: Global, found: &ArgMatches<'_>, text: &str) -> Result<Task, UsageFault>
+    ensures { Answers (version_asked (rows_of (found_of found.now)) text.now) result }
+{
+    if names_file(found) {
+        return Err(usage(alloc, EXPLAIN_ONE));
+    }
+    Ok(Task::Explain(Explain::Version(String::from_str(alloc, text)?)))
+}
+
+/// `explain --code`, with the word for the code.
+fn rule_task(alloc: Global, found: &ArgMatches<'_>, word: &str) -> Result<Task, UsageFault>
+    ensures { Answers (rule_asked (rows_of (found_of found.now)) word.now) result }
+{
+    if names_file(found)
+        || given(found, "relation").is_some()
+        || given(found, "version-text").is_some()
+    {
+        return Err(usage(alloc, EXPLAIN_ONE));
+    }
+    match code_named(word) {
+        Some(code) => Ok(Task::Explain(Explain::Rule(code))),
+        None => Err(usage(alloc, "usage: unknown code")),
+    }
+}
+
+fn audit_task(alloc: Global, found: &ArgMatches<'_>) -> Result<Task, UsageFault>
+    ensures { Answers (audit_asked (rows_of (found_of found.now))) result }
+{
+    let doc = kind_in(alloc, found)?;
+    let files = match (paths_in(found), given(found, "files0-from")) {
+        (Some(paths), None) if is_standard_input_twice(paths) => {
+            return Err(usage(alloc, "usage: standard input twice"));
+        }
+        (Some(paths), None) => Files::Paths(owned_paths(alloc, paths)?),
+        (None, Some(path)) => Files::Listed(String::from_str(alloc, path)?),
+        (None, None) => return Err(usage(alloc, PATHS_OR_LIST)),
+        (Some(_), Some(_)) => return Err(usage(alloc, PATHS_OR_LIST)),
+    };
+    Ok(Task::Audit(Audit {
+        doc,
+        files,
+        end: end_in(found),
+    }))
+}
+
+fn normalise_task(alloc: Global, found: &ArgMatches<'_>) -> Result<Task, UsageFault>
+    ensures { Answers (document_asked normalises (rows_of (found_of found.now))) result }
+{
+    let kind = kind_in(alloc, found)?;
+    Ok(Task::Run(Call {
+        job: Job::Normalise(kind),
+        first: path_in(alloc, found)?,
+        second: None,
+    }))
+}
+
+fn same_task(alloc: Global, found: &ArgMatches<'_>) -> Result<Task, UsageFault>
+    ensures { Answers (same_asked (rows_of (found_of found.now))) result }
+{
+    let kind = kind_in(alloc, found)?;
+    let (first, second) = (word_in(found, "first"), word_in(found, "second"));
+    if first == "-" && second == "-" {
+        return Err(usage(alloc, "usage: standard input twice"));
+    }
+    let first = String::from_str(alloc, first)?;
+    let second = String::from_str(alloc, second)?;
+    Ok(Task::Run(Call {
+        job: Job::Same(kind),
+        first: Some(first),
+        second: Some(second),
+    }))
+}
+
+fn compare_task(alloc: Global, found: &ArgMatches<'_>) -> Result<Task, UsageFault>
+    ensures { Answers (compare_asked (rows_of (found_of found.now))) result }
+{
+    let Some(operator) = operator_named(word_in(found, "operator")) else {
+        return Err(usage(alloc, "usage: unknown operator"));
+    };
+    let left = String::from_str(alloc, word_in(found, "left"))?;
+    let right = String::from_str(alloc, word_in(found, "right"))?;
+    Ok(Task::Run(Call {
+        job: Job::Compare(left, operator, right),
+        first: None,
+        second: None,
+    }))
+}
+
+fn canon_version_task(alloc: Global, found: &ArgMatches<'_>) -> Result<Task, UsageFault>
+    ensures { Answers (canon_version_asked (rows_of (found_of found.now))) result }
+{
+    let version = String::from_str(alloc, word_in(found, "version"))?;
+    Ok(Task::Run(Call {
+        job: Job::CanonVersion(version),
+        first: None,
+        second: None,
+    }))
+}
+
+fn sort_task(alloc: Global, found: &ArgMatches<'_>) -> Result<Task, UsageFault>
+    ensures { Answers (sort_asked (rows_of (found_of found.now))) result }
+{
+    let reverse = flag_in(found, "reverse");
+    Ok(Task::Run(Call {
+        job: Job::Sort { reverse },
+        first: path_in(alloc, found)?,
+        second: None,
+    }))
+}
+
+fn query_task(alloc: Global, found: &ArgMatches<'_>) -> Result<Task, UsageFault>
+    ensures { Answers (query_asked (rows_of (found_of found.now))) result }
+{
+    let arch = String::from_str(alloc, word_in(found, "arch"))?;
+    let profiles = profiles_in(alloc, found)?;
+    let relation = String::from_str(alloc, word_in(found, "relation"))?;
+    Ok(Task::Run(Call {
+        job: Job::Query {
+            arch,
+            profiles,
+            relation,
+        },
+        first: path_in(alloc, found)?,
+        second: None,
+    }))
+}
+
+/// The help of the program, or of the command that a word names.
+fn help_on(alloc: Global, word: Option<&str>) -> UsageFault
+    ensures { AnswersError (help_asked (option_copied word.entry)) result }
+{
+    match kinds_help(alloc) {
+        Ok(kinds) => help_with(alloc, word, &kinds),
+        Err(_) => UsageFault::Memory,
+    }
+}
+
+/// The same, with the help of `--kind`.
+fn help_with(alloc: Global, word: Option<&str>, kinds: &str) -> UsageFault
+    ensures { AnswersError (help_asked (option_copied word.entry)) result }
+{
+    match word {
+        None => help_of(alloc, debctl_command(alloc, kinds), "debctl"),
+        Some("check") => help_of(alloc, check_command(alloc, kinds), "debctl check"),
+        Some("explain") => help_of(alloc, explain_command(alloc, kinds), "debctl explain"),
+        Some("audit") => help_of(alloc, audit_command(alloc, kinds), "debctl audit"),
+        Some("normalise") => help_of(alloc, normalise_command(alloc, kinds), "debctl normalise"),
+        Some("same") => help_of(alloc, same_command(alloc, kinds), "debctl same"),
+        Some("compare") => help_of(alloc, compare_command(alloc), "debctl compare"),
+        Some("canon-version") => help_of(
+            alloc,
+            canon_version_command(alloc),
+            "debctl canon-version",
+        ),
+        Some("sort") => help_of(alloc, sort_command(alloc), "debctl sort"),
+        Some("query") => help_of(alloc, query_command(alloc), "debctl query"),
+        Some("help") => help_of(alloc, help_command(alloc), "debctl help"),
+        Some(_) => usage(alloc, "usage: unknown command"),
+    }
+}
+
+fn help_of(alloc: Global, command: Result<Command<'_>, AllocError>, name: &str) -> UsageFault
+    ensures { IsHelp result }
+{
+    match help_text(alloc, command, name) {
+        Ok(text) => UsageFault::Help(text),
+        Err(_) => UsageFault::Memory,
+    }
+}
+
+fn help_text(
+    alloc: Global,
+    command: Result<Command<'_>, AllocError>,
+    name: &str,
+) -> Result<String, AllocError> {
+    let mut command = command?.bin_name(name)?;
+    let text = command.render_help()?;
+    String::from_str(alloc, text.trim_end())
+}
+
+/// A fault with one of the program's own texts.
+pub(crate) fn usage(alloc: Global, text: &str) -> UsageFault
+    ensures { UsesText text.now result }
+{
+    match String::from_str(alloc, text) {
+        Ok(text) => UsageFault::Usage(text),
+        Err(_) => UsageFault::Memory,
+    }
+}

@@ -1,0 +1,135 @@
+//! Reads what `clap` found for a command: the kind, the profiles, the paths and so on.
+
+ghost use Rattle.std.specs.Prelude.{◌≡◌, nat_lt, count_by, map, codes, string_bytes, option_map, IfOk, option_copied};
+ghost use Rattle.clap.specs.Words.{all_of, first_of, found_of, rows_of};
+ghost use Rattle.debctl_args.specs.Asked.{comma_pieces, end_asked, flag_asked, is_standard_input, kind_asked, names_file, profiles_asked, word_in, MeansKind};
+
+use crate::arguments::{UsageFault, usage};
+use crate::jobs::LineEnd;
+use clap::ArgMatches;
+use deb_base::Doc;
+use std::alloc::{AllocError, Global};
+
+/// The kind of document that `--kind` names, or a list of packages without it.
+#[tactic(auto, unfolding(crate::specs::Asked::kind_asked))]
+pub(crate) fn kind_in(alloc: Global, found: &ArgMatches<'_>) -> Result<Doc, UsageFault>
+    ensures { MeansKind (kind_asked (first_of (codes "kind") (rows_of (found_of found.now))))
+        result }
+{
+    let Some(word) = given(found, "kind") else {
+        return Ok(Doc::Packages);
+    };
+    match Doc::named(word) {
+        Some(kind) => Ok(kind),
+        None => Err(usage(alloc, "usage: unknown kind")),
+    }
+}
+
+/// Whether a flag is given.
+pub(crate) fn flag_in(found: &ArgMatches<'_>, id: &str) -> bool
+    ensures { result ≡ flag_asked (first_of id.now (rows_of (found_of found.now))) }
+{
+    match given(found, id) {
+        Some(word) => word == "true",
+        None => false,
+    }
+}
+
+/// What ends each record of an audit: a byte 0 if `--null` is given.
+pub(crate) fn end_in(found: &ArgMatches<'_>) -> LineEnd
+    ensures { result
+        ≡ end_asked (flag_asked (first_of (codes "null") (rows_of (found_of found.now)))) }
+{
+    if flag_in(found, "null") {
+        LineEnd::Nul
+    } else {
+        LineEnd::Newline
+    }
+}
+
+/// Whether `--kind` or a path is given.
+pub(crate) fn names_file(found: &ArgMatches<'_>) -> bool
+    ensures { result ≡ names_file (rows_of (found_of found.now)) }
+{
+    given(found, "kind").is_some() || given(found, "path").is_some()
+}
+
+/// The profiles that `--profiles` names, or none without it.
+pub(crate) fn profiles_in(alloc: Global, found: &ArgMatches<'_>) -> Result<Vec<String>, AllocError>
+    ensures { IfOk result
+        (λ profiles. map string_bytes profiles.items
+        ≡ profiles_asked (first_of (codes "profiles") (rows_of (found_of found.now)))) }
+{
+    match given(found, "profiles") {
+        Some(names) => comma_pieces(alloc, names),
+        None => Ok(Vec::new(alloc)),
+    }
+}
+
+/// Returns the texts between the commas of a text.
+fn comma_pieces(alloc: Global, text: &str) -> Result<Vec<String>, AllocError>
+    ensures { IfOk result (λ pieces. map string_bytes pieces.items ≡ comma_pieces text.now) }
+{
+    let mut pieces = Vec::new(alloc);
+    for piece in text.split(',') {
+        pieces.push(String::from_str(alloc, piece)?)?;
+    }
+    Ok(pieces)
+}
+
+/// The path among the words, if there is one.
+pub(crate) fn path_in(alloc: Global, found: &ArgMatches<'_>) -> Result<Option<String>, AllocError>
+    ensures { IfOk result
+        (λ path. option_map string_bytes path
+        ≡ first_of (codes "path") (rows_of (found_of found.now))) }
+{
+    match given(found, "path") {
+        Some(path) => Ok(Some(String::from_str(alloc, path)?)),
+        None => Ok(None),
+    }
+}
+
+/// Returns the paths of a command that takes any number, if there is one.
+pub(crate) fn paths_in<'m, 'a>(found: &'m ArgMatches<'a>) -> Option<&'m [&'a str]>
+    ensures { option_map (λ paths. map (λ path. path.now) paths.now) result
+        ≡ all_of (codes "path") (rows_of (found_of found.now)) }
+{
+    found.get_strs("path")
+}
+
+/// Whether two of the paths or more are standard input.
+pub(crate) fn is_standard_input_twice(paths: &[&str]) -> bool
+    ensures { result
+        ≡ nat_lt 1 (count_by is_standard_input (map (λ path. path.now) paths.now)) }
+{
+    paths.iter().filter(|path| **path == "-").count() > 1
+}
+
+/// The paths, as texts of their own.
+pub(crate) fn owned_paths(alloc: Global, paths: &[&str]) -> Result<Vec<String>, AllocError>
+    ensures { IfOk result
+        (λ owned. map string_bytes owned.items ≡ map (λ path. path.now) paths.now) }
+{
+    let mut owned = Vec::new(alloc);
+    for path in paths {
+        owned.push(String::from_str(alloc, path)?)?;
+    }
+    Ok(owned)
+}
+
+/// The first word that was given for an argument, if there is one.
+pub(crate) fn given<'a>(found: &ArgMatches<'a>, id: &str) -> Option<&'a str>
+    ensures { option_copied result ≡ first_of id.now (rows_of (found_of found.now)) }
+{
+    found.get_str(id)
+}
+
+/// A word that its command has to have: `clap` refuses words without it.
+pub(crate) fn word_in<'a>(found: &ArgMatches<'a>, id: &str) -> &'a str
+    ensures { result.now ≡ word_in id.now (rows_of (found_of found.now)) }
+{
+    match given(found, id) {
+        Some(word) => word,
+        None => "",
+    }
+}

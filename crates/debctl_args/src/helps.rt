@@ -1,0 +1,244 @@
+//! The texts of the help: the description of each command, which follows its options, and the
+//! longer descriptions of options.
+
+pub(crate) const DEBCTL_HELP: &str = "\
+Exit statuses:
+  0  success, or the answer is yes
+  1  the answer is no; for `query`: a group of the relation is unmet
+  2  a file, a version, a relation, an architecture or a profile is rejected:
+     standard error has `line N: CODE NAME`. Line 0 means a command-line
+     argument. `same` writes `first: ` or `second: ` before the line. `explain`
+     and `audit` report the error on standard output
+  3  wrong arguments, out of memory, or a failed read or write
+
+Put `--` before a version or a path that begins with a hyphen:
+  $ debctl canon-version -- -1-1
+  -1-1
+
+`debctl help COMMAND` describes a command and has an example.";
+
+pub(crate) const CHECK_HELP: &str = "\
+Prints `ok N` for a file of N paragraphs, or reports the first error.
+
+Use `--kind sources` for an index of source packages. As `packages`, `binary` or
+`source` it is usually rejected because of its Architecture or a missing field. Use
+`--kind any` for other control data, such as a `.changes`, `Release`, status or
+copyright file; its values aren't checked then.
+
+Exit statuses:
+  0  accepted
+  2  rejected: standard error has `line N: CODE NAME` for the first error
+  3  wrong arguments, out of memory, or a failed read or write
+
+Example:
+  $ printf 'Package: aa\\nVersion: 1\\nArchitecture: all\\n' | debctl check
+  ok 1";
+
+pub(crate) const EXPLAIN_HELP: &str = "\
+Checks a file as `check` does. For an accepted file of N paragraphs it prints
+`ok N`. For a rejected file it explains the first error on standard output, in
+lines `KEY: VALUE`; keys that don't apply are left out:
+  file     the path, with control characters escaped
+  line     the line of the error, from 1
+  code     the number of the error code
+  name     the name of the error code
+  field    the field that is wrong, or the required field that is missing
+  place    the offset of the error in the value, in bytes from 0
+  at       the same position in the file, as LINE:COLUMN in bytes, both from 1
+  reason   what is wrong there
+  value    the value of the field, or the line that is wrong
+  rule     the rule that is broken, with its section of Debian Policy
+  usually  the usual cause
+If the file can't be opened, the lines `file`, `fault: read` and `reason` say why.
+The file is held in memory, up to the end of a paragraph that is too long.
+
+With `--relation` or `--version-text` the text is explained like the value of a
+field; `ok` is printed if it is correct.
+
+Exit statuses:
+  0  accepted, or `--code` is given
+  2  rejected
+  3  wrong arguments, out of memory, or a failed read or write
+
+Example:
+  $ printf 'Package: aa\\nDepends: bb cc\\n' | debctl explain; echo $?
+  file: -
+  line: 2
+  code: 19
+  name: BadRelation
+  field: Depends
+  place: 3
+  at: 2:13
+  reason: Trailing
+  value: bb cc
+  rule: The value must be a list of packages, with versions in parentheses (Debian Policy 7.1).
+  usually: a substitution variable, a version without an operator, or upper case in a name
+  2";
+
+pub(crate) const AUDIT_HELP: &str = "\
+Checks each file as `check` does, and prints one line for each, in the order given:
+  PATH: ok N               accepted, with N paragraphs
+  PATH: line N: CODE NAME  rejected, with the first error
+  PATH: fault: read        the file can't be read
+  PATH: fault: read: WHY   the file can't be opened, for this reason
+  PATH: fault: memory      out of memory for this file
+Newlines and other control characters in a path are escaped, as in `\\n`. With
+`--null` each line ends with a byte 0 instead of a newline, and paths are printed
+unchanged. `audit` continues after a file that is rejected or can't be read.
+
+Exit statuses (the highest of all files):
+  0  accepted
+  2  rejected
+  3  wrong arguments, out of memory, or a failed read or write
+
+Example:
+  $ printf 'Package: aa\\nVersion: 1\\nArchitecture: all\\n' > good
+  $ printf 'Package: aa\\nVersion: 1_\\nArchitecture: all\\n' > bad
+  $ debctl audit bad good; echo $?
+  bad: line 2: 18 BadVersion
+  good: ok 1
+  2
+
+To check every file that `find` lists:
+  $ find . -name good -print0 | debctl audit --files0-from -
+  ./good: ok 1";
+
+pub(crate) const NORMALISE_HELP: &str = "\
+Two accepted files of one kind have the same canonical text exactly if they mean
+the same. Each paragraph is written once it has been checked.
+
+Exit statuses:
+  0  accepted: the canonical text of the file is written
+  2  rejected: standard error has `line N: CODE NAME` for the first error, and
+     the canonical text of the paragraphs before it is written
+  3  wrong arguments, out of memory, or a failed read or write
+
+Example:
+  $ printf 'package:aa\\nVERSION: 1.0-0\\narchitecture: all\\n' | debctl normalise
+  Architecture: all
+  Package: aa
+  Version: 1.0";
+
+pub(crate) const SAME_HELP: &str = "\
+Two files mean the same if they have the same paragraphs in the same order. The
+order of the fields, the case of their names and the spelling of versions and
+relations don't matter.
+
+Exit statuses:
+  0  the files mean the same: `same` is printed
+  1  the files differ: `different` is printed
+  2  a file is rejected: standard error has `first: line N: CODE NAME` or
+     `second: line N: CODE NAME` for its first error. If both are rejected, the
+     error of the first file is reported
+  3  wrong arguments, out of memory, or a failed read or write
+
+Example:
+  $ printf 'Package: aa\\nVersion: 1.0-0\\nArchitecture: all\\n' > one
+  $ printf 'architecture:all\\nVERSION:0:1.00\\npackage:aa\\n' > other
+  $ debctl same one other; echo $?
+  same
+  0";
+
+pub(crate) const COMPARE_HELP: &str = "\
+Prints nothing: the exit status is the answer.
+
+Exit statuses:
+  0  yes
+  1  no
+  2  an argument isn't a version: standard error has `line 0: 18 BadVersion`
+  3  wrong arguments, out of memory, or a failed write
+
+Example:
+  $ debctl compare 1.0~rc1 lt 1.0; echo $?
+  0
+
+Put `--` before the arguments if a version begins with a hyphen:
+  $ debctl compare -- -1-1 gt 2; echo $?
+  0";
+
+pub(crate) const OPERATORS_HELP: &str =
+    "lt or << (earlier), le or <= (earlier or equal), eq or = (equal), ne (not equal), \
+    ge or >= (later or equal), gt or >> (later)";
+
+pub(crate) const CANON_VERSION_HELP: &str = "\
+Two versions are equal in Debian's order exactly if their canonical texts are the
+same.
+
+Exit statuses:
+  0  the canonical text is printed
+  2  the argument isn't a version: standard error has `line 0: 18 BadVersion`
+  3  wrong arguments, out of memory, or a failed write
+
+Example:
+  $ debctl canon-version 00:1.02-0
+  1.2
+
+Put `--` before a version that begins with a hyphen:
+  $ debctl canon-version -- -1-1
+  -1-1";
+
+pub(crate) const SORT_HELP: &str = "\
+Each line of the file is a version. The lines keep their spelling, and lines of
+equal versions keep their order. The whole file is held in memory, and nothing is
+printed before all of it has been checked.
+
+Exit statuses:
+  0  the sorted lines are printed
+  2  a line isn't a version, or the file is too long: standard error has
+     `line N: CODE NAME` for the first such line. An empty line isn't a version
+  3  wrong arguments, out of memory, or a failed read or write
+
+Example:
+  $ printf '1.10\\n1.9\\n1.10~rc1\\n' | debctl sort
+  1.9
+  1.10~rc1
+  1.10";
+
+pub(crate) const QUERY_HELP: &str = "\
+A relation is a list of groups, separated by commas. For each group, in the byte
+order of their canonical texts, one line is printed:
+  met GROUP      a package of the index meets the group
+  unmet GROUP    no package meets it
+  ignored GROUP  none of its alternatives applies to the architecture and profiles
+After each `met` line there is a line ` NUMBER PACKAGE VERSION ARCHITECTURE` for
+each package that meets the group; NUMBER is its position in the index, from 1.
+In a relation, the former operators `<` and `>` mean `<=` and `>=`.
+
+Exit statuses:
+  0  no group is unmet
+  1  a group is unmet
+  2  an argument or the index is rejected, or an architecture list of the relation
+     has a wildcard: standard error has `line N: CODE NAME`, and nothing is
+     printed. Line 0 means an argument
+  3  wrong arguments, out of memory, or a failed read or write
+
+The status file of dpkg also lists removed packages whose configuration files are
+left, and `query` counts them. To query installed packages only, use grep-status
+from the package dctrl-tools:
+  grep-status -F Status 'ok installed' | debctl query --arch amd64 bash
+
+Example: is this build dependency met by this index?
+  $ printf 'Package: gcc\\nVersion: 12.2\\nArchitecture: amd64\\n' > index
+  $ debctl query --arch amd64 'gcc (>= 12), make' index; echo $?
+  met gcc (>= 12)
+   1 gcc 12.2 amd64
+  unmet make
+  1
+
+Which packages have this name, or provide it?
+  $ printf 'Provides: c-compiler\\n\\nPackage: tcc\\nVersion: 0.9\\n' >> index
+  $ printf 'Architecture: amd64\\nProvides: c-compiler\\n' >> index
+  $ debctl query --arch amd64 c-compiler index
+  met c-compiler
+   1 gcc 12.2 amd64
+   2 tcc 0.9 amd64";
+
+pub(crate) const ARCH_HELP: &str = "The target architecture, such as amd64";
+
+pub(crate) const PROFILES_HELP: &str =
+    "The active build profiles, separated by commas; none if the option is missing";
+
+pub(crate) const FILES_HELP: &str =
+    "A file that lists the paths, each followed by a byte 0; `-` is standard input";
+
+pub(crate) const CODE_HELP: &str = "Explain an error code, from 1 to 23, instead of a file";

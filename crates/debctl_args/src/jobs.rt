@@ -1,0 +1,111 @@
+//! The types of a task: what the arguments ask the program to do.
+
+use deb_base::{Code, Doc};
+
+/// What the program is asked to do.
+#[derive(Debug, PartialEq, Eq, Drop)]
+pub enum Task {
+    /// A job over at most two files.
+    Run(Call),
+    /// `explain`: explain the refusal of a file or a text, or an error code.
+    Explain(Explain),
+    /// `audit`: check each of many files.
+    Audit(Audit),
+}
+
+/// A comparison of two versions in Debian's order (deb-version(7)).
+#[derive(Clone, Copy, Debug, PartialEq, Eq)]
+pub enum Cmp {
+    /// `lt` or `<<`: earlier.
+    Less,
+    /// `le` or `<=`: earlier or equal.
+    LessOrEqual,
+    /// `eq` or `=`: equal.
+    Equal,
+    /// `ne`: earlier or later.
+    NotEqual,
+    /// `ge` or `>=`: later or equal.
+    GreaterOrEqual,
+    /// `gt` or `>>`: later.
+    Greater,
+}
+
+/// A command with its arguments, except for the paths.
+#[derive(Debug, PartialEq, Eq, Drop)]
+pub enum Job {
+    /// `check`: check whether a file of this kind is accepted.
+    Check(Doc),
+    /// `normalise`: write the canonical text of a file of this kind.
+    Normalise(Doc),
+    /// `same`: check whether two files of this kind mean the same.
+    Same(Doc),
+    /// `compare`: check whether an operator holds between two versions.
+    Compare(String, Cmp, String),
+    /// `canon-version`: print the canonical text of a version.
+    CanonVersion(String),
+    /// `sort`: write the lines of a file, each a version, in Debian's order or in reverse order.
+    Sort {
+        reverse: bool,
+    },
+    /// `query`: find the packages of an index that meet a relation, for a target architecture and
+    /// the active build profiles.
+    Query {
+        arch: String,
+        profiles: Vec<String>,
+        relation: String,
+    },
+}
+
+/// A command and the paths of the files that it reads.
+///
+/// If `check`, `normalise`, `sort` or `query` has no path, the file is standard input. `same` has
+/// both paths, and no other job has a second one.
+#[derive(Debug, PartialEq, Eq, Drop)]
+pub struct Call {
+    pub job: Job,
+    pub first: Option<String>,
+    pub second: Option<String>,
+}
+
+/// What `explain` explains.
+#[derive(Debug, PartialEq, Eq, Drop)]
+pub enum Explain {
+    /// The refusal of a file of this kind; of standard input if there is no path or the path is
+    /// `-`.
+    File { doc: Doc, path: Option<String> },
+    /// `--code N`: an error code.
+    Rule(Code),
+    /// `--relation TEXT`: the refusal of a relation, such as an argument of `query`. The text may
+    /// be anything.
+    Relation(String),
+    /// `--version-text TEXT`: the refusal of a version. The text may be anything.
+    Version(String),
+}
+
+/// The files that `audit` reads, each of this kind, and what ends each record that it prints.
+#[derive(Debug, PartialEq, Eq, Drop)]
+pub struct Audit {
+    pub doc: Doc,
+    pub files: Files,
+    pub end: LineEnd,
+}
+
+/// The end of each record that `audit` prints.
+#[derive(Clone, Copy, Debug, PartialEq, Eq)]
+pub enum LineEnd {
+    /// A newline; paths are printed escaped.
+    Newline,
+    /// `--null`: a byte 0; paths are printed unchanged.
+    Nul,
+}
+
+/// The files that `audit` reads.
+#[derive(Debug, PartialEq, Eq, Drop)]
+pub enum Files {
+    /// The files of these paths, in their order. There is at least one path, and at most one is
+    /// `-`, which is standard input.
+    Paths(Vec<String>),
+    /// The files of the paths in a list, in which a byte 0 follows each path. The list is the file
+    /// at this path, or standard input if it is `-`.
+    Listed(String),
+}

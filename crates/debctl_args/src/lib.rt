@@ -1,0 +1,24 @@
+//! Parses the command-line arguments of `debctl`.
+//!
+//! - [`job_of`] returns the [`Task`] that the arguments ask for, or why there is none. A task is a
+//!   [`Call`], which is a [`Job`] with the paths of the files that it reads; or what to
+//!   [`Explain`]; or an [`Audit`] of any number of files. It opens no path.
+//! - `clap` checks the commands and their options. Kinds of documents, operators, profiles and the
+//!   numbers of error codes are checked here; versions, relations and architectures by the job.
+//!
+//! ```text
+//! let task = job_of(rt.alloc(), &words)?; // debctl check --kind source hello.dsc
+//! task; // Task::Run(Call { job: Job::Check(Doc::Source), first: Some("hello.dsc"), .. })
+//! ```
+#![tactic(auto)]
+
+mod arguments;
+mod code_argument;
+mod commands;
+mod found_arguments;
+mod helps;
+mod jobs;
+mod operator_argument;
+
+pub use arguments::{UsageFault, job_of};
+pub use jobs::{Audit, Call, Cmp, Explain, Files, Job, LineEnd, Task};

@@ -1,0 +1,31 @@
+-- Status 2 of the jobs on versions, and the words of a query, by the job.
+use Rattle.std.proofs.Common.{◌≡◌, ◌⊎◌, ℕ, List, map, Option, String, Vec, Global, refl, subst, sym, string_bytes}
+use Rattle.std.specs.Io.KnownBytes.{Appends}
+use Rattle.deb_base.specs.Lines.{refusal_line}
+use Rattle.deb_index.specs.Questions.{question}
+use Rattle.debctl_commands.specs.QueryJob.{AreRefused}
+use Rattle.debctl_commands.specs.Running.{IfRefusedWords, IsRefused}
+use Rattle.debctl_commands.specs.VersionJobs.{bad_version, IsNoVersion}
+use Rattle.debctl_args.specs.declared.jobs.Cmp.{Cmp}
+use Rattle.debctl_args.specs.declared.jobs.Job.{Job}
+use Rattle.debctl_args.specs.declared.jobs.Job.TheVariants.{Compare, CanonVersion, Query}
+
+pub compare_refused : {W : Type 0} (job : Job) (former latter : String Global) (operator : Cmp) → job ≡ Compare former operator latter
+    → (left other : Option (List ℕ)) (held : W → Option (List ℕ)) (out : W) (err err_after : Option (List ℕ)) (first second : List ℕ) → first ≡ string_bytes former → second ≡ string_bytes latter
+    → (IsNoVersion first ⊎ IsNoVersion second) × Appends err err_after (refusal_line bad_version) → IsRefused job left other held out out err err_after
+compare_refused job former latter operator is left other held out err err_after first second first_is second_is refused =
+    let none = subst (λ text. IsNoVersion text ⊎ IsNoVersion (string_bytes latter)) first_is (subst (λ text. IsNoVersion first ⊎ IsNoVersion text) second_is refused.0) in
+    subst (λ (asked : Job). IsRefused asked left other held out out err err_after) (sym is) (refl, none, refused.1)
+
+pub canon_version_refused : {W : Type 0} (job : Job) (version : String Global) → job ≡ CanonVersion version
+    → (left other : Option (List ℕ)) (held : W → Option (List ℕ)) (out out_after : W) (err err_after : Option (List ℕ)) (text : List ℕ) → text ≡ string_bytes version
+    → (out_after ≡ out) × IsNoVersion text × Appends err err_after (refusal_line bad_version) → IsRefused job left other held out out_after err err_after
+canon_version_refused job version is left other held out out_after err err_after text text_is refused =
+    subst (λ (asked : Job). IsRefused asked left other held out out_after err err_after) (sym is) (refused.0, subst IsNoVersion text_is refused.1, refused.2)
+
+-- the words of a query are those of its job
+pub refused_words : (job : Job) (arch : String Global) (profiles : Vec (String Global) Global) (relation : String Global) → job ≡ Query arch profiles relation
+    → (target : List ℕ) (items : List (String Global)) (word : List ℕ) → target ≡ string_bytes arch → items ≡ profiles.items → word ≡ string_bytes relation
+    → (P : Type 0) → (AreRefused (question target (map string_bytes items) word) → P) → IfRefusedWords job P
+refused_words job arch profiles relation is target items word target_is items_is word_is P words =
+    subst (λ (asked : Job). IfRefusedWords asked P) (sym is) (λ bad. words (rw (target_is, items_is, word_is) bad))

@@ -1,0 +1,10 @@
+pub mod AuditReports
+pub mod CutOffReports
+pub mod DocumentReports
+pub mod JobRefusals
+pub mod LastPaths
+pub mod QueryReports
+pub mod SameReports
+pub mod SortReports
+pub mod FaultReports
+pub mod VersionReports

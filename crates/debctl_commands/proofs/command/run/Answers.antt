@@ -1,0 +1,18 @@
+use Rattle.std.proofs.Common.{◌≡◌}
+use Rattle.debctl_commands.proofs.JobRefusals.{canon_version_refused, compare_refused, refused_words}
+use Rattle.debctl_commands.proofs.command.run.Goals as goal
+
+pub returns-in-Compare-clause-refused : goal.returns-in-Compare-clause-refused
+returns-in-Compare-clause-refused g c = λ is.
+    compare_refused c.args.job.now c.in-Compare.left c.in-Compare.right c.in-Compare.operator c.in-Compare.is (g.R.Source.left c.args.first.now) (g.S.Source.left c.args.second.now) g.W.Sink.held c.args.out.now _ _
+    c.as_str.result.now c.as_str-in-Compare.result.now c.as_str.ensures.value c.as_str-in-Compare.ensures.value (c.run_compare.ensures.refused is)
+
+pub returns-in-CanonVersion-clause-refused : goal.returns-in-CanonVersion-clause-refused
+returns-in-CanonVersion-clause-refused g c = λ is.
+    canon_version_refused c.args.job.now c.in-CanonVersion.version c.in-CanonVersion.is (g.R.Source.left c.args.first.now) (g.S.Source.left c.args.second.now) g.W.Sink.held c.args.out.now c.run_canon_version.new.out _ _
+    c.as_str-in-CanonVersion.result.now c.as_str-in-CanonVersion.ensures.value (c.run_canon_version.ensures.refused is)
+
+pub returns-in-Query-clause-first_untouched_if_refused : goal.returns-in-Query-clause-first_untouched_if_refused
+returns-in-Query-clause-first_untouched_if_refused g c =
+    refused_words c.args.job.now c.in-Query.arch c.in-Query.profiles c.in-Query.relation c.in-Query.is c.as_str-in-Query.result.now c.deref.result.now c.as_str-in-Query-2.result.now
+    c.as_str-in-Query.ensures.value c.deref.ensures.value c.as_str-in-Query-2.ensures.value (c.run_query.new.first ≡ c.args.first.now) c.run_query.ensures.first_untouched_if_refused

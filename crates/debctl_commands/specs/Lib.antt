@@ -1,0 +1,15 @@
+pub mod AuditJob
+pub mod CutOff
+pub mod DocumentJobs
+pub mod ExplainJob
+pub mod ListedPaths
+pub mod Opening
+pub mod QueryJob
+pub mod Running
+pub mod SameJob
+pub mod SortJob
+pub mod Taking
+pub mod Reporting
+pub mod Unopened
+pub mod VersionJobs
+pub mod UsageReporting

@@ -1,0 +1,279 @@
+-- What a whole command answers and writes, by its job. The jobs and their statuses are this
+-- project's own.
+use Rattle.std.specs.Prelude.{◌≡◌, ◌⊎◌, ℕ, ⊤, Bool, true, false, List, map, Option, Some, None}
+use Rattle.std.specs.Prelude.{Result, String, Vec, string_bytes, codes, refl}
+use Rattle.std.specs.Io.KnownBytes.{Appends}
+use Rattle.std.specs.declared.alloc.Global.{Global}
+use Rattle.deb_base.specs.Lines.{refusal_line}
+use Rattle.deb_base.specs.declared.doc.Doc.{Doc}
+use Rattle.deb_base.specs.declared.fault.Fault.{Fault}
+use Rattle.deb_control.specs.Calls.{WritesCanonical}
+use Rattle.deb_control.specs.declared.side.SideFault.{SideFault}
+use Rattle.deb_sort.specs.Files.{SortsFile, WritesSorted}
+use Rattle.debctl_commands.specs.DocumentJobs.{ChecksFile, NormalisesFile, ReportsRefusal}
+use Rattle.debctl_commands.specs.DocumentJobs.{ReportsRefusalBehind, WritesOk}
+use Rattle.deb_index.specs.Questions.{Question, question}
+use Rattle.debctl_commands.specs.QueryJob.{AreRefused, QueriesFile, ReportsQueryRefusal}
+use Rattle.debctl_commands.specs.QueryJob.{WritesReport}
+use Rattle.debctl_commands.specs.SameJob.{ComparesFiles, ReportsComparison, ReportsRefusedSide}
+use Rattle.debctl_commands.specs.SameJob.{WritesSame}
+use Rattle.debctl_commands.specs.SortJob.{ReportsLineRefusal}
+use Rattle.debctl_commands.specs.Reporting.{done_status, Reports}
+use Rattle.debctl_commands.specs.VersionJobs.{bad_version, verdict_status, Canonicalises, Compared}
+use Rattle.debctl_commands.specs.VersionJobs.{Compares, IsNoVersion, WritesLine}
+use Rattle.debctl_args.specs.declared.jobs.Cmp.{Cmp}
+use Rattle.debctl_args.specs.declared.jobs.Job.{Job}
+use Rattle.debctl_args.specs.declared.jobs.Job.TheVariants.{Check, Normalise, Same, Compare}
+use Rattle.debctl_args.specs.declared.jobs.Job.TheVariants.{CanonVersion, Sort, Query}
+
+-- the question that a query's words are
+abbrev pub asked : String Global → Vec (String Global) Global → String Global → Question
+asked arch profiles relation =
+    question (string_bytes arch) (map string_bytes profiles.items) (string_bytes relation)
+
+-- Of the readers of the first file and of the second, `left` and `other` are the texts, where
+-- they are known.
+
+-- Status 0: `ok N` for an accepted file, its canonical text, `same`, yes, a version's canonical
+-- text with a newline, the sorted lines of a file, and a report without an unmet group.
+abbrev pub Done : {W : Type 0} → Job → Option (List ℕ) → Option (List ℕ) →
+    (W → Option (List ℕ)) → (W → ℕ) → W → W → Type 0
+Done (Check doc) left other held failures out new =
+    (text : List ℕ) → left ≡ Some text → WritesOk doc text (held out) (held new)
+Done (Normalise doc) left other held failures out new =
+    (text : List ℕ) → left ≡ Some text → (n : ℕ) × WritesCanonical doc text n (held out) (held new)
+Done (Same doc) left other held failures out new =
+    WritesSame doc left other (held out) (held new) true
+Done (Compare former operator latter) left other held failures out new =
+    (new ≡ out) × Compared (string_bytes former) operator (string_bytes latter) true
+Done (CanonVersion version) left other held failures out new =
+    WritesLine (string_bytes version) held failures out new
+Done (Sort reverse) left other held failures out new =
+    (text : List ℕ) → left ≡ Some text → WritesSorted reverse text (held out) (held new)
+Done (Query arch profiles relation) left other held failures out new =
+    (text : List ℕ) → left ≡ Some text
+    → WritesReport (asked arch profiles relation) text (held out) (held new) true
+
+-- Status 1: `different`, no, for which nothing was written, and a report with an unmet group.
+abbrev pub SaysNo : {W : Type 0} → Job → Option (List ℕ) → Option (List ℕ) →
+    (W → Option (List ℕ)) → W → W → Type 0
+SaysNo (Check doc) left other held out new = ⊥
+SaysNo (Normalise doc) left other held out new = ⊥
+SaysNo (Same doc) left other held out new = WritesSame doc left other (held out) (held new) false
+SaysNo (Compare former operator latter) left other held out new =
+    (new ≡ out) × Compared (string_bytes former) operator (string_bytes latter) false
+SaysNo (CanonVersion version) left other held out new = ⊥
+SaysNo (Sort reverse) left other held out new = ⊥
+SaysNo (Query arch profiles relation) left other held out new =
+    (text : List ℕ) → left ≡ Some text
+    → WritesReport (asked arch profiles relation) text (held out) (held new) false
+
+-- Status 2: a file or a version is refused, exactly the refusal's line was written on `err`, by
+-- `same` behind the side of the file, and nothing on `out` but the canonical text of the paragraphs
+-- before the first that fails, by `normalise`.
+abbrev pub IsRefused : {W : Type 0} → Job → Option (List ℕ) → Option (List ℕ) →
+    (W → Option (List ℕ)) → W → W → Option (List ℕ) → Option (List ℕ) → Type 0
+IsRefused (Check doc) left other held out new err err_after =
+    (new ≡ out) × ReportsRefusal doc left err err_after
+IsRefused (Normalise doc) left other held out new err err_after =
+    ReportsRefusalBehind doc left (held out) (held new) err err_after
+IsRefused (Same doc) left other held out new err err_after =
+    (new ≡ out) × ReportsRefusedSide doc left other err err_after
+IsRefused (Compare former operator latter) left other held out new err err_after =
+    (new ≡ out) × (IsNoVersion (string_bytes former) ⊎ IsNoVersion (string_bytes latter))
+    × Appends err err_after (refusal_line bad_version)
+IsRefused (CanonVersion version) left other held out new err err_after =
+    (new ≡ out) × IsNoVersion (string_bytes version)
+    × Appends err err_after (refusal_line bad_version)
+IsRefused (Sort reverse) left other held out new err err_after =
+    (new ≡ out) × ReportsLineRefusal left err err_after
+IsRefused (Query arch profiles relation) left other held out new err err_after =
+    (new ≡ out) × ReportsQueryRefusal (asked arch profiles relation) left err err_after
+
+-- a reader before and after a job: its text before, if it is known, and its counts of failed calls
+pub record ReaderOfJob : Type 0 where
+  pub text : Option (List ℕ)
+  pub failures : ℕ
+  pub failures_after : ℕ
+
+abbrev pub reader_of : Option (List ℕ) → ℕ → ℕ → ReaderOfJob
+reader_of text failures failures_after =
+    record { text = text; failures = failures; failures_after = failures_after }
+
+-- a writer before and after a job
+pub record WriterOfJob (W : Type 0) : Type 0 where
+  pub held : W → Option (List ℕ)
+  pub failures : W → ℕ
+  pub old : W
+  pub new : W
+
+abbrev pub writer_of : {W : Type 0} → (W → Option (List ℕ)) → (W → ℕ) → W → W → WriterOfJob W
+writer_of held failures old new =
+    record { held = held; failures = failures; old = old; new = new }
+
+-- an answer is reported on a writer
+abbrev pub ReportsOn : {T E : Type 0} → WriterOfJob E → (T → ℕ) → Result T Fault → ℕ → Type 0
+ReportsOn err wanted answer status =
+    Reports wanted err.held err.failures err.old err.new answer status
+
+-- Whatever the status: there is an answer to the job, and it is reported.
+abbrev pub Reported : {W E : Type 0} → Job → ReaderOfJob → ReaderOfJob → WriterOfJob W
+    → WriterOfJob E → ℕ → Type 0
+Reported (Check doc) first second out err status =
+    (answer : Result ⊤ Fault)
+    × ChecksFile doc first.text first.failures first.failures_after
+    out.held out.failures out.old out.new answer
+    × ReportsOn err done_status answer status
+Reported (Normalise doc) first second out err status =
+    (answer : Result ℕ Fault)
+    × NormalisesFile doc first.text first.failures first.failures_after
+    out.held out.failures out.old out.new answer
+    × ReportsOn err done_status answer status
+Reported (Same doc) first second out err status =
+    (answer : Result Bool SideFault)
+    × ComparesFiles doc first.text second.text
+    first.failures first.failures_after second.failures second.failures_after answer
+    × ReportsComparison out.held out.failures out.old out.new err.held err.failures err.old err.new
+    answer status
+Reported (Compare left operator right) first second out err status =
+    (answer : Result Bool Fault)
+    × Compares (string_bytes left) operator (string_bytes right) answer × (out.new ≡ out.old)
+    × ReportsOn err verdict_status answer status
+Reported (CanonVersion version) first second out err status =
+    (answer : Result ⊤ Fault)
+    × Canonicalises (string_bytes version) out.held out.failures out.old out.new answer
+    × ReportsOn err done_status answer status
+Reported (Sort reverse) first second out err status =
+    (answer : Result ⊤ Fault)
+    × SortsFile reverse first.text first.failures first.failures_after
+    out.held out.failures out.old out.new answer
+    × ReportsOn err done_status answer status
+Reported (Query arch profiles relation) first second out err status =
+    (answer : Result Bool Fault)
+    × QueriesFile (asked arch profiles relation) first.text first.failures first.failures_after
+    out.held out.failures out.old out.new answer
+    × ReportsOn err verdict_status answer status
+
+-- A job that reads no file leaves the first reader as it was.
+abbrev pub IfUnread : Job → Type 0 → Type 0
+IfUnread (Check doc) P = Unit {0}
+IfUnread (Normalise doc) P = Unit {0}
+IfUnread (Same doc) P = Unit {0}
+IfUnread (Compare former operator latter) P = P
+IfUnread (CanonVersion version) P = P
+IfUnread (Sort reverse) P = Unit {0}
+IfUnread (Query arch profiles relation) P = Unit {0}
+
+-- Comparing two versions takes no memory.
+abbrev pub IfCompare : Job → Type 0 → Type 0
+IfCompare (Check doc) P = Unit {0}
+IfCompare (Normalise doc) P = Unit {0}
+IfCompare (Same doc) P = Unit {0}
+IfCompare (Compare former operator latter) P = P
+IfCompare (CanonVersion version) P = Unit {0}
+IfCompare (Sort reverse) P = Unit {0}
+IfCompare (Query arch profiles relation) P = Unit {0}
+
+-- Every job but `same` leaves the second reader as it was.
+abbrev pub IfSecondUnread : Job → Type 0 → Type 0
+IfSecondUnread (Check doc) P = P
+IfSecondUnread (Normalise doc) P = P
+IfSecondUnread (Same doc) P = Unit {0}
+IfSecondUnread (Compare former operator latter) P = P
+IfSecondUnread (CanonVersion version) P = P
+IfSecondUnread (Sort reverse) P = P
+IfSecondUnread (Query arch profiles relation) P = P
+
+-- A query whose words are refused leaves the first reader as it was.
+abbrev pub IfRefusedWords : Job → Type 0 → Type 0
+IfRefusedWords (Check doc) P = Unit {0}
+IfRefusedWords (Normalise doc) P = Unit {0}
+IfRefusedWords (Same doc) P = Unit {0}
+IfRefusedWords (Compare former operator latter) P = Unit {0}
+IfRefusedWords (CanonVersion version) P = Unit {0}
+IfRefusedWords (Sort reverse) P = Unit {0}
+IfRefusedWords (Query arch profiles relation) P = AreRefused (asked arch profiles relation) → P
+
+-- the words of a query are asked in their places
+words_asked : (arch relation : String Global) (profiles : Vec (String Global) Global)
+    → asked arch profiles relation ≡ record {
+      target = string_bytes arch;
+      profiles = map string_bytes profiles.items;
+      relation = string_bytes relation;
+    }
+words_asked arch relation profiles = refl
+
+-- a reader that has failed once before a job, and once more in it, and a writer that holds its
+-- bytes
+devices_of_job : (reader_of (Some (codes "a")) 1 2
+    ≡ record { text = Some (codes "a"); failures = 1; failures_after = 2 })
+    × (reader_of None 0 0 ≡ record { text = None; failures = 0; failures_after = 0 })
+    × ((writer_of Some (λ held. 3) (codes "a") (codes "ab")).old ≡ codes "a")
+    × ((writer_of Some (λ held. 3) (codes "a") (codes "ab")).new ≡ codes "ab")
+devices_of_job = (refl, refl, refl, refl)
+
+-- status 0 of `sort`, in the order that is asked
+done_of_sort : {W : Type 0} (text : List ℕ) (other : Option (List ℕ))
+    (held : W → Option (List ℕ)) (failures : W → ℕ) (out new : W)
+    → (Done (Sort true) (Some text) other held failures out new
+    ≡ ((read : List ℕ) → Some text ≡ Some read → WritesSorted true read (held out) (held new)))
+    × (Done (Sort false) (Some text) other held failures out new
+    ≡ ((read : List ℕ) → Some text ≡ Some read → WritesSorted false read (held out) (held new)))
+done_of_sort text other held failures out new = (refl, refl)
+
+-- statuses 0 and 1 of the jobs that answer a question
+answers_of_same : {W : Type 0} (doc : Doc) (left other : Option (List ℕ))
+    (held : W → Option (List ℕ)) (failures : W → ℕ) (out new : W)
+    → (Done (Same doc) left other held failures out new
+    ≡ WritesSame doc left other (held out) (held new) true)
+    × (SaysNo (Same doc) left other held out new
+    ≡ WritesSame doc left other (held out) (held new) false)
+answers_of_same doc left other held failures out new = (refl, refl)
+
+answers_of_compare : {W : Type 0} (one another : String Global) (operator : Cmp)
+    (left other : Option (List ℕ)) (held : W → Option (List ℕ)) (failures : W → ℕ) (out new : W)
+    → (Done (Compare one operator another) left other held failures out new
+    ≡ ((new ≡ out) × Compared (string_bytes one) operator (string_bytes another) true))
+    × (SaysNo (Compare one operator another) left other held out new
+    ≡ ((new ≡ out) × Compared (string_bytes one) operator (string_bytes another) false))
+answers_of_compare one another operator left other held failures out new = (refl, refl)
+
+answers_of_query : {W : Type 0} (arch relation : String Global)
+    (profiles : Vec (String Global) Global) (text : List ℕ) (other : Option (List ℕ))
+    (held : W → Option (List ℕ)) (failures : W → ℕ) (out new : W)
+    → (Done (Query arch profiles relation) (Some text) other held failures out new
+    ≡ ((read : List ℕ) → Some text ≡ Some read
+    → WritesReport (asked arch profiles relation) read (held out) (held new) true))
+    × (SaysNo (Query arch profiles relation) (Some text) other held out new
+    ≡ ((read : List ℕ) → Some text ≡ Some read
+    → WritesReport (asked arch profiles relation) read (held out) (held new) false))
+answers_of_query arch relation profiles text other held failures out new = (refl, refl)
+
+-- which jobs leave a reader as it was: the first, and the second
+unread : (doc : Doc) (one another : String Global) (operator : Cmp) (reverse : Bool) (P : Type 0)
+    → (IfUnread (Check doc) P ≡ Unit {0}) × (IfUnread (Normalise doc) P ≡ Unit {0})
+    × (IfUnread (Same doc) P ≡ Unit {0}) × (IfUnread (Compare one operator another) P ≡ P)
+    × (IfUnread (CanonVersion one) P ≡ P) × (IfUnread (Sort reverse) P ≡ Unit {0})
+unread doc one another operator reverse P = (refl, refl, refl, refl, refl, refl)
+
+second_unread : (doc : Doc) (one another : String Global) (operator : Cmp) (reverse : Bool)
+    (P : Type 0)
+    → (IfSecondUnread (Check doc) P ≡ P) × (IfSecondUnread (Normalise doc) P ≡ P)
+    × (IfSecondUnread (Same doc) P ≡ Unit {0})
+    × (IfSecondUnread (Compare one operator another) P ≡ P)
+    × (IfSecondUnread (CanonVersion one) P ≡ P) × (IfSecondUnread (Sort reverse) P ≡ P)
+second_unread doc one another operator reverse P = (refl, refl, refl, refl, refl, refl)
+
+-- what is said of a query alone, and of a comparison alone
+said_of_query : (arch relation : String Global) (profiles : Vec (String Global) Global) (P : Type 0)
+    → (IfUnread (Query arch profiles relation) P ≡ Unit {0})
+    × (IfSecondUnread (Query arch profiles relation) P ≡ P)
+    × (IfCompare (Query arch profiles relation) P ≡ Unit {0})
+    × (IfRefusedWords (Query arch profiles relation) P
+    ≡ (AreRefused (asked arch profiles relation) → P))
+said_of_query arch relation profiles P = (refl, refl, refl, refl)
+
+said_of_compare : (one another : String Global) (operator : Cmp) (P : Type 0)
+    → (IfCompare (Compare one operator another) P ≡ P)
+    × (IfRefusedWords (Compare one operator another) P ≡ Unit {0})
+said_of_compare one another operator P = (refl, refl)

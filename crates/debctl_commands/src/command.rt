@@ -1,0 +1,102 @@
+//! Runs a whole command, over two readers and two writers.
+
+ghost use Rattle.std.specs.Prelude.{◌≡◌, ◌<◌};
+ghost use Rattle.deb_base.specs.Devices.{one_more};
+ghost use Rattle.debctl_commands.specs.Running.{Done, IfCompare, IfRefusedWords, IfSecondUnread};
+ghost use Rattle.debctl_commands.specs.Running.{IfUnread, IsRefused, SaysNo, Reported, reader_of};
+ghost use Rattle.debctl_commands.specs.Running.{writer_of};
+ghost use Rattle.debctl_commands.specs.Taking.{TakesFile};
+
+use crate::document_jobs::{run_check, run_normalise};
+use crate::query_job::run_query;
+use crate::same_job::run_same;
+use crate::sort_job::run_sort;
+use crate::version_jobs::{run_canon_version, run_compare};
+use deb_base::{Sink, Source};
+use debctl_args::Job;
+use std::alloc::Global;
+
+/// Runs a job over readers and writers, reports on `err` why it failed, and returns the status.
+///
+/// `check`, `normalise`, `sort` and `query` read `first`, and `same` reads both. A reader that a
+/// job doesn't use is unchanged, and so is that of a `query` whose arguments are refused. At most
+/// 4,295,032,831 bytes are read from a reader: a file of the most bytes, and one piece.
+///
+/// - 0: done, or the answer is yes. `out` has `ok N` and a newline, the canonical text of the file,
+///   `same` and a newline, nothing, the canonical version and a newline, the sorted lines, or the
+///   report. Nothing was written to `err`.
+/// - 1: the answer of `same` or `compare` is no, or a group of a `query` is unmet. `out` has
+///   `different` and a newline for `same`, and the report for `query`; nothing else was written.
+/// - 2: a file or an argument is refused. `err` has the refusal's line, after `first: ` or `second:
+///   ` for `same`. `out` has nothing, except for `normalise`: the canonical text of the paragraphs
+///   before the first that fails.
+/// - 3: out of memory, or a read or a write failed; for `compare` only a write to `err`. `err` has
+///   `fault: memory`, `fault: read` or `fault: write`; if a write to `err` failed, a prefix of its
+///   line.
+pub fn run<R: Source, S: Source, W: Sink, E: Sink>(
+    alloc: Global,
+    job: &Job,
+    first: &mut R,
+    second: &mut S,
+    out: &mut W,
+    err: &mut E,
+) -> u8
+    ensures done { result ≡ 0 → (err.new ≡ err.old)
+        × Done job.now (R.left first.old) (S.left second.old) W.held W.failures out.old out.new }
+    ensures no { result ≡ 1 → (err.new ≡ err.old)
+        × SaysNo job.now (R.left first.old) (S.left second.old) W.held out.old out.new }
+    ensures refused { result ≡ 2
+        → IsRefused job.now (R.left first.old) (S.left second.old) W.held out.old out.new
+        (E.held err.old) (E.held err.new) }
+
+    // Where a call of a device failed, the status is 3.
+    ensures status_3_if_read_failed { R.failures first.old < R.failures first.new → result ≡ 3 }
+    ensures status_3_if_second_read_failed { S.failures second.old < S.failures second.new → result
+        ≡ 3 }
+    ensures status_3_if_write_failed { W.failures out.old < W.failures out.new → result ≡ 3 }
+    ensures status_3_if_err_failed { E.failures err.old < E.failures err.new → result ≡ 3 }
+
+    // What a job doesn't use.
+    ensures first_untouched_if_unused { IfUnread job.now (first.new ≡ first.old) }
+    ensures second_untouched_if_unused { IfSecondUnread job.now (second.new ≡ second.old) }
+    ensures first_untouched_if_refused { IfRefusedWords job.now (first.new ≡ first.old) }
+
+    // How much is taken of the readers, whatever the status.
+    ensures reads_at_most { TakesFile (R.left first.old) (R.left first.new) }
+    ensures second_reads_at_most { TakesFile (S.left second.old) (S.left second.new) }
+
+    // Comparing takes no memory: its status is 3 only where a write failed on `err`.
+    ensures compare_takes_no_memory { IfCompare job.now
+        (result ≡ 3 → E.failures err.new ≡ one_more (E.failures err.old)) }
+
+    // Whatever the status: there is an answer to the job, and that is reported.
+    ensures reports_answer { Reported job.now
+        (reader_of (R.left first.old) (R.failures first.old) (R.failures first.new))
+        (reader_of (S.left second.old) (S.failures second.old) (S.failures second.new))
+        (writer_of W.held W.failures out.old out.new)
+        (writer_of E.held E.failures err.old err.new) result }
+{
+    match job {
+        Job::Check(doc) => run_check(alloc, *doc, first, out, err),
+        Job::Normalise(doc) => run_normalise(alloc, *doc, first, out, err),
+        Job::Same(doc) => run_same(alloc, *doc, first, second, out, err),
+        Job::Compare(left, operator, right) => {
+            run_compare(left.as_str(), *operator, right.as_str(), err)
+        }
+        Job::CanonVersion(version) => run_canon_version(alloc, version.as_str(), out, err),
+        Job::Sort { reverse } => run_sort(alloc, *reverse, first, out, err),
+        Job::Query {
+            arch,
+            profiles,
+            relation,
+        } => run_query(
+            alloc,
+            arch.as_str(),
+            profiles,
+            relation.as_str(),
+            first,
+            out,
+            err,
+        ),
+    }
+}

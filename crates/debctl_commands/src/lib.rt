@@ -1,0 +1,39 @@
+//! The commands of the program `debctl`, over readers and writers, and over the files and streams
+//! of the system.
+//!
+//! - [`run`] runs a job over readers and writers, reports on one of them why it failed, and returns
+//!   the status. It opens no path and uses no stream of the system.
+//! - [`run_explain`] writes why a text is refused, [`run_unopened`] why a file can't be opened,
+//!   [`run_word`] why a text isn't a relation or a version, [`run_rule`] what an error code means,
+//!   and [`run_audit`] whether each of many files is accepted.
+//! - [`run_program`] runs the task that the program's arguments ask for: it opens the paths, passes
+//!   the files and the standard streams to these functions, and flushes the output.
+#![tactic(auto)]
+
+mod audit_job;
+mod command;
+mod cut_off;
+mod document_jobs;
+mod explain_job;
+mod explained_text;
+mod file_or_nothing;
+mod listed;
+mod opening;
+mod opens;
+mod query_job;
+mod reader;
+mod reporting;
+mod same_job;
+mod sort_job;
+mod streams;
+mod unopened;
+mod version_jobs;
+mod writer;
+
+pub use audit_job::{AuditOptions, run_audit};
+pub use command::run;
+pub use explain_job::{run_explain, run_rule, run_unopened, run_word};
+pub use opening::run_call;
+pub use opens::Opens;
+pub use streams::run_program;
+pub use unopened::Unopened;

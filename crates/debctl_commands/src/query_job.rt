@@ -1,0 +1,153 @@
+//! The job on an index and a relation: `query`.
+
+ghost use Rattle.std.specs.Prelude.{◌≡◌, ◌<◌, ℕ, List, Some, Bool, true, false, map, Result};
+ghost use Rattle.std.specs.Prelude.{string_bytes, IfErr, IfOk};
+ghost use Rattle.deb_base.specs.Faults.{RefusedOrMemory};
+ghost use Rattle.deb_base.specs.declared.fault.Fault.{Fault};
+ghost use Rattle.deb_relation.specs.Views.{names_of};
+ghost use Rattle.deb_index.specs.Asked.{environment_asked, relation_asked, Asks};
+ghost use Rattle.deb_index.specs.Indexes.{packages_of};
+ghost use Rattle.deb_index.specs.Questions.{question, Question as Words, RefusesWords};
+ghost use Rattle.debctl_commands.specs.QueryJob.{AreRefused, QueriesFile, ReportsOver};
+ghost use Rattle.debctl_commands.specs.QueryJob.{ReportsQueryRefusal, WritesReport};
+ghost use Rattle.debctl_commands.specs.Reporting.{Reports};
+ghost use Rattle.debctl_commands.specs.Taking.{TakesFile};
+ghost use Rattle.debctl_commands.specs.VersionJobs.{verdict_status};
+
+use crate::reporting::report_fault;
+use deb_base::{Fault, Sink, Source};
+use deb_index::{Index, Question};
+use std::alloc::{AllocError, Global};
+
+/// Writes to `out` which packages of an index meet a relation, and returns the status.
+///
+/// - 0 and 1: the report was written, and nothing to `err`. No group is unmet, or some group is.
+/// - 2: the relation, the target or a profile, the index, or a wildcard in an architecture list is
+///   refused, in this order. Nothing was written to `out`, and the refusal's line on `err`. The
+///   reader isn't asked before the relation, the target and the profiles are good.
+/// - 3: out of memory, a read failed, or a write failed. `err` has the fault's line; if a
+///   write to `err` failed, a prefix of its line.
+pub(crate) fn run_query<R: Source, W: Sink, E: Sink>(
+    alloc: Global,
+    target: &str,
+    profiles: &[String],
+    relation: &str,
+    first: &mut R,
+    out: &mut W,
+    err: &mut E,
+) -> u8
+    ensures yes { result ≡ 0 → (err.new ≡ err.old)
+        × ((text : List ℕ) → R.left first.old ≡ Some text
+        → WritesReport (question target.now (map string_bytes profiles.now) relation.now) text
+        (W.held out.old) (W.held out.new) true) }
+    ensures no { result ≡ 1 → (err.new ≡ err.old)
+        × ((text : List ℕ) → R.left first.old ≡ Some text
+        → WritesReport (question target.now (map string_bytes profiles.now) relation.now) text
+        (W.held out.old) (W.held out.new) false) }
+    ensures refused { result ≡ 2 → (out.new ≡ out.old)
+        × ReportsQueryRefusal (question target.now (map string_bytes profiles.now) relation.now)
+        (R.left first.old) (E.held err.old) (E.held err.new) }
+    ensures reads_at_most { TakesFile (R.left first.old) (R.left first.new) }
+    ensures first_untouched_if_refused { AreRefused
+        (question target.now (map string_bytes profiles.now) relation.now)
+        → first.new ≡ first.old }
+
+    // Where a call of a device failed, the status is 3.
+    ensures status_3_if_read_failed { R.failures first.old < R.failures first.new → result ≡ 3 }
+    ensures status_3_if_write_failed { W.failures out.old < W.failures out.new → result ≡ 3 }
+    ensures status_3_if_err_failed { E.failures err.old < E.failures err.new → result ≡ 3 }
+
+    // Whatever the status: there is an answer, and that is reported.
+    ensures reports_answer { (answer : Result Bool Fault)
+        × QueriesFile (question target.now (map string_bytes profiles.now) relation.now)
+        (R.left first.old) (R.failures first.old) (R.failures first.new)
+        W.held W.failures out.old out.new answer
+        × Reports verdict_status E.held E.failures err.old err.new answer result }
+{
+    match write_report(alloc, target, profiles, relation, first, out) {
+        Ok(true) => 0,
+        Ok(false) => 1,
+        Err(fault) => report_fault(&fault, err),
+    }
+}
+
+/// Writes the report, and returns whether no group is unmet.
+fn write_report<R: Source, W: Sink>(
+    alloc: Global,
+    target: &str,
+    profiles: &[String],
+    relation: &str,
+    first: &mut R,
+    out: &mut W,
+) -> Result<bool, Fault>
+    ensures queries { QueriesFile
+        (question target.now (map string_bytes profiles.now) relation.now)
+        (R.left first.old) (R.failures first.old) (R.failures first.new)
+        W.held W.failures out.old out.new result }
+    ensures reads_at_most { TakesFile (R.left first.old) (R.left first.new) }
+    ensures first_untouched_if_refused { AreRefused
+        (question target.now (map string_bytes profiles.now) relation.now)
+        → first.new ≡ first.old }
+{
+    let question = parse_question(alloc, target, profiles, relation)?;
+    write_answer(alloc, &question, first, out)
+}
+
+/// Parses the question that the command-line arguments ask.
+fn parse_question<'a>(
+    alloc: Global,
+    target: &str,
+    profiles: &[String],
+    relation: &'a str,
+) -> Result<Question<'a>, Fault>
+    ensures ok { IfOk result
+        (Asks (question target.now (map string_bytes profiles.now) relation.now)) }
+    ensures fault { IfErr result
+        (λ fault. RefusedOrMemory fault
+        (RefusesWords (question target.now (map string_bytes profiles.now) relation.now))) }
+{
+    let names = names_of(alloc, profiles)?;
+    Question::parse(alloc, target.as_bytes(), &names, relation.as_bytes())
+}
+
+fn names_of<'a>(alloc: Global, words: &'a [String]) -> Result<Vec<&'a [u8]>, AllocError>
+    ensures { IfOk result (λ names. names_of names.items ≡ map string_bytes words.now) }
+{
+    let mut names = Vec::new(alloc);
+    for word in words {
+        names.push(word.as_bytes())?;
+    }
+    Ok(names)
+}
+
+/// Reads an index, writes to `out` the report of a question to it, and returns whether no group is
+/// unmet.
+fn write_answer<R: Source, W: Sink>(
+    alloc: Global,
+    question: &Question<'_>,
+    first: &mut R,
+    out: &mut W,
+) -> Result<bool, Fault>
+    ensures queries { (words : Words) → Asks words question.now
+        → QueriesFile words (R.left first.old) (R.failures first.old) (R.failures first.new)
+        W.held W.failures out.old out.new result }
+    ensures reads_at_most { TakesFile (R.left first.old) (R.left first.new) }
+{
+    let index = Index::read(alloc, first)?;
+    write_over(alloc, &index, question, out)
+}
+
+/// Writes the report of a question to an index, and returns whether no group is unmet.
+fn write_over<W: Sink>(
+    alloc: Global,
+    index: &Index,
+    question: &Question<'_>,
+    out: &mut W,
+) -> Result<bool, Fault>
+    ensures { ReportsOver (packages_of index.now) (relation_asked question.now)
+        (environment_asked question.now) W.held W.failures out.old out.new result }
+{
+    let report = index.ask(alloc, question)?;
+    report.write(out)?;
+    Ok(report.all_met())
+}

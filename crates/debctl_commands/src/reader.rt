@@ -1,0 +1,104 @@
+//! The readers of the program: files by their paths, and standard input.
+
+ghost use Rattle.std.specs.Prelude.{⊤, None};
+
+use crate::opens::Opens;
+use crate::unopened::Unopened;
+use deb_base::Input;
+use std::fs::File;
+use std::io::{self, ErrorKind, Read, Stdin};
+
+/// A file of the system, or standard input.
+#[derive(Drop)]
+pub(crate) enum Reader {
+    Opened(File),
+    Standard(Stdin),
+}
+
+impl Read for Reader {
+    fn read(&mut self, buffer: &mut [u8]) -> io::Result<usize> {
+        match self {
+            Reader::Opened(file) => file.read(buffer),
+            Reader::Standard(stdin) => stdin.read(buffer),
+        }
+    }
+}
+
+/// The file of a path, or standard input for `-`. A directory can be opened, but not read.
+pub(crate) fn opened(rt: &HostRuntime, path: &str) -> Result<Reader, Unopened> {
+    if path == "-" {
+        return Ok(Reader::Standard(rt.stdin()));
+    }
+    match open_file(rt, path) {
+        Ok(file) => Ok(Reader::Opened(file)),
+        Err(error) => Err(unopened(&error)),
+    }
+}
+
+fn open_file(rt: &HostRuntime, path: &str) -> io::Result<File> {
+    let file = File::open(rt, path)?;
+    if file.metadata()?.is_dir() {
+        return Err(io::Error::from(ErrorKind::IsADirectory));
+    }
+    Ok(file)
+}
+
+/// Why a file can't be opened, by the system's error.
+fn unopened(error: &io::Error) -> Unopened {
+    match error.kind() {
+        ErrorKind::NotFound => Unopened::NotFound,
+        ErrorKind::PermissionDenied => Unopened::PermissionDenied,
+        ErrorKind::NotADirectory => Unopened::NotADirectory,
+        ErrorKind::IsADirectory => Unopened::IsADirectory,
+        ErrorKind::FilesystemLoop => Unopened::FilesystemLoop,
+        ErrorKind::InvalidFilename => Unopened::InvalidFilename,
+        _ => match error.raw_os_error() {
+            Some(number) if number > 0 => Unopened::System(number as u64),
+            _ => Unopened::Other,
+        },
+    }
+}
+
+/// The files of the system. A path that isn't UTF-8 can't be opened.
+#[derive(Drop)]
+pub(crate) struct SystemFiles<'a> {
+    rt: &'a HostRuntime,
+    failures: u64,
+}
+
+impl<'a> SystemFiles<'a> {
+    /// Returns the files of the system, with no failed opening.
+    pub(crate) fn new(rt: &'a HostRuntime) -> SystemFiles<'a> {
+        SystemFiles { rt, failures: 0 }
+    }
+}
+
+impl Opens for SystemFiles<'_> {
+    type Reader = Input<Reader>;
+
+    ghost text = { λ files path. None };
+
+    ghost failures = { λ files. files.failures };
+
+    ghost opens = { λ files path opened after. ⊤ };
+
+    fn open(&mut self, path: &[u8]) -> Result<Input<Reader>, Unopened> {
+        if self.failures == u64::MAX {
+            return Err(Unopened::Other);
+        }
+        match opened_by_bytes(self.rt, path) {
+            Ok(reader) => Ok(Input::new(reader)),
+            Err(why) => {
+                self.failures += 1;
+                Err(why)
+            }
+        }
+    }
+}
+
+fn opened_by_bytes(rt: &HostRuntime, path: &[u8]) -> Result<Reader, Unopened> {
+    match str::from_utf8(path) {
+        Ok(path) => opened(rt, path),
+        Err(_) => Err(Unopened::NotUtf8),
+    }
+}

@@ -1,0 +1,235 @@
+//! Runs the program with the arguments, files and standard streams of the system.
+
+use crate::audit_job::{AuditOptions, record_end, run_audit, run_without_list};
+use crate::cut_off::run_cut_off;
+use crate::explain_job::{run_explain, run_rule, run_unopened, run_word};
+use crate::explained_text::{DecidingText, read_to_refusal};
+use crate::listed::listed_paths;
+use crate::opening::run_call;
+use crate::reader::{SystemFiles, opened};
+use crate::reporting::{report_fault, report_usage};
+use crate::unopened::Unopened;
+use crate::writer::{Records, Streams, write_out};
+use deb_base::{Fault, Input, Output, Sink};
+use deb_explain::Word;
+use deb_field::Doc;
+use deb_syntax::FILE_LIMIT;
+use debctl_args::{Audit, Call, Explain, Files, LineEnd, Task, UsageFault, job_of};
+use std::alloc::Global;
+use std::env;
+use std::fs::File;
+use std::io::{self, ErrorKind};
+
+/// Runs the task that the program's arguments ask for, and returns the status.
+///
+/// A closed standard stream fails at each call, whichever files are opened.
+pub fn run_program(rt: &HostRuntime) -> u8 {
+    let _stand_ins = stand_ins(rt);
+    match task_of(rt) {
+        Ok(task) => answer(rt, &task),
+        Err(fault) => report_no_task(rt, &fault),
+    }
+}
+
+/// Opens the root directory three times, so that it takes the numbers of closed standard streams,
+/// which the system would else give to the first files of the job. It can be neither read nor
+/// written. Where it can't be opened, the program goes on without it.
+fn stand_ins(rt: &HostRuntime) -> [io::Result<File>; 3] {
+    [
+        File::open(rt, "/"),
+        File::open(rt, "/"),
+        File::open(rt, "/"),
+    ]
+}
+
+/// What the program's words ask for.
+fn task_of(rt: &HostRuntime) -> Result<Task, UsageFault> {
+    let mut words = Vec::new(rt.alloc());
+    match env::args(rt) {
+        Ok(args) => {
+            for word in args {
+                if words.push(word).is_err() {
+                    return Err(UsageFault::Memory);
+                }
+            }
+        }
+        Err(error) if error.kind() == ErrorKind::OutOfMemory => return Err(UsageFault::Memory),
+        Err(_) => {
+            let text = String::from_str(rt.alloc(), "usage: a word isn't UTF-8")?;
+            return Err(UsageFault::Usage(text));
+        }
+    }
+    job_of(rt.alloc(), words.as_slice())
+}
+
+/// Tells why the words ask for no job, or the help that they ask for, and returns the status.
+fn report_no_task(rt: &HostRuntime, fault: &UsageFault) -> u8 {
+    report_usage(
+        fault,
+        &mut Output::new(rt.stdout()),
+        &mut Output::new(rt.stderr()),
+    )
+}
+
+/// Does the task, and returns the status.
+fn answer(rt: &HostRuntime, task: &Task) -> u8 {
+    let answered = match task {
+        Task::Run(call) => run_on_streams(rt, call),
+        Task::Explain(wanted) => explain_on_streams(rt, wanted),
+        Task::Audit(audit) => audit_on_streams(rt, audit),
+    };
+    match answered {
+        Ok(status) => status,
+        Err(fault) => report_fault(&fault, &mut Output::new(rt.stderr())),
+    }
+}
+
+/// Does the job of a call over the files of the system, and writes out what it has written.
+fn run_on_streams(rt: &HostRuntime, call: &Call) -> Result<u8, Fault> {
+    let Streams { mut out, mut err } = Streams::new(rt)?;
+    let status = run_call(
+        rt.alloc(),
+        call,
+        &mut SystemFiles::new(rt),
+        &mut Output::new(&mut out),
+        &mut Output::new(&mut err),
+    );
+    write_out(out, err, status)
+}
+
+/// Reports why a file or a word is refused, or what a code means.
+fn explain_on_streams(rt: &HostRuntime, wanted: &Explain) -> Result<u8, Fault> {
+    let Streams { mut out, mut err } = Streams::new(rt)?;
+    let status = explain_by(
+        rt,
+        wanted,
+        &mut Output::new(&mut out),
+        &mut Output::new(&mut err),
+    )?;
+    write_out(out, err, status)
+}
+
+/// Tells that on two sinks, and returns the status.
+fn explain_by<W: Sink, E: Sink>(
+    rt: &HostRuntime,
+    wanted: &Explain,
+    out: &mut W,
+    err: &mut E,
+) -> Result<u8, Fault> {
+    match wanted {
+        Explain::File {
+            doc,
+            path: Some(path),
+        } => explain_file(rt, *doc, path.as_str(), out, err),
+        Explain::File { doc, path: None } => explain_file(rt, *doc, "-", out, err),
+        Explain::Rule(code) => Ok(run_rule(*code, out, err)),
+        Explain::Relation(text) => {
+            Ok(run_word(rt.alloc(), Word::Relation, text.as_str(), out, err))
+        }
+        Explain::Version(text) => Ok(run_word(rt.alloc(), Word::Version, text.as_str(), out, err)),
+    }
+}
+
+/// Reports why the file of a path is refused, or why it can't be opened.
+fn explain_file<W: Sink, E: Sink>(
+    rt: &HostRuntime,
+    doc: Doc,
+    path: &str,
+    out: &mut W,
+    err: &mut E,
+) -> Result<u8, Fault> {
+    match opened(rt, path) {
+        Ok(reader) => {
+            let text = read_to_refusal(rt.alloc(), &mut Input::new(reader))?;
+            Ok(explain_text(rt.alloc(), doc, path.as_bytes(), &text, out, err))
+        }
+        Err(why) => Ok(run_unopened(path.as_bytes(), why, out, err)),
+    }
+}
+
+/// Reports why a file is refused, by the bytes that decide it.
+fn explain_text<W: Sink, E: Sink>(
+    alloc: Global,
+    doc: Doc,
+    path: &[u8],
+    text: &DecidingText,
+    out: &mut W,
+    err: &mut E,
+) -> u8 {
+    if text.is_cut_off {
+        run_cut_off(alloc, doc, path, text.bytes.as_slice(), out, err)
+    } else {
+        run_explain(alloc, doc, path, text.bytes.as_slice(), out, err)
+    }
+}
+
+/// Audits the files of the paths that the words or a list have.
+fn audit_on_streams(rt: &HostRuntime, audit: &Audit) -> Result<u8, Fault> {
+    let options = AuditOptions {
+        doc: audit.doc,
+        end: audit.end,
+    };
+    match &audit.files {
+        Files::Paths(words) => audit_words(rt, options, words),
+        Files::Listed(path) => audit_listed(rt, options, path.as_str()),
+    }
+}
+
+/// Audits the files of the paths among the arguments.
+fn audit_words(rt: &HostRuntime, options: AuditOptions, words: &[String]) -> Result<u8, Fault> {
+    let mut paths = Vec::new(rt.alloc());
+    for word in words {
+        paths.push(word.as_bytes())?;
+    }
+    audit_paths(rt, options, paths.as_slice())
+}
+
+/// Audits the files of the paths that a file lists.
+fn audit_listed(rt: &HostRuntime, options: AuditOptions, path: &str) -> Result<u8, Fault> {
+    match opened(rt, path) {
+        Ok(reader) => {
+            let list = read_text(rt.alloc(), &mut Input::new(reader), FILE_LIMIT)?;
+            audit_list(rt, options, list.as_slice())
+        }
+        Err(why) => report_without_list(rt, options.end, path, why),
+    }
+}
+
+/// Audits the files of the paths that a list has.
+fn audit_list(rt: &HostRuntime, options: AuditOptions, list: &[u8]) -> Result<u8, Fault> {
+    let paths = listed_paths(rt.alloc(), list)?;
+    audit_paths(rt, options, paths.as_slice())
+}
+
+/// Reports that the list of the paths can't be opened.
+fn report_without_list(
+    rt: &HostRuntime,
+    end: LineEnd,
+    path: &str,
+    why: Unopened,
+) -> Result<u8, Fault> {
+    let Streams { mut out, mut err } = Streams::new(rt)?;
+    let status = run_without_list(
+        end,
+        path.as_bytes(),
+        why,
+        &mut Output::new(&mut out),
+        &mut Output::new(&mut err),
+    );
+    write_out(out, err, status)
+}
+
+/// Audits the files of some paths, and writes out the record of each.
+fn audit_paths(rt: &HostRuntime, options: AuditOptions, paths: &[&[u8]]) -> Result<u8, Fault> {
+    let Streams { out, mut err } = Streams::new(rt)?;
+    let mut records = Records::new(out, record_end(options.end));
+    let status = run_audit(
+        rt.alloc(),
+        options,
+        paths,
+        &mut SystemFiles::new(rt),
+        &mut Output::new(&mut records),
+        &mut Output::new(&mut err),
+    );
+    write_out(records.into_buffer(), err, status)
+}

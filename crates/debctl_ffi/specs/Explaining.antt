@@ -1,0 +1,87 @@
+-- What is answered to a program in C of why a file is refused: Debian Policy 5.1, 5.3 to 5.6 and
+-- 7.1. The lines are those of the program `debctl explain`, without the one of the file's path;
+-- their form is this project's own.
+use Rattle.std.specs.Prelude.{◌≡◌, ◌⊎◌, ℕ, List, [], ◌∷◌, ◌++◌, Some, codes, refl}
+use Rattle.std.specs.Fmt.{decimal, digits}
+use Rattle.deb_base.specs.Bodies.{newline}
+use Rattle.deb_base.specs.declared.doc.Doc.{Doc}
+use Rattle.deb_control.specs.Calls.{HasParagraphs}
+use Rattle.deb_control.specs.Documents.{refusal_of}
+use Rattle.deb_explain.specs.Explanations.{WhyRefused, explanation_of}
+use Rattle.deb_explain.specs.Texts.{code_lines, explanation_text, file_line, line_number, rule_lines, subject_text}
+use Rattle.debctl_ffi.specs.Answers.{counting, refusing}
+use Rattle.debctl_ffi.specs.Buffers.{Gives, LacksRoom}
+use Rattle.debctl_ffi.specs.Documents.{kind_number}
+use Rattle.debctl_ffi.specs.declared.answer.Answer.{Answer}
+
+-- ---- lines
+
+-- the line of an accepted file, with the number of its paragraphs
+abbrev pub ok_line : ℕ → List ℕ
+ok_line n = codes "ok " ++ (decimal n ++ newline ∷ [])
+
+-- the lines of a refused one
+abbrev pub explanation_lines : WhyRefused → List ℕ
+explanation_lines why =
+    line_number why.refusal.line
+    ++ (code_lines why.refusal.code
+    ++ (subject_text why.refusal.line why.about ++ rule_lines why.refusal.code))
+
+-- they are those that stand behind the line of a path, whatever it is
+behind_a_path : (path : List ℕ) (why : WhyRefused)
+    → explanation_text path why ≡ file_line path ++ explanation_lines why
+behind_a_path path why = refl
+
+lines_of_accepted_files : (ok_line 0 ≡ codes "ok 0\n") × (ok_line 120 ≡ codes "ok 120\n")
+unfolding digits
+lines_of_accepted_files = (refl, refl)
+
+-- ---- what is told of a file
+
+-- The file is accepted, and these are its answer and its line.
+pub record AcceptedText (doc : Doc) (text : List ℕ) (answer : Answer) (bytes : List ℕ)
+    : Type 0 where
+  pub has : HasParagraphs doc text answer.count
+  pub is : answer ≡ counting 0 answer.count
+  pub line : bytes ≡ ok_line answer.count
+
+-- The file is refused, and these are the answer of that refusal and the lines of its explanation.
+pub record RefusedText (doc : Doc) (text : List ℕ) (answer : Answer) (bytes : List ℕ)
+    : Type 0 where
+  pub why : WhyRefused
+  pub explained : explanation_of doc text ≡ Some why
+  pub refused : refusal_of doc text ≡ Some why.refusal
+  pub is : answer ≡ refusing 2 why.refusal
+  pub lines : bytes ≡ explanation_lines why
+
+abbrev pub ExplainedText : Doc → List ℕ → Answer → List ℕ → Type 0
+ExplainedText doc text answer bytes =
+    AcceptedText doc text answer bytes ⊎ RefusedText doc text answer bytes
+
+-- ---- answers
+
+-- The file is accepted, and its line is given; or it is refused, and its lines are; or there is no
+-- room for what is told of it.
+pub record ExplainsAccepted (kind : ℕ) (text before after : List ℕ) (len : ℕ) (answer : Answer)
+    : Type 0 where
+  pub doc : Doc
+  pub is_kind : kind ≡ kind_number doc
+  pub bytes : List ℕ
+  pub explains : AcceptedText doc text answer bytes
+  pub gives : Gives bytes before after len
+
+pub record ExplainsRefused (kind : ℕ) (text before after : List ℕ) (len : ℕ) (answer : Answer)
+    : Type 0 where
+  pub doc : Doc
+  pub is_kind : kind ≡ kind_number doc
+  pub bytes : List ℕ
+  pub explains : RefusedText doc text answer bytes
+  pub gives : Gives bytes before after len
+
+pub record LacksRoomForLines (kind : ℕ) (text before after : List ℕ) (len : ℕ) : Type 0 where
+  pub doc : Doc
+  pub is_kind : kind ≡ kind_number doc
+  pub answer : Answer
+  pub bytes : List ℕ
+  pub explains : ExplainedText doc text answer bytes
+  pub lacks : LacksRoom bytes before after len

@@ -1,0 +1,23 @@
+//! The library for programs in C, and in every language that calls C; `include/debctl.h` declares
+//! it.
+//!
+//! Each function takes texts in memory and returns its answer by value; it writes a text to a
+//! buffer of the caller. Nothing is kept between calls. The answers are those of the crates that
+//! this one depends on, and the clauses repeat their promises.
+//!
+//! ```c
+//! struct deb_comparison told = deb_version_compare(left, left_length, right, right_length);
+//! if (told.status == DEB_YES && told.order < 0)
+//!     puts("the first is earlier");
+//! ```
+#![tactic(auto)]
+
+mod answer;
+mod buffer;
+mod documents;
+mod explanation;
+mod files;
+mod kind;
+mod query;
+mod report;
+mod versions;

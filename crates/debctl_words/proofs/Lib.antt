@@ -1,4 +1,0 @@
-pub mod Answering
-pub mod Shapes
-pub mod TakenWords
-pub mod UnmixedKinds
