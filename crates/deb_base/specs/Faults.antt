@@ -15,11 +15,11 @@ MatchFault Write refused memory read write = write
 abbrev pub IfRefused : Fault → (Refusal → Type 0) → Type 0
 IfRefused fault refused = MatchFault fault refused (Unit {0}) (Unit {0}) (Unit {0})
 
--- a refusal with this fact, or want of memory: nothing was read or written
+-- a refusal with this fact, or out of memory: nothing was read or written
 abbrev pub RefusedOrMemory : Fault → (Refusal → Type 0) → Type 0
 RefusedOrMemory fault refused = MatchFault fault refused (Unit {0}) ⊥ ⊥
 
--- a refusal with this fact, want of memory or a failed read: nothing was written
+-- a refusal with this fact, out of memory or a failed read: nothing was written
 abbrev pub IsReadersFault : Fault → (Refusal → Type 0) → Type 0
 IsReadersFault fault refused = MatchFault fault refused (Unit {0}) (Unit {0}) ⊥
 

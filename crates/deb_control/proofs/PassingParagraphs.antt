@@ -20,7 +20,7 @@ built-unrefused doc seen passes refusal is = let found = built-passing doc seen 
     go : (r : Result Entries Refusal) (entries : Entries) → r ≡ Ok entries → r ≡ Err refusal → ⊥
     go r entries e f = cc
 
--- a fault that is no refusal is want of memory
+-- a fault that is no refusal is out of memory
 pub only_memory : (fault : Fault) (P : Refusal → Type 0) → RefusedOrMemory fault P → ((refusal : Refusal) → P refusal → ⊥) → fault ≡ Memory
 only_memory (Refused refusal) P is none = absurd (none refusal is)
 only_memory Memory P is none = refl

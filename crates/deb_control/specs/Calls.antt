@@ -14,7 +14,7 @@ use Rattle.deb_control.specs.Canonical.{file_text}
 use Rattle.deb_control.specs.Documents.{rules_of, Meaning, Accepted, canonical_text, refusal_of, out_of}
 use Rattle.deb_control.specs.Refusals.{outcome}
 
--- a fact for the answer that the file is refused, and one each for want of memory, a failed read
+-- a fact for the answer that the file is refused, and one each for out of memory, a failed read
 -- and a failed write
 abbrev pub IfRefused : {T : Type 0} → Result T Fault → (Refusal → Type 0) → Type 0
 IfRefused (Ok _) P = Unit {0}

@@ -1,6 +1,6 @@
 -- How a path is shown in a line: no byte of it ends the line or reaches a terminal as a control
 -- character, and no two paths are shown alike. The rules are this project's own.
-use Rattle.std.specs.Prelude.{◌≡◌, ℕ, ◌==◌, ◌&&◌, ◌||◌, not, Bool, true, false, cond, nat_le}
+use Rattle.std.specs.Prelude.{◌≡◌, ℕ, ◌==◌, ◌&&◌, ◌||◌, not, Bool, false, cond, nat_le}
 use Rattle.std.specs.Prelude.{nat_lt, List, [], ◌∷◌, ◌++◌, codes, refl}
 use Rattle.std.specs.List.{flat_map}
 use Rattle.std.specs.Str.{is_utf8, chars}

@@ -25,7 +25,7 @@ takes_memory kinds.Folded = false
 takes_memory (kinds.Relation sort) = true
 takes_memory kinds.Text = false
 
--- The fault tells this refusal; want of memory says nothing of it.
+-- The fault tells this refusal; out of memory says nothing of it.
 abbrev pub IsFaultOrMemory : Option Code → ValueFault → Type 0
 IsFaultOrMemory refusal (Refused code) = refusal ≡ Some code
 IsFaultOrMemory refusal Memory = Unit {0}

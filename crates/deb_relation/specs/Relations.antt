@@ -18,7 +18,7 @@ worked-relation : (relation : Groups) (a b : Alternatives) → relation.groups.i
     → relation_of relation ≡ group_of a ∷ group_of b ∷ []
 worked-relation relation a b = ap (map group_of)
 
--- The fault is the first of the text; want of memory says nothing of it.
+-- The fault is the first of the text; out of memory says nothing of it.
 abbrev pub Tells : Option (Reason × ℕ) → RelationFault → Type 0
 Tells fault (Bad reason at) = fault ≡ Some (reason, at)
 Tells fault Memory = Unit {0}

@@ -5,7 +5,7 @@ use Rattle.deb_relation.specs.declared.fault.Stop.{Stop}
 use Rattle.deb_relation.specs.declared.fault.Stop.TheVariants.{Bad, Memory}
 use Rattle.deb_relation.specs.Reading.{Stopped}
 
--- The answer is that of the reading, by a view of what was read; want of memory says nothing of it.
+-- The answer is that of the reading, by a view of what was read; out of memory says nothing of it.
 abbrev pub Gives : {A B : Type 0} → Result A Stop → (A → B) → Result B Stopped → Type 0
 Gives (Ok a) view reading = reading ≡ Ok (view a)
 Gives (Err (Bad reason left)) view reading = reading ≡ Err (reason, left)

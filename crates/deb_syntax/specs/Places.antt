@@ -99,7 +99,7 @@ pub record StandsAt (text : List ℕ) (start : ℕ) (places : List Place) (names
   pub reached : IsTrue (ends_before start places)
   pub kept : Keeps (map (name_at text) places) names
 
--- the fault is the refusal that is judged, or want of memory
+-- the fault is the refusal that is judged, or out of memory
 abbrev pub IsFaultOf : Result (List Field) Refusal → Fault → Type 0
 IsFaultOf judgement (Refused refusal) = judgement ≡ Err refusal
 IsFaultOf judgement Memory = Unit {0}

@@ -46,7 +46,7 @@ task_is_asked None result answers = absurd answers
 task_is_asked (Some asked) (Ok task) answers = ap Some answers
 task_is_asked (Some asked) (Err error) answers = tt
 
--- a task is refused for want of memory alone
+-- a task is refused only when it is out of memory
 pub asked_is_met : (asked : Option Asked) (request : Request) (result : Result Task UsageFault) → AnswersMet asked result → asked ≡ Some (asks request) → IfErr result (λ error. error ≡ Memory)
 asked_is_met asked request (Ok task) answers is = tt
 asked_is_met None request (Err error) answers is = absurd answers
@@ -93,7 +93,7 @@ kind_means kinds asked error (Help text) unmixed (inl memory) is = let bad : fal
 kind_means kinds asked error (Help text) unmixed (inr among) is = inl (requests kinds unmixed.is (is_among is_request_kind kinds (kind_of error) among is))
 kind_means kinds asked error Memory unmixed has is = tt
 
--- and want of memory by nothing else
+-- and out of memory by nothing else
 pub memory_is_reported : (kind : ErrorKind) (told : UsageFault) → FitsKind kind told → kind ≡ OutOfMemory → told ≡ Memory
 memory_is_reported kind (Usage text) (is, isnt) memory = absurd (isnt memory)
 memory_is_reported kind (Help text) is memory = let bad : false ≡ true = ap is_request_kind (sym memory) ∙ is in cc

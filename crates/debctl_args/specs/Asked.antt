@@ -400,13 +400,13 @@ MeansKind asked (Ok kind) = asked ≡ Some kind
 MeansKind (Some kind) (Err error) = error ≡ Memory
 MeansKind None (Err error) = AnswersError unknown_kind error
 
--- help, or want of memory
+-- help, or out of memory
 abbrev pub IsHelp : UsageFault → Type 0
 IsHelp (Usage text) = ⊥
 IsHelp (Help text) = Unit {0}
 IsHelp Memory = Unit {0}
 
--- a usage fault with this text, or want of memory
+-- a usage fault with this text, or out of memory
 abbrev pub UsesText : Text → UsageFault → Type 0
 UsesText text (Usage told) = string_bytes told ≡ text
 UsesText text (Help told) = ⊥

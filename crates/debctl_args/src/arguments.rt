@@ -1,7 +1,7 @@
 //! Parses the command-line arguments: which task they ask for, or why there is none.
 
-ghost use Rattle.std.specs.Prelude.{◌≡◌, [], Some, None, map, true, codes, string_bytes, option_map, IfOk, IfErr, option_copied};
-ghost use Rattle.clap.specs.Words.{fault_of, first_of, found_of, has_subcommand, kind_of, rows_of, subcommand_rows_of, takes};
+ghost use Rattle.std.specs.Prelude.{◌≡◌, [], Some, None, map, true, string_bytes, IfOk, IfErr, option_copied};
+ghost use Rattle.clap.specs.Words.{fault_of, found_of, has_subcommand, kind_of, rows_of, subcommand_rows_of, takes};
 ghost use Rattle.debctl_args.specs.Asked.{asked_by, asked_in, asked_of, asks, audit_asked, canon_version_asked, checks, compare_asked, document_asked, explain_asked, help_asked, normalises, query_asked, relation_asked, request_of, rule_asked, same_asked, sort_asked, text_asked, version_asked, word_in, Answers, AnswersError, AnswersMet, IsHelp, MeansError, Request, FitsKind, UsesText};
 ghost use Rattle.debctl_args.specs.Commands.{debctl_app};
 

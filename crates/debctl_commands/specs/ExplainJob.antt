@@ -59,7 +59,7 @@ abbrev pub WritesFront : Doc → List ℕ → List ℕ → Option (List ℕ) →
 WritesFront doc path text old new =
     WritesFrontOfOk doc text old new ⊎ WritesFrontOfExplanation doc path text old new
 
--- there is no other fault than want of memory, before which the one fact holds, and a write that
+-- there is no other fault than out of memory, before which the one fact holds, and a write that
 -- failed, behind which the other one does
 abbrev pub IsMemoryOrWrite : Type 0 → Type 0 → Fault → Type 0
 IsMemoryOrWrite memory write fault = MatchFault fault (λ _. ⊥) memory ⊥ write

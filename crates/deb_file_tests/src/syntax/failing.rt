@@ -123,7 +123,7 @@ fn reads_or_wants(alloc: Global) -> bool {
     wanted && reader.calls == calls && paragraphs.lines() == 0
 }
 
-/// Whether each call wants memory.
+/// Whether each call is out of memory.
 fn wants(paragraphs: &mut Paragraphs, reader: &mut Pieces<'_>) -> bool {
     let next = paragraphs.next(&mut Input::new(&mut *reader)).err();
     let first = begins(paragraphs, reader);

@@ -1,5 +1,3 @@
-use Rattle.std.specs.Prelude.{IfOk}
-use Rattle.debctl_args.specs.Commands.{bare_app, IsShaped}
 use Rattle.debctl_args.proofs.commands.debctl_command.Goals as goal
 
 pub returns : goal.returns
