@@ -8,7 +8,7 @@ use Rattle.deb_base.specs.Faults.{RefusedOrMemory}
 use Rattle.deb_base.specs.declared.code.Code.TheVariants.{FileTooLong}
 use Rattle.deb_base.specs.declared.fault.Fault.{Fault}
 use Rattle.deb_base.specs.declared.fault.Fault.TheVariants.{Refused, Memory, Read, Write}
-use Rattle.deb_base.specs.Reading.{IsEnough, IsMemoryOrRead, ReadsEnough}
+use Rattle.deb_base.specs.Reading.{IsEnough, IsMemoryOrRead, ReadsEnough, TakesNoMore}
 use Rattle.deb_sort.specs.Files.{SortsFile}
 use Rattle.deb_sort.specs.Refusals.{refusal_of}
 use Rattle.deb_sort.specs.Sorting.{Sorts}
@@ -90,3 +90,13 @@ module _ {W : Type 0} (reverse : Bool) (left : Option (List ℕ)) (count count_a
       reads = counted;
       writes = writes;
     }
+
+-- as much was read as the limit of a file asks for
+pub enough_of_file : {left : Option (List ℕ)} {read : List ℕ} → ReadsEnough 4294967295 left read → ReadsEnough file_limit left read
+unfolding file_limit
+enough_of_file enough = enough
+
+-- and no more was taken than it allows
+pub no_more_than_file : {text : List ℕ} {left : Option (List ℕ)} → TakesNoMore text 4294967295 left → TakesNoMore text file_limit left
+unfolding file_limit
+no_more_than_file few = few

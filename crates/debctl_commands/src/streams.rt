@@ -10,7 +10,7 @@ use crate::reader::{SystemFiles, opened};
 use crate::reporting::{report_fault, report_usage};
 use crate::unopened::Unopened;
 use crate::writer::{Records, Streams, write_out};
-use deb_base::{Fault, Input, Output, Sink};
+use deb_base::{Fault, Input, Output, Sink, read_text};
 use deb_explain::Word;
 use deb_field::Doc;
 use deb_syntax::FILE_LIMIT;
