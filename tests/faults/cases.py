@@ -60,11 +60,15 @@ class Case:
 
     @property
     def is_job(self):
+        """Whether the words ask for a job. Only then the answer goes through a buffered writer, which
+        asks again if a write was interrupted."""
+        return self.words[0] != "help" and not self.err.startswith((b"usage: ", b"error: "))
+
+    @property
+    def opens_all(self):
         """Whether the words ask for a job, and its files can be opened or standard output tells of
-        one that can't. Only then its answer goes through a buffered writer, which asks again where
-        a write was interrupted."""
-        told = (b"usage: ", b"error: ", b"fault: ")
-        return self.words[0] != "help" and (bool(self.out) or not self.err.startswith(told))
+        one that can't."""
+        return self.is_job and (bool(self.out) or not self.err.startswith(b"fault: "))
 
     @property
     def opens_before_files(self):

@@ -313,7 +313,7 @@ def wrong_calls(answer: Answer, case: Case, fault: Fault, is_met):
         return None
     least = {
         "growths": 1,
-        "reads": bool(case.inputs) and case.is_job,
+        "reads": bool(case.inputs) and case.opens_all,
         "writes": bool(case.out or case.err),
         "opens": STAND_INS + len(case.paths),
     }

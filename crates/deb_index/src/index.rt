@@ -17,7 +17,7 @@ ghost use Rattle.deb_index.specs.Kept.{listed_of};
 ghost use Rattle.deb_index.specs.Listing.{ListsAll};
 ghost use Rattle.deb_index.specs.Maps.{numbers_under};
 ghost use Rattle.deb_index.specs.Named.{has_name, numbers_of, provides};
-ghost use Rattle.deb_index.specs.Questions.{ReportsOf};
+ghost use Rattle.deb_index.specs.Questions.{ReportsOf, wildcard};
 ghost use Rattle.deb_index.specs.Reports.{report};
 ghost use Rattle.deb_index.specs.Reported.{report_of};
 
@@ -177,8 +177,10 @@ impl Index {
     ///   22, and the line 0.
     /// - `Fault::Memory`: a growth of memory was refused.
     pub fn ask(&self, alloc: Global, question: &Question<'_>) -> Result<Report<'_>, Fault>
-        ensures { ReportsOf (packages_of self.now) (relation_asked question.now)
+        ensures reports { ReportsOf (packages_of self.now) (relation_asked question.now)
             (environment_asked question.now) result }
+        ensures wildcard { IsTrue (some_wildcard (relation_asked question.now))
+            → result ≡ Err (Fault.Refused wildcard) }
     {
         match self.query(alloc, &question.relation, &question.environment) {
             Ok(report) => Ok(report),

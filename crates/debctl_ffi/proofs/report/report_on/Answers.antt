@@ -25,7 +25,7 @@ returns-in_err-report-clause-fault c =
     rw (p.1, p.2)
     (wildcard_refused (question c.args.target.now (names_of c.args.profiles.now) c.args.relation.now) c.args.index.now _
     (good_words _ c.in_ok-question.question c.in_ok-question.ensures.ok)
-    (packages_of c.in_ok-index.index) c.in_ok-index.ensures.ok c.in_err-report.ensures)
+    (packages_of c.in_ok-index.index) c.in_ok-index.ensures.ok c.in_err-report.ensures.reports)
 
 pub returns-clause-ok : goal.returns-clause-ok
 returns-clause-ok c =
@@ -36,8 +36,8 @@ returns-clause-ok c =
         good = good_words _ c.in_ok-question.question asks;
         packages = packages_of c.in_ok-index.index;
         lists = c.in_ok-index.ensures.ok;
-        plain = c.in_ok-report.ensures.0;
-        is = rw asks.is at c.in_ok-report.ensures.1;
+        plain = c.in_ok-report.ensures.reports.0;
+        is = rw asks.is at c.in_ok-report.ensures.reports.1;
       };
       met_is = c.all_met.ensures;
       text_is = c.in_ok-text.ensures.ok;
