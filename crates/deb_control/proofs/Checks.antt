@@ -1,5 +1,5 @@
 -- What a call of a reader of checked paragraphs says, from what its reader of paragraphs says.
-use Rattle.deb_control.proofs.Common.{◌≡◌, inl, inr, ℕ, ◌+◌, ◌<◌, ◌≤◌, ◌==◌, ◌&&◌, not, Bool, true, false, cond, leb, List, [], ◌∷◌, ◌++◌, length, Option, None, Some, Result, Ok, Err, IfOk, IfErr, IfNone, IfSome, MatchResult, IsTrue, IsSome, ◌↔◌, refl, sym, ap, ◌∙◌, subst, arith, length-append, ne_eqb, false≢true, and_parts, leb-true, bytes_eq-Decides, read_failures_after, IsReadersFault, RefusedOrMemory, NoParagraph, TooManyParagraphs, Fault, Refused, Memory, Read, Write, Refusal, TakesNoMore, Seen, next_answer, next_begin, are_numbered, paragraphs_of, Entries, advance_answer, State, Fits, passed_count, GivesNone, Answers, AnswersBegin, Moment, Advances, Begins, is_single, Doc, paragraph_text, file_text, Passing, CheckedMoment, FitsChecked, AnswersChecked, IsRefusalOfDocument, Checks, ChecksOn, found_answer, judged_answer, passes_if, judged_if, is_text_of, passing_seen, text_built, rules_of, end_answer, given_answer, passing_of_found, AddsPassing, RefusesSeen, built, has_some, answer_of_seen, next_checked, line_behind, Tally}
+use Rattle.deb_control.proofs.Common.{◌≡◌, inl, inr, ℕ, ◌+◌, ◌<◌, ◌≤◌, ◌==◌, ◌&&◌, not, Bool, true, false, cond, leb, List, [], ◌∷◌, ◌++◌, length, is_some, option_map, Option, None, Some, Result, Ok, Err, IfOk, IfErr, IfNone, IfSome, MatchResult, IsTrue, IsSome, ◌↔◌, refl, sym, ap, ◌∙◌, subst, arith, length-append, ne_eqb, false≢true, and_parts, leb-true, read_failures_after, IsReadersFault, RefusedOrMemory, NoParagraph, TooManyParagraphs, Fault, Refused, Memory, Read, Write, Refusal, TakesNoMore, Seen, next_answer, next_begin, are_numbered, paragraphs_of, Entries, advance_answer, State, Fits, passed_count, GivesNone, Answers, AnswersBegin, Moment, Advances, Begins, is_single, Doc, paragraph_text, file_text, Passing, CheckedMoment, FitsChecked, AnswersChecked, IsRefusalOfDocument, Checks, ChecksOn, current_answer, seen_last, passing_seen, text_built, rules_of, end_answer, given_answer, seen_found, AddsPassing, RefusesSeen, built, has_some, answer_of_seen, next_checked, line_behind, Totals}
 use Rattle.deb_syntax.specs.Lines.{file_limit}
 use Rattle.deb_control.proofs.FollowedParagraphs.{follow-push}
 use Rattle.deb_control.proofs.NextChecked.{next_checked-seen, next_checked-second, next_checked-last, next_checked-refused, bytes-with, next_checked-passes, next_checked-unbuilt, next_checked-too_long}
@@ -9,8 +9,8 @@ pub file_limit_is : file_limit ≡ 4294967295
 unfolding file_limit
 file_limit_is = refl
 
-pub few-given : (given : Tally) → given.paragraphs ≤ file_limit + 1
-few-given given = omega (arith, given.few, given.within, file_limit_is)
+pub few-totals : (given : Totals) → given.paragraphs ≤ file_limit + 1
+few-totals given = omega (arith, given.few, given.within, file_limit_is)
 
 -- what was found tells the answer
 pub none_found : (state : State) (found : Bool) → state.current ≡ None → advance_answer state (Ok found) ≡ Ok None
@@ -37,13 +37,13 @@ counted-err A B n Read = refl
 counted-err A B n Write = refl
 
 -- a reader of checked paragraphs, and one of paragraphs, at a moment
-abbrev pub checked_at : Option Passing → Option Fault → State → ℕ → ℕ → Option (List ℕ) → ℕ → CheckedMoment
+abbrev pub checked_at : Option Seen → Option Fault → State → ℕ → ℕ → Option (List ℕ) → ℕ → CheckedMoment
 checked_at shown kept reader count bytes left failures = record { state = record { reader = reader; count = count; bytes = bytes; current = shown; fault = kept }; source = record { bytes = left; failures = failures } }
 
 abbrev pub reader_at : State → Option (List ℕ) → ℕ → Moment
 reader_at reader left failures = record { state = reader; source = record { bytes = left; failures = failures } }
 
-module _ (doc : Doc) (shown shown_now : Option Passing) (kept kept_now : Option Fault) (reader new : State) (count bytes : ℕ) (left after : Option (List ℕ)) (failures failures_after : ℕ) (few : count ≤ file_limit + 1) where
+module _ (doc : Doc) (shown shown_now : Option Seen) (kept kept_now : Option Fault) (reader new : State) (count bytes : ℕ) (left after : Option (List ℕ)) (failures failures_after : ℕ) (few : count ≤ file_limit + 1) where
   abbrev here : CheckedMoment
   here = checked_at shown kept reader count bytes left failures
 
@@ -106,21 +106,21 @@ module _ (doc : Doc) (shown shown_now : Option Passing) (kept kept_now : Option 
         advances.taken advances.counted (readers_fault fault advances.fault)
 
     -- none follows: one is missing, or none is
-    pub checks-end : (given : Tally) (lines : ℕ) (found : Option Seen) (bytes_now : List ℕ) (answer : Result (Option Seen) Fault) (result : Result Bool Fault) → given.paragraphs ≡ count → answer ≡ Ok None → Advances (reader_at reader left failures) answer (reader_at new after failures_after) → (new.finished ≡ true → lines ≡ new.lines) → result ≡ end_answer doc given lines → Checks doc here (found_answer found bytes_now result) (there count bytes)
-    checks-end given lines found bytes_now answer result same none goes numbered ends =
-        subst (λ r. Checks doc here (found_answer found bytes_now r) (there count bytes)) (sym ends)
-        (go (is_single doc && (given.paragraphs == 0)) refl)
+    pub checks-end : (totals : Totals) (lines : ℕ) (given : Passing) (answer : Result (Option Seen) Fault) (result : Result Bool Fault) → totals.paragraphs ≡ count → answer ≡ Ok None → Advances (reader_at reader left failures) answer (reader_at new after failures_after) → (new.finished ≡ true → lines ≡ new.lines) → result ≡ end_answer doc totals lines → Checks doc here (given_answer given result) (there count bytes)
+    checks-end totals lines given answer result same none goes numbered ends =
+        subst (λ r. Checks doc here (given_answer given r) (there count bytes)) (sym ends)
+        (go (is_single doc && (totals.paragraphs == 0)) refl)
       where
         advances : Advances (reader_at reader left failures) (Ok None) (reader_at new after failures_after)
         advances = subst (λ a. Advances (reader_at reader left failures) a (reader_at new after failures_after)) none goes
 
-        behind : (text : List ℕ) (before : List Entries) → FitsChecked doc text before here.state left → (passed : List ℕ) → GivesNone text passed new after → passed_count passed ≡ length before → next_checked (rules_of doc) text before ≡ cond (is_single doc && (given.paragraphs == 0)) (Err (record { code = NoParagraph; line = line_behind text })) (Ok None)
+        behind : (text : List ℕ) (before : List Entries) → FitsChecked doc text before here.state left → (passed : List ℕ) → GivesNone text passed new after → passed_count passed ≡ length before → next_checked (rules_of doc) text before ≡ cond (is_single doc && (totals.paragraphs == 0)) (Err (record { code = NoParagraph; line = line_behind text })) (Ok None)
         behind text before fits passed all counts =
             next_checked-seen (rules_of doc) text before (few_of text before fits)
             ∙ ap (answer_of_seen (rules_of doc) (line_behind text) before) (ap (next_answer text) (sym counts) ∙ all.answer)
-            ∙ ap (λ t. cond (is_single doc && t) (Err (record { code = NoParagraph; line = line_behind text })) (Ok None)) (sym (none-test before given.paragraphs (same ∙ fits.counted)))
+            ∙ ap (λ t. cond (is_single doc && t) (Err (record { code = NoParagraph; line = line_behind text })) (Ok None)) (sym (none-test before totals.paragraphs (same ∙ fits.counted)))
 
-        go : (t : Bool) → (is_single doc && (given.paragraphs == 0)) ≡ t → Checks doc here (found_answer found bytes_now (cond t (Err (Refused (record { code = NoParagraph; line = lines + 1 }))) (Ok false))) (there count bytes)
+        go : (t : Bool) → (is_single doc && (totals.paragraphs == 0)) ≡ t → Checks doc here (given_answer given (cond t (Err (Refused (record { code = NoParagraph; line = lines + 1 }))) (Ok false))) (there count bytes)
         go false e = checks-none (λ text before fits passed all counts. behind text before fits passed all counts ∙ ap (λ t. cond t (Err (record { code = NoParagraph; line = line_behind text })) (Ok None)) e) advances.answers advances.taken advances.counted advances.finished
         go true e = record {
           answers = λ text before fits.
@@ -138,18 +138,18 @@ module _ (doc : Doc) (shown shown_now : Option Passing) (kept kept_now : Option 
         }
 
     -- the next one is refused
-    pub checks-unpassed : (given : Tally) (seen : Seen) (fault : Fault) → are_numbered seen.first seen.fields ≡ true → given.paragraphs ≡ count → given.bytes ≡ bytes → Advances (reader_at reader left failures) (Ok (Some seen)) (reader_at new after failures_after) → RefusedOrMemory fault (RefusesSeen doc seen given) → Checks doc here (Err fault) (there count bytes)
-    checks-unpassed given seen Memory numbered counted is advances refused = record { answers = λ text before fits. tt; taken = λ text before fits. advances.taken text fits.passed fits.fits; counted = advances.counted; fault = tt; count = refl; few = few; finished = tt }
-    checks-unpassed given seen Read numbered counted is advances refused = absurd refused
-    checks-unpassed given seen Write numbered counted is advances refused = absurd refused
-    checks-unpassed given seen (Refused refusal) numbered counted is advances refused = record {
+    pub checks-unpassed : (totals : Totals) (seen : Seen) (fault : Fault) → are_numbered seen.first seen.fields ≡ true → totals.paragraphs ≡ count → totals.bytes ≡ bytes → Advances (reader_at reader left failures) (Ok (Some seen)) (reader_at new after failures_after) → RefusedOrMemory fault (RefusesSeen doc seen totals) → Checks doc here (Err fault) (there count bytes)
+    checks-unpassed totals seen Memory numbered counted is advances refused = record { answers = λ text before fits. tt; taken = λ text before fits. advances.taken text fits.passed fits.fits; counted = advances.counted; fault = tt; count = refl; few = few; finished = tt }
+    checks-unpassed totals seen Read numbered counted is advances refused = absurd refused
+    checks-unpassed totals seen Write numbered counted is advances refused = absurd refused
+    checks-unpassed totals seen (Refused refusal) numbered counted is advances refused = record {
       answers = λ text before fits.
           let next = advances.answers text fits.passed fits.fits in
           let at : next_answer text (length before) ≡ Ok (Some seen) = ap (next_answer text) (sym fits.paragraphs) ∙ next.answer in
           elim refused [
             | inl unbuilt ↦ next_checked-unbuilt (rules_of doc) text before seen (few_of text before fits) at refusal unbuilt
             | inr long ↦
-                let more = bytes-with before long.entries given.paragraphs given.bytes (counted ∙ fits.counted) (is ∙ fits.bytes) in
+                let more = bytes-with before long.entries totals.paragraphs totals.bytes (counted ∙ fits.counted) (is ∙ fits.bytes) in
                 next_checked-too_long (rules_of doc) text before seen (few_of text before fits) at long.entries long.built (subst (λ n. file_limit < n) more long.long) ∙ ap Err (sym long.is)
           ];
       taken = λ text before fits. advances.taken text fits.passed fits.fits;
@@ -164,12 +164,12 @@ module _ (doc : Doc) (shown shown_now : Option Passing) (kept kept_now : Option 
     }
 
     -- the next one passes
-    pub checks-passes : (given given_now : Tally) (seen : Seen) (keeps : Bool) (written : List ℕ) → given.paragraphs ≡ count → given.bytes ≡ bytes → Advances (reader_at reader left failures) (Ok (Some seen)) (reader_at new after failures_after) → (adds : AddsPassing doc seen given keeps written given_now) → given_now.paragraphs ≤ file_limit + 1 → Checks doc here (Ok (Some (record { seen = seen; text = paragraph_text adds.entries }))) (there given_now.paragraphs given_now.bytes)
-    checks-passes given given_now seen keeps written counted is advances adds few_now = record {
+    pub checks-passes : (totals totals_now : Totals) (seen : Seen) → totals.paragraphs ≡ count → totals.bytes ≡ bytes → Advances (reader_at reader left failures) (Ok (Some seen)) (reader_at new after failures_after) → (adds : AddsPassing doc seen totals totals_now) → totals_now.paragraphs ≤ file_limit + 1 → Checks doc here (Ok (Some (record { seen = seen; text = paragraph_text adds.entries }))) (there totals_now.paragraphs totals_now.bytes)
+    checks-passes totals totals_now seen counted is advances adds few_now = record {
       answers = λ text before fits.
           let next = advances.answers text fits.passed fits.fits in
           let at : next_answer text (length before) ≡ Ok (Some seen) = ap (next_answer text) (sym fits.paragraphs) ∙ next.answer in
-          let more : given_now.bytes ≡ length (file_text (before ++ adds.entries ∷ [])) = adds.bytes ∙ bytes-with before adds.entries given.paragraphs given.bytes (counted ∙ fits.counted) (is ∙ fits.bytes) in
+          let more : totals_now.bytes ≡ length (file_text (before ++ adds.entries ∷ [])) = adds.bytes ∙ bytes-with before adds.entries totals.paragraphs totals.bytes (counted ∙ fits.counted) (is ∙ fits.bytes) in
           let passes : next_checked (rules_of doc) text before ≡ Ok (Some adds.entries) = next_checked-passes (rules_of doc) text before seen (few_of text before fits) at adds.entries adds.built (subst (λ n. n ≤ file_limit) more adds.within) in
           record {
             entries = adds.entries;
@@ -195,19 +195,19 @@ module _ (doc : Doc) (shown shown_now : Option Passing) (kept kept_now : Option 
     }
 
     -- the next one is checked
-    says-passed : (given given_now : Tally) (seen : Seen) (keeps : Bool) (written : List ℕ) (result : Result Bool Fault) → are_numbered seen.first seen.fields ≡ true → given.paragraphs ≡ count → given.bytes ≡ bytes → Advances (reader_at reader left failures) (Ok (Some seen)) (reader_at new after failures_after) → IfOk result (λ gives. (gives ≡ true) × AddsPassing doc seen given keeps written given_now) → IfErr result (λ fault. RefusedOrMemory fault (RefusesSeen doc seen given)) → IfErr result (λ fault. given_now ≡ given) → Checks doc here (given_answer (passing_seen doc seen) result) (there given_now.paragraphs given_now.bytes)
-    says-passed given given_now seen keeps written (Ok true) numbered counted is advances ok fault same =
-        subst (λ text. Checks doc here (Ok (Some (record { seen = seen; text = text }))) (there given_now.paragraphs given_now.bytes)) (sym (ap text_built ok.1.built))
-        (checks-passes given given_now seen keeps written counted is advances ok.1 (few-given given_now))
-    says-passed given given_now seen keeps written (Ok false) numbered counted is advances ok fault same = absurd (false≢true ok.0)
-    says-passed given given_now seen keeps written (Err f) numbered counted is advances ok fault same =
-        let at : (given_now.paragraphs ≡ count) × (given_now.bytes ≡ bytes) = (ap (λ t. t.paragraphs) same ∙ counted, ap (λ t. t.bytes) same ∙ is) in
-        rw (at.0, at.1) (checks-unpassed given seen f numbered counted is advances fault)
+    says-passed : (totals totals_now : Totals) (seen : Seen) (result : Result Bool Fault) → are_numbered seen.first seen.fields ≡ true → totals.paragraphs ≡ count → totals.bytes ≡ bytes → Advances (reader_at reader left failures) (Ok (Some seen)) (reader_at new after failures_after) → IfOk result (λ gives. (gives ≡ true) × AddsPassing doc seen totals totals_now) → IfErr result (λ fault. RefusedOrMemory fault (RefusesSeen doc seen totals)) → IfErr result (λ fault. totals_now ≡ totals) → Checks doc here (given_answer (passing_seen doc seen) result) (there totals_now.paragraphs totals_now.bytes)
+    says-passed totals totals_now seen (Ok true) numbered counted is advances ok fault same =
+        subst (λ text. Checks doc here (Ok (Some (record { seen = seen; text = text }))) (there totals_now.paragraphs totals_now.bytes)) (sym (ap text_built ok.1.built))
+        (checks-passes totals totals_now seen counted is advances ok.1 (few-totals totals_now))
+    says-passed totals totals_now seen (Ok false) numbered counted is advances ok fault same = absurd (false≢true ok.0)
+    says-passed totals totals_now seen (Err f) numbered counted is advances ok fault same =
+        let at : (totals_now.paragraphs ≡ count) × (totals_now.bytes ≡ bytes) = (ap (λ t. t.paragraphs) same ∙ counted, ap (λ t. t.bytes) same ∙ is) in
+        rw (at.0, at.1) (checks-unpassed totals seen f numbered counted is advances fault)
 
-    pub says-found : (given given_now : Tally) (seen : Seen) (keeps : Bool) (found : Option Seen) (written : List ℕ) (answer : Result (Option Seen) Fault) (result : Result Bool Fault) → are_numbered seen.first seen.fields ≡ true → given.paragraphs ≡ count → given.bytes ≡ bytes → found ≡ Some seen → answer ≡ Ok (Some seen) → Advances (reader_at reader left failures) answer (reader_at new after failures_after) → IfOk result (λ gives. (gives ≡ true) × AddsPassing doc seen given keeps written given_now) → IfErr result (λ fault. RefusedOrMemory fault (RefusesSeen doc seen given)) → IfErr result (λ fault. given_now ≡ given) → Checks doc here (given_answer (passing_of_found doc found) result) (there given_now.paragraphs given_now.bytes)
-    says-found given given_now seen keeps found written answer result numbered counted is one some goes ok fault same =
-        subst (λ f. Checks doc here (given_answer (passing_of_found doc f) result) (there given_now.paragraphs given_now.bytes)) (sym one)
-        (says-passed given given_now seen keeps written result numbered counted is (subst (λ a. Advances (reader_at reader left failures) a (reader_at new after failures_after)) some goes) ok fault same)
+    pub says-found : (totals totals_now : Totals) (seen : Seen) (found : Option Seen) (answer : Result (Option Seen) Fault) (result : Result Bool Fault) → are_numbered seen.first seen.fields ≡ true → totals.paragraphs ≡ count → totals.bytes ≡ bytes → found ≡ Some seen → answer ≡ Ok (Some seen) → Advances (reader_at reader left failures) answer (reader_at new after failures_after) → IfOk result (λ gives. (gives ≡ true) × AddsPassing doc seen totals totals_now) → IfErr result (λ fault. RefusedOrMemory fault (RefusesSeen doc seen totals)) → IfErr result (λ fault. totals_now ≡ totals) → Checks doc here (given_answer (passing_seen doc (seen_found found)) result) (there totals_now.paragraphs totals_now.bytes)
+    says-found totals totals_now seen found answer result numbered counted is one some goes ok fault same =
+        subst (λ f. Checks doc here (given_answer (passing_seen doc (seen_found f)) result) (there totals_now.paragraphs totals_now.bytes)) (sym one)
+        (says-passed totals totals_now seen result numbered counted is (subst (λ a. Advances (reader_at reader left failures) a (reader_at new after failures_after)) some goes) ok fault same)
 
   -- what it says of the beginning of one that is one too many
   module _ (complete : (is_single doc && not (count == 0)) ≡ true) where
@@ -242,35 +242,16 @@ module _ (doc : Doc) (shown shown_now : Option Passing) (kept kept_now : Option 
       finished = tt;
     }
 
--- where there is no paragraph, none is given, whatever was found before
-pub says-none : (doc : Doc) (before after : CheckedMoment) (given : Passing) (result : Result Bool Fault) → IfOk result (λ gives. gives ≡ false) → Checks doc before (found_answer None [] result) after → Checks doc before (given_answer given result) after
-says-none doc before after given (Ok true) none h = absurd (false≢true (sym none))
-says-none doc before after given (Ok false) none h = h
-says-none doc before after given (Err fault) none h = h
+-- where a paragraph was found, it is the one that is given
+pub says-current : (found : Option Seen) (gives : Bool) (fault : Option Fault) → fault ≡ None → gives ≡ is_some found → seen_last fault found ≡ cond gives (Some (seen_found found)) None
+says-current None gives fault none is = rw (none, is) refl
+says-current (Some seen) gives fault none is = rw (none, is) refl
 
--- where text is kept, the one that was found is given with it
-module _ (doc : Doc) (before after : CheckedMoment) where
-  pub says-kept : (found : Option Seen) (written : List ℕ) (result : Result Bool Fault) → IfOk result (λ gives. IsTrue (passes_if gives doc found written)) → ChecksOn doc before (given_answer (passing_of_found doc found) result) after → ChecksOn doc before (found_answer found written result) after
-  says-kept None written (Ok true) passes h = absurd (false≢true passes)
-  says-kept (Some seen) written (Ok true) passes h = go (built (rules_of doc) seen) refl passes
-    where
-      go : (r : Result Entries Refusal) → built (rules_of doc) seen ≡ r → IsTrue (is_text_of r written) → ChecksOn doc before (Ok (Some (record { seen = seen; text = written }))) after
-      go (Ok entries) e is = subst (λ text. ChecksOn doc before (Ok (Some (record { seen = seen; text = text }))) after) (ap text_built e ∙ sym ((bytes_eq-Decides written (paragraph_text entries)).0 is)) h
-      go (Err refusal) e is = absurd (false≢true is)
-  says-kept found written (Ok false) passes h = h
-  says-kept found written (Err fault) passes h = h
-
-  -- where it isn't, the one that was found is judged
-  pub says-judged : (found : Option Seen) (result : Result Bool Fault) → IfOk result (λ gives. IsTrue (judged_if gives doc found)) → ChecksOn doc before (given_answer (passing_of_found doc found) result) after → ChecksOn doc before (judged_answer doc found result) after
-  says-judged None (Ok true) passes h = absurd (false≢true passes)
-  says-judged (Some seen) (Ok true) passes h = h
-  says-judged found (Ok false) passes h = h
-  says-judged found (Err fault) passes h = h
-
--- what is told of an answer holds of what is equal to it
-pub told-of : (result : Result Bool Fault) (kept : Bool) (P : Bool → Type 0) → IfOk result (λ gives. kept ≡ gives) → P kept → IfOk result P
-told-of (Ok gives) kept P same h = subst P same h
-told-of (Err fault) kept P same h = tt
+-- the answer by the one that was given last
+pub answers-current : (doc : Doc) (before after : CheckedMoment) (given : Seen) (current : Option Seen) (result : Result Bool Fault) → IfOk result (λ gives. current ≡ cond gives (Some given) None) → ChecksOn doc before (given_answer (passing_seen doc given) result) after → ChecksOn doc before (current_answer doc current result) after
+answers-current doc before after given current (Ok true) is h = subst (λ c. ChecksOn doc before (Ok (option_map (passing_seen doc) c)) after) (sym is) h
+answers-current doc before after given current (Ok false) is h = h
+answers-current doc before after given current (Err fault) is h = h
 
 -- a call of a reader without an error
 pub checks_on : (doc : Doc) (before after : CheckedMoment) (given : Passing) (result : Result Bool Fault) → before.state.fault ≡ None → Checks doc before (given_answer given result) after → MatchResult result (λ _. after.state.fault ≡ None) (λ f. after.state.fault ≡ Some f) → ChecksOn doc before (given_answer given result) after
@@ -286,6 +267,28 @@ checks_on doc before after given result none checks held =
     keeps (Ok true) h = h
     keeps (Ok false) h = h
     keeps (Err f) h = h
+
+-- out of memory after a paragraph was found that passes: it isn't given
+unfailed : (doc : Doc) (before after : CheckedMoment) (answer : Result (Option Passing) Fault) (given : Option Passing) → answer ≡ Ok given → ChecksOn doc before answer after → before.state.fault ≡ None
+unfailed doc before after answer given is call = go before.state.fault call.repeats
+  where
+    go : (f : Option Fault) → IfSome f (λ g. (answer ≡ Err g) × (after ≡ before)) → f ≡ None
+    go None h = refl
+    go (Some fault) h = let e : answer ≡ Err fault = h.0 in absurd (cc)
+
+pub checks-memory : (doc : Doc) (before found after : CheckedMoment) (given : Passing) → ChecksOn doc before (Ok (Some given)) found → before.state.count ≤ file_limit + 1 → after.source ≡ found.source → after.state.count ≡ before.state.count → after.state.fault ≡ Some Memory → ChecksOn doc before (Err Memory) after
+checks-memory doc before found after given goes few source count failed =
+    let none = unfailed doc before found (Ok (Some given)) (Some given) refl goes in
+    let checks = subst (λ f. IfNone f (Checks doc before (Ok (Some given)) found)) none goes.goes in
+    checks_on doc before after given (Err Memory) none (record {
+      answers = λ text front fits. tt;
+      taken = λ text front fits. subst (λ s. TakesNoMore text file_limit s.bytes) (sym source) (checks.taken text front fits);
+      counted = ap (λ s. s.failures) source ∙ checks.counted;
+      fault = tt;
+      count = count;
+      few = subst (λ n. n ≤ file_limit + 1) (sym count) few;
+      finished = tt;
+    }) failed
 
 -- and of one with an error, which repeats it
 pub says_again : (doc : Doc) (moment : CheckedMoment) (fault : Fault) → moment.state.fault ≡ Some fault → ChecksOn doc moment (Err fault) moment

@@ -9,7 +9,7 @@ pub use Rattle.std.proofs.lemmas.Cmp.{nat_list_cmp_total, tied_itself}
 pub use Rattle.std.proofs.lemmas.Iterator.{YieldsList-from_slice}
 pub use Rattle.std.proofs.lemmas.Iterator.Search.{all_from_yields_List}
 pub use Rattle.std.proofs.lemmas.List.{append_cancel_left, drop_all, length-map, map-append, take-append-le}
-pub use Rattle.std.proofs.lemmas.List.Elements.{All-cons, All-get_or, All-nil, All-tail}
+pub use Rattle.std.proofs.lemmas.List.Elements.{All-cons, All-from_recursion, All-get_or, All-nil, All-tail, recursion_from_All}
 pub use Rattle.std.proofs.lemmas.List.Sorted.{All-permutation, IsPermutation-map, answers_always, ranks_by, sorted_far}
 pub use Rattle.std.proofs.lemmas.List.Sums.{sum_by-append, sum_by-cons}
 pub use Rattle.std.proofs.lemmas.Map.Text.{is_eq-slice_cmp}
@@ -20,7 +20,7 @@ pub use Rattle.std.specs.BTreeMap.{insert_entry}
 pub use Rattle.std.specs.Char.{to_ascii_lowercase, to_ascii_uppercase}
 pub use Rattle.std.specs.FinMap.{find}
 pub use Rattle.std.specs.Io.KnownBytes.{Appends}
-pub use Rattle.std.specs.List.{AllByRecursion, list_all, list_any, sum_by}
+pub use Rattle.std.specs.List.{AllByRecursion, fold, list_all, list_any, sum_by}
 pub use Rattle.std.specs.List.Sorted.{IsSortedBy}
 pub use Rattle.std.specs.Ordering.{eq_by_cmp, is_lt, match_ordering, ordering_reverse}
 pub use Rattle.std.specs.Prelude.{is_none, ⊤}
@@ -82,13 +82,12 @@ pub use Rattle.deb_control.specs.AcceptanceLaws.{AcceptedIsWritten, AcceptedMean
 pub use Rattle.deb_control.specs.Calls.{HasParagraphs, IfCutOff, IfRefused, WritesCanonical, WritesRead, WritesRefused}
 pub use Rattle.deb_control.specs.Canonical.{behind_colon, field_text, file_text, paragraph_text}
 pub use Rattle.deb_control.specs.CheckedStates.{checked_moment, checked_state, passing_of}
-pub use Rattle.deb_control.specs.Checking.{AnswersChecked, CheckedMoment, CheckedState, Checks, ChecksOn, FitsChecked, Follow, GivesEnd, GivesPassing, HasChecked, IsRefusalOfDocument, Passing, found_answer, is_judged, is_text_of, judged_answer, judged_if, passes_if, passing_seen, text_built}
+pub use Rattle.deb_control.specs.CanonTexts.{HoldsText, HoldsTexts, name_in, names_ascend, part_of, text_in}
+pub use Rattle.deb_control.specs.Checking.{AnswersChecked, CheckedMoment, CheckedState, Checks, ChecksOn, FitsChecked, Follow, GivesEnd, GivesPassing, HasChecked, IsRefusalOfDocument, Passing, current_answer, is_judged, is_passing, is_text_of, passing_seen, seen_last, text_built}
 pub use Rattle.deb_control.specs.Comparing.{Agrees, RefusesSecond, AnswersSame}
 pub use Rattle.deb_control.specs.Documents.{Meaning, canonical_text, out_of, refusal_of, rules_of, text_unless_refused}
-pub use Rattle.deb_control.specs.Finding.{AddsPassing, RefusesSeen, end_answer, given_answer, passing_of_found}
-pub use Rattle.deb_control.specs.Keeping.{IsShown, KeepsField, KeepsFields, KeepsFound, KeepsValues, ShownValues, none_shown}
+pub use Rattle.deb_control.specs.Finding.{AddsPassing, RefusesSeen, end_answer, given_answer, seen_found}
 pub use Rattle.deb_control.specs.Laws.{IsAllOf, IsRefusalOfFile, RefusalsAreOfTheFile, RefusalsOfAnyAreOfText}
-pub use Rattle.deb_control.specs.Lengths.{Measures, field_length, fields_length}
 pub use Rattle.deb_control.specs.Pairs.{Pairwise}
 pub use Rattle.deb_control.specs.ParagraphValues.{values_of}
 pub use Rattle.deb_control.specs.Paragraphs.{AreValuesOf, IsTypedField, field_in, text_of_values, values_in}
@@ -96,11 +95,13 @@ pub use Rattle.deb_control.specs.PassingValues.{HasValue}
 pub use Rattle.deb_control.specs.ReadingOn.{ReadsFile, ReadsOn, shown}
 pub use Rattle.deb_control.specs.Refusals.{Outcome, answer_behind, answer_of_seen, built, canonical_entries, canonical_field, followed, has_some, have_names, line_behind, next_checked, outcome, outcome_behind, refusal_by, refusal_or, refused_or_built, stopped, value_refusal_of, within_file}
 pub use Rattle.deb_control.specs.Rules.{AreRulesOf, Rules}
-pub use Rattle.deb_control.specs.Sorting.{comes_before}
-pub use Rattle.deb_control.specs.Tallies.{bytes_with, gap_behind}
+pub use Rattle.deb_control.specs.Sorting.{comes_before, name_before}
+pub use Rattle.deb_control.specs.Totals.{bytes_with, gap_behind}
 pub use Rattle.deb_control.specs.ValueFileLaws.{CanonicalTextMeansTheSame, CanonicalTextTellsMeanings, TextMeansOneThing}
 pub use Rattle.deb_control.specs.ValueFiles.{MeansValues, SpellsEntries, SpellsEntry, ValueEntries, bodies_of, body_under, values_text}
+pub use Rattle.deb_control.specs.Visiting.{IsVisit, Visit, VisitsField, VisitsFields, VisitsFound, VisitsValues, canonical_visit, fields_visited, most, texts_length, visit_of, visit_text}
 pub use Rattle.deb_control.specs.declared.accepted.Accepted.{Accepted}
 pub use Rattle.deb_control.specs.declared.checked.Checked.{Checked}
-pub use Rattle.deb_control.specs.declared.tally.Tally.{Tally}
+pub use Rattle.deb_control.specs.declared.canon_text.CanonSpan.{CanonSpan}
+pub use Rattle.deb_control.specs.declared.totals.Totals.{Totals}
 pub use Rattle.deb_control.specs.declared.typed_field.TypedField.{TypedField}

@@ -33,7 +33,7 @@ less_from_greater : (a b : List ℕ) → byte_order a b ≡ Greater → byte_ord
 less_from_greater a b h = nat_list_cmp_total.antisymm b a ∙ ap ordering_reverse h
 
 -- what holds of all entries holds of them with one more
-each_insert : (P : List ℕ × List ℕ → Type 0) (name body : List ℕ) → ((entry : List ℕ × List ℕ) → P entry → P (entry.0, body)) → (entries : Entries) → AllByRecursion P entries → P (name, body) → AllByRecursion P (insert_entry byte_order entries name body)
+pub each_insert : (P : List ℕ × List ℕ → Type 0) (name body : List ℕ) → ((entry : List ℕ × List ℕ) → P entry → P (entry.0, body)) → (entries : Entries) → AllByRecursion P entries → P (name, body) → AllByRecursion P (insert_entry byte_order entries name body)
 each_insert P name body given [] h p = (p, tt)
 each_insert P name body given (entry ∷ entries) h p =
     let rest = each_insert P name body given entries h.1 p in

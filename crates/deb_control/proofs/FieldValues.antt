@@ -6,12 +6,6 @@ use Rattle.deb_control.proofs.ValueBodies.{value_at, one_paragraph}
 pub same_from_equal : (a b : List ℕ) → byte_order a b ≡ Equal → a ≡ b
 same_from_equal a b e = (bytes_eq-Decides a b).0 (sym (is_eq-slice_cmp a b) ∙ ap is_eq e)
 
--- a choice by an ordering, seen entry by entry
-map_choice : {X Y : Type 0} (f : X → Y) (o : Ordering) (a b c : List X) → map f (match_ordering o a b c) ≡ match_ordering o (map f a) (map f b) (map f c)
-map_choice f Less a b c = refl
-map_choice f Equal a b c = refl
-map_choice f Greater a b c = refl
-
 -- no body of the fields is refused, field by field
 abbrev NoneRefused : Rules → List Field → Type 0
 NoneRefused rules fields = AllByRecursion (λ field. rules.refusal (canonical_name field.name) field.body ≡ None) fields
@@ -82,11 +76,18 @@ module _ {V : Type 0} (spells : List ℕ → List ℕ → V → Type 0) where
       go true e h = rw e refl
       go false e h = rw e h
 
-map-insert : {V : Type 0} (text_of : V → List ℕ) (fields : ValueEntries V) (name : List ℕ) (v : V) → map (body_under text_of) (insert_entry byte_order fields name v) ≡ insert_entry byte_order (map (body_under text_of) fields) name (text_of v)
-map-insert text_of [] name v = refl
-map-insert text_of (field ∷ fields) name v =
-    map_choice (body_under text_of) (byte_order name field.0) ((name, v) ∷ field ∷ fields) ((field.0, v) ∷ fields) (field ∷ insert_entry byte_order fields name v)
-    ∙ ap (λ rest. match_ordering (byte_order name field.0) ((name, text_of v) ∷ map (body_under text_of) (field ∷ fields)) ((field.0, text_of v) ∷ map (body_under text_of) fields) (body_under text_of field ∷ rest)) (map-insert text_of fields name v)
+-- what is worked out of each entry is worked out of the one that is put in
+pub map-insert : {V W : Type 0} (of : List ℕ → V → W) (fields : List (List ℕ × V)) (name : List ℕ) (v : V) → map (λ f. (f.0, of f.0 f.1)) (insert_entry byte_order fields name v) ≡ insert_entry byte_order (map (λ f. (f.0, of f.0 f.1)) fields) name (of name v)
+map-insert of [] name v = refl
+map-insert {V} {W} of (field ∷ fields) name v = go (byte_order name field.0) refl (map-insert of fields name v)
+  where
+    new : List ℕ × V → List ℕ × W
+    new f = (f.0, of f.0 f.1)
+
+    go : (o : Ordering) → byte_order name field.0 ≡ o → map new (insert_entry byte_order fields name v) ≡ insert_entry byte_order (map new fields) name (of name v) → map new (match_ordering o ((name, v) ∷ field ∷ fields) ((field.0, v) ∷ fields) (field ∷ insert_entry byte_order fields name v)) ≡ match_ordering o ((name, of name v) ∷ new field ∷ map new fields) ((field.0, of name v) ∷ map new fields) (new field ∷ insert_entry byte_order (map new fields) name (of name v))
+    go Less e rest = refl
+    go Equal e rest = ap (λ n. (field.0, of n v) ∷ map new fields) (sym (same_from_equal name field.0 e))
+    go Greater e rest = ap (λ m. new field ∷ m) rest
 
 -- the names that are asked stand among the values of fields exactly where they stand among the fields
 pub has_values-have_names : {V : Type 0} (spells : List ℕ → List ℕ → V → Type 0) (fields : List Field) (values : ValueEntries V) → AreDistinct fields → Pairwise (SpellsEntry spells) (entries_of fields) values → (names : List (List ℕ)) → has_values names values ≡ have_names fields names
@@ -112,7 +113,7 @@ module _ (V : Type 0) (spells : List ℕ → List ℕ → V → Type 0) (text_of
       (record {
         values = insert_entry byte_order has.values name value.0;
         spelled = Pairwise-insert spells name field.body value.0 value.1 bodies has.values has.spelled;
-        texts = ap (λ c. insert_entry byte_order c name (rules.canonical name field.body)) has.texts ∙ ap (insert_entry byte_order (map (body_under text_of) has.values) name) (are.text name field.body value.0 value.1) ∙ sym (map-insert text_of has.values name value.0);
+        texts = ap (λ c. insert_entry byte_order c name (rules.canonical name field.body)) has.texts ∙ ap (insert_entry byte_order (map (body_under text_of) has.values) name) (are.text name field.body value.0 value.1) ∙ sym (map-insert (λ n. text_of) has.values name value.0);
       })
       none.1
 

@@ -1,11 +1,11 @@
 -- The fields of a paragraph that have been read so far.
-use Rattle.deb_control.proofs.Common.{◌≡◌, ℕ, suc, ◌+◌, ◌<◌, ◌&&◌, Bor, inl, inr, Bool, true, false, is_some, Option, None, Some, List, [], ◌∷◌, ◌++◌, length, map, drop, slice_get, option_map, add-one, append_assoc, refl, sym, ap, ◌∙◌, subst, arith, drop-cons, map-append, slice_get_within, slice_get_cases, get_or_from_slice_get, AllByRecursion, list_all, bytes_eq, Fault, Refused, Memory, Read, Write, Refusal, RefusedOrMemory, folded, canonical_name, Field, has_name, field_of, field_named, RawField, Doc, value_refusal, rules_of, field_in, IsTypedField, refusal_or, value_refusal_of, have_names, TypedField}
+use Rattle.deb_control.proofs.Common.{◌≡◌, ℕ, suc, ◌+◌, ◌<◌, ◌≤◌, ◌&&◌, Bor, inl, inr, Bool, true, false, is_some, Option, None, Some, List, [], ◌∷◌, ◌++◌, length, map, drop, slice_get, option_map, add-one, append-nil, append_assoc, refl, sym, ap, ◌∙◌, subst, arith, drop-cons, drop_all, map-append, slice_get_within, slice_get_cases, get_or_from_slice_get, AllByRecursion, list_all, bytes_eq, Fault, Refused, Memory, Read, Write, Refusal, RefusedOrMemory, folded, canonical_name, Field, has_name, field_of, field_named, RawField, Doc, value_refusal, rules_of, refusal_or, value_refusal_of, have_names, Visit, IsVisit}
 use Rattle.deb_control.proofs.DocumentRules.{document_rules}
 
--- those before an index, none of which is refused
-pub record HasRead (doc : Doc) (fields : List Field) (items : List TypedField) (i : ℕ) : Type 0 where
-  pub read : map field_in items ++ drop i fields ≡ fields
-  pub good : AllByRecursion (IsTypedField doc) items
+-- those before an index, with their values, none of which is refused
+pub record HasRead {X : Type 0} (visit_in : X → Visit) (doc : Doc) (fields : List Field) (items : List X) (i : ℕ) : Type 0 where
+  pub read : map (λ x. (visit_in x).0) items ++ drop i fields ≡ fields
+  pub good : AllByRecursion (λ x. IsVisit doc (visit_in x)) items
   pub refusal : value_refusal_of (rules_of doc) fields ≡ value_refusal_of (rules_of doc) (drop i fields)
 
 -- the field at an index, and those behind it
@@ -23,25 +23,31 @@ refusal-at : (doc : Doc) (fields : List Field) (i : ℕ) (field : Field) → sli
 refusal-at doc fields i field is = ap (value_refusal_of (rules_of doc)) (drop-at fields i field is)
 
 -- a field whose body is not refused
-pub refusal-past : (doc : Doc) (fields : List Field) (i : ℕ) (field : Field) → slice_get fields i ≡ Some field → value_refusal doc (canonical_name field.name) field.body ≡ None → value_refusal_of (rules_of doc) (drop i fields) ≡ value_refusal_of (rules_of doc) (drop (i + 1) fields)
+refusal-past : (doc : Doc) (fields : List Field) (i : ℕ) (field : Field) → slice_get fields i ≡ Some field → value_refusal doc (canonical_name field.name) field.body ≡ None → value_refusal_of (rules_of doc) (drop i fields) ≡ value_refusal_of (rules_of doc) (drop (i + 1) fields)
 refusal-past doc fields i field is good =
     refusal-at doc fields i field is
     ∙ ap (λ o. refusal_or o field.line (value_refusal_of (rules_of doc) (drop (i + 1) fields))) good
 
-pub HasRead-next : (doc : Doc) (fields : List Field) (items new : List TypedField) (i : ℕ) (raw : RawField) (typed : TypedField) → option_map field_of (Some raw) ≡ slice_get fields i → field_in typed ≡ field_of raw → IsTypedField doc typed → new ≡ items ++ typed ∷ [] → HasRead doc fields items i → HasRead doc fields new (i + 1)
-HasRead-next doc fields items new i raw typed is same good pushed before =
-    let found : slice_get fields i ≡ Some (field_in typed) = sym is ∙ ap Some (sym same) in
-    let field = field_in typed in
+pub HasRead-next : {X : Type 0} (visit_in : X → Visit) (doc : Doc) (fields : List Field) (items new : List X) (i : ℕ) (raw : RawField) (x : X) → option_map field_of (Some raw) ≡ slice_get fields i → (visit_in x).0 ≡ field_of raw → IsVisit doc (visit_in x) → new ≡ items ++ x ∷ [] → HasRead visit_in doc fields items i → HasRead visit_in doc fields new (i + 1)
+HasRead-next {X} visit_in doc fields items new i raw x is same good pushed before =
+    let field_in : X → Field = λ y. (visit_in y).0 in
+    let found : slice_get fields i ≡ Some (field_in x) = sym is ∙ ap Some (sym same) in
     record {
       read =
           ap (λ m. map field_in m ++ drop (i + 1) fields) pushed
-          ∙ ap (λ m. m ++ drop (i + 1) fields) (map-append field_in items (typed ∷ []))
-          ∙ append_assoc (map field_in items) (field ∷ []) (drop (i + 1) fields)
-          ∙ ap (λ m. map field_in items ++ m) (sym (drop-at fields i field found))
+          ∙ ap (λ m. m ++ drop (i + 1) fields) (map-append field_in items (x ∷ []))
+          ∙ append_assoc (map field_in items) (field_in x ∷ []) (drop (i + 1) fields)
+          ∙ ap (λ m. map field_in items ++ m) (sym (drop-at fields i (field_in x) found))
           ∙ before.read;
-      good = subst (AllByRecursion (IsTypedField doc)) (sym pushed) (all-push (IsTypedField doc) items typed before.good good);
-      refusal = before.refusal ∙ refusal-past doc fields i field found ((document_rules doc).unrefused (canonical_name field.name) field.body _ good);
+      good = subst (AllByRecursion (λ y. IsVisit doc (visit_in y))) (sym pushed) (all-push (λ y. IsVisit doc (visit_in y)) items x before.good good);
+      refusal = before.refusal ∙ refusal-past doc fields i (field_in x) found ((document_rules doc).unrefused (canonical_name (field_in x).name) (field_in x).body (visit_in x).1 good);
     }
+
+-- all of them
+pub HasRead-end : {X : Type 0} (visit_in : X → Visit) (doc : Doc) (fields : List Field) (items : List X) (i : ℕ) → length fields ≤ i → HasRead visit_in doc fields items i → (map (λ x. (visit_in x).0) items ≡ fields) × (value_refusal_of (rules_of doc) fields ≡ None)
+HasRead-end visit_in doc fields items i past all =
+    let read = map (λ x. (visit_in x).0) items in
+    (sym (append-nil read) ∙ ap (λ m. read ++ m) (sym (drop_all i fields past)) ∙ all.read, all.refusal ∙ ap (value_refusal_of (rules_of doc)) (drop_all i fields past))
 
 -- the body of the field at the index is refused
 pub refused-here : (doc : Doc) (fields : List Field) (i : ℕ) (raw : RawField) (refusal : Refusal) → option_map field_of (Some raw) ≡ slice_get fields i → value_refusal_of (rules_of doc) fields ≡ value_refusal_of (rules_of doc) (drop i fields) → (refusal.line ≡ raw.line) × (value_refusal doc (canonical_name raw.name.now) raw.body.now ≡ Some refusal.code) → value_refusal_of (rules_of doc) fields ≡ Some refusal

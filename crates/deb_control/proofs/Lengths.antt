@@ -1,7 +1,10 @@
 -- The length of a paragraph's canonical text is the sum of those of its fields, whatever their order.
-use Rattle.deb_control.proofs.Common.{◌≡◌, ℕ, ◌+◌, ◌||◌, ◌==◌, min, Bool, true, false, List, [], ◌∷◌, ◌++◌, length, map, Ordering, Less, Equal, Greater, refl, sym, ap, ◌∙◌, arith, length-append, or_parts, both_ways, sum_by-cons, bytes_eq-Decides, insert_entry, AllByRecursion, sum_by, match_ordering, bytes_eq, newline, folded, capitalised, canonical_name, folded-from_canonical_name, Field, has_name, AreDistinct, byte_order, Entries, entries_after, behind_colon, field_text, paragraph_text, field_length, fields_length, canonical_field, canonical_entries, Rules}
+use Rattle.deb_control.proofs.Common.{◌≡◌, ℕ, ◌+◌, ◌==◌, min, Bool, true, false, List, [], ◌∷◌, ◌++◌, length, map, Ordering, Less, Equal, Greater, refl, sym, ap, ◌∙◌, arith, length-append, or_parts, both_ways, sum_by-cons, bytes_eq-Decides, insert_entry, AllByRecursion, sum_by, match_ordering, bytes_eq, newline, folded, capitalised, canonical_name, folded-from_canonical_name, Field, has_name, AreDistinct, byte_order, Entries, entries_after, entries_of, behind_colon, field_text, paragraph_text, Visit, canonical_visit, fields_visited, texts_length}
+use Rattle.std.proofs.lemmas.List.Folds.{fold-map}
+use Rattle.deb_control.proofs.Entries.{each_insert}
 use Rattle.deb_control.proofs.FieldValues.{same_from_equal}
 use Rattle.deb_control.proofs.SortedFields.{entry_of}
+use Rattle.deb_control.proofs.Visited.{distinct-visited}
 
 -- nothing stands under the name
 abbrev Lacks : Entries → List ℕ → Type 0
@@ -15,15 +18,6 @@ length-insert name body (entry ∷ entries) lacks = go (byte_order name entry.0)
     go Less e rest = omega (arith, length-append (field_text (name, body)) (paragraph_text (entry ∷ entries)))
     go Equal e rest = absurd (lacks.0 (same_from_equal name entry.0 e))
     go Greater e rest = omega (arith, rest, length-append (field_text entry) (paragraph_text (insert_entry byte_order entries name body)), length-append (field_text entry) (paragraph_text entries))
-
-lacks-insert : (other name body : List ℕ) (entries : Entries) → (other ≡ name → ⊥) → Lacks entries other → Lacks (insert_entry byte_order entries name body) other
-lacks-insert other name body [] apart lacks = (apart, tt)
-lacks-insert other name body (entry ∷ entries) apart lacks = go (byte_order name entry.0) (lacks-insert other name body entries apart lacks.1)
-  where
-    go : (o : Ordering) → Lacks (insert_entry byte_order entries name body) other → Lacks (match_ordering o ((name, body) ∷ entry ∷ entries) ((entry.0, body) ∷ entries) (entry ∷ insert_entry byte_order entries name body)) other
-    go Less rest = (apart, lacks)
-    go Equal rest = lacks
-    go Greater rest = (lacks.0, rest)
 
 -- and under none of the fields' names
 abbrev LacksEach : Entries → List Field → Type 0
@@ -40,7 +34,7 @@ lacks-each : (field : Field) (entries : Entries) (fields : List Field) → has_n
 lacks-each field entries [] none lacks = tt
 lacks-each field entries (f ∷ fields) none lacks =
     let p = or_parts (bytes_eq (folded f.name) (folded field.name)) (has_name field.name fields) none in
-    (lacks-insert (canonical_name f.name) (canonical_name field.name) field.body entries (names_apart field.name f.name p.0) lacks.0, lacks-each field entries fields p.1 lacks.1)
+    (each_insert (λ entry. canonical_name f.name ≡ entry.0 → ⊥) (canonical_name field.name) field.body (λ entry apart. apart) entries lacks.0 (names_apart field.name f.name p.0), lacks-each field entries fields p.1 lacks.1)
 
 -- how long a field is with its body as it stands
 abbrev own_length : Field → ℕ
@@ -53,26 +47,10 @@ length-after entries (field ∷ fields) lacks distinct =
     let more = insert_entry byte_order entries name field.body in
     omega (arith, length-after more fields (lacks-each field entries fields distinct.0 lacks.1) distinct.1, length-insert name field.body entries lacks.0, sum_by-cons own_length field fields)
 
--- canonical bodies leave names as they are
-has_name-canonical : (rules : Rules) (name : List ℕ) (fields : List Field) → has_name name (map (canonical_field rules) fields) ≡ has_name name fields
-has_name-canonical rules name [] = refl
-has_name-canonical rules name (field ∷ fields) = ap (λ t. bytes_eq (folded field.name) (folded name) || t) (has_name-canonical rules name fields)
-
-distinct-canonical : (rules : Rules) (fields : List Field) → AreDistinct fields → AreDistinct (map (canonical_field rules) fields)
-distinct-canonical rules [] distinct = tt
-distinct-canonical rules (field ∷ fields) distinct = (has_name-canonical rules field.name fields ∙ distinct.0, distinct-canonical rules fields distinct.1)
-
-sum-canonical : (rules : Rules) (fields : List Field) → sum_by own_length (map (canonical_field rules) fields) ≡ fields_length rules fields
-sum-canonical rules [] = refl
-sum-canonical rules (field ∷ fields) =
-    sum_by-cons own_length (canonical_field rules field) (map (canonical_field rules) fields)
-    ∙ ap (λ n. field_length rules field + n) (sum-canonical rules fields)
-    ∙ sym (sum_by-cons (field_length rules) field fields)
-
-pub length-canonical : (rules : Rules) (fields : List Field) → AreDistinct fields → length (paragraph_text (canonical_entries rules fields)) ≡ fields_length rules fields
-length-canonical rules fields distinct =
-    let each = map (canonical_field rules) fields in
-    omega (arith, length-after [] each (lacks-nil each) (distinct-canonical rules fields distinct), sum-canonical rules fields)
+pub length-visited : (visited : List Visit) → AreDistinct (fields_visited visited) → length (paragraph_text (entries_of (map canonical_visit visited))) ≡ texts_length visited
+length-visited visited distinct =
+    let each = map canonical_visit visited in
+    omega (arith, length-after [] each (lacks-nil each) (distinct-visited canonical_visit (λ visit. refl) visited distinct), fold-map (λ sum field. sum + own_length field) canonical_visit 0 visited)
 
 length-capitalised : (begins : Bool) (name : List ℕ) → length (capitalised begins name) ≡ length name
 length-capitalised begins [] = refl

@@ -18,9 +18,10 @@ pub mod DocumentRules
 pub mod SortedFields
 pub mod FieldsRead
 pub mod Building
+pub mod Visited
 pub mod Lengths
 pub mod Measured
-pub mod KeptValues
+pub mod WrittenTexts
 pub mod ValueLookups
 pub mod FollowedParagraphs
 pub mod CheckedSoFar

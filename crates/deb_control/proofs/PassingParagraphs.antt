@@ -1,24 +1,13 @@
 -- The values of a paragraph that passes.
-use Rattle.deb_control.proofs.Common.{◌≡◌, ℕ, List, [], ◌∷◌, Option, None, Some, Result, Ok, Err, is_ok, IsTrue, is_some, Bool, true, false, cond, refl, sym, ap, ◌∙◌, subst, false≢true, bytes_eq-Decides, find, AllByRecursion, bytes_eq, canonical_name-from_folded, folded, canonical_name, Code, RefusedOrMemory, Fault, Refused, Memory, Read, Write, Refusal, body_at-entries_of, Seen, Field, are_fields, body_of, Entries, entries_of, byte_order, field_named, Doc, ValueMeaning, value_text, SpellsValue, value_refusal, value_law, is_judged, rules_of, AreValuesOf, HasValue, built, value_refusal_of, ValueEntries}
-use Rattle.deb_control.proofs.Building.{distinct-from}
+use Rattle.deb_control.proofs.Common.{◌≡◌, ℕ, List, [], ◌∷◌, Option, None, Some, Ok, Err, IsTrue, is_some, Bool, true, false, cond, refl, sym, ap, ◌∙◌, subst, false≢true, bytes_eq-Decides, find, AllByRecursion, bytes_eq, canonical_name-from_folded, folded, canonical_name, Code, RefusedOrMemory, Fault, Refused, Memory, Read, Write, Refusal, body_at-entries_of, Seen, Field, are_fields, body_of, entries_of, byte_order, field_named, Doc, ValueMeaning, value_text, SpellsValue, value_refusal, value_law, is_judged, rules_of, AreValuesOf, HasValue, built, value_refusal_of, ValueEntries}
+use Rattle.deb_control.proofs.Building.{built-canonical, built-passing, distinct-from}
 use Rattle.deb_control.proofs.DocumentRules.{document_rules}
 use Rattle.deb_control.proofs.FieldValues.{values-from_none, each-from_none, is_some-find}
 use Rattle.deb_control.proofs.Passing.{built-parts}
 use Rattle.deb_control.proofs.ValueBodies.{value_at}
 
--- what is built of it
-pub built-passing : (doc : Doc) (seen : Seen) → IsTrue (is_judged doc seen) → (entries : Entries) × (built (rules_of doc) seen ≡ Ok entries)
-built-passing doc seen passes = go (built (rules_of doc) seen) refl passes
-  where
-    go : (r : Result Entries Refusal) → built (rules_of doc) seen ≡ r → IsTrue (is_ok r) → (entries : Entries) × (built (rules_of doc) seen ≡ Ok entries)
-    go (Ok entries) e is = (entries, e)
-    go (Err refusal) e is = absurd (cc)
-
 pub built-unrefused : (doc : Doc) (seen : Seen) → IsTrue (is_judged doc seen) → (refusal : Refusal) → built (rules_of doc) seen ≡ Err refusal → ⊥
-built-unrefused doc seen passes refusal is = let found = built-passing doc seen passes in go (built (rules_of doc) seen) found.0 found.1 is
-  where
-    go : (r : Result Entries Refusal) (entries : Entries) → r ≡ Ok entries → r ≡ Err refusal → ⊥
-    go r entries e f = cc
+built-unrefused doc seen passes refusal is = let e = sym (built-canonical doc seen passes) ∙ is in cc
 
 -- a fault that is no refusal is out of memory
 pub only_memory : (fault : Fault) (P : Refusal → Type 0) → RefusedOrMemory fault P → ((refusal : Refusal) → P refusal → ⊥) → fault ≡ Memory

@@ -1,5 +1,5 @@
 -- Fields that are sorted by the canonical spellings of their names: what they mean is they themselves, in that order.
-use Rattle.deb_control.proofs.Common.{◌≡◌, ℕ, suc, ◌<◌, Bool, false, List, [], ◌∷◌, ◌++◌, length, map, get_or, Ordering, Less, Equal, Greater, is_eq, add-one, refl, sym, ap, ◌∙◌, subst, append-nil, append_assoc, arith, or_parts, both_ways, nat_list_cmp_total, sorted_far, ranks_by, IsPermutation-map, is_eq-slice_cmp, bytes_eq-Decides, AllByRecursion, IsSortedBy, is_lt, ordering_reverse, folded, canonical_name, folded-from_canonical_name, Field, has_name, AreDistinct, byte_order, Entries, entries_after, entries_of, distinct-permutation, entries_of-permutation}
+use Rattle.deb_control.proofs.Common.{◌≡◌, ℕ, suc, ◌<◌, Bool, false, List, [], ◌∷◌, ◌++◌, length, map, get_or, Ordering, Less, Equal, Greater, is_eq, add-one, refl, sym, ap, ◌∙◌, subst, append-nil, append_assoc, arith, or_parts, both_ways, nat_list_cmp_total, sorted_far, ranks_by, IsPermutation-map, is_eq-slice_cmp, bytes_eq-Decides, AllByRecursion, IsSortedBy, is_lt, ordering_reverse, folded, canonical_name, folded-from_canonical_name, Field, has_name, AreDistinct, byte_order, Entries, entries_after, entries_of, distinct-permutation, entries_of-permutation, name_before}
 use Rattle.std.proofs.Common.{bytes_eq}
 use Rattle.std.specs.List.Sorted.{IsPermutation}
 use Rattle.deb_control.proofs.Entries.{IsAscending}
@@ -8,10 +8,6 @@ use Rattle.deb_control.proofs.ParagraphText.{insert_last, AllAbove, AllAbove-pus
 -- a field's body under the canonical spelling of its name
 abbrev pub entry_of : Field → List ℕ × List ℕ
 entry_of field = (canonical_name field.name, field.body)
-
--- one name comes before another
-abbrev pub comes_before : Field → Field → Bool
-comes_before field other = is_lt (byte_order (canonical_name field.name) (canonical_name other.name))
 
 -- fields in ascending order are put behind one another
 entries_after-ascending : (before : Entries) (fields : List Field) → IsAscending (map entry_of fields) → AllAbove before (map entry_of fields) → entries_after before fields ≡ before ++ map entry_of fields
@@ -35,7 +31,7 @@ before_from_not a b Greater e not_below apart =
 module _ {X : Type 0} (field_in : X → Field) where
   -- one comes before another by the name
   abbrev pub below : X → X → Bool
-  below x y = comes_before (field_in x) (field_in y)
+  below x y = name_before (field_in x).name (field_in y).name
 
   first_least : (x : X) (xs : List X) → ((j : ℕ) (d : X) → j < length xs → below (get_or xs j d) x ≡ false) → AllByRecursion (λ y. below y x ≡ false) xs
   first_least x [] h = tt

@@ -4,7 +4,7 @@ use Rattle.std.specs.Option.{option_map}
 use Rattle.deb_base.specs.declared.fault.Fault.{Fault}
 use Rattle.deb_syntax.specs.Paragraphs.{state_of, seen_of}
 use Rattle.deb_base.specs.declared.doc.Doc.{Doc}
-use Rattle.deb_control.specs.Checking.{CheckedMoment, CheckedState, Passing, passing_found, passing_seen, text_built}
+use Rattle.deb_control.specs.Checking.{CheckedMoment, CheckedState, Passing, passing_seen, seen_last, text_built}
 use Rattle.deb_control.specs.Documents.{rules_of}
 use Rattle.deb_control.specs.Refusals.{built}
 use Rattle.deb_control.specs.declared.accepted.Accepted.{Accepted}
@@ -14,9 +14,9 @@ use Rattle.deb_control.specs.declared.judged.Judged.{Judged}
 abbrev pub checked_state : Checked → CheckedState
 checked_state c = record {
   reader = state_of c.paragraphs;
-  count = c.given.paragraphs;
-  bytes = c.given.bytes;
-  current = passing_found c.gives (state_of c.paragraphs).current c.canonical.items;
+  count = c.totals.paragraphs;
+  bytes = c.totals.bytes;
+  current = seen_last c.fault (state_of c.paragraphs).current;
   fault = c.fault;
 }
 
@@ -52,16 +52,12 @@ abbrev pub checked_answer : Result (Option Accepted) Fault → Result (Option Pa
 checked_answer (Ok accepted) = Ok (option_map passing_of accepted)
 checked_answer (Err fault) = Err fault
 
-abbrev pub answer_judged : Result (Option Judged) Fault → Result (Option Passing) Fault
-answer_judged (Ok judged) = Ok (option_map passing_judged judged)
-answer_judged (Err fault) = Err fault
-
 reader_shown : (c : Checked) (left : Option (List ℕ)) (failures : ℕ)
     → (checked_state c ≡ record {
       reader = state_of c.paragraphs;
-      count = c.given.paragraphs;
-      bytes = c.given.bytes;
-      current = passing_found c.gives (state_of c.paragraphs).current c.canonical.items;
+      count = c.totals.paragraphs;
+      bytes = c.totals.bytes;
+      current = seen_last c.fault (state_of c.paragraphs).current;
       fault = c.fault;
     }) × (doc_read c ≡ c.doc) × ((checked_moment c left failures).state ≡ checked_state c)
     × ((checked_moment c left failures).source.bytes ≡ left)
@@ -79,9 +75,7 @@ view_with_text_shown : (accepted : Accepted)
     × (doc_of accepted ≡ accepted.judged.doc)
 view_with_text_shown accepted = (refl, refl, refl)
 
-answers_shown : (accepted : Accepted) (judged : Judged) (fault : Fault)
+answers_shown : (accepted : Accepted) (fault : Fault)
     → (checked_answer (Ok (Some accepted)) ≡ Ok (Some (passing_of accepted)))
     × (checked_answer (Ok None) ≡ Ok None) × (checked_answer (Err fault) ≡ Err fault)
-    × (answer_judged (Ok (Some judged)) ≡ Ok (Some (passing_judged judged)))
-    × (answer_judged (Ok None) ≡ Ok None) × (answer_judged (Err fault) ≡ Err fault)
-answers_shown accepted judged fault = (refl, refl, refl, refl, refl, refl)
+answers_shown accepted fault = (refl, refl, refl)

@@ -35,7 +35,7 @@ pub record CheckedState : Type 0 where
   pub reader : State
   pub count : ℕ
   pub bytes : ℕ
-  pub current : Option Passing
+  pub current : Option Seen
   pub fault : Option Fault
 
 -- its reader of paragraphs reads nothing, or there is an error: nothing is read
@@ -161,27 +161,16 @@ text_built (Err refusal) = []
 abbrev pub passing_seen : Doc → Seen → Passing
 passing_seen doc seen = record { seen = seen; text = text_built (built (rules_of doc) seen) }
 
--- where a paragraph was judged, that is the one that was found, and it passes
-abbrev pub judged_if : Bool → Doc → Option Seen → Bool
-judged_if false doc found = true
-judged_if true doc None = false
-judged_if true doc (Some seen) = is_judged doc seen
+-- where there is no error, the paragraph that was found passes, if one was
+abbrev pub is_found : Option Fault → Doc → Option Seen → Bool
+is_found (Some fault) doc found = true
+is_found None doc None = true
+is_found None doc (Some seen) = is_judged doc seen
 
--- the paragraph that was judged, where one was
-abbrev pub judged_found : Bool → Doc → Option Seen → Option Passing
-judged_found false doc found = None
-judged_found true doc found = option_map (passing_seen doc) found
-
--- what an answer that there is a paragraph, or none, shows by the one that was judged
-abbrev pub judged_answer : Doc → Option Seen → Result Bool Fault → Result (Option Passing) Fault
-judged_answer doc found (Ok gives) = Ok (judged_found gives doc found)
-judged_answer doc found (Err fault) = Err fault
-
--- where a paragraph is given, that is the one that was found, and it passes
-abbrev pub passes_if : Bool → Doc → Option Seen → List ℕ → Bool
-passes_if false doc found text = true
-passes_if true doc None text = false
-passes_if true doc (Some seen) text = is_passing doc seen text
+-- and it is the one that was given last
+abbrev pub seen_last : Option Fault → Option Seen → Option Seen
+seen_last (Some fault) found = None
+seen_last None found = found
 
 -- where there is no error, there is none inside
 abbrev pub is_sound : Option Fault → Option Fault → Bool
@@ -189,15 +178,11 @@ is_sound (Some fault) inside = true
 is_sound None (Some fault) = false
 is_sound None None = true
 
--- a paragraph that was found, with its canonical text, where it is given
-abbrev pub passing_found : Bool → Option Seen → List ℕ → Option Passing
-passing_found false found text = None
-passing_found true found text = option_map (λ seen. record { seen = seen; text = text }) found
-
--- what an answer that there is a paragraph, or none, shows by the one that was found
-abbrev pub found_answer : Option Seen → List ℕ → Result Bool Fault → Result (Option Passing) Fault
-found_answer found text (Ok gives) = Ok (passing_found gives found text)
-found_answer found text (Err fault) = Err fault
+-- what an answer that there is a paragraph, or none, shows by the one that was given last
+abbrev pub current_answer : Doc → Option Seen → Result Bool Fault → Result (Option Passing) Fault
+current_answer doc current (Ok true) = Ok (option_map (passing_seen doc) current)
+current_answer doc current (Ok false) = Ok None
+current_answer doc current (Err fault) = Err fault
 
 counts_given : (given : Passing) → (given_count None ≡ 0) × (given_count (Some given) ≡ 1)
 counts_given given = (refl, refl)
@@ -231,34 +216,20 @@ texts_seen : (doc : Doc) (seen : Seen)
     ≡ record { seen = seen; text = text_built (built (rules_of doc) seen) })
 texts_seen doc seen = refl
 
-paragraphs_judged : (judged_if false Packages (Some bare) ≡ true)
-    × (judged_if true Packages None ≡ false) × (judged_if true Packages (Some bare) ≡ false)
-    × (judged_if true Any (Some bare) ≡ true) × (judged_found false Any (Some bare) ≡ None)
-    × (judged_found true Any None ≡ None) × (judged_found true Any (Some bare) ≡ Some bare_passes)
+paragraphs_found : (fault : Fault)
+    → (is_found None Packages (Some bare) ≡ false) × (is_found None Any (Some bare) ≡ true)
+    × (is_found None Any None ≡ true) × (is_found (Some fault) Packages (Some bare) ≡ true)
+    × (seen_last None (Some bare) ≡ Some bare) × (seen_last None None ≡ None)
+    × (seen_last (Some fault) (Some bare) ≡ None)
 unfolding paragraph_limit
-paragraphs_judged = (refl, refl, refl, refl, refl, refl, refl)
+paragraphs_found fault = (refl, refl, refl, refl, refl, refl, refl)
 
-paragraphs_given : (passes_if false Packages (Some bare) [] ≡ true)
-    × (passes_if true Packages None [] ≡ false) × (passes_if true Packages (Some bare) [] ≡ false)
-    × (passes_if true Any (Some bare) [] ≡ true)
-    × (passes_if true Any (Some bare) (codes "A") ≡ false)
+answers_by_current : (fault : Fault)
+    → (current_answer Any (Some bare) (Ok true) ≡ Ok (Some bare_passes))
+    × (current_answer Any (Some bare) (Ok false) ≡ Ok None)
+    × (current_answer Any (Some bare) (Err fault) ≡ Err fault)
 unfolding paragraph_limit
-paragraphs_given = (refl, refl, refl, refl, refl)
-
-paragraphs_found : (passing_found false (Some bare) [] ≡ None) × (passing_found true None [] ≡ None)
-    × (passing_found true (Some bare) (codes "A")
-    ≡ Some (record { seen = bare; text = codes "A" }))
-paragraphs_found = (refl, refl, refl)
-
-answers_by_found : (fault : Fault)
-    → (judged_answer Any (Some bare) (Ok true) ≡ Ok (Some bare_passes))
-    × (judged_answer Any (Some bare) (Ok false) ≡ Ok None)
-    × (judged_answer Any (Some bare) (Err fault) ≡ Err fault)
-    × (found_answer (Some bare) [] (Ok true) ≡ Ok (Some bare_passes))
-    × (found_answer (Some bare) [] (Ok false) ≡ Ok None)
-    × (found_answer (Some bare) [] (Err fault) ≡ Err fault)
-unfolding paragraph_limit
-answers_by_found fault = (refl, refl, refl, refl, refl, refl)
+answers_by_current fault = (refl, refl, refl)
 
 sound_faults : (fault inside : Fault) → (is_sound (Some fault) (Some inside) ≡ true)
     × (is_sound (Some fault) None ≡ true) × (is_sound None (Some inside) ≡ false)

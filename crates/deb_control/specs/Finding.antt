@@ -1,5 +1,5 @@
 -- What the parts of a reader of checked paragraphs show while the next one is found.
-use Rattle.std.specs.Prelude.{◌≡◌, ◌⊎◌, ℕ, ◌+◌, ◌<◌, ◌≤◌, ◌==◌, ◌&&◌, Bool, true, false, IsTrue, cond, List, [], length, Option, None, Some, Result, Ok, Err, refl}
+use Rattle.std.specs.Prelude.{◌≡◌, ◌⊎◌, ℕ, ◌+◌, ◌<◌, ◌≤◌, ◌==◌, ◌&&◌, Bool, true, false, cond, List, [], length, Option, None, Some, Result, Ok, Err, refl}
 use Rattle.std.proofs.lemmas.Bool.{leb-true}
 use Rattle.deb_base.specs.declared.code.Code.TheVariants.{NoParagraph, FileTooLong}
 use Rattle.deb_base.specs.declared.fault.Fault.{Fault}
@@ -14,22 +14,22 @@ use Rattle.deb_base.specs.declared.doc.Doc.TheVariants.{Binary, Packages, Source
 use Rattle.deb_control.specs.Canonical.{paragraph_text}
 use Rattle.deb_control.specs.Documents.{rules_of}
 use Rattle.deb_control.specs.Refusals.{built}
-use Rattle.deb_control.specs.Tallies.{bytes_with}
+use Rattle.deb_control.specs.Totals.{bytes_with}
 use Rattle.deb_syntax.specs.Paragraphs.{state_of}
 use Rattle.deb_syntax.specs.declared.paragraphs.Paragraphs.{Paragraphs}
-use Rattle.deb_control.specs.Checking.{CheckedMoment, Passing, ChecksOn, passing_seen}
-use Rattle.deb_control.specs.declared.tally.Tally.{Tally}
+use Rattle.deb_control.specs.Checking.{CheckedMoment, Passing}
+use Rattle.deb_control.specs.declared.totals.Totals.{Totals}
 
--- A reader of paragraphs and what was given of it, with a source that has these bytes left and
+-- A reader of paragraphs and the totals of what it gave, with a source that has these bytes left and
 -- failed so often; what was given last, and the error, are told beside them.
-abbrev pub moment_from : Option Passing → Option Fault → Paragraphs → Tally → Option (List ℕ) → ℕ
+abbrev pub moment_from : Option Seen → Option Fault → Paragraphs → Totals → Option (List ℕ) → ℕ
     → CheckedMoment
-moment_from shown fault paragraphs given left failures = record {
+moment_from shown fault paragraphs totals left failures = record {
   state =
       record {
         reader = state_of paragraphs;
-        count = given.paragraphs;
-        bytes = given.bytes;
+        count = totals.paragraphs;
+        bytes = totals.bytes;
         current = shown;
         fault = fault;
       };
@@ -37,33 +37,30 @@ moment_from shown fault paragraphs given left failures = record {
 }
 
 -- what is answered where no paragraph follows, behind so many lines
-abbrev pub end_answer : Doc → Tally → ℕ → Result Bool Fault
-end_answer doc given lines =
-    cond (is_single doc && (given.paragraphs == 0))
+abbrev pub end_answer : Doc → Totals → ℕ → Result Bool Fault
+end_answer doc totals lines =
+    cond (is_single doc && (totals.paragraphs == 0))
     (Err (Refused (record { code = NoParagraph; line = lines + 1 }))) (Ok false)
 
--- The paragraph passes behind those that were given, and counts as given then; where text is kept,
--- the bytes are its canonical text.
-pub record AddsPassing (doc : Doc) (seen : Seen) (old : Tally) (keeps : Bool) (text : List ℕ)
-    (new : Tally) : Type 0 where
+-- The paragraph passes behind those that were given, and counts as given then.
+pub record AddsPassing (doc : Doc) (seen : Seen) (old new : Totals) : Type 0 where
   pub entries : Entries
   pub built : built (rules_of doc) seen ≡ Ok entries
-  pub written : IsTrue keeps → text ≡ paragraph_text entries
   pub paragraphs : new.paragraphs ≡ old.paragraphs + 1
   pub bytes : new.bytes ≡ bytes_with old.paragraphs old.bytes (length (paragraph_text entries))
   pub within : new.bytes ≤ file_limit
 
 -- With the paragraph, the canonical text of the file is too long.
-pub record IsTooLong (doc : Doc) (seen : Seen) (given : Tally) (refusal : Refusal) : Type 0 where
+pub record IsTooLong (doc : Doc) (seen : Seen) (totals : Totals) (refusal : Refusal) : Type 0 where
   pub entries : Entries
   pub built : built (rules_of doc) seen ≡ Ok entries
-  pub long : file_limit < bytes_with given.paragraphs given.bytes (length (paragraph_text entries))
+  pub long : file_limit < bytes_with totals.paragraphs totals.bytes (length (paragraph_text entries))
   pub is : refusal ≡ record { code = FileTooLong; line = seen.first }
 
 -- The paragraph is refused so, by itself or behind those that were given.
-abbrev pub RefusesSeen : Doc → Seen → Tally → Refusal → Type 0
-RefusesSeen doc seen given refusal =
-    (built (rules_of doc) seen ≡ Err refusal) ⊎ IsTooLong doc seen given refusal
+abbrev pub RefusesSeen : Doc → Seen → Totals → Refusal → Type 0
+RefusesSeen doc seen totals refusal =
+    (built (rules_of doc) seen ≡ Err refusal) ⊎ IsTooLong doc seen totals refusal
 
 -- what an answer that there is a paragraph, or none, says where this one is given
 abbrev pub given_answer : Passing → Result Bool Fault → Result (Option Passing) Fault
@@ -71,34 +68,28 @@ given_answer given (Ok true) = Ok (Some given)
 given_answer given (Ok false) = Ok None
 given_answer given (Err fault) = Err fault
 
--- the paragraph that was found, with its canonical text; nothing where none was
-abbrev pub passing_of_found : Doc → Option Seen → Passing
-passing_of_found doc None = record { seen = record { first = 0; fields = [] }; text = [] }
-passing_of_found doc (Some seen) = passing_seen doc seen
+-- the paragraph that was found; nothing where none was
+abbrev pub seen_found : Option Seen → Seen
+seen_found None = record { first = 0; fields = [] }
+seen_found (Some seen) = seen
 
--- A call that goes on behind the next paragraph, and answers whether there is one.
-pub record PassesOver (doc : Doc) (before : CheckedMoment) (result : Result Bool Fault)
-    (after : CheckedMoment) : Type 0 where
-  pub given : Passing
-  pub checks : ChecksOn doc before (given_answer given result) after
-
-moment_by_parts : (shown : Option Passing) (fault : Option Fault) (paragraphs : Paragraphs)
-    (given : Tally) (left : Option (List ℕ)) (failures : ℕ)
-    → moment_from shown fault paragraphs given left failures ≡ record {
+moment_by_parts : (shown : Option Seen) (fault : Option Fault) (paragraphs : Paragraphs)
+    (totals : Totals) (left : Option (List ℕ)) (failures : ℕ)
+    → moment_from shown fault paragraphs totals left failures ≡ record {
       state =
           record {
             reader = state_of paragraphs;
-            count = given.paragraphs;
-            bytes = given.bytes;
+            count = totals.paragraphs;
+            bytes = totals.bytes;
             current = shown;
             fault = fault;
           };
       source = record { bytes = left; failures = failures };
     }
-moment_by_parts shown fault paragraphs given left failures = refl
+moment_by_parts shown fault paragraphs totals left failures = refl
 
 -- for the worked cases: nothing was given, or one paragraph without text
-abbrev none_given : Tally
+abbrev none_given : Totals
 none_given = record {
   paragraphs = 0;
   bytes = 0;
@@ -106,7 +97,7 @@ none_given = record {
   few = leb-true 0 1 refl;
 }
 
-abbrev one_given : Tally
+abbrev one_given : Totals
 one_given = record {
   paragraphs = 1;
   bytes = 0;
@@ -127,7 +118,6 @@ answers_with_given : (given : Passing) (fault : Fault)
     × (given_answer given (Err fault) ≡ Err fault)
 answers_with_given given fault = (refl, refl, refl)
 
-paragraph_or_none : (doc : Doc) (seen : Seen)
-    → (passing_of_found doc (Some seen) ≡ passing_seen doc seen)
-    × (passing_of_found doc None ≡ record { seen = record { first = 0; fields = [] }; text = [] })
-paragraph_or_none doc seen = (refl, refl)
+paragraph_or_none : (seen : Seen) → (seen_found (Some seen) ≡ seen)
+    × (seen_found None ≡ record { first = 0; fields = [] })
+paragraph_or_none seen = (refl, refl)

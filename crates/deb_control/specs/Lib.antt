@@ -13,11 +13,11 @@ pub mod Checking
 pub mod Calls
 pub mod Sides
 pub mod Comparing
-pub mod Tallies
-pub mod Lengths
+pub mod Totals
 pub mod Finding
 pub mod PassingValues
-pub mod Keeping
+pub mod Visiting
+pub mod CanonTexts
 pub mod CheckedStates
 pub mod ReadingOn
 pub mod Sorting

@@ -1,20 +1,23 @@
 //! Reads the paragraphs of a document, and checks them one after another.
 
-ghost use Rattle.std.specs.Prelude.{◌≡◌, ◌+◌, ◌≤◌, ◌&&◌, ℕ, List, [], Some, None, Ok, IfOk, IfSome, IsTrue, false, true};
+ghost use Rattle.std.specs.Prelude.{◌≡◌, ℕ, List, [], Some, None, Ok, true, IfOk, IfSome, IsTrue};
 ghost use Rattle.deb_syntax.specs.Paragraphs.{state_of};
-ghost use Rattle.deb_control.specs.Checking.{passes_if, is_sound, found_answer, judged_answer, judged_found, judged_if};
-ghost use Rattle.deb_control.specs.Finding.{PassesOver, given_answer, passing_of_found};
-ghost use Rattle.deb_control.specs.Keeping.{KeepsFound, PassesKeeping};
+ghost use Rattle.deb_control.specs.Checking.{current_answer, is_found, is_sound, passing_seen, text_built};
+ghost use Rattle.deb_control.specs.Documents.{rules_of};
+ghost use Rattle.deb_control.specs.Refusals.{built};
+ghost use Rattle.deb_control.specs.Visiting.{PassesVisiting};
 
 use crate::accepted::Accepted;
+use crate::canon_text::CanonText;
 use crate::find::find;
 use crate::judged::Judged;
-use crate::keep::{Keep, Nothing};
-use crate::tally::Tally;
+use crate::totals::Totals;
+use crate::visitor::FieldVisitor;
 use deb_base::{Fault, Source};
 use deb_field::Doc;
 use deb_syntax::Paragraphs;
-use std::alloc::Global;
+use std::alloc::{AllocError, Global};
+use std::mem;
 
 /// Reads the paragraphs of a document of a kind, one after another, and returns those that pass
 /// every rule of the kind (Debian Policy 5.1 and 5.3 to 5.6).
@@ -25,18 +28,15 @@ use std::alloc::Global;
 pub struct Checked {
     paragraphs: Paragraphs,
     doc: Doc,
-    given: Tally,
-    /// The canonical text of the paragraph that was given last with it.
-    canonical: Vec<u8>,
-    /// Whether the last answer was a paragraph with its canonical text.
-    gives: bool,
-    /// Whether the last answer was a paragraph.
-    judged: bool,
+    totals: Totals,
     fault: Option<Fault>,
+    /// The canonical texts of the fields of the paragraph that `next` found last.
+    canon: CanonText,
+    /// The canonical text of that paragraph.
+    text: Vec<u8>,
     alloc: Global,
     ghost sound: { IsTrue (is_sound fault (state_of paragraphs).fault) },
-    ghost passes: { IsTrue (passes_if gives doc (state_of paragraphs).current canonical.items) },
-    ghost found: { IsTrue (judged_if judged doc (state_of paragraphs).current) },
+    ghost found: { IsTrue (is_found fault doc (state_of paragraphs).current) },
 }
 
 impl Checked {
@@ -46,8 +46,8 @@ impl Checked {
     ghost use Rattle.deb_control.specs.contracts.checked.Checked.{the_row};
     ghost use Rattle.deb_control.specs.Checking.{FitsChecked, ChecksOn, IsQuietChecked};
     ghost use Rattle.deb_control.specs.CheckedStates.{checked_state, checked_moment};
-    ghost use Rattle.deb_control.specs.CheckedStates.{answer_judged, checked_answer, doc_judged};
-    ghost use Rattle.deb_control.specs.CheckedStates.{doc_of, doc_read, passing_judged, passing_of};
+    ghost use Rattle.deb_control.specs.CheckedStates.{checked_answer, doc_judged, doc_of, doc_read};
+    ghost use Rattle.deb_control.specs.CheckedStates.{passing_judged, passing_of};
 
     /// Returns a reader of checked paragraphs that has read nothing: the file is what its source
     /// has left. Takes no memory.
@@ -61,11 +61,10 @@ impl Checked {
         Checked {
             paragraphs: Paragraphs::new(alloc),
             doc,
-            given: Tally::none(),
-            canonical: Vec::new(alloc),
-            gives: false,
-            judged: false,
+            totals: Totals::none(),
             fault: None,
+            canon: CanonText::new(alloc),
+            text: Vec::new(alloc),
             alloc,
         }
     }
@@ -98,125 +97,29 @@ impl Checked {
             reader.old }
     {
         if self.step(reader)? {
-            Ok(self.current())
-        } else {
-            Ok(None)
-        }
-    }
-
-    /// Returns the next paragraph of the file as `next` does, but without building its canonical
-    /// text.
-    ///
-    /// # Errors
-    ///
-    /// Those of `next`. After an error every later call returns the same error, and reads nothing.
-    pub fn next_judged<'a, R: Source>(
-        &'a mut self,
-        reader: &mut R,
-    ) -> Result<Option<Judged<'a>>, Fault>
-        ensures doc { IfOk result
-            (λ given. IfSome given (λ judged. doc_judged judged ≡ doc_read self.old)) }
-        ensures* after { sem 𝓛
-            (Rests the_row self.entry
-            (λ new. ChecksOn (doc_read self.old)
-            (checked_moment self.old (R.left reader.old) (R.failures reader.old))
-            (answer_judged result) (checked_moment new (R.left reader.new) (R.failures reader.new))
-            × (doc_read new ≡ doc_read self.old))) }
-        ensures source_untouched { IsQuietChecked (checked_state self.old) → reader.new ≡
-            reader.old }
-    {
-        if self.judge(reader)? {
-            Ok(self.current_judged())
+            Ok(self.accepted())
         } else {
             Ok(None)
         }
     }
 
     /// Moves past the next paragraph of the file, and returns whether there is one: whether `next`
-    /// would return a paragraph. Shows its values to the keeper, and doesn't build its canonical
+    /// would return a paragraph. Shows its values to the visitor, and doesn't build its canonical
     /// text.
     ///
     /// # Errors
     ///
-    /// Those of `next`; `Fault::Memory` also if the keeper is out of memory. After an error every
+    /// Those of `next`; `Fault::Memory` also if the visitor is out of memory. After an error every
     /// later call returns the same error, and reads nothing.
-    pub fn next_kept<R: Source, K: Keep>(
+    pub fn advance<R: Source, V: FieldVisitor>(
         &mut self,
-        keeper: &mut K,
+        visitor: &mut V,
         reader: &mut R,
     ) -> Result<bool, Fault>
-        ensures passes { PassesKeeping K.Keeps keeper.new (doc_read self.old)
+        ensures passes { PassesVisiting V.Visited visitor.new (doc_read self.old)
             (checked_moment self.old (R.left reader.old) (R.failures reader.old)) result
             (checked_moment self.new (R.left reader.new) (R.failures reader.new)) }
         ensures doc { doc_read self.new ≡ doc_read self.old }
-        ensures source_untouched { IsQuietChecked (checked_state self.old) → reader.new ≡
-            reader.old }
-    {
-        self.go_on(false, keeper, reader)
-    }
-
-    /// Goes on to the next paragraph, which `current` then gives, and says whether there is one.
-    fn step<R: Source>(&mut self, reader: &mut R) -> Result<bool, Fault>
-        ensures checks { ChecksOn self.old.doc
-            (checked_moment self.old (R.left reader.old) (R.failures reader.old))
-            (found_answer (state_of self.new.paragraphs).current self.new.canonical.items result)
-            (checked_moment self.new (R.left reader.new) (R.failures reader.new)) }
-        ensures gives { IfOk result (λ gives. self.new.gives ≡ gives) }
-        ensures doc { self.new.doc ≡ self.old.doc }
-        ensures source_untouched { IsQuietChecked (checked_state self.old) → reader.new ≡
-            reader.old }
-    {
-        self.go_on(true, &mut Nothing, reader)
-    }
-
-    /// Goes on to the next paragraph, which `current_judged` then gives, and says whether there is
-    /// one.
-    fn judge<R: Source>(&mut self, reader: &mut R) -> Result<bool, Fault>
-        ensures checks { ChecksOn self.old.doc
-            (checked_moment self.old (R.left reader.old) (R.failures reader.old))
-            (judged_answer self.old.doc (state_of self.new.paragraphs).current result)
-            (checked_moment self.new (R.left reader.new) (R.failures reader.new)) }
-        ensures judged { IfOk result (λ gives. self.new.judged ≡ gives) }
-        ensures doc { self.new.doc ≡ self.old.doc }
-        ensures source_untouched { IsQuietChecked (checked_state self.old) → reader.new ≡
-            reader.old }
-    {
-        self.go_on(false, &mut Nothing, reader)
-    }
-
-    /// Moves past the next paragraph, and returns whether there is one: what `next` returns, for a
-    /// caller that counts. No canonical text is built.
-    ///
-    /// # Errors
-    ///
-    /// Those of `next`.
-    pub(crate) fn pass_over<R: Source>(&mut self, reader: &mut R) -> Result<bool, Fault>
-        ensures checks { PassesOver self.old.doc
-            (checked_moment self.old (R.left reader.old) (R.failures reader.old)) result
-            (checked_moment self.new (R.left reader.new) (R.failures reader.new)) }
-        ensures doc { self.new.doc ≡ self.old.doc }
-    {
-        self.go_on(false, &mut Nothing, reader)
-    }
-
-    /// Moves past the next paragraph, whose canonical text is kept or not. Where it isn't, the
-    /// values are shown to the keeper.
-    fn go_on<R: Source, K: Keep>(
-        &mut self,
-        keeps_text: bool,
-        keeper: &mut K,
-        reader: &mut R,
-    ) -> Result<bool, Fault>
-        ensures checks { ChecksOn self.old.doc
-            (checked_moment self.old (R.left reader.old) (R.failures reader.old))
-            (given_answer
-            (passing_of_found self.old.doc (state_of self.new.paragraphs).current) result)
-            (checked_moment self.new (R.left reader.new) (R.failures reader.new)) }
-        ensures gives { IfOk result (λ gives. self.new.gives ≡ (keeps_text && gives)) }
-        ensures judged { IfOk result (λ gives. self.new.judged ≡ gives) }
-        ensures kept { keeps_text ≡ false → result ≡ Ok true
-            → KeepsFound K.Keeps keeper.new self.old.doc (state_of self.new.paragraphs).current }
-        ensures doc { self.new.doc ≡ self.old.doc }
         ensures source_untouched { IsQuietChecked (checked_state self.old) → reader.new ≡
             reader.old }
     {
@@ -226,51 +129,74 @@ impl Checked {
         match find(
             self.alloc,
             self.doc,
-            keeps_text,
             &mut self.paragraphs,
-            &mut self.given,
-            &mut self.canonical,
-            keeper,
+            &mut self.totals,
+            visitor,
             reader,
         ) {
-            Ok(found) => {
-                self.gives = keeps_text && found;
-                self.judged = found;
-                Ok(found)
-            }
+            Ok(found) => Ok(found),
             Err(fault) => {
-                self.gives = false;
-                self.judged = false;
                 self.fault = Some(fault);
                 Err(fault)
             }
         }
     }
 
-    /// The paragraph that was given last, or `None` where the last answer was none.
-    fn current(&self) -> Option<Accepted<'_>>
-        ensures passing { option_map passing_of result ≡ (checked_state self.now).current }
-        ensures doc { IfSome result (λ accepted. doc_of accepted ≡ self.now.doc) }
+    /// Returns the paragraph that the last `advance` or `next` found, or `None` if it found none or
+    /// failed.
+    pub fn current(&self) -> Option<Judged<'_>>
+        ensures seen { option_map (λ judged. (passing_judged judged).seen) result
+            ≡ (checked_state self.now).current }
+        ensures doc { IfSome result (λ judged. doc_judged judged ≡ doc_read self.now) }
     {
-        if !self.gives {
-            return None;
-        }
-        let raw = self.paragraphs.current()?;
-        let judged = Judged::new(self.doc, raw);
-        Some(Accepted::new(judged, self.canonical.as_slice()))
-    }
-
-    /// The paragraph that was given last, whether its canonical text was kept or not, or `None`
-    /// where the last answer was none.
-    fn current_judged(&self) -> Option<Judged<'_>>
-        ensures passing { option_map passing_judged result
-            ≡ judged_found self.now.judged self.now.doc (state_of self.now.paragraphs).current }
-        ensures doc { IfSome result (λ judged. judged.doc ≡ self.now.doc) }
-    {
-        if !self.judged {
+        if self.fault.is_some() {
             return None;
         }
         let raw = self.paragraphs.current()?;
         Some(Judged::new(self.doc, raw))
+    }
+
+    /// Goes on to the next paragraph, which `accepted` then returns with its canonical text, and
+    /// returns whether there is one.
+    fn step<R: Source>(&mut self, reader: &mut R) -> Result<bool, Fault>
+        ensures checks { ChecksOn self.old.doc
+            (checked_moment self.old (R.left reader.old) (R.failures reader.old))
+            (current_answer self.old.doc (checked_state self.new).current result)
+            (checked_moment self.new (R.left reader.new) (R.failures reader.new)) }
+        ensures text { result ≡ Ok true → IfSome (checked_state self.new).current
+            (λ seen. self.new.text.items ≡ text_built (built (rules_of self.old.doc) seen)) }
+        ensures doc { self.new.doc ≡ self.old.doc }
+        ensures source_untouched { IsQuietChecked (checked_state self.old) → reader.new ≡
+            reader.old }
+    {
+        let totals = self.totals;
+        let mut canon = mem::replace(&mut self.canon, CanonText::new(self.alloc));
+        if !self.advance(&mut canon, reader)? {
+            return Ok(false);
+        }
+        match canon.sort_into(&mut self.text) {
+            Ok(()) => {
+                self.canon = canon;
+                Ok(true)
+            }
+            Err(AllocError) => {
+                self.totals = totals;
+                self.fault = Some(Fault::Memory);
+                Err(Fault::Memory)
+            }
+        }
+    }
+
+    /// The paragraph that was given last, whose canonical text was built, or `None` if the last
+    /// answer was none.
+    fn accepted(&self) -> Option<Accepted<'_>>
+        requires text { IfSome (checked_state self.now).current
+            (λ seen. self.now.text.items ≡ text_built (built (rules_of self.now.doc) seen)) }
+        ensures passing { option_map passing_of result
+            ≡ option_map (passing_seen self.now.doc) (checked_state self.now).current }
+        ensures doc { IfSome result (λ accepted. doc_of accepted ≡ self.now.doc) }
+    {
+        let judged = self.current()?;
+        Some(Accepted::new(judged, self.text.as_slice()))
     }
 }

@@ -13,6 +13,7 @@ ghost use Rattle.deb_control.specs.Documents.{refusal_of};
 ghost use Rattle.deb_control.specs.ReadingOn.{ReadsOn, shown};
 
 use crate::checked::Checked;
+use crate::visitor::NoVisitor;
 use deb_base::{Fault, Source};
 use deb_field::Doc;
 use std::alloc::Global;
@@ -58,7 +59,7 @@ pub(crate) fn count_rest<R: Source>(checked: &mut Checked, reader: &mut R) -> Re
         checked.new (shown (R.left reader.new) (R.failures reader.new)) }
 {
     for count in 0..u64::MAX {
-        if !checked.pass_over(reader)? {
+        if !checked.advance(&mut NoVisitor, reader)? {
             return Ok(count);
         }
     }

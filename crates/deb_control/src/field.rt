@@ -1,42 +1,45 @@
 //! Writes the canonical text of one field.
 
-ghost use Rattle.std.specs.Prelude.{◌≡◌, ◌++◌, ◌∷◌, [], OnOk};
-ghost use Rattle.deb_base.specs.Names.{canonical_name};
-ghost use Rattle.deb_control.specs.Canonical.{behind_colon, field_text};
+ghost use Rattle.std.specs.Prelude.{◌≡◌, ◌++◌, ◌∷◌, [], cond, OnOk};
+ghost use Rattle.deb_base.specs.Bodies.{newline};
+ghost use Rattle.deb_base.specs.FieldNames.{colon};
+ghost use Rattle.deb_field.specs.Values.{value_text};
+ghost use Rattle.deb_field.specs.ValueMeanings.{value_meaning};
+ghost use Rattle.deb_control.specs.Canonical.{behind_colon};
 
-use crate::name::append_name;
-use deb_field::Canon;
+use deb_field::{Canon, Value};
 use std::alloc::AllocError;
 
-/// Appends a field: the canonical spelling of its name, a colon, and the text after it, with
-/// a line end.
-pub(crate) fn append_field<V: Canon>(
-    name: &[u8],
-    value: &V,
-    text: &mut Vec<u8>,
-) -> Result<(), AllocError>
+/// Appends what comes after a field's name: a colon, the text after it, and a line end.
+pub(crate) fn append_body(value: &Value<'_>, text: &mut Vec<u8>) -> Result<(), AllocError>
     ensures { OnOk result
-        (text.new.items ≡ text.old.items ++ field_text
-        (canonical_name name.now, V.text_of (V.meaning value.now))) }
+        (text.new.items ≡ text.old.items
+        ++ colon ∷ (behind_colon (value_text (value_meaning value.now)) ++ newline ∷ [])) }
 {
-    append_name(name, text)?;
     text.push(b':')?;
     append_value(value, text)?;
     text.push(b'\n')?;
     Ok(())
 }
 
-/// Appends the text after the colon: nothing for an empty value, the value itself where it
-/// begins on the next line, else a space and the value.
-fn append_value<V: Canon>(value: &V, text: &mut Vec<u8>) -> Result<(), AllocError>
+/// Appends the text after the colon: nothing for an empty value, the value itself if it begins on
+/// the next line, else a space and the value.
+fn append_value(value: &Value<'_>, text: &mut Vec<u8>) -> Result<(), AllocError>
     ensures { OnOk result
-        (text.new.items ≡ text.old.items ++ behind_colon (V.text_of (V.meaning value.now))) }
+        (text.new.items ≡ text.old.items
+        ++ behind_colon (value_text (value_meaning value.now))) }
 {
-    let place = text.len();
-    text.push(b' ')?;
-    value.canon_into(text)?;
-    if text.len() == place + 1 || text[place + 1] == b'\n' {
-        text.remove(place);
+    if is_spaced(value) {
+        text.push(b' ')?;
     }
-    Ok(())
+    value.canon_into(text)
+}
+
+/// Whether a space separates a value's text from the colon before it.
+pub(crate) fn is_spaced(value: &Value<'_>) -> bool
+    ensures { behind_colon (value_text (value_meaning value.now))
+        ≡ cond result (32 ∷ value_text (value_meaning value.now))
+        (value_text (value_meaning value.now)) }
+{
+    value.canon_len() != 0 && !value.begins_with_newline()
 }

@@ -4,7 +4,8 @@ ghost use Rattle.std.specs.Prelude.{◌≡◌, List, IsTrue};
 ghost use Rattle.deb_syntax.specs.Paragraphs.{seen_of};
 ghost use Rattle.deb_control.specs.Checking.{is_judged};
 
-use crate::paragraph::{Paragraph, value_of};
+use crate::paragraph::Paragraph;
+use crate::paragraph_check::value_of;
 use deb_base::Fault;
 use deb_field::{Doc, Value};
 use deb_syntax::{Fields, Raw, RawField};

@@ -13,30 +13,31 @@
 #![tactic(auto)]
 
 mod accepted;
+mod canon_text;
 mod checked;
 mod checking;
 mod comparing;
 mod field;
 mod find;
 mod judged;
-mod keep;
 pub mod laws;
-mod measure;
 mod name;
 mod normalising;
 mod paragraph;
+mod paragraph_check;
 mod side;
-mod tally;
+mod totals;
 mod typed_field;
 pub mod value_laws;
+mod visitor;
 
 pub use accepted::Accepted;
 pub use checked::Checked;
 pub use checking::check;
 pub use comparing::same;
 pub use judged::Judged;
-pub use keep::Keep;
 pub use normalising::normalise;
 pub use paragraph::Paragraph;
 pub use side::{Side, SideFault};
 pub use typed_field::TypedField;
+pub use visitor::{FieldVisitor, NoVisitor};

@@ -7,7 +7,7 @@ ghost use Rattle.deb_syntax.specs.Lines.{file_limit};
 ghost use Rattle.deb_control.specs.Calls.{IfRefused, IfCutOff, IfWriteFailed, WritesCanonical, WritesRefused, WritesRead};
 ghost use Rattle.deb_control.specs.Checking.{IsRefusalOfDocument};
 ghost use Rattle.deb_control.specs.Documents.{out_of};
-ghost use Rattle.deb_control.specs.Tallies.{gap_behind};
+ghost use Rattle.deb_control.specs.Totals.{gap_behind};
 
 use crate::checked::Checked;
 use deb_base::{Fault, Sink, Source, put_pieces};

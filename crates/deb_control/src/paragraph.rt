@@ -1,28 +1,27 @@
 //! Paragraphs with their values.
 
-ghost use Rattle.std.specs.Prelude.{◌≡◌, ◌++◌, ◌≤◌, Some, None, Err, IfOk, IfErr, OnOk, OnErr, find, length, map};
+ghost use Rattle.std.specs.Prelude.{◌≡◌, ◌++◌, Some, None, Err, IfOk, IfErr, IsTrue, OnOk, OnErr, length, map};
 ghost use Rattle.std.specs.Option.{option_map};
 ghost use Rattle.std.specs.FinMap.{find as value_under};
 ghost use Rattle.std.specs.List.{AllByRecursion};
 ghost use Rattle.std.specs.List.Sorted.{IsPermutation};
-ghost use Rattle.deb_base.specs.Bodies.{IsBody};
 ghost use Rattle.deb_base.specs.Faults.{RefusedOrMemory};
 ghost use Rattle.deb_base.specs.Names.{canonical_name};
-ghost use Rattle.deb_syntax.specs.Fields.{has_name};
 ghost use Rattle.deb_syntax.specs.Meaning.{byte_order};
-ghost use Rattle.deb_syntax.specs.Raw.{fields_of};
-ghost use Rattle.deb_field.specs.Kinds.{required};
-ghost use Rattle.deb_field.specs.Values.{SpellsValue, value_refusal};
-ghost use Rattle.deb_field.specs.ValueMeanings.{value_meaning};
-ghost use Rattle.deb_control.specs.Documents.{rules_of};
-ghost use Rattle.deb_control.specs.Refusals.{built, value_refusal_of, have_names};
-ghost use Rattle.deb_control.specs.Paragraphs.{field_in, values_in, text_of_values, IsTypedField, AreValuesOf};
 ghost use Rattle.deb_syntax.specs.Paragraphs.{seen_of};
+ghost use Rattle.deb_syntax.specs.Raw.{fields_of};
+ghost use Rattle.deb_field.specs.ValueMeanings.{value_meaning};
+ghost use Rattle.deb_control.specs.Checking.{is_judged, text_built};
+ghost use Rattle.deb_control.specs.Documents.{rules_of};
+ghost use Rattle.deb_control.specs.Refusals.{built, value_refusal_of};
+ghost use Rattle.deb_control.specs.Paragraphs.{field_in, values_in, text_of_values, IsTypedField, AreValuesOf};
 
-use crate::typed_field::{TypedField, append_fields, sort};
-use deb_base::{Code, Fault, PARAGRAPH_LIMIT, Refusal, same_name};
-use deb_field::{Doc, Value, ValueFault, required};
-use deb_syntax::{Raw, RawField};
+use crate::canon_text::CanonText;
+use crate::paragraph_check::{check_paragraph, value_of};
+use crate::typed_field::{TypedField, sort};
+use deb_base::{Fault, same_name};
+use deb_field::{Doc, Value};
+use deb_syntax::Raw;
 use std::alloc::{AllocError, Global};
 
 /// A paragraph of a document of a kind: its fields with their values, by the canonical spellings of
@@ -56,8 +55,8 @@ impl<'a> Paragraph<'a> {
             (λ fault. RefusedOrMemory fault
             (λ refusal. built (rules_of doc) (seen_of paragraph.now) ≡ Err refusal)) }
     {
-        let mut text = Vec::new(alloc);
-        let fields = read_fields(alloc, doc, paragraph, &mut text)?;
+        let text = canonical_text(alloc, doc, paragraph)?;
+        let fields = read_fields(alloc, doc, paragraph)?;
         Ok(Paragraph { fields, text })
     }
 
@@ -106,40 +105,43 @@ impl<'a> Paragraph<'a> {
     }
 }
 
-/// The fields of a paragraph with their values, in ascending order of the canonical spellings of
-/// their names. Their canonical text then is all of `text`. The errors are those of
-/// `Paragraph::build`.
-pub(crate) fn read_fields<'a>(
+/// Checks a paragraph, and returns its canonical text. The errors are those of `Paragraph::build`.
+fn canonical_text(alloc: Global, doc: Doc, paragraph: &Raw<'_>) -> Result<Vec<u8>, Fault>
+    ensures passes { IfOk result (λ text. IsTrue (is_judged doc (seen_of paragraph.now))) }
+    ensures text { IfOk result
+        (λ text. text.items ≡ text_built (built (rules_of doc) (seen_of paragraph.now))) }
+    ensures fault { IfErr result
+        (λ fault. RefusedOrMemory fault
+        (λ refusal. built (rules_of doc) (seen_of paragraph.now) ≡ Err refusal)) }
+{
+    let mut canon = CanonText::new(alloc);
+    check_paragraph(alloc, doc, paragraph, &mut canon)?;
+    let mut text = Vec::new(alloc);
+    canon.sort_into(&mut text)?;
+    Ok(text)
+}
+
+/// Returns the fields of a paragraph with their values, in ascending order of the canonical
+/// spellings of their names.
+fn read_fields<'a>(
     alloc: Global,
     doc: Doc,
     paragraph: &Raw<'a>,
-    text: &mut Vec<u8>,
 ) -> Result<Vec<TypedField<'a>>, Fault>
-    ensures ok { IfOk result
+    ensures ok { IsTrue (is_judged doc (seen_of paragraph.now)) → IfOk result
         (λ fields. AreValuesOf doc (seen_of paragraph.now) (values_in fields.items)) }
     ensures fields { IfOk result
         (λ fields. IsPermutation (fields_of paragraph.now) (map field_in fields.items)) }
-    ensures text { IfOk result
-        (λ fields. text.new.items ≡ text_of_values (values_in fields.items)) }
-    ensures short { IfOk result (λ fields. length text.new.items ≤ PARAGRAPH_LIMIT) }
     ensures fault { IfErr result
         (λ fault. RefusedOrMemory fault
         (λ refusal. built (rules_of doc) (seen_of paragraph.now) ≡ Err refusal)) }
 {
     let mut fields = fields_with_values(alloc, doc, paragraph)?;
-    if !has_required(doc, paragraph) {
-        return Err(refused(Code::MissingField, paragraph.first_line()));
-    }
     sort(&mut fields);
-    text.clear();
-    append_fields(fields.as_slice(), text)?;
-    if text.len() > PARAGRAPH_LIMIT {
-        return Err(refused(Code::ParagraphTooLong, paragraph.first_line()));
-    }
     Ok(fields)
 }
 
-/// The fields of a paragraph with their values, in the order of the file.
+/// Returns the fields of a paragraph with their values, in file order.
 fn fields_with_values<'a>(
     alloc: Global,
     doc: Doc,
@@ -147,8 +149,6 @@ fn fields_with_values<'a>(
 ) -> Result<Vec<TypedField<'a>>, Fault>
     ensures fields { IfOk result (λ fields. map field_in fields.items ≡ fields_of paragraph.now) }
     ensures values { IfOk result (λ fields. AllByRecursion (IsTypedField doc) fields.items) }
-    ensures good { IfOk result
-        (λ fields. value_refusal_of (rules_of doc) (fields_of paragraph.now) ≡ None) }
     ensures fault { IfErr result
         (λ fault. RefusedOrMemory fault
         (λ refusal. value_refusal_of (rules_of doc) (fields_of paragraph.now) ≡ Some refusal)) }
@@ -161,53 +161,4 @@ fn fields_with_values<'a>(
         }
     }
     Ok(fields)
-}
-
-/// The value of one field.
-pub(crate) fn value_of<'a>(
-    alloc: Global,
-    doc: Doc,
-    field: &RawField<'a>,
-) -> Result<Value<'a>, Fault>
-    requires { IsBody field.now.body.now }
-    ensures ok { IfOk result
-        (λ value. SpellsValue doc (canonical_name field.now.name.now) field.now.body.now
-        (value_meaning value)) }
-    ensures fault { IfErr result
-        (λ fault. RefusedOrMemory fault
-        (λ refusal. (refusal.line ≡ field.now.line)
-        × (value_refusal doc (canonical_name field.now.name.now) field.now.body.now
-        ≡ Some refusal.code))) }
-{
-    match Value::parse(alloc, doc, field.name, field.body) {
-        Ok(value) => Ok(value),
-        Err(ValueFault::Refused(code)) => Err(refused(code, field.line)),
-        Err(ValueFault::Memory) => Err(Fault::Memory),
-    }
-}
-
-/// Whether the paragraph has each field that a document of this kind asks for.
-pub(crate) fn has_required(doc: Doc, paragraph: &Raw<'_>) -> bool
-    ensures { result ≡ have_names (fields_of paragraph.now) (required doc) }
-{
-    has_fields(paragraph, required(doc))
-}
-
-/// Whether the paragraph has a field of each name.
-fn has_fields(paragraph: &Raw<'_>, names: &[&[u8]]) -> bool
-    ensures { result ≡ have_names (fields_of paragraph.now) (map (λ name. name.now) names.now) }
-{
-    names.iter().all(|name| has_field(paragraph, name))
-}
-
-fn has_field(paragraph: &Raw<'_>, name: &[u8]) -> bool
-    ensures { result ≡ has_name name.now (fields_of paragraph.now) }
-{
-    paragraph.get(name).is_some()
-}
-
-pub(crate) fn refused(code: Code, line: u64) -> Fault
-    ensures { result ≡ Fault.Refused (record { code = code; line = line }) }
-{
-    Fault::Refused(Refusal { code, line })
 }

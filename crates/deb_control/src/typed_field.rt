@@ -1,15 +1,11 @@
 //! Fields with their values.
 
-ghost use Rattle.std.specs.Prelude.{◌≡◌, ◌++◌, OnOk};
 ghost use Rattle.std.specs.List.Sorted.{IsPermutation, IsSortedBy};
-ghost use Rattle.deb_control.specs.Paragraphs.{values_in, text_of_values};
 ghost use Rattle.deb_control.specs.Sorting.{comes_before};
 
-use crate::field::append_field;
 use crate::name::compare;
 use deb_field::Value;
 use deb_syntax::RawField;
-use std::alloc::AllocError;
 
 /// A field of a paragraph, with its value.
 #[derive(Debug, Drop)]
@@ -26,15 +22,4 @@ pub(crate) fn sort(fields: &mut Vec<TypedField<'_>>)
     ensures sorted { IsSortedBy comes_before fields.new.items }
 {
     fields.sort_unstable_by(|field, other| compare(field.raw.name, other.raw.name));
-}
-
-/// Appends the canonical text of fields.
-pub(crate) fn append_fields(fields: &[TypedField<'_>], text: &mut Vec<u8>) -> Result<(), AllocError>
-    ensures { OnOk result
-        (text.new.items ≡ text.old.items ++ text_of_values (values_in fields.now)) }
-{
-    for field in fields {
-        append_field(field.raw.name, &field.value, text)?;
-    }
-    Ok(())
 }

@@ -11,7 +11,7 @@ ghost use Rattle.deb_explain.specs.Shown.{IfAccepted, IfRefused, shown_by};
 use crate::explained::{Explained, Explanation};
 use crate::subject::subject_of;
 use deb_base::{Fault, SliceSource, Source};
-use deb_control::Checked;
+use deb_control::{Checked, NoVisitor};
 use deb_field::Doc;
 use deb_syntax::Paragraphs;
 use std::alloc::{AllocError, Global};
@@ -38,9 +38,9 @@ pub fn explain(alloc: Global, doc: Doc, text: &[u8]) -> Result<Explained, AllocE
     let mut again = SliceSource::new(text);
     for count in 0..u64::MAX {
         show_next(&mut paragraphs, &mut again)?;
-        match checked.next_judged(&mut source) {
-            Ok(Some(_)) => {}
-            Ok(None) => return Ok(Explained::Accepted(count)),
+        match checked.advance(&mut NoVisitor, &mut source) {
+            Ok(true) => {}
+            Ok(false) => return Ok(Explained::Accepted(count)),
             Err(Fault::Refused(refusal)) => {
                 let subject = subject_of(alloc, doc, text, refusal, paragraphs.current())?;
                 return Ok(Explained::Refused(Explanation { refusal, subject }));

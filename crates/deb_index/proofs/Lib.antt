@@ -1,4 +1,5 @@
 pub mod PackageBuilder
+pub mod ShownValues
 pub mod ListedValues
 pub mod Indexed
 pub mod Numbers

@@ -1,5 +1,5 @@
 -- The values of a paragraph of an index of packages: which are there, and what the bodies of the fields mean.
-use Rattle.std.proofs.Common.{◌≡◌, ◌⊎◌, inl, inr, ℕ, ◌&&◌, Bool, true, false, is_ok, is_some, List, map, Option, None, Some, IsTrue, codes, refl, sym, ap, subst, ◌∙◌}
+use Rattle.std.proofs.Common.{◌≡◌, ◌⊎◌, inl, inr, ℕ, ◌&&◌, Bool, true, false, is_some, List, map, Option, None, Some, IsTrue, codes, refl, sym, ap, subst, ◌∙◌}
 use Rattle.std.proofs.lemmas.Bool.{false≢true}
 use Rattle.std.specs.FinMap.{find}
 use Rattle.std.specs.Option.{option_map}
@@ -19,7 +19,8 @@ use Rattle.deb_base.specs.declared.doc.Doc.TheVariants.{Packages}
 use Rattle.deb_control.specs.Acceptance.{has_values}
 use Rattle.deb_control.specs.Checking.{is_judged}
 use Rattle.deb_control.specs.Documents.{rules_of}
-use Rattle.deb_control.specs.Keeping.{KeepsValues}
+use Rattle.deb_control.specs.Visiting.{VisitsValues}
+use Rattle.deb_index.proofs.ShownValues.{shown-value}
 use Rattle.deb_control.specs.Paragraphs.{AreValuesOf}
 use Rattle.deb_control.specs.PassingValues.{HasValue}
 use Rattle.deb_control.specs.Refusals.{value_refusal_of}
@@ -31,7 +32,7 @@ use Rattle.deb_control.proofs.PassingParagraphs.{field-body, none-passing, value
 use Rattle.deb_control.proofs.ValueBodies.{one_paragraph, value_at}
 use Rattle.deb_version.specs.Kept.{kept_version}
 use Rattle.deb_index.specs.Kept.{provision_of}
-use Rattle.deb_index.specs.PackageBuilder.{KeepsFields, bytes_in}
+use Rattle.deb_index.specs.PackageBuilder.{KeepsVisited, bytes_in, shown_of}
 use Rattle.deb_index.specs.declared.paragraph.PackageBuilder.{PackageBuilder}
 use Rattle.deb_index.specs.Listed.{Provision}
 use Rattle.deb_index.specs.Listing.{HasProvisions, SeenLists}
@@ -160,27 +161,28 @@ pub record ListsKept (kept : PackageBuilder) (seen : Seen) : Type 0 where
   pub architecture_is : option_map bytes_in kept.architecture ≡ Some architecture
   pub lists : SeenLists seen (record { name = name; version = version; architecture = architecture; multi_arch = kept.multi_arch; provisions = map provision_of kept.provisions.entries.items })
 
-pub lists-kept : (kept : PackageBuilder) (seen : Seen) → KeepsValues KeepsFields kept Packages seen → ListsKept kept seen
+pub lists-kept : (kept : PackageBuilder) (seen : Seen) → VisitsValues KeepsVisited kept Packages seen → ListsKept kept seen
 lists-kept kept seen keeps =
-    let shown = keeps.shown in
-    let passes : IsTrue (is_judged Packages seen) = ap is_ok (keeps.are (codes "Package")).are.passes in
-    let name = name-said seen passes keeps.fields (shown (codes "Package")) (keeps.are (codes "Package")) in
-    let version = version-said seen passes keeps.fields (shown (codes "Version")) (keeps.are (codes "Version")) in
-    let architecture = architecture-said seen passes keeps.fields (shown (codes "Architecture")) (keeps.are (codes "Architecture")) in
-    let word = multi_arch-said seen passes keeps.fields (shown (codes "Multi-Arch")) (keeps.are (codes "Multi-Arch")) in
-    let provides = provides-said seen passes keeps.fields (shown (codes "Provides")) (keeps.are (codes "Provides")) in
+    let shown = shown_of keeps.visited in
+    let are = shown-value KeepsVisited kept Packages seen keeps in
+    let passes = keeps.passes in
+    let name = name-said seen passes keeps.fields (shown (codes "Package")) (are (codes "Package")) in
+    let version = version-said seen passes keeps.fields (shown (codes "Version")) (are (codes "Version")) in
+    let architecture = architecture-said seen passes keeps.fields (shown (codes "Architecture")) (are (codes "Architecture")) in
+    let word = multi_arch-said seen passes keeps.fields (shown (codes "Multi-Arch")) (are (codes "Multi-Arch")) in
+    let provides = provides-said seen passes keeps.fields (shown (codes "Provides")) (are (codes "Provides")) in
     record {
       name = name.0;
       version = version.0;
       architecture = architecture.0;
-      name_is = keeps.kept.name.follows (Some name.0) name.1;
-      version_is = keeps.kept.version.follows (Some version.0) version.1;
-      architecture_is = keeps.kept.architecture.follows (Some architecture.0) architecture.1;
+      name_is = keeps.visits.name.follows (Some name.0) name.1;
+      version_is = keeps.visits.version.follows (Some version.0) version.1;
+      architecture_is = keeps.visits.architecture.follows (Some architecture.0) architecture.1;
       lists =
           lists-read seen name.0 version.0 architecture.0 kept.multi_arch (map provision_of kept.provisions.entries.items)
-          (subst (HasValue Packages seen (codes "Package")) name.1 (keeps.are (codes "Package")))
-          (subst (HasValue Packages seen (codes "Version")) version.1 (keeps.are (codes "Version")))
-          (subst (HasValue Packages seen (codes "Architecture")) architecture.1 (keeps.are (codes "Architecture")))
-          (subst (HasValue Packages seen (codes "Multi-Arch")) (word.1 ∙ ap (option_map MultiArchMeans) (sym (keeps.kept.multi_arch.follows word.0 word.1))) (keeps.are (codes "Multi-Arch")))
-          (record { provides = provides.0; has = subst (HasValue Packages seen (codes "Provides")) provides.1 (keeps.are (codes "Provides")); are = keeps.kept.provisions.follows provides.0 provides.1 });
+          (subst (HasValue Packages seen (codes "Package")) name.1 (are (codes "Package")))
+          (subst (HasValue Packages seen (codes "Version")) version.1 (are (codes "Version")))
+          (subst (HasValue Packages seen (codes "Architecture")) architecture.1 (are (codes "Architecture")))
+          (subst (HasValue Packages seen (codes "Multi-Arch")) (word.1 ∙ ap (option_map MultiArchMeans) (sym (keeps.visits.multi_arch.follows word.0 word.1))) (are (codes "Multi-Arch")))
+          (record { provides = provides.0; has = subst (HasValue Packages seen (codes "Provides")) provides.1 (are (codes "Provides")); are = keeps.visits.provisions.follows provides.0 provides.1 });
     }

@@ -1,7 +1,9 @@
 -- What is kept of the fields that were shown.
-use Rattle.std.proofs.Common.{◌≡◌, ◌↔◌, IsTrue, ℕ, Bool, true, false, cond, List, Option, None, Some, option_map, codes, refl, sym, ap, ◌∙◌}
+use Rattle.std.proofs.Common.{◌≡◌, ◌↔◌, IsTrue, ℕ, Bool, true, false, cond, List, [], ◌∷◌, ◌++◌, Result, subst, Option, None, Some, option_map, codes, refl, sym, ap, ◌∙◌}
 use Rattle.std.proofs.lemmas.Bool.{false≢true}
 use Rattle.std.proofs.lemmas.Slice.Eq.{bytes_eq-Decides}
+use Rattle.std.proofs.lemmas.List.Sums.{fold-append}
+use Rattle.std.specs.Prelude.{OnOk}
 use Rattle.std.specs.Str.{bytes_eq}
 use Rattle.deb_base.specs.Names.{folded}
 use Rattle.deb_field.specs.ValueMeanings.{value_meaning}
@@ -15,8 +17,8 @@ use Rattle.deb_field.specs.declared.value.Value.TheVariants as values
 use Rattle.deb_version.specs.Parts.{Meaning as Parts}
 use Rattle.deb_version.specs.declared.version.Version.{Version}
 use Rattle.deb_relation.specs.Meaning.{Relation}
-use Rattle.deb_control.specs.Keeping.{ShownValues, shown_with}
-use Rattle.deb_index.specs.PackageBuilder.{KeepsShown, KeepsFields, itself}
+use Rattle.deb_control.specs.Visiting.{Visit}
+use Rattle.deb_index.specs.PackageBuilder.{KeepsShown, KeepsFields, KeepsMore, KeepsVisited, ShownValues, itself, none_shown, shown_of, shown_with}
 use Rattle.deb_index.specs.Listed.{provisions_in}
 use Rattle.deb_index.specs.declared.paragraph.PackageBuilder.{PackageBuilder}
 
@@ -96,6 +98,11 @@ keeps-others kept name v shown a b c d e before =
   where
     no : (m : ValueMeaning) → is_kept m ≡ true → value_meaning v ≡ m → ⊥
     no m kind is = false≢true (sym (other_kinds v a b c d e) ∙ ap is_kept is ∙ kind)
+
+-- with one more field, what is kept is of the values that were visited
+pub visits-more : {T E : Type 0} (old new : PackageBuilder) (result : Result T E) (visit : Visit) → KeepsMore old new result visit.0.name visit.1 → (visited : List Visit) → KeepsVisited old visited → OnOk result (KeepsVisited new (visited ++ visit ∷ []))
+visits-more old new result visit more visited keeps =
+    subst (λ shown. OnOk result (KeepsFields new shown)) (sym (fold-append (λ shown v. shown_with v.0.name v.1 shown) none_shown visited (visit ∷ []))) (more (shown_of visited) keeps)
 
 -- what was taken was there
 pub none-taken : {A B : Type 0} (f : A → B) (o taken : Option A) (b : B) → taken ≡ None → taken ≡ o → option_map f o ≡ Some b → ⊥

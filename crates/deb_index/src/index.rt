@@ -80,13 +80,13 @@ impl Index {
             (R.failures reader.new) result }
     {
         let mut checked = Checked::new(alloc, Doc::Packages);
-        let mut kept = PackageBuilder::new(alloc);
+        let mut builder = PackageBuilder::new(alloc);
         let mut packages = Vec::new(alloc);
         for count in 0..u64::MAX {
-            if !checked.next_kept(&mut kept, reader)? {
+            if !checked.advance(&mut builder, reader)? {
                 return Ok(Index::of(alloc, packages)?);
             }
-            let Some(package) = kept.package() else {
+            let Some(package) = builder.package() else {
                 unreachable!()
             };
             packages.push(package)?;

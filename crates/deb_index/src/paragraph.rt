@@ -1,27 +1,29 @@
 //! Keeps the values of a paragraph that an index needs, while the paragraph is checked.
 
 ghost use Rattle.std.specs.Prelude.{IsSomeAnd};
-ghost use Rattle.deb_control.specs.Keeping.{KeepsValues};
+ghost use Rattle.deb_control.specs.Visiting.{VisitsValues};
 ghost use Rattle.deb_syntax.specs.Answers.{Seen};
 ghost use Rattle.deb_field.specs.RelationSpelled.{relation_meaning};
 ghost use Rattle.deb_field.specs.Shown.{architecture_name, package_name};
+ghost use Rattle.deb_field.specs.ValueMeanings.{value_meaning};
 ghost use Rattle.deb_field.specs.Values.{NameMeans, VersionMeans, ArchitectureMeans, MultiArchMeans, RelationMeans};
 ghost use Rattle.deb_version.specs.Version.{meaning_of};
 ghost use Rattle.deb_index.specs.Kept.{listed_of};
-ghost use Rattle.deb_index.specs.PackageBuilder.{KeepsFields, KeepsMore};
+ghost use Rattle.deb_index.specs.PackageBuilder.{KeepsMore, KeepsVisited};
 ghost use Rattle.deb_index.specs.Listing.{SeenLists};
 
 use crate::package::Package;
 use crate::provisions::Provisions;
 use deb_base::same_name;
-use deb_control::Keep;
+use deb_control::FieldVisitor;
 use deb_field::{ArchitectureName, Doc, MultiArch, PackageName, RelationField, Value};
 use deb_relation::RelationFault;
+use deb_syntax::RawField;
 use deb_version::{CanonicalVersion, Version};
 use std::alloc::{AllocError, Global};
 use std::mem;
 
-/// What is kept of the fields of a paragraph while it is judged.
+/// What is kept of the fields of a paragraph while it is checked.
 #[derive(Drop)]
 pub(crate) struct PackageBuilder {
     alloc: Global,
@@ -48,7 +50,7 @@ impl PackageBuilder {
     /// The package that the paragraph lists, which isn't kept any more; or `None` where the name,
     /// the version or the architecture wasn't shown.
     pub(crate) fn package(&mut self) -> Option<Package>
-        ensures { (seen : Seen) → KeepsValues KeepsFields self.old Doc.Packages seen
+        ensures { (seen : Seen) → VisitsValues KeepsVisited self.old Doc.Packages seen
             → IsSomeAnd result (λ listed. SeenLists seen (listed_of listed)) }
     {
         Some(Package {
@@ -58,6 +60,20 @@ impl PackageBuilder {
             multi_arch: self.multi_arch,
             provisions: mem::replace(&mut self.provisions, Provisions::none(self.alloc)),
         })
+    }
+
+    /// Keeps what is needed from the value of the field with a name.
+    fn keep(&mut self, name: &[u8], value: &Value<'_>) -> Result<(), AllocError>
+        ensures { KeepsMore self.old self.new result name.now (value_meaning value.now) }
+    {
+        match value {
+            Value::Name(package) => self.keep_name(name, package),
+            Value::Version(version) => self.keep_version(name, version),
+            Value::Architecture(architecture) => self.keep_architecture(name, architecture),
+            Value::MultiArch(word) => self.keep_multi_arch(name, *word),
+            Value::Relation(relation) => self.keep_provisions(name, relation),
+            _ => Ok(()),
+        }
     }
 
     /// Keeps a name, if it is that of the package.
@@ -128,10 +144,10 @@ impl PackageBuilder {
     }
 }
 
-impl Keep for PackageBuilder {
-    ghost Keeps = { KeepsFields };
+impl FieldVisitor for PackageBuilder {
+    ghost Visited = { KeepsVisited };
 
-    fn begin(&mut self) {
+    fn start(&mut self) {
         self.name = None;
         self.version = None;
         self.architecture = None;
@@ -139,14 +155,7 @@ impl Keep for PackageBuilder {
         self.provisions = Provisions::none(self.alloc);
     }
 
-    fn keep(&mut self, name: &[u8], value: &Value<'_>) -> Result<(), AllocError> {
-        match value {
-            Value::Name(package) => self.keep_name(name, package),
-            Value::Version(version) => self.keep_version(name, version),
-            Value::Architecture(architecture) => self.keep_architecture(name, architecture),
-            Value::MultiArch(word) => self.keep_multi_arch(name, *word),
-            Value::Relation(relation) => self.keep_provisions(name, relation),
-            _ => Ok(()),
-        }
+    fn visit(&mut self, field: &RawField<'_>, value: &Value<'_>) -> Result<(), AllocError> {
+        self.keep(field.name, value)
     }
 }

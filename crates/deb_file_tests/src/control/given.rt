@@ -1,7 +1,7 @@
 //! Tests of a returned paragraph: its fields as they are in the file, and their values.
 
 use super::*;
-use deb_control::{Accepted, Judged, Paragraph};
+use deb_control::{Accepted, Judged, NoVisitor, Paragraph};
 use deb_field::{Canon, Value};
 
 /// A field as it stands in the file: its name, its line and its body.
@@ -58,16 +58,18 @@ fn paragraphs_that_are_given(rt: HostRuntime) -> Result<(), Fail> {
 }
 
 #[test]
-fn paragraphs_that_are_judged(rt: HostRuntime) -> Result<(), Fail> {
+fn paragraphs_without_their_text(rt: HostRuntime) -> Result<(), Fail> {
     for size in SIZES {
         let mut input = Input::new(Pieces::new(FILE, size, 0));
         let mut checked = Checked::new(rt.alloc(), Doc::Packages);
         for shown in &SHOWN {
-            let paragraph = checked.next_judged(&mut input)?.ok_or("no paragraph")?;
+            assert!(rt; checked.advance(&mut NoVisitor, &mut input)?, "a paragraph");
+            let paragraph = checked.current().ok_or("no paragraph")?;
             let is_judged = is_judged(rt.alloc(), &paragraph, shown)?;
             assert!(rt; is_judged, "in pieces of {size}");
         }
-        assert!(rt; checked.next_judged(&mut input)?.is_none(), "the end");
+        assert!(rt; !checked.advance(&mut NoVisitor, &mut input)?, "the end");
+        assert!(rt; checked.current().is_none(), "after the end");
     }
     Ok(())
 }

@@ -2,7 +2,7 @@ use Rattle.deb_control.proofs.Common.{◌≡◌, ◌∙◌, ◌+◌, Bool, true,
 use Rattle.std.specs.Option.{option_map}
 use Rattle.deb_syntax.specs.Lines.{file_limit}
 use Rattle.deb_control.proofs.CheckedSoFar.{goes_on}
-use Rattle.deb_control.proofs.Checks.{few-given}
+use Rattle.deb_control.proofs.Checks.{few-totals}
 use Rattle.deb_control.proofs.ComparedSoFar.{start_agreed, compared}
 use Rattle.deb_control.proofs.ReadingOn.{reads-none, reads-ok, reads-err}
 use Rattle.deb_control.proofs.comparing.agree.Goals as goal
@@ -104,4 +104,4 @@ loop-preserved g c =
 
 pub unreachable-requires : goal.unreachable-requires
 unfolding file_limit
-unreachable-requires g c = omega (arith, c.loop-test.false, c.loop.invariant.count, few-given c.loop.one.given)
+unreachable-requires g c = omega (arith, c.loop-test.false, c.loop.invariant.count, few-totals c.loop.one.totals)

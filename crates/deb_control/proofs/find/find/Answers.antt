@@ -1,35 +1,33 @@
-use Rattle.deb_control.proofs.Common.{◌≡◌, [], None, Some, refl, sym, ◌∙◌, err_from_is_err_and, goes-from_passes, state_of, seen_of, Advances}
-use Rattle.deb_control.proofs.Checks.{few-given, checks-advance_err, checks-end, says-found, says-none, none_found, one_found}
+use Rattle.deb_control.proofs.Common.{◌≡◌, None, Some, refl, sym, ◌∙◌, err_from_is_err_and, goes-from_passes, state_of, seen_of, Advances}
+use Rattle.deb_control.proofs.Checks.{few-totals, checks-advance_err, checks-end, says-found, none_found, one_found}
 use Rattle.deb_control.proofs.find.find.Goals as goal
 
 pub returns-then-is_complete-clause-checks : goal.returns-then-is_complete-clause-checks
 returns-then-is_complete-clause-checks g c = λ shown shown_now kept kept_now.
-    says-none c.args.doc _ _ _ c.none_follows.result c.none_follows.ensures.none
-    (c.none_follows.ensures.checks shown shown_now kept kept_now c.args.doc c.args.given.now (sym c.is_complete.ensures ∙ c.if-is_complete.true))
+    c.none_follows.ensures.checks shown shown_now kept kept_now c.args.doc c.args.totals.now _ (sym c.is_complete.ensures ∙ c.if-is_complete.true)
 
 pub returns-in_err-advance-clause-checks : goal.returns-in_err-advance-clause-checks
 returns-in_err-advance-clause-checks g c = λ shown shown_now kept kept_now.
     let p = err_from_is_err_and c.from_residual.result c.from_residual.ensures.1 in
-    let given = c.args.given.now in
+    let totals = c.args.totals.now in
     let advances = goes-from_passes Advances _ _ _ c.requires.sound c.in_err-advance.ensures.passes in
-    rw (p.1, p.2) (checks-advance_err c.args.doc shown shown_now kept kept_now _ _ given.paragraphs given.bytes _ _ _ _ (few-given given) (sym c.is_complete.ensures ∙ c.if-is_complete.false) c.in_err-advance.field-0.0 advances)
+    rw (p.1, p.2) (checks-advance_err c.args.doc shown shown_now kept kept_now _ _ totals.paragraphs totals.bytes _ _ _ _ (few-totals totals) (sym c.is_complete.ensures ∙ c.if-is_complete.false) c.in_err-advance.field-0.0 advances)
 
 pub returns-in-None-clause-checks : goal.returns-in-None-clause-checks
 returns-in-None-clause-checks g c = λ shown shown_now kept kept_now.
-    let given = c.args.given.now in
+    let totals = c.args.totals.now in
     let state = state_of c.advance.new.self in
     let none : state.current ≡ None = sym c.in-None.ensures in
     let advances = goes-from_passes Advances _ _ _ c.requires.sound c.in_ok-advance.ensures.passes in
-    says-none c.args.doc _ _ _ c.end.result c.end.ensures.none
-    (checks-end c.args.doc shown shown_now kept kept_now _ state given.paragraphs given.bytes _ _ _ _ (few-given given) (sym c.is_complete.ensures ∙ c.if-is_complete.false) given c.lines.result None [] _ c.end.result
-    refl (none_found state c.in_ok-advance.field-0 none) advances c.lines.ensures.finished c.end.ensures.answer)
+    checks-end c.args.doc shown shown_now kept kept_now _ state totals.paragraphs totals.bytes _ _ _ _ (few-totals totals) (sym c.is_complete.ensures ∙ c.if-is_complete.false) totals c.lines.result _ _ c.end.result
+    refl (none_found state c.in_ok-advance.field-0 none) advances c.lines.ensures.finished c.end.ensures.answer
 
 pub returns-in-Some-clause-checks : goal.returns-in-Some-clause-checks
 returns-in-Some-clause-checks g c = λ shown shown_now kept kept_now.
-    let given = c.args.given.now in
+    let totals = c.args.totals.now in
     let state = state_of c.advance.new.self in
     let seen = seen_of c.in-Some.raw in
     let some : state.current ≡ Some seen = sym c.in-Some.ensures in
     let advances = goes-from_passes Advances _ _ _ c.requires.sound c.in_ok-advance.ensures.passes in
-    says-found c.args.doc shown shown_now kept kept_now _ state given.paragraphs given.bytes _ _ _ _ (few-given given) (sym c.is_complete.ensures ∙ c.if-is_complete.false) given c.pass.new.given seen c.args.keeps_text state.current c.pass.new.canonical.items _ c.pass.result
+    says-found c.args.doc shown shown_now kept kept_now _ state totals.paragraphs totals.bytes _ _ _ _ (few-totals totals) (sym c.is_complete.ensures ∙ c.if-is_complete.false) totals c.pass.new.totals seen state.current _ c.pass.result
     c.in-Some.raw.numbered refl refl some (one_found state c.in_ok-advance.field-0 seen some c.in_ok-advance.ensures.found) advances c.pass.ensures.ok c.pass.ensures.fault c.pass.ensures.unchanged

@@ -1,5 +1,5 @@
-use Rattle.deb_control.proofs.Common.{◌≡◌, ◌<◌, subst, refl, Some, err_from_is_err_and, fields_of, value_refusal, canonical_name, rules_of, value_refusal_of}
-use Rattle.deb_control.proofs.FieldsRead.{HasRead-next, refused-here, RefusedOrMemory-to, none_is_past}
+use Rattle.deb_control.proofs.Common.{◌≡◌, ◌<◌, subst, refl, Some, arith, err_from_is_err_and, fields_of, field_in, value_meaning, value_refusal, canonical_name, rules_of, value_refusal_of}
+use Rattle.deb_control.proofs.FieldsRead.{HasRead-next, HasRead-end, refused-here, RefusedOrMemory-to, none_is_past}
 use Rattle.deb_control.proofs.paragraph.fields_with_values.Goals as goal
 use Rattle.deb_control.proofs.paragraph.fields_with_values.Goals.{in-Some+in_ok-value+in_ok-push, in_default}
 
@@ -18,7 +18,11 @@ loop-index-preserved c =
     let fields = fields_of c.args.paragraph.now in
     elim c.match-field.branch [
       | in-Some+in_ok-value+in_ok-push w ↦
-          rw w.fields-is (HasRead-next c.args.doc fields c.loop-index.fields.items w.push.new.self.items c.loop-index.index w.in-Some.raw (record { raw = w.in-Some.raw; value = w.in_ok-value.value })
+          rw w.fields-is (HasRead-next (λ field. (field_in field, value_meaning field.value)) c.args.doc fields c.loop-index.fields.items w.push.new.self.items c.loop-index.index w.in-Some.raw (record { raw = w.in-Some.raw; value = w.in_ok-value.value })
           w.in-Some.ensures.field refl w.in_ok-value.ensures.ok w.in_ok-push.ensures.items c.loop-index.invariant)
       | in_default w ↦ absurd (none_is_past fields c.loop-index.index (subst (λ n. c.loop-index.index < n) c.len-index-end.ensures c.loop-index-test.true) w.in_default.ensures.field)
     ]
+
+pub returns-clause-fields : goal.returns-clause-fields
+returns-clause-fields c =
+    (HasRead-end (λ field. (field_in field, value_meaning field.value)) c.args.doc (fields_of c.args.paragraph.now) c.loop-index.fields.items c.loop-index.index (omega (arith, c.len-index-end.ensures, c.loop-index-test.false)) c.loop-index.invariant).0

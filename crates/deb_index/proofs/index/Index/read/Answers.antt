@@ -1,6 +1,8 @@
 use Rattle.std.proofs.Common.{◌∷◌, [], map, Ok, refl, ap, ◌∙◌, arith}
 use Rattle.std.proofs.lemmas.List.{map-append}
 use Rattle.std.proofs.lemmas.Result.{err_from_is_err_and}
+use Rattle.deb_base.specs.declared.doc.Doc.TheVariants.{Packages}
+use Rattle.deb_control.specs.Checking.{passing_seen}
 use Rattle.deb_control.proofs.CheckedSoFar.{goes_on, sound_on, refusal_behind, counted_on}
 use Rattle.deb_index.specs.Kept.{listed_of}
 use Rattle.deb_index.specs.declared.index.Index.{Index}
@@ -16,80 +18,80 @@ loop-count-init g c = record {
   text = λ text left. rw c.new-packages.ensures.items (none_listed text _ _ (rw left (c.new-checked.ensures.fits text)));
 }
 
-pub returns-in_err-next_kept-clause-refused : goal.returns-in_err-next_kept-clause-refused
-returns-in_err-next_kept-clause-refused g c = λ text left.
+pub returns-in_err-advance-clause-refused : goal.returns-in_err-advance-clause-refused
+returns-in_err-advance-clause-refused g c = λ text left.
     let p = err_from_is_err_and c.from_residual.result c.from_residual.ensures.1 in
-    let passes = rw c.loop-count.invariant.doc at c.in_err-next_kept.ensures.passes.checks in
+    let passes = rw c.loop-count.invariant.doc at c.in_err-advance.ensures.passes.checks in
     let so_far = (c.loop-count.invariant.text text left).checked in
     let checks = goes_on _ _ _ _ c.loop-count.invariant.fault passes in
-    rw (p.1, p.2) (refusal_behind Index _ text _ _ _ _ c.in_err-next_kept.field-0.0 so_far (checks.answers text so_far.before so_far.fits))
+    rw (p.1, p.2) (refusal_behind Index _ text _ _ _ _ c.in_err-advance.field-0.0 so_far (checks.answers text so_far.before so_far.fits))
 
-pub returns-in_err-next_kept-clause-fault : goal.returns-in_err-next_kept-clause-fault
-returns-in_err-next_kept-clause-fault g c =
+pub returns-in_err-advance-clause-fault : goal.returns-in_err-advance-clause-fault
+returns-in_err-advance-clause-fault g c =
     let p = err_from_is_err_and c.from_residual.result c.from_residual.ensures.1 in
-    rw (p.1, p.2) (goes_on _ _ _ _ c.loop-count.invariant.fault c.in_err-next_kept.ensures.passes.checks).fault
+    rw (p.1, p.2) (goes_on _ _ _ _ c.loop-count.invariant.fault c.in_err-advance.ensures.passes.checks).fault
 
-pub returns-in_err-next_kept-clause-counts_read_failure : goal.returns-in_err-next_kept-clause-counts_read_failure
-returns-in_err-next_kept-clause-counts_read_failure g c =
+pub returns-in_err-advance-clause-counts_read_failure : goal.returns-in_err-advance-clause-counts_read_failure
+returns-in_err-advance-clause-counts_read_failure g c =
     let p = err_from_is_err_and c.from_residual.result c.from_residual.ensures.1 in
-    rw (p.1, p.2) (counted_on Index _ _ c.in_err-next_kept.field-0.0 _ _ (goes_on _ _ _ _ c.loop-count.invariant.fault c.in_err-next_kept.ensures.passes.checks) c.loop-count.invariant.reads)
+    rw (p.1, p.2) (counted_on Index _ _ c.in_err-advance.field-0.0 _ _ (goes_on _ _ _ _ c.loop-count.invariant.fault c.in_err-advance.ensures.passes.checks) c.loop-count.invariant.reads)
 
-pub returns-in_err-next_kept-clause-reads_at_most : goal.returns-in_err-next_kept-clause-reads_at_most
-returns-in_err-next_kept-clause-reads_at_most g c = λ text left.
-    let passes = rw c.loop-count.invariant.doc at c.in_err-next_kept.ensures.passes.checks in
+pub returns-in_err-advance-clause-reads_at_most : goal.returns-in_err-advance-clause-reads_at_most
+returns-in_err-advance-clause-reads_at_most g c = λ text left.
+    let passes = rw c.loop-count.invariant.doc at c.in_err-advance.ensures.passes.checks in
     let so_far = (c.loop-count.invariant.text text left).checked in
     (goes_on _ _ _ _ c.loop-count.invariant.fault passes).taken text so_far.before so_far.fits
 
 pub returns-then-not-branch-clause-ok : goal.returns-then-not-branch-clause-ok
 returns-then-not-branch-clause-ok g c = λ text left.
-    let passes = rw (c.if-not-branch.true, c.loop-count.invariant.doc) at c.in_ok-next_kept.ensures.passes.checks in
+    let passes = rw (c.if-not-branch.true, c.loop-count.invariant.doc) at c.in_ok-advance.ensures.passes.checks in
     let so_far = c.loop-count.invariant.text text left in
     let checks = goes_on _ _ _ _ c.loop-count.invariant.fault passes in
     rw c.in_ok-of.ensures (lists_all text _ _ _ _ (map listed_of c.loop-count.packages.items) so_far (checks.answers text so_far.checked.before so_far.checked.fits))
 
 pub returns-then-not-branch-clause-counts_read_failure : goal.returns-then-not-branch-clause-counts_read_failure
 returns-then-not-branch-clause-counts_read_failure g c =
-    let passes = rw c.if-not-branch.true at c.in_ok-next_kept.ensures.passes.checks in
+    let passes = rw c.if-not-branch.true at c.in_ok-advance.ensures.passes.checks in
     (goes_on _ _ _ _ c.loop-count.invariant.fault passes).counted ∙ c.loop-count.invariant.reads
 
 pub returns-then-not-branch-clause-reads_at_most : goal.returns-then-not-branch-clause-reads_at_most
 returns-then-not-branch-clause-reads_at_most g c = λ text left.
-    let passes = rw (c.if-not-branch.true, c.loop-count.invariant.doc) at c.in_ok-next_kept.ensures.passes.checks in
+    let passes = rw (c.if-not-branch.true, c.loop-count.invariant.doc) at c.in_ok-advance.ensures.passes.checks in
     let so_far = (c.loop-count.invariant.text text left).checked in
     (goes_on _ _ _ _ c.loop-count.invariant.fault passes).taken text so_far.before so_far.fits
 
 pub returns-in_err-of-clause-reads_at_most : goal.returns-in_err-of-clause-reads_at_most
 returns-in_err-of-clause-reads_at_most g c = λ text left.
-    let passes = rw (c.if-not-branch.true, c.loop-count.invariant.doc) at c.in_ok-next_kept.ensures.passes.checks in
+    let passes = rw (c.if-not-branch.true, c.loop-count.invariant.doc) at c.in_ok-advance.ensures.passes.checks in
     let so_far = (c.loop-count.invariant.text text left).checked in
     (goes_on _ _ _ _ c.loop-count.invariant.fault passes).taken text so_far.before so_far.fits
 
 pub returns-in_err-push-clause-reads_at_most : goal.returns-in_err-push-clause-reads_at_most
 returns-in_err-push-clause-reads_at_most g c = λ text left.
-    let passes = rw (c.if-not-branch.false, c.loop-count.invariant.doc) at c.in_ok-next_kept.ensures.passes.checks in
+    let passes = rw (c.if-not-branch.false, c.loop-count.invariant.doc) at c.in_ok-advance.ensures.passes.checks in
     let so_far = (c.loop-count.invariant.text text left).checked in
     (goes_on _ _ _ _ c.loop-count.invariant.fault passes).taken text so_far.before so_far.fits
 
 pub unreachable-requires : goal.unreachable-requires
 unreachable-requires g c =
-    let passes = c.in_ok-next_kept.ensures.passes in
-    let keeps = rw c.loop-count.invariant.doc at passes.kept (ap Ok c.if-not-branch.false) in
-    rw c.in_default.is at c.package.ensures passes.given.seen keeps
+    let passes = c.in_ok-advance.ensures.passes in
+    let keeps = rw c.loop-count.invariant.doc at passes.visits (ap Ok c.if-not-branch.false) in
+    rw c.in_default.is at c.package.ensures passes.given keeps
 
 pub loop-count-preserved : goal.loop-count-preserved
 loop-count-preserved g c =
-    let given = c.in_ok-next_kept.ensures.passes.given in
-    let passes = rw (c.if-not-branch.false, c.loop-count.invariant.doc) at c.in_ok-next_kept.ensures.passes.checks in
-    let keeps = rw c.loop-count.invariant.doc at c.in_ok-next_kept.ensures.passes.kept (ap Ok c.if-not-branch.false) in
+    let given = c.in_ok-advance.ensures.passes.given in
+    let passes = rw (c.if-not-branch.false, c.loop-count.invariant.doc) at c.in_ok-advance.ensures.passes.checks in
+    let keeps = rw c.loop-count.invariant.doc at c.in_ok-advance.ensures.passes.visits (ap Ok c.if-not-branch.false) in
     let checks = goes_on _ _ _ _ c.loop-count.invariant.fault passes in
     record {
-      doc = c.in_ok-next_kept.ensures.doc ∙ c.loop-count.invariant.doc;
+      doc = c.in_ok-advance.ensures.doc ∙ c.loop-count.invariant.doc;
       fault = sound_on _ _ _ _ c.loop-count.invariant.fault passes;
       reads = checks.counted ∙ c.loop-count.invariant.reads;
       count = omega (arith, checks.count, c.loop-count.invariant.count);
       text = λ text left.
           let so_far = c.loop-count.invariant.text text left in
-          one_listed text _ _ _ _ (map listed_of c.loop-count.packages.items) _ (listed_of c.in-Some.«package») given so_far
-          (checks.answers text so_far.checked.before so_far.checked.fits) (rw c.in-Some.is at c.package.ensures given.seen keeps)
+          one_listed text _ _ _ _ (map listed_of c.loop-count.packages.items) _ (listed_of c.in-Some.«package») (passing_seen Packages given) so_far
+          (checks.answers text so_far.checked.before so_far.checked.fits) (rw c.in-Some.is at c.package.ensures given keeps)
           (ap (map listed_of) c.in_ok-push.ensures.items ∙ map-append listed_of c.loop-count.packages.items (c.in-Some.«package» ∷ []));
     }

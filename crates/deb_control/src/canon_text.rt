@@ -1,0 +1,113 @@
+//! The canonical text of a paragraph, written while its fields are visited.
+
+ghost use Rattle.std.specs.Prelude.{◌≡◌, ◌++◌, List, map, OnOk};
+ghost use Rattle.std.specs.List.{flat_map};
+ghost use Rattle.std.specs.List.Sorted.{IsPermutation, IsSortedBy};
+ghost use Rattle.deb_syntax.specs.Fields.{AreDistinct};
+ghost use Rattle.deb_syntax.specs.Meaning.{byte_order, entries_of};
+ghost use Rattle.deb_control.specs.Canonical.{paragraph_text};
+ghost use Rattle.deb_control.specs.CanonTexts.{HoldsTexts, name_in, names_ascend, part_of, text_in};
+ghost use Rattle.deb_control.specs.Visiting.{Visit, canonical_visit, fields_visited};
+
+use crate::field::append_body;
+use crate::name::append_name;
+use crate::visitor::FieldVisitor;
+use deb_field::Value;
+use deb_syntax::RawField;
+use std::alloc::{AllocError, Global};
+use std::cmp::Ordering;
+
+/// Where the canonical text of a field is in a buffer, and where its name ends.
+#[derive(Clone, Copy)]
+pub(crate) struct CanonSpan {
+    pub(crate) start: usize,
+    pub(crate) name_end: usize,
+    pub(crate) end: usize,
+}
+
+/// The canonical texts of the fields that were visited, in file order.
+#[derive(Drop)]
+pub(crate) struct CanonText {
+    pub(crate) buffer: Vec<u8>,
+    pub(crate) spans: Vec<CanonSpan>,
+}
+
+impl CanonText {
+    /// No field was visited. Takes no memory.
+    pub(crate) fn new(alloc: Global) -> CanonText {
+        CanonText {
+            buffer: Vec::new(alloc),
+            spans: Vec::new(alloc),
+        }
+    }
+
+    /// Replaces `text` by the texts of the fields, in ascending order of their canonical names.
+    pub(crate) fn sort_into(&mut self, text: &mut Vec<u8>) -> Result<(), AllocError>
+        ensures { (visited : List Visit) → HoldsTexts self.old visited
+            → AreDistinct (fields_visited visited) → OnOk result
+            (text.new.items ≡ paragraph_text (entries_of (map canonical_visit visited))) }
+    {
+        sort(&mut self.spans, self.buffer.as_slice());
+        text.clear();
+        append_spans(self.buffer.as_slice(), self.spans.as_slice(), text)?;
+        Ok(())
+    }
+}
+
+impl FieldVisitor for CanonText {
+    ghost Visited = { HoldsTexts };
+
+    fn start(&mut self) {
+        self.buffer.clear();
+        self.spans.clear();
+    }
+
+    fn visit(&mut self, field: &RawField<'_>, value: &Value<'_>) -> Result<(), AllocError> {
+        let start = self.buffer.len();
+        append_name(field.name, &mut self.buffer)?;
+        let name_end = self.buffer.len();
+        append_body(value, &mut self.buffer)?;
+        let end = self.buffer.len();
+        self.spans.push(CanonSpan {
+            start,
+            name_end,
+            end,
+        })?;
+        Ok(())
+    }
+}
+
+/// Sorts spans by the names in them.
+fn sort(spans: &mut Vec<CanonSpan>, buffer: &[u8])
+    ensures permutation { IsPermutation spans.old.items spans.new.items }
+    ensures sorted { IsSortedBy (names_ascend buffer.now) spans.new.items }
+{
+    spans.sort_unstable_by(|span, other| compare_names(buffer, span, other));
+}
+
+/// Compares the names in two spans in the order of bytes.
+fn compare_names(buffer: &[u8], span: &CanonSpan, other: &CanonSpan) -> Ordering
+    ensures { result ≡ byte_order (name_in buffer.now span.now) (name_in buffer.now other.now) }
+{
+    let name = part(buffer, span.start, span.name_end);
+    name.cmp(part(buffer, other.start, other.name_end))
+}
+
+/// Appends the texts in spans.
+fn append_spans(buffer: &[u8], spans: &[CanonSpan], text: &mut Vec<u8>) -> Result<(), AllocError>
+    ensures { OnOk result
+        (text.new.items ≡ text.old.items ++ flat_map (text_in buffer.now) spans.now) }
+{
+    for span in spans {
+        text.extend_from_slice(part(buffer, span.start, span.end))?;
+    }
+    Ok(())
+}
+
+/// Returns the bytes from one offset up to another, as far as there are any.
+fn part(buffer: &[u8], from: usize, to: usize) -> &[u8]
+    ensures { result.now ≡ part_of buffer.now from to }
+{
+    let front = &buffer[..to.min(buffer.len())];
+    &front[from.min(front.len())..]
+}

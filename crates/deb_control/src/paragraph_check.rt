@@ -1,0 +1,173 @@
+//! Checks one paragraph: the only place where it is decided whether a paragraph passes by itself.
+
+ghost use Rattle.std.specs.Prelude.{◌≡◌, ◌≤◌, ◌-◌, ◌^◌, Some, Err, IfOk, IfErr, length, map, min};
+ghost use Rattle.deb_base.specs.Bodies.{IsBody};
+ghost use Rattle.deb_base.specs.Faults.{RefusedOrMemory};
+ghost use Rattle.deb_base.specs.Names.{canonical_name};
+ghost use Rattle.deb_syntax.specs.Fields.{has_name};
+ghost use Rattle.deb_syntax.specs.Paragraphs.{seen_of};
+ghost use Rattle.deb_syntax.specs.Raw.{field_of, fields_of};
+ghost use Rattle.deb_field.specs.Kinds.{required};
+ghost use Rattle.deb_field.specs.Values.{SpellsValue, value_refusal, value_text};
+ghost use Rattle.deb_field.specs.ValueMeanings.{value_meaning};
+ghost use Rattle.deb_control.specs.Canonical.{behind_colon, field_text};
+ghost use Rattle.deb_control.specs.Checking.{text_built};
+ghost use Rattle.deb_control.specs.Documents.{rules_of};
+ghost use Rattle.deb_control.specs.Refusals.{built, have_names, value_refusal_of};
+ghost use Rattle.deb_control.specs.Visiting.{VisitsField, VisitsFields, VisitsValues};
+
+use crate::field::is_spaced;
+use crate::visitor::FieldVisitor;
+use deb_base::{Code, Fault, PARAGRAPH_LIMIT, Refusal};
+use deb_field::{Canon, Doc, Value, ValueFault, required};
+use deb_syntax::{Raw, RawField};
+use std::alloc::Global;
+
+/// Reads the value of each field of a paragraph in file order, shows it to the visitor, and returns
+/// the length of the paragraph's canonical text.
+///
+/// # Errors
+///
+/// Those of `Paragraph::build`; `Fault::Memory` also if the visitor is out of memory.
+pub(crate) fn check_paragraph<V: FieldVisitor>(
+    alloc: Global,
+    doc: Doc,
+    paragraph: &Raw<'_>,
+    visitor: &mut V,
+) -> Result<u64, Fault>
+    ensures length { IfOk result
+        (λ n. n ≡ length (text_built (built (rules_of doc) (seen_of paragraph.now)))) }
+    ensures short { IfOk result (λ n. n ≤ PARAGRAPH_LIMIT) }
+    ensures visits { IfOk result
+        (λ n. VisitsValues V.Visited visitor.new doc (seen_of paragraph.now)) }
+    ensures fault { IfErr result
+        (λ fault. RefusedOrMemory fault
+        (λ refusal. built (rules_of doc) (seen_of paragraph.now) ≡ Err refusal)) }
+{
+    let length = visit_fields(alloc, doc, paragraph, visitor)?;
+    if !has_required(doc, paragraph) {
+        return Err(refused(Code::MissingField, paragraph.first_line()));
+    }
+    if length > PARAGRAPH_LIMIT as u64 {
+        return Err(refused(Code::ParagraphTooLong, paragraph.first_line()));
+    }
+    Ok(length)
+}
+
+/// Visits each field of a paragraph with its value, and returns the length of their canonical
+/// texts, or `u64::MAX` if it is greater.
+fn visit_fields<V: FieldVisitor>(
+    alloc: Global,
+    doc: Doc,
+    paragraph: &Raw<'_>,
+    visitor: &mut V,
+) -> Result<u64, Fault>
+    ensures visits { IfOk result
+        (VisitsFields V.Visited visitor.new doc (fields_of paragraph.now)) }
+    ensures fault { IfErr result
+        (λ fault. RefusedOrMemory fault
+        (λ refusal. value_refusal_of (rules_of doc) (fields_of paragraph.now) ≡ Some refusal)) }
+{
+    visitor.start();
+    let mut length: u64 = 0;
+    for index in 0..paragraph.len() {
+        if let Some(raw) = paragraph.field(index) {
+            length = length.saturating_add(visit_field(alloc, doc, &raw, visitor)?);
+        }
+    }
+    Ok(length)
+}
+
+/// Visits a field with its value, and returns the length of its canonical text, or `u64::MAX` if it
+/// is greater. The errors are those of reading its value.
+fn visit_field<V: FieldVisitor>(
+    alloc: Global,
+    doc: Doc,
+    field: &RawField<'_>,
+    visitor: &mut V,
+) -> Result<u64, Fault>
+    requires { IsBody field.now.body.now }
+    ensures visits { IfOk result
+        (VisitsField V.Visited visitor.old visitor.new doc (field_of field.now)) }
+    ensures fault { IfErr result
+        (λ fault. RefusedOrMemory fault
+        (λ refusal. (refusal.line ≡ field.now.line)
+        × (value_refusal doc (canonical_name field.now.name.now) field.now.body.now
+        ≡ Some refusal.code))) }
+{
+    let value = value_of(alloc, doc, field)?;
+    visitor.visit(field, &value)?;
+    Ok(canonical_len(field.name, &value))
+}
+
+/// Returns the length of the canonical text of a field with this value, or `u64::MAX` if it is
+/// greater.
+fn canonical_len(name: &[u8], value: &Value<'_>) -> u64
+    ensures { result ≡ min (length (field_text
+        (canonical_name name.now, value_text (value_meaning value.now)))) (2 ^ 64 - 1) }
+{
+    let name_and_ends = name.len() as u64 + 2;
+    name_and_ends.saturating_add(behind_colon_len(value))
+}
+
+/// Returns the length of the text after the colon, or `u64::MAX` if it is greater.
+fn behind_colon_len(value: &Value<'_>) -> u64
+    ensures { result
+        ≡ min (length (behind_colon (value_text (value_meaning value.now)))) (2 ^ 64 - 1) }
+{
+    let length = value.canon_len();
+    if is_spaced(value) {
+        length.saturating_add(1)
+    } else {
+        length
+    }
+}
+
+/// Returns the value of one field.
+pub(crate) fn value_of<'a>(
+    alloc: Global,
+    doc: Doc,
+    field: &RawField<'a>,
+) -> Result<Value<'a>, Fault>
+    requires { IsBody field.now.body.now }
+    ensures ok { IfOk result
+        (λ value. SpellsValue doc (canonical_name field.now.name.now) field.now.body.now
+        (value_meaning value)) }
+    ensures fault { IfErr result
+        (λ fault. RefusedOrMemory fault
+        (λ refusal. (refusal.line ≡ field.now.line)
+        × (value_refusal doc (canonical_name field.now.name.now) field.now.body.now
+        ≡ Some refusal.code))) }
+{
+    match Value::parse(alloc, doc, field.name, field.body) {
+        Ok(value) => Ok(value),
+        Err(ValueFault::Refused(code)) => Err(refused(code, field.line)),
+        Err(ValueFault::Memory) => Err(Fault::Memory),
+    }
+}
+
+/// Whether the paragraph has each field that a document of this kind requires.
+fn has_required(doc: Doc, paragraph: &Raw<'_>) -> bool
+    ensures { result ≡ have_names (fields_of paragraph.now) (required doc) }
+{
+    has_fields(paragraph, required(doc))
+}
+
+/// Whether the paragraph has a field of each name.
+fn has_fields(paragraph: &Raw<'_>, names: &[&[u8]]) -> bool
+    ensures { result ≡ have_names (fields_of paragraph.now) (map (λ name. name.now) names.now) }
+{
+    names.iter().all(|name| has_field(paragraph, name))
+}
+
+fn has_field(paragraph: &Raw<'_>, name: &[u8]) -> bool
+    ensures { result ≡ has_name name.now (fields_of paragraph.now) }
+{
+    paragraph.get(name).is_some()
+}
+
+pub(crate) fn refused(code: Code, line: u64) -> Fault
+    ensures { result ≡ Fault.Refused (record { code = code; line = line }) }
+{
+    Fault::Refused(Refusal { code, line })
+}
