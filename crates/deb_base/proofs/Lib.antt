@@ -3,6 +3,7 @@ pub mod BodyLemmas
 pub mod CanonicalNames
 mod DocLookups
 pub mod FieldBytes
+pub mod FieldLookups
 pub mod GraphicBodies
 pub mod GraphicNames
 pub mod LaterPieces

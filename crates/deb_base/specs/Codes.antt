@@ -1,7 +1,7 @@
 -- The numbers and names of the codes of refusals: the first nine are about the text of a file
 -- (Debian Policy 5.1), 10 to 12 about its paragraphs (5.2 to 5.4), 13 to 21 about a value (5.6 and
 -- 7), 22 and 23 about a query.
-use Rattle.std.specs.Prelude.{ℕ, List, codes}
+use Rattle.std.specs.Prelude.{◌≡◌, ℕ, List, [], ◌∷◌, map, codes, refl}
 use Rattle.deb_base.specs.declared.code.Code.{Code}
 use Rattle.deb_base.specs.declared.code.Code.TheVariants.{NotUtf8, Armour, Comment, StrayContinuation, BadFieldName, NoColon, DuplicateField, ParagraphTooLong, FileTooLong, NoParagraph, TooManyParagraphs, MissingField, NotOneLine, BadName, BadNumber, BadWord, BadArchitecture, BadVersion, BadRelation, AlternativesNotAllowed, ProvidesBound, Wildcard, BadEnvironment}
 
@@ -56,3 +56,31 @@ name_of AlternativesNotAllowed = codes "AlternativesNotAllowed"
 name_of ProvidesBound = codes "ProvidesBound"
 name_of Wildcard = codes "Wildcard"
 name_of BadEnvironment = codes "BadEnvironment"
+
+-- the codes of refusals, which go from the text of a file over its paragraphs and values to words
+numbers_of_codes : map number_of
+    (NotUtf8 ∷ Armour ∷ Comment ∷ StrayContinuation ∷ BadFieldName
+    ∷ NoColon ∷ DuplicateField ∷ ParagraphTooLong ∷ FileTooLong
+    ∷ NoParagraph ∷ TooManyParagraphs ∷ MissingField ∷ NotOneLine
+    ∷ BadName ∷ BadNumber ∷ BadWord ∷ BadArchitecture ∷ BadVersion
+    ∷ BadRelation ∷ AlternativesNotAllowed ∷ ProvidesBound ∷ Wildcard
+    ∷ BadEnvironment ∷ [])
+    ≡ 1 ∷ 2 ∷ 3 ∷ 4 ∷ 5 ∷ 6 ∷ 7 ∷ 8 ∷ 9 ∷ 10 ∷ 11 ∷ 12 ∷ 13 ∷ 14 ∷ 15 ∷ 16 ∷ 17 ∷ 18 ∷ 19 ∷ 20
+    ∷ 21 ∷ 22 ∷ 23 ∷ []
+numbers_of_codes = refl
+
+names_of_codes : map name_of
+    (NotUtf8 ∷ Armour ∷ Comment ∷ StrayContinuation ∷ BadFieldName
+    ∷ NoColon ∷ DuplicateField ∷ ParagraphTooLong ∷ FileTooLong
+    ∷ NoParagraph ∷ TooManyParagraphs ∷ MissingField ∷ NotOneLine
+    ∷ BadName ∷ BadNumber ∷ BadWord ∷ BadArchitecture ∷ BadVersion
+    ∷ BadRelation ∷ AlternativesNotAllowed ∷ ProvidesBound ∷ Wildcard
+    ∷ BadEnvironment ∷ [])
+    ≡ codes "NotUtf8" ∷ codes "Armour" ∷ codes "Comment" ∷ codes "StrayContinuation"
+    ∷ codes "BadFieldName" ∷ codes "NoColon" ∷ codes "DuplicateField" ∷ codes "ParagraphTooLong"
+    ∷ codes "FileTooLong" ∷ codes "NoParagraph" ∷ codes "TooManyParagraphs" ∷ codes "MissingField"
+    ∷ codes "NotOneLine" ∷ codes "BadName" ∷ codes "BadNumber" ∷ codes "BadWord"
+    ∷ codes "BadArchitecture" ∷ codes "BadVersion" ∷ codes "BadRelation"
+    ∷ codes "AlternativesNotAllowed" ∷ codes "ProvidesBound" ∷ codes "Wildcard"
+    ∷ codes "BadEnvironment" ∷ []
+names_of_codes = refl

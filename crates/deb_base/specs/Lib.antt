@@ -4,6 +4,8 @@ pub mod Devices
 pub mod Docs
 pub mod Faults
 pub mod FieldNames
+pub mod Kinds
+pub mod KnownFields
 pub mod Lines
 pub mod Memory
 pub mod Names

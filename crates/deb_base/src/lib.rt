@@ -1,6 +1,7 @@
 //! The types and functions that every crate of this repository uses: error codes, faults, the
 //! devices that bytes are read from and written to, names without ASCII case, the kinds of
-//! documents, the bodies of fields, and the spaces and tabs at their ends.
+//! documents, the fields that are known by name with the kinds of their values, the bodies of
+//! fields, and the spaces and tabs at their ends.
 //!
 //! - A refusal has one of 23 codes and the number of a line, and is printed as
 //!   `line 3: 7 DuplicateField`.
@@ -28,6 +29,8 @@ mod device;
 mod doc;
 mod fault;
 mod input;
+mod kind;
+mod known_fields;
 pub mod laws;
 mod memory;
 mod names;
@@ -46,6 +49,8 @@ pub use device::{Failed, Sink, Source};
 pub use doc::{Doc, is_single};
 pub use fault::Fault;
 pub use input::Input;
+pub use kind::{Kind, Relationship};
+pub use known_fields::{FieldId, KNOWN_FIELDS, NameAtFront, kind_of, required, required_fields};
 pub use memory::{SliceSource, VecSink};
 pub use names::same_name;
 pub use output::Output;

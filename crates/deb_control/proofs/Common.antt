@@ -43,7 +43,8 @@ pub use Rattle.deb_base.specs.declared.fault.Fault.{Fault}
 pub use Rattle.deb_base.specs.declared.fault.Fault.TheVariants.{Memory, Read, Refused, Write}
 pub use Rattle.deb_base.specs.declared.refusal.Refusal.{Refusal}
 pub use Rattle.deb_field.specs.CanonLaw.{CanonLaw}
-pub use Rattle.deb_field.specs.Kinds.{is_single, kind_of, required}
+pub use Rattle.deb_base.specs.Docs.{is_single}
+pub use Rattle.deb_base.specs.Kinds.{kind_of, required}
 pub use Rattle.deb_field.specs.ValueCodes.{IsCodeOfValues, refusals_are_of_values}
 pub use Rattle.deb_field.specs.ValueLaws.{fields_of_any_are_texts, kind_of_canonical_name, value_law, value_refusals}
 pub use Rattle.deb_field.specs.ValueMeanings.{value_meaning}

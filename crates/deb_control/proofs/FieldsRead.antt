@@ -1,5 +1,5 @@
 -- The fields of a paragraph that have been read so far.
-use Rattle.deb_control.proofs.Common.{◌≡◌, ℕ, suc, ◌+◌, ◌<◌, ◌≤◌, ◌&&◌, Bor, inl, inr, Bool, true, false, is_some, Option, None, Some, List, [], ◌∷◌, ◌++◌, length, map, drop, slice_get, option_map, add-one, append-nil, append_assoc, refl, sym, ap, ◌∙◌, subst, arith, drop-cons, drop_all, map-append, slice_get_within, slice_get_cases, get_or_from_slice_get, AllByRecursion, list_all, bytes_eq, Fault, Refused, Memory, Read, Write, Refusal, RefusedOrMemory, folded, canonical_name, Field, has_name, field_of, field_named, RawField, Doc, value_refusal, rules_of, refusal_or, value_refusal_of, have_names, Visit, IsVisit}
+use Rattle.deb_control.proofs.Common.{◌≡◌, ℕ, suc, ◌+◌, ◌<◌, ◌≤◌, inl, inr, None, Some, List, [], ◌∷◌, ◌++◌, length, map, drop, slice_get, option_map, add-one, append-nil, append_assoc, sym, ap, ◌∙◌, subst, arith, drop-cons, drop_all, map-append, slice_get_within, slice_get_cases, get_or_from_slice_get, AllByRecursion, Fault, Refused, Memory, Read, Write, Refusal, RefusedOrMemory, canonical_name, Field, field_of, RawField, Doc, value_refusal, rules_of, refusal_or, value_refusal_of, Visit, IsVisit}
 use Rattle.deb_control.proofs.DocumentRules.{document_rules}
 
 -- those before an index, with their values, none of which is refused
@@ -68,21 +68,3 @@ RefusedOrMemory-to P Q f Write h = absurd h
 pub none_is_past : {X : Type 0} (xs : List X) (i : ℕ) → i < length xs → None ≡ slice_get xs i → ⊥
 none_is_past xs i below none =
     elim (slice_get_cases xs i).1 [ inl found ↦ (let e : None ≡ Some found.0 = none ∙ found.2 in cc) | inr past ↦ omega arith ]
-
-is_some-named : (name : List ℕ) (fields : List Field) → is_some (field_named name fields) ≡ has_name name fields
-is_some-named name [] = refl
-is_some-named name (field ∷ fields) = go (bytes_eq (folded field.name) (folded name)) refl (is_some-named name fields)
-  where
-    go : (t : Bool) → bytes_eq (folded field.name) (folded name) ≡ t → is_some (field_named name fields) ≡ has_name name fields → is_some (field_named name (field ∷ fields)) ≡ has_name name (field ∷ fields)
-    go true e h = rw e refl
-    go false e h = rw e h
-
--- what was found by a name tells that the name stands there
-pub has_name-found : (o : Option RawField) (name : List ℕ) (fields : List Field) → option_map field_of o ≡ field_named name fields → is_some o ≡ has_name name fields
-has_name-found None name fields h = ap is_some h ∙ is_some-named name fields
-has_name-found (Some raw) name fields h = ap is_some h ∙ is_some-named name fields
-
--- names that are slices
-pub have_names-slices : (fields : List Field) (names : List (Bor (List ℕ))) → list_all (λ name. has_name name.now fields) names ≡ have_names fields (map (λ name. name.now) names)
-have_names-slices fields [] = refl
-have_names-slices fields (name ∷ names) = ap (λ t. has_name name.now fields && t) (have_names-slices fields names)

@@ -31,3 +31,4 @@ pub mod PartsWithin
 pub mod ReadAlone
 pub mod RefusalLines
 pub mod RefusalsOfAny
+mod RequiredFields

@@ -1,5 +1,5 @@
 -- Canonical texts of fields in spans of a buffer, and what they are together once the spans are sorted.
-use Rattle.deb_control.proofs.Common.{◌≡◌, ℕ, ◌+◌, ◌≤◌, IsTrue, List, [], ◌∷◌, ◌++◌, length, map, drop, take, refl, sym, ap, ◌∙◌, subst, arith, append_assoc, length-append, bytes_eq-Decides, IsPermutation, All, All-from_recursion, All-permutation, AllByRecursion, IsSortedBy, flat_map, insert_entry, colon, newline, canonical_name, canonical_name-canonical_name, Field, AreDistinct, byte_order, Entries, entries_after, entries_of, Seen, Doc, value_text, behind_colon, field_text, paragraph_text, rules_of, is_judged, is_passing, is_text_of, text_built, built, Pairwise, Visit, canonical_visit, fields_visited, visit_text, VisitsValues, part_of, name_in, text_in, names_ascend, HoldsText, CanonSpan}
+use Rattle.deb_control.proofs.Common.{◌≡◌, ℕ, ◌+◌, ◌≤◌, IsTrue, List, [], ◌∷◌, ◌++◌, length, map, drop, refl, sym, ap, ◌∙◌, subst, arith, append_assoc, length-append, bytes_eq-Decides, IsPermutation, All, All-from_recursion, All-permutation, AllByRecursion, IsSortedBy, flat_map, insert_entry, colon, newline, canonical_name, canonical_name-canonical_name, Field, AreDistinct, byte_order, Entries, entries_after, entries_of, Seen, Doc, value_text, behind_colon, field_text, paragraph_text, rules_of, is_judged, is_passing, is_text_of, text_built, built, Pairwise, Visit, canonical_visit, fields_visited, visit_text, VisitsValues, part_of, name_in, text_in, names_ascend, HoldsText, CanonSpan}
 use Rattle.std.proofs.lemmas.List.{take-append-le, take_all, drop_at}
 use Rattle.deb_base.proofs.CanonicalNames.{folded-canonical_name}
 use Rattle.deb_control.proofs.Building.{built-canonical, built-passing, distinct-from}

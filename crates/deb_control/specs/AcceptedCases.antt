@@ -16,13 +16,13 @@ use Rattle.deb_version.specs.Faults.{first_fault}
 use Rattle.deb_version.specs.Parts.{Meaning as VersionMeaning, no_revision}
 use Rattle.deb_version.proofs.FaultLemmas.{spells-from_no_fault}
 use Rattle.deb_base.specs.declared.doc.Doc.TheVariants.{Packages, Source}
-use Rattle.deb_field.specs.Kinds.{kind_of}
+use Rattle.deb_base.specs.Kinds.{kind_at, known_row, kind_of}
 use Rattle.deb_relation.specs.declared.operator.Op.TheVariants.{Equal}
 use Rattle.deb_relation.specs.Meaning.{Relation}
 use Rattle.deb_relation.specs.Reading.{alternative_with}
 use Rattle.deb_relation.specs.Texts.{group_text}
 use Rattle.deb_relation.proofs.ReadRelation.{relation_took}
-use Rattle.deb_field.specs.declared.kind.Relationship.TheVariants.{Depends}
+use Rattle.deb_base.specs.declared.kind.Relationship.TheVariants.{Depends}
 use Rattle.deb_field.specs.RelationFields.{SpellsRelationship}
 use Rattle.deb_field.specs.RelationFieldCases.{told}
 use Rattle.deb_control.specs.ValueFiles.{SpellsEntries}
@@ -167,7 +167,7 @@ index_means = (
 )
 
 index_spelled : SpellsEntries (SpellsValue Packages) index_bodies index_meaning
-unfolding kind_of first_fault
+unfolding kind_of kind_at known_row first_fault
 index_spelled = (
   (
     (refl, (codes "amd64", refl, (refl, refl))),
@@ -317,7 +317,7 @@ source_means = (
 )
 
 source_spelled : SpellsEntries (SpellsValue Source) source_bodies source_meaning
-unfolding kind_of first_fault
+unfolding kind_of kind_at known_row first_fault
 source_spelled = (
   (
     (refl, (codes "any" ∷ codes "all" ∷ [], refl, (refl, refl))),

@@ -12,7 +12,8 @@ use Rattle.deb_base.specs.declared.doc.Doc.TheVariants.{Binary, Packages, Source
 use Rattle.deb_base.specs.declared.code.Code.{Code}
 use Rattle.deb_base.specs.declared.refusal.Refusal.{Refusal}
 use Rattle.deb_base.specs.declared.doc.Doc.{Doc}
-use Rattle.deb_field.specs.Kinds.{is_single, kind_of, required}
+use Rattle.deb_base.specs.Docs.{is_single}
+use Rattle.deb_base.specs.Kinds.{kind_at, known_row, kind_of, required}
 use Rattle.deb_field.specs.RelationFieldCases.{told}
 use Rattle.deb_field.specs.Values.{ValueMeaning, NameMeans, VersionMeans, ArchitectureMeans, FoldedMeans, value_text, SpellsValue, value_refusal}
 use Rattle.deb_field.specs.ValueLaws.{value_refusals}
@@ -87,7 +88,7 @@ first_paragraphs : (refusal_of Packages (codes "Package: aa\npackage: bb")
     ≡ Some (record { code = BadNumber; line = 2 }))
     × (refusal_of Packages (codes "\nPackage: aa\nHomepage: x\n y\nSize: 1k")
     ≡ Some (record { code = NotOneLine; line = 3 }))
-unfolding file_limit paragraph_limit is_utf8 chars encode kind_of first_fault
+unfolding file_limit paragraph_limit is_utf8 chars encode kind_of kind_at known_row first_fault
 first_paragraphs = (refl, refl, refl, refl, refl)
 
 -- refusals of versions, sources, architectures and words
@@ -101,7 +102,7 @@ values : (refusal_of Packages (codes "Package: aa\nVersion: 1-\nArchitecture: al
     ≡ Some (record { code = BadVersion; line = 4 }))
     × (refusal_of Packages (codes "Package: aa\nVersion: 1\nArchitecture: all\nEssential: maybe")
     ≡ Some (record { code = BadWord; line = 4 }))
-unfolding file_limit paragraph_limit is_utf8 chars encode kind_of first_fault
+unfolding file_limit paragraph_limit is_utf8 chars encode kind_of kind_at known_row first_fault
 values = (refl, refl, refl, refl, refl)
 
 -- behind a first paragraph that has passed: a second one where one is asked, whatever it holds
@@ -111,7 +112,7 @@ second_paragraph : (next_checked (rules_of Binary)
     × (next_checked (rules_of Packages)
     (codes "Package: aa\nVersion: 1\nArchitecture: all\n\nPackage: bb") ([] ∷ [])
     ≡ Err (record { code = MissingField; line = 5 }))
-unfolding file_limit paragraph_limit is_utf8 chars encode kind_of first_fault
+unfolding file_limit paragraph_limit is_utf8 chars encode kind_of kind_at known_row first_fault
 second_paragraph = (refl, refl)
 
 -- refusals of relations, at the first line of their field
@@ -122,7 +123,7 @@ relations : (refusal_of Packages
     ≡ Some (record { code = AlternativesNotAllowed; line = 1 }))
     × (refusal_of Packages (codes "Package: aa\nVersion: 1\nArchitecture: all\nProvides: vv (>= 1)")
     ≡ Some (record { code = ProvidesBound; line = 4 }))
-unfolding file_limit paragraph_limit is_utf8 chars encode kind_of first_fault told
+unfolding file_limit paragraph_limit is_utf8 chars encode kind_of kind_at known_row first_fault told
 relations = (refl, refl, refl)
 
 -- the canonical text of values: fields under their names in ascending order, one empty line between

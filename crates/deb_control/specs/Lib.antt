@@ -23,3 +23,4 @@ pub mod ReadingOn
 pub mod Sorting
 pub mod Paragraphs
 pub mod ParagraphValues
+pub mod Required

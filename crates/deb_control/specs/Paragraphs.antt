@@ -1,6 +1,7 @@
 -- What a paragraph whose values have been read shows of it. Debian Policy 5.1.
 use Rattle.std.specs.Prelude.{◌≡◌, ℕ, List, [], ◌∷◌, map, Ok, codes, refl}
 use denote.Ref.{Bor}
+use Rattle.deb_base.specs.Kinds.{known_row}
 use Rattle.deb_base.specs.Names.{canonical_name}
 use Rattle.deb_syntax.specs.Fields.{Field}
 use Rattle.deb_syntax.specs.Meaning.{entries_of}
@@ -50,14 +51,30 @@ abbrev to : {T : Type 0} → T → Bor T
 to value = record { ref_ptr = (0, 0); now = value }
 
 abbrev flag_field : TypedField
+unfolding known_row
 flag_field = record {
-  raw = record { name = to (codes "eSSENTIAL"); line = 3; body = to (codes "yes") };
+  raw =
+      record {
+        name = to (codes "eSSENTIAL");
+        line = 3;
+        body = to (codes "yes");
+        id = record { 0 = 21 };
+        named = refl;
+      };
   value = Flag Yes;
 }
 
 abbrev text_field : TypedField
+unfolding known_row
 text_field = record {
-  raw = record { name = to (codes "x-a"); line = 2; body = to (codes "1") };
+  raw =
+      record {
+        name = to (codes "x-a");
+        line = 2;
+        body = to (codes "1");
+        id = record { 0 = 54 };
+        named = refl;
+      };
   value = Text (record { bytes = to (codes "1") });
 }
 
@@ -66,6 +83,7 @@ fields_in_file : (field_in flag_field
     × (value_in flag_field ≡ (codes "Essential", FlagMeans Yes))
     × (values_in (flag_field ∷ text_field ∷ [])
     ≡ (codes "Essential", FlagMeans Yes) ∷ (codes "X-A", TextMeans (codes "1")) ∷ [])
+unfolding flag_field text_field
 fields_in_file = (refl, refl, refl)
 
 text_of_two : (text_of_values

@@ -12,6 +12,10 @@ name_before name other = is_lt (byte_order (canonical_name name) (canonical_name
 abbrev pub comes_before : TypedField → TypedField → Bool
 comes_before field other = name_before field.raw.name.now other.raw.name.now
 
+order_of_fields : (field other : TypedField)
+    → comes_before field other ≡ name_before field.raw.name.now other.raw.name.now
+order_of_fields field other = refl
+
 -- the bytes of canonical spellings decide, neither those of the names as they are spelled nor those
 -- of names in lower case: `A` before `_`, which comes before `a`
 order_of_names : (name_before (codes "a") (codes "B") ≡ true)

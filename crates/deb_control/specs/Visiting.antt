@@ -9,7 +9,7 @@ use Rattle.deb_syntax.specs.Fields.{Field, are_fields}
 use Rattle.deb_syntax.specs.Raw.{field_of}
 use Rattle.deb_syntax.specs.declared.raw.RawField.{RawField}
 use Rattle.deb_base.specs.declared.doc.Doc.{Doc}
-use Rattle.deb_field.specs.Values.{ValueMeaning, NameMeans, SpellsValue, value_text}
+use Rattle.deb_field.specs.Values.{ValueMeaning, NameMeans, NumberMeans, SpellsValue, value_text}
 use Rattle.deb_field.specs.ValueMeanings.{value_meaning}
 use Rattle.deb_field.specs.declared.value.Value.{Value}
 use Rattle.deb_control.specs.Canonical.{field_text}
@@ -99,6 +99,16 @@ abbrev two_visits : List Visit
 two_visits =
     (record { name = codes "Package"; line = 1; body = codes "bb" }, NameMeans (codes "bb"))
     ∷ (record { name = codes "PACKAGE"; line = 2; body = codes "aa" }, NameMeans (codes "aa")) ∷ []
+
+field_with_value : (field : RawField) (value : Value)
+    → visit_of field value ≡ (field_of field, value_meaning value)
+field_with_value field value = refl
+
+-- the value is in place of the body, and not of the name as spelled
+value_for_body : canonical_visit
+    (record { name = codes "sIZE"; line = 3; body = codes "007" }, NumberMeans 7)
+    ≡ record { name = codes "sIZE"; line = 3; body = codes "7" }
+value_for_body = refl
 
 texts_of_visits : (map visit_text two_visits
     ≡ codes "Package: bb\n" ∷ codes "Package: aa\n" ∷ [])

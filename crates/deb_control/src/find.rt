@@ -4,7 +4,7 @@ ghost use Rattle.std.specs.Prelude.{◌≡◌, ◌≤◌, ◌==◌, ◌&&◌, no
 ghost use Rattle.deb_base.specs.Faults.{RefusedOrMemory};
 ghost use Rattle.deb_syntax.specs.Answers.{Seen};
 ghost use Rattle.deb_syntax.specs.Paragraphs.{state_of, seen_of, IsQuiet};
-ghost use Rattle.deb_field.specs.Kinds.{is_single as is_one};
+ghost use Rattle.deb_base.specs.Docs.{is_single as is_one};
 ghost use Rattle.deb_control.specs.Checking.{is_found, Checks, Passing, passing_seen};
 ghost use Rattle.deb_control.specs.Finding.{moment_from, AddsPassing, RefusesSeen, end_answer, given_answer, seen_found};
 ghost use Rattle.deb_control.specs.Visiting.{VisitsFound, VisitsValues};

@@ -4,22 +4,23 @@ ghost use Rattle.std.specs.Prelude.{◌≡◌, ◌≤◌, ◌-◌, ◌^◌, Some
 ghost use Rattle.deb_base.specs.Bodies.{IsBody};
 ghost use Rattle.deb_base.specs.Faults.{RefusedOrMemory};
 ghost use Rattle.deb_base.specs.Names.{canonical_name};
-ghost use Rattle.deb_syntax.specs.Fields.{has_name};
 ghost use Rattle.deb_syntax.specs.Paragraphs.{seen_of};
 ghost use Rattle.deb_syntax.specs.Raw.{field_of, fields_of};
-ghost use Rattle.deb_field.specs.Kinds.{required};
+ghost use Rattle.deb_base.specs.Kinds.{required};
+ghost use Rattle.deb_base.specs.KnownFields.{row_of};
 ghost use Rattle.deb_field.specs.Values.{SpellsValue, value_refusal, value_text};
 ghost use Rattle.deb_field.specs.ValueMeanings.{value_meaning};
 ghost use Rattle.deb_control.specs.Canonical.{behind_colon, field_text};
 ghost use Rattle.deb_control.specs.Checking.{text_built};
 ghost use Rattle.deb_control.specs.Documents.{rules_of};
 ghost use Rattle.deb_control.specs.Refusals.{built, have_names, value_refusal_of};
+ghost use Rattle.deb_control.specs.Required.{have_rows};
 ghost use Rattle.deb_control.specs.Visiting.{VisitsField, VisitsFields, VisitsValues};
 
 use crate::field::is_spaced;
 use crate::visitor::FieldVisitor;
-use deb_base::{Code, Fault, PARAGRAPH_LIMIT, Refusal};
-use deb_field::{Canon, Doc, Value, ValueFault, required};
+use deb_base::{Code, Fault, FieldId, PARAGRAPH_LIMIT, Refusal, required_fields};
+use deb_field::{Canon, Doc, Value, ValueFault};
 use deb_syntax::{Raw, RawField};
 use std::alloc::Global;
 
@@ -139,7 +140,7 @@ pub(crate) fn value_of<'a>(
         × (value_refusal doc (canonical_name field.now.name.now) field.now.body.now
         ≡ Some refusal.code))) }
 {
-    match Value::parse(alloc, doc, field.name, field.body) {
+    match Value::of_kind(alloc, field.id.kind(doc), field.body) {
         Ok(value) => Ok(value),
         Err(ValueFault::Refused(code)) => Err(refused(code, field.line)),
         Err(ValueFault::Memory) => Err(Fault::Memory),
@@ -150,20 +151,14 @@ pub(crate) fn value_of<'a>(
 fn has_required(doc: Doc, paragraph: &Raw<'_>) -> bool
     ensures { result ≡ have_names (fields_of paragraph.now) (required doc) }
 {
-    has_fields(paragraph, required(doc))
+    has_fields(paragraph, required_fields(doc))
 }
 
-/// Whether the paragraph has a field of each name.
-fn has_fields(paragraph: &Raw<'_>, names: &[&[u8]]) -> bool
-    ensures { result ≡ have_names (fields_of paragraph.now) (map (λ name. name.now) names.now) }
+/// Whether the paragraph has each of these fields of the table.
+fn has_fields(paragraph: &Raw<'_>, fields: &[FieldId]) -> bool
+    ensures { result ≡ have_rows (fields_of paragraph.now) (map row_of fields.now) }
 {
-    names.iter().all(|name| has_field(paragraph, name))
-}
-
-fn has_field(paragraph: &Raw<'_>, name: &[u8]) -> bool
-    ensures { result ≡ has_name name.now (fields_of paragraph.now) }
-{
-    paragraph.get(name).is_some()
+    fields.iter().all(|field| paragraph.has(*field))
 }
 
 pub(crate) fn refused(code: Code, line: u64) -> Fault

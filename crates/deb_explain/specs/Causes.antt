@@ -13,13 +13,13 @@ use Rattle.deb_version.specs.declared.fault.BadVersion.TheVariants.{Empty}
 use Rattle.deb_relation.specs.Faults.{first_fault as first_stop}
 use Rattle.deb_relation.specs.declared.fault.Reason.{Reason}
 use Rattle.deb_relation.specs.declared.fault.Reason.TheVariants.{Trailing}
-use Rattle.deb_field.specs.Kinds.{kind_of}
+use Rattle.deb_base.specs.Kinds.{kind_at, known_row, kind_of}
 use Rattle.deb_field.specs.RelationFieldCases.{told}
 use Rattle.deb_field.specs.Sources.{has_version, is_open, without_last}
 use Rattle.deb_base.specs.declared.doc.Doc.{Doc}
 use Rattle.deb_base.specs.declared.doc.Doc.TheVariants.{Packages}
-use Rattle.deb_field.specs.declared.kind.Kind.{Kind}
-use Rattle.deb_field.specs.declared.kind.Kind.TheVariants as kinds
+use Rattle.deb_base.specs.declared.kind.Kind.{Kind}
+use Rattle.deb_base.specs.declared.kind.Kind.TheVariants as kinds
 use Rattle.deb_explain.specs.declared.cause.Cause.{Cause}
 use Rattle.deb_explain.specs.declared.cause.Cause.TheVariants.{Version, Relation}
 use Rattle.deb_explain.specs.declared.cause.Word.{Word}
@@ -80,7 +80,7 @@ versions : (cause_of Packages BadVersion (codes "vERSION") (codes "1.0_2")
     × (cause_of Packages BadVersion (codes "Source") (codes "aa( \t1_ )")
     ≡ Some (Version (UpstreamByte 1) 5))
     × (cause_of Packages BadVersion (codes "Source") (codes "aa ( )") ≡ Some (Version Empty 5))
-unfolding kind_of first_fault
+unfolding kind_of kind_at known_row first_fault
 versions = (refl, refl, refl, refl, refl)
 
 relations : (cause_of Packages BadRelation (codes "Depends") (codes "aa bb")

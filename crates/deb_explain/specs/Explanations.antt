@@ -15,7 +15,8 @@ use Rattle.deb_relation.specs.declared.fault.Reason.TheVariants.{Trailing}
 use Rattle.deb_syntax.specs.Answers.{Seen, next_answer}
 use Rattle.deb_syntax.specs.Lines.{file_limit}
 use Rattle.deb_syntax.specs.Meaning.{Entries}
-use Rattle.deb_field.specs.Kinds.{is_single, kind_of, required}
+use Rattle.deb_base.specs.Docs.{is_single}
+use Rattle.deb_base.specs.Kinds.{kind_at, known_row, kind_of, required}
 use Rattle.deb_field.specs.RelationFieldCases.{told}
 use Rattle.deb_field.specs.Values.{value_refusal}
 use Rattle.deb_base.specs.declared.doc.Doc.{Doc}
@@ -85,7 +86,7 @@ second_paragraph : explained Packages
     (codes "Package: aa\nVersion: 1\nArchitecture: all\n\nPackage: bb\nvERSION: 1_2\n")
     ≡ why code.BadVersion 6
     (AboutField (codes "vERSION") 10 (codes "1_2") (Some (causes.Version (UpstreamByte 1) 0)))
-unfolding file_limit paragraph_limit is_utf8 chars encode kind_of first_fault
+unfolding file_limit paragraph_limit is_utf8 chars encode kind_of kind_at known_row first_fault
 second_paragraph = refl
 
 -- a relation, and a value that has no parts
@@ -94,7 +95,7 @@ values : (explained Packages (codes "Package: aa\nDepends: bb\n c\nSize: 1k")
     (AboutField (codes "Depends") 10 (codes "bb\n c") (Some (causes.Relation Trailing 4))))
     × (explained Packages (codes "Package: aa\nSize: 1k")
     ≡ why code.BadNumber 2 (AboutField (codes "Size") 7 (codes "1k") None))
-unfolding file_limit paragraph_limit is_utf8 chars encode kind_of first_fault told
+unfolding file_limit paragraph_limit is_utf8 chars encode kind_of kind_at known_row first_fault told
 values = (refl, refl)
 
 -- of two names that are missing, the first in the order of the table
@@ -104,7 +105,7 @@ missing : (explained Packages (codes "architecture: all\npackage: aa")
     ≡ why code.MissingField 2 (AboutMissing (codes "Version")))
     × (explained Packages (codes "Package: aa\nVersion: 1\nArchitecture: all\n\nX: 1")
     ≡ why code.MissingField 5 (AboutMissing (codes "Package")))
-unfolding file_limit paragraph_limit is_utf8 chars encode kind_of first_fault
+unfolding file_limit paragraph_limit is_utf8 chars encode kind_of kind_at known_row first_fault
 missing = (refl, refl, refl)
 
 -- refusals of a line: the line, or what stands before its colon
@@ -115,20 +116,20 @@ lines : (explained Packages (codes "Package: aa\npackage: bb\n")
     × (explained Packages (codes "\nPackage aa\n\nB: 1")
     ≡ why code.NoColon 2 (AboutLine (codes "Package aa")))
     × (explained Packages (codes " x\n") ≡ why code.StrayContinuation 1 (AboutLine (codes " x")))
-unfolding file_limit paragraph_limit is_utf8 chars encode kind_of first_fault
+unfolding file_limit paragraph_limit is_utf8 chars encode kind_of kind_at known_row first_fault
 lines = (refl, refl, refl, refl)
 
 -- the file as a whole
 wholes : (explained Binary [] ≡ why code.NoParagraph 1 AboutWhole)
     × (explained Binary (codes "Package: aa\nVersion: 1\nArchitecture: all\n\n# x")
     ≡ why code.TooManyParagraphs 5 AboutWhole)
-unfolding file_limit paragraph_limit is_utf8 chars encode kind_of first_fault
+unfolding file_limit paragraph_limit is_utf8 chars encode kind_of kind_at known_row first_fault
 wholes = (refl, refl)
 
 -- an accepted file has no explanation
 accepted : (explained Packages (codes "Package: aa\nVersion: 1\nArchitecture: all\n") ≡ None)
     × (explained Packages [] ≡ None)
-unfolding file_limit paragraph_limit is_utf8 chars encode kind_of first_fault
+unfolding file_limit paragraph_limit is_utf8 chars encode kind_of kind_at known_row first_fault
 accepted = (refl, refl)
 
 -- at the rules of the kind itself, of a first paragraph
@@ -137,5 +138,5 @@ of_the_kind : (explanation_of Packages (codes "Package: aa\nVersion: 1_2")
     (AboutField (codes "Version") 10 (codes "1_2") (Some (causes.Version (UpstreamByte 1) 0))))
     × (explanation_of Packages (codes "Package: aa\nVersion: 1")
     ≡ why code.MissingField 1 (AboutMissing (codes "Architecture")))
-unfolding file_limit paragraph_limit is_utf8 chars encode kind_of first_fault
+unfolding file_limit paragraph_limit is_utf8 chars encode kind_of kind_at known_row first_fault
 of_the_kind = (refl, refl)

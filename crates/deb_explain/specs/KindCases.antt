@@ -13,7 +13,8 @@ use Rattle.deb_version.specs.Parts.{Meaning as VersionMeaning, no_revision}
 use Rattle.deb_version.specs.declared.fault.BadVersion.TheVariants.{UpstreamByte}
 use Rattle.deb_version.proofs.FaultLemmas.{spells-from_no_fault}
 use Rattle.deb_syntax.specs.Lines.{file_limit}
-use Rattle.deb_field.specs.Kinds.{is_single, kind_of, required}
+use Rattle.deb_base.specs.Docs.{is_single}
+use Rattle.deb_base.specs.Kinds.{kind_at, known_row, kind_of, required}
 use Rattle.deb_field.specs.Values.{NameMeans, VersionMeans, ArchitectureMeans, value_refusal}
 use Rattle.deb_base.specs.declared.doc.Doc.TheVariants.{Packages}
 use Rattle.deb_control.specs.Documents.{rules_of}
@@ -50,7 +51,7 @@ by_name architecture named version name body =
 texts_of_the_first : (canonical : List ℕ → List ℕ → List ℕ) → explained canonical
     ≡ explained (by_name (canonical (codes "Architecture") (codes "all"))
     (canonical (codes "Package") (codes "aa")) (canonical (codes "Version") (codes "01.0-0")))
-unfolding file_limit paragraph_limit is_utf8 chars encode kind_of first_fault
+unfolding file_limit paragraph_limit is_utf8 chars encode kind_of kind_at known_row first_fault
 texts_of_the_first canonical = refl
 
 -- those of the kind
@@ -62,19 +63,19 @@ version_1_0 =
     record { epoch = 0; upstream = ([], 1) ∷ (codes ".", 0) ∷ []; revision = no_revision }
 
 architecture_text : of_kind (codes "Architecture") (codes "all") ≡ codes "all"
-unfolding kind_of
+unfolding kind_of kind_at known_row
 architecture_text =
     (document_rules Packages).text (codes "Architecture") (codes "all")
     (ArchitectureMeans (codes "all")) (codes "all", refl, (refl, refl))
 
 package_text : of_kind (codes "Package") (codes "aa") ≡ codes "aa"
-unfolding kind_of
+unfolding kind_of kind_at known_row
 package_text =
     (document_rules Packages).text (codes "Package") (codes "aa") (NameMeans (codes "aa"))
     (codes "aa", refl, (refl, refl))
 
 version_text : of_kind (codes "Version") (codes "01.0-0") ≡ codes "1.0"
-unfolding kind_of first_fault
+unfolding kind_of kind_at known_row first_fault
 version_text =
     (document_rules Packages).text (codes "Version") (codes "01.0-0") (VersionMeans version_1_0)
     (version_1_0, refl, spells-from_no_fault (codes "01.0-0") refl)
@@ -86,7 +87,7 @@ second_package : explanation_of Packages index
       about = AboutField
           (codes "vERSION") 10 (codes "1_2") (Some (causes.Version (UpstreamByte 1) 0));
     })
-unfolding file_limit paragraph_limit is_utf8 chars encode kind_of first_fault
+unfolding file_limit paragraph_limit is_utf8 chars encode kind_of kind_at known_row first_fault
 second_package =
     let named = of_kind (codes "Package") (codes "aa") in
     let version = of_kind (codes "Version") (codes "01.0-0") in

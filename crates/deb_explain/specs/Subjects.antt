@@ -10,7 +10,7 @@ use Rattle.deb_base.specs.declared.code.Code.TheVariants as code
 use Rattle.deb_base.specs.declared.refusal.Refusal.{Refusal}
 use Rattle.deb_syntax.specs.Answers.{Seen}
 use Rattle.deb_syntax.specs.Fields.{Field, has_name}
-use Rattle.deb_field.specs.Kinds.{required}
+use Rattle.deb_base.specs.Kinds.{required}
 use Rattle.deb_base.specs.declared.doc.Doc.{Doc}
 use Rattle.deb_explain.specs.Causes.{cause_of}
 use Rattle.deb_explain.specs.declared.cause.Cause.{Cause}

@@ -3,11 +3,11 @@ use Rattle.std.proofs.Common.{◌≡◌, ℕ, List, Some, IsTrue, Result, Ok, Er
 use Rattle.deb_base.specs.declared.code.Code.{Code}
 use Rattle.deb_base.specs.declared.doc.Doc.{Doc}
 use Rattle.deb_field.specs.Faults.{takes_memory, IsFaultOf, IsRead}
-use Rattle.deb_field.specs.Kinds.{kind_of}
+use Rattle.deb_base.specs.Kinds.{kind_of}
 use Rattle.deb_field.specs.Values.{ValueMeaning, SpellsKind, SpellsValue, kind_refusal}
 use Rattle.deb_field.specs.ValueLaws.{value_law, value_refusals}
 use Rattle.deb_field.specs.ValueMeanings.{value_meaning}
-use Rattle.deb_field.specs.declared.kind.Kind.{Kind}
+use Rattle.deb_base.specs.declared.kind.Kind.{Kind}
 use Rattle.deb_field.specs.declared.value.Value.{Value}
 use Rattle.deb_field.specs.declared.value.ValueFault.{ValueFault}
 use Rattle.deb_field.specs.declared.value.ValueFault.TheVariants.{Refused, Memory}

@@ -3,9 +3,9 @@ use Rattle.std.specs.Prelude.{◌≡◌, Bool, true, false, IsTrue, List, [], �
 use Rattle.deb_base.specs.declared.code.Code.{Code}
 use Rattle.deb_field.specs.Values.{ValueMeaning, kind_refusal}
 use Rattle.deb_field.specs.ValueMeanings.{value_meaning}
-use Rattle.deb_field.specs.declared.kind.Kind.{Kind}
-use Rattle.deb_field.specs.declared.kind.Kind.TheVariants as kinds
-use Rattle.deb_field.specs.declared.kind.Relationship.TheVariants as sorts
+use Rattle.deb_base.specs.declared.kind.Kind.{Kind}
+use Rattle.deb_base.specs.declared.kind.Kind.TheVariants as kinds
+use Rattle.deb_base.specs.declared.kind.Relationship.TheVariants as sorts
 use Rattle.deb_field.specs.declared.value.Value.{Value}
 use Rattle.deb_field.specs.declared.value.ValueFault.{ValueFault}
 use Rattle.deb_field.specs.declared.value.ValueFault.TheVariants.{Refused, Memory}

@@ -1,7 +1,5 @@
 pub mod CanonLaw
 pub mod CanonLaws
-pub mod Kinds
-pub mod Tables
 pub mod OneLine
 pub mod OneLineLaws
 pub mod LineBegins

@@ -14,8 +14,8 @@ use Rattle.deb_relation.specs.Reading.{read_formula, read_alternative, next_alte
 use Rattle.deb_relation.specs.Reading.{next_piece, read_relation, relation_in}
 use Rattle.deb_relation.specs.Texts.{group_text}
 use Rattle.deb_field.specs.RelationFields.{relationship_refusal}
-use Rattle.deb_field.specs.declared.kind.Relationship.{Relationship}
-use Rattle.deb_field.specs.declared.kind.Relationship.TheVariants.{Depends, Conflicts, Provides}
+use Rattle.deb_base.specs.declared.kind.Relationship.{Relationship}
+use Rattle.deb_base.specs.declared.kind.Relationship.TheVariants.{Depends, Conflicts, Provides}
 
 -- the reading with its steps laid open, so that the cases compute
 bounds : List ℕ → Result Relation (Reason × ℕ)

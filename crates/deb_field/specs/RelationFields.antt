@@ -8,9 +8,9 @@ use Rattle.deb_relation.specs.Grammar.{SpellsRelation}
 use Rattle.deb_relation.specs.Meaning.{Relation}
 use Rattle.deb_relation.specs.Reading.{relation_in}
 use Rattle.deb_relation.specs.Tests.{has_alternatives, only_equals}
-use Rattle.deb_field.specs.Kinds.{takes_alternatives, takes_all_operators}
+use Rattle.deb_base.specs.Kinds.{takes_alternatives, takes_all_operators}
 use Rattle.deb_field.specs.OneLine.{refusal_unless}
-use Rattle.deb_field.specs.declared.kind.Relationship.{Relationship}
+use Rattle.deb_base.specs.declared.kind.Relationship.{Relationship}
 
 -- alternatives stand only where they are taken
 abbrev pub passes_alternatives : Relationship → Relation → Bool

@@ -15,7 +15,7 @@ use Rattle.deb_relation.proofs.SpelledGroups.{relation_read, one_relation}
 use Rattle.deb_field.specs.CanonLaw.{CanonLaw, RefusalLaw}
 use Rattle.deb_field.specs.OneLine.{refusal_unless}
 use Rattle.deb_field.specs.RelationFields.{SpellsRelationship, passes_alternatives, passes_operators, relation_refusal, reading_refusal, relationship_refusal}
-use Rattle.deb_field.specs.declared.kind.Relationship.{Relationship}
+use Rattle.deb_base.specs.declared.kind.Relationship.{Relationship}
 
 -- what is asked of alternatives and operators is asked of the meaning, so canonical text has it
 pub relation_law : (sort : Relationship)

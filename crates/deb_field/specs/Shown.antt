@@ -4,7 +4,7 @@ use Rattle.deb_version.specs.Parts.{value_of}
 use Rattle.deb_field.specs.Words.{words_of}
 use Rattle.deb_field.specs.declared.folded.ArchitectureWords.{ArchitectureWords}
 use Rattle.deb_field.specs.declared.folded.Folded.{Folded}
-use Rattle.deb_field.specs.declared.kind.Relationship.{Relationship}
+use Rattle.deb_base.specs.declared.kind.Relationship.{Relationship}
 use Rattle.deb_field.specs.declared.names.ArchitectureName.{ArchitectureName}
 use Rattle.deb_field.specs.declared.names.PackageName.{PackageName}
 use Rattle.deb_field.specs.declared.number.Number.{Number}

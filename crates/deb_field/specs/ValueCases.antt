@@ -17,8 +17,8 @@ use Rattle.deb_field.specs.declared.flag.Flag.TheVariants as flags
 use Rattle.deb_field.specs.declared.flag.MultiArch.TheVariants as multi_archs
 use Rattle.deb_field.specs.declared.folded.ArchitectureWords.{ArchitectureWords}
 use Rattle.deb_field.specs.declared.folded.Folded.{Folded}
-use Rattle.deb_field.specs.declared.kind.Kind.TheVariants as kinds
-use Rattle.deb_field.specs.declared.kind.Relationship.{Relationship}
+use Rattle.deb_base.specs.declared.kind.Kind.TheVariants as kinds
+use Rattle.deb_base.specs.declared.kind.Relationship.{Relationship}
 use Rattle.deb_field.specs.declared.names.ArchitectureName.{ArchitectureName}
 use Rattle.deb_field.specs.declared.names.PackageName.{PackageName}
 use Rattle.deb_field.specs.declared.number.Number.{Number}

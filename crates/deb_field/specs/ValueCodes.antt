@@ -17,9 +17,9 @@ use Rattle.deb_field.specs.Sources.{is_open, is_closed, without_last, has_versio
 use Rattle.deb_field.specs.Values.{kind_refusal}
 use Rattle.deb_field.specs.Versions.{is_version}
 use Rattle.deb_field.specs.Words.{words_of}
-use Rattle.deb_field.specs.declared.kind.Kind.{Kind}
-use Rattle.deb_field.specs.declared.kind.Kind.TheVariants.{Name, Source, Version, Architecture, ArchitectureWords, Flag, MultiArch, Number, Line, Folded, Relation, Text}
-use Rattle.deb_field.specs.declared.kind.Relationship.{Relationship}
+use Rattle.deb_base.specs.declared.kind.Kind.{Kind}
+use Rattle.deb_base.specs.declared.kind.Kind.TheVariants.{Name, Source, Version, Architecture, ArchitectureWords, Flag, MultiArch, Number, Line, Folded, Relation, Text}
+use Rattle.deb_base.specs.declared.kind.Relationship.{Relationship}
 
 abbrev pub IsCodeOfValues : Code → Type 0
 IsCodeOfValues code = (13 ≤ number_of code) × (number_of code ≤ 21)

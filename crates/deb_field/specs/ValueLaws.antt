@@ -1,7 +1,8 @@
 -- Lemmas that the prover checks: nothing in this file needs to be believed.
 --
 -- The laws for values of all kinds.
-use Rattle.std.proofs.Common.{◌≡◌, ℕ, Bool, true, false, cond, List, ◌∷◌, codes, refl, ap}
+use Rattle.std.proofs.Common.{ℕ, List, refl, ap}
+use Rattle.std.specs.List.{position_or_len}
 use Rattle.std.specs.Str.{bytes_eq}
 use Rattle.deb_base.specs.Names.{folded, canonical_name}
 use Rattle.deb_base.proofs.CanonicalNames.{folded-canonical_name}
@@ -14,7 +15,7 @@ use Rattle.deb_field.specs.CanonLaw.{CanonLaw, RefusalLaw}
 use Rattle.deb_field.specs.CanonLaws.{law-through, refusals-through}
 use Rattle.deb_field.specs.FlagLaws.{flag_law, flag_refusals, multi_arch_law, multi_arch_refusals}
 use Rattle.deb_field.specs.Flags.{flag_text, SpellsFlag, flag_refusal, multi_arch_text, SpellsMultiArch, multi_arch_refusal}
-use Rattle.deb_field.specs.Kinds.{document, kind_among, kind_of, FieldsOfAnyAreTexts, KindGoesByName, KindOfCanonicalName}
+use Rattle.deb_base.specs.Kinds.{kind_at, kind_in, kind_of, known_fields, known_row, FieldsOfAnyAreTexts, KindGoesByName, KindOfCanonicalName}
 use Rattle.deb_field.specs.NumberLaw.{number_law, number_refusals}
 use Rattle.deb_field.specs.Numbers.{SpellsNumber, number_refusal}
 use Rattle.deb_field.specs.RelationFields.{SpellsRelationship, relationship_refusal}
@@ -32,8 +33,8 @@ use Rattle.deb_field.specs.WordLaws.{folded_law, folded_refusals, architectures_
 use Rattle.deb_field.specs.Words.{words_text, SpellsFolded, folded_refusal, SpellsArchitectures, architectures_refusal}
 use Rattle.deb_field.specs.declared.flag.Flag.{Flag as FlagWord}
 use Rattle.deb_field.specs.declared.flag.MultiArch.{MultiArch as MultiArchWord}
-use Rattle.deb_field.specs.declared.kind.Kind.{Kind as FieldKind}
-use Rattle.deb_field.specs.declared.kind.Kind.TheVariants.{Name, Source, Version, Architecture, ArchitectureWords, Flag, MultiArch, Number, Line, Folded, Relation, Text}
+use Rattle.deb_base.specs.declared.kind.Kind.{Kind as FieldKind}
+use Rattle.deb_base.specs.declared.kind.Kind.TheVariants.{Name, Source, Version, Architecture, ArchitectureWords, Flag, MultiArch, Number, Line, Folded, Relation, Text}
 
 pub kind_law : (kind : FieldKind) → CanonLaw ValueMeaning (SpellsKind kind) value_text
 kind_law Name =
@@ -116,18 +117,16 @@ value_refusals doc name = kind_refusals (kind_of doc name)
 
 -- the kind goes by the name without case, and so do what spells a value and what is refused
 pub kind_goes_by_name : KindGoesByName
-unfolding kind_of
+unfolding kind_of known_row
 kind_goes_by_name doc a b same =
-    ap (kind_among ((codes "Architecture", (document doc).architecture) ∷ (document doc).fields))
+    ap
+    (λ name. kind_in doc
+    (kind_at (position_or_len (λ row. bytes_eq (folded row.0) name) known_fields)))
     same
-
-same_kind : (t : Bool) → cond t Text Text ≡ Text
-same_kind true = refl
-same_kind false = refl
 
 pub fields_of_any_are_texts : FieldsOfAnyAreTexts
 unfolding kind_of
-fields_of_any_are_texts name = same_kind (bytes_eq (folded (codes "Architecture")) (folded name))
+fields_of_any_are_texts name = refl
 
 pub kind_of_canonical_name : KindOfCanonicalName
 kind_of_canonical_name doc name =

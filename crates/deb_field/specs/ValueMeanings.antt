@@ -12,8 +12,8 @@ use Rattle.deb_field.specs.SourceSpelled.{source_spelled}
 use Rattle.deb_field.specs.VersionLaw.{version_spelled}
 use Rattle.deb_field.specs.Words.{words_of}
 use Rattle.deb_field.specs.Values.{ValueMeaning, NameMeans, SourceMeans, VersionMeans, ArchitectureMeans, ArchitecturesMean, FlagMeans, MultiArchMeans, NumberMeans, LineMeans, FoldedMeans, RelationMeans, TextMeans, SpellsKind}
-use Rattle.deb_field.specs.declared.kind.Kind.{Kind}
-use Rattle.deb_field.specs.declared.kind.Kind.TheVariants as kinds
+use Rattle.deb_base.specs.declared.kind.Kind.{Kind}
+use Rattle.deb_base.specs.declared.kind.Kind.TheVariants as kinds
 use Rattle.deb_field.specs.declared.value.Value.{Value}
 use Rattle.deb_field.specs.declared.value.Value.TheVariants.{Name, Source, Version, Architecture, ArchitectureWords, Flag, MultiArch, Number, Line, Folded, Relation, Text}
 

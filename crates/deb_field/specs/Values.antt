@@ -10,7 +10,7 @@ use Rattle.deb_relation.specs.Meaning.{Relation as RelationMeaning}
 use Rattle.deb_relation.specs.Texts.{relation_text}
 use Rattle.deb_field.specs.CanonLaw.{Through}
 use Rattle.deb_field.specs.Flags.{flag_text, SpellsFlag, flag_refusal, multi_arch_text, SpellsMultiArch, multi_arch_refusal}
-use Rattle.deb_field.specs.Kinds.{kind_of}
+use Rattle.deb_base.specs.Kinds.{kind_of}
 use Rattle.deb_field.specs.Numbers.{SpellsNumber, number_refusal}
 use Rattle.deb_field.specs.RelationFields.{SpellsRelationship, relationship_refusal}
 use Rattle.deb_field.specs.Sources.{SourceMeaning, SpellsSource, source_text, source_refusal}
@@ -19,8 +19,8 @@ use Rattle.deb_field.specs.Versions.{version_refusal}
 use Rattle.deb_field.specs.Words.{words_text, SpellsFolded, folded_refusal, SpellsArchitectures, architectures_refusal}
 use Rattle.deb_field.specs.declared.flag.Flag.{Flag as FlagWord}
 use Rattle.deb_field.specs.declared.flag.MultiArch.{MultiArch as MultiArchWord}
-use Rattle.deb_field.specs.declared.kind.Kind.{Kind as FieldKind}
-use Rattle.deb_field.specs.declared.kind.Kind.TheVariants.{Name, Source, Version, Architecture, ArchitectureWords, Flag, MultiArch, Number, Line, Folded, Relation, Text}
+use Rattle.deb_base.specs.declared.kind.Kind.{Kind as FieldKind}
+use Rattle.deb_base.specs.declared.kind.Kind.TheVariants.{Name, Source, Version, Architecture, ArchitectureWords, Flag, MultiArch, Number, Line, Folded, Relation, Text}
 
 -- what a value means: nothing that only its spelling has
 pub data ValueMeaning : Type 0 where

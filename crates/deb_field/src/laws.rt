@@ -9,7 +9,7 @@ ghost use Rattle.deb_relation.specs.Meaning.{Relation as RelationMeaning};
 ghost use Rattle.deb_relation.specs.Texts.{relation_text};
 ghost use Rattle.deb_field.specs.CanonLaw.{CanonLaw, OneText, RefusalLaw};
 ghost use Rattle.deb_field.specs.Flags.{flag_text, SpellsFlag, multi_arch_text, SpellsMultiArch};
-ghost use Rattle.deb_field.specs.Kinds.{FieldsOfAnyAreTexts, KindGoesByName, KindOfCanonicalName};
+ghost use Rattle.deb_base.specs.Kinds.{FieldsOfAnyAreTexts, KindGoesByName, KindOfCanonicalName};
 ghost use Rattle.deb_field.specs.Numbers.{SpellsNumber};
 ghost use Rattle.deb_field.specs.RelationFields.{SpellsRelationship};
 ghost use Rattle.deb_field.specs.Sources.{SourceMeaning, SpellsSource, source_text};
@@ -19,8 +19,8 @@ ghost use Rattle.deb_field.specs.Values.{ValueMeaning, SpellsKind, SpellsValue, 
 ghost use Rattle.deb_field.specs.Words.{words_text, SpellsArchitectures, SpellsFolded};
 ghost use Rattle.deb_field.specs.declared.flag.Flag.{Flag as FlagWord};
 ghost use Rattle.deb_field.specs.declared.flag.MultiArch.{MultiArch as MultiArchWord};
-ghost use Rattle.deb_field.specs.declared.kind.Kind.{Kind as FieldKind};
-ghost use Rattle.deb_field.specs.declared.kind.Relationship.{Relationship};
+ghost use Rattle.deb_base.specs.declared.kind.Kind.{Kind as FieldKind};
+ghost use Rattle.deb_base.specs.declared.kind.Relationship.{Relationship};
 
 /// In a field, and as one of a kind, a body spells at most one value; and the canonical text of a
 /// value that is spelled is a body that spells it, at most twice as long as each other one.

@@ -8,9 +8,8 @@ ghost use Rattle.deb_relation.specs.Texts.{relation_text};
 ghost use Rattle.deb_field.specs.RelationFields.{SpellsRelationship, relation_refusal, relationship_refusal};
 
 use crate::canon::Canon;
-use crate::kind::Relationship;
 use crate::value::ValueFault;
-use deb_base::Code;
+use deb_base::{Code, Relationship};
 use deb_relation::{Relation, RelationFault, RelationText};
 use std::alloc::{AllocError, Global};
 
@@ -78,7 +77,7 @@ impl<'a> RelationField<'a> {
 }
 
 impl Canon for RelationField<'_> {
-    ghost use Rattle.deb_field.specs.declared.kind.Relationship.{Relationship as Sort};
+    ghost use Rattle.deb_base.specs.declared.kind.Relationship.{Relationship as Sort};
     ghost use Rattle.deb_field.specs.RelationLaw.{relation_law};
     ghost use Rattle.deb_field.specs.RelationSpelled.{relation_meaning, relation_spelled};
     ghost use Rattle.deb_field.specs.Shown.{sort_of};

@@ -2,15 +2,13 @@
 
 use crate::flag::{Flag, MultiArch};
 use crate::folded::{ArchitectureWords, Folded};
-use crate::kind::Kind;
 use crate::names::{ArchitectureName, PackageName};
 use crate::number::Number;
 use crate::relation::RelationField;
 use crate::source::SourceName;
-use crate::tables::kind_of;
 use crate::text::{Line, Text};
 use crate::version::parse_version;
-use deb_base::{Code, Doc};
+use deb_base::{Code, Doc, Kind, kind_of};
 use deb_version::Version;
 use std::alloc::Global;
 
@@ -67,7 +65,7 @@ impl<'a> Value<'a> {
     ghost use Rattle.std.specs.Prelude.{◌≡◌, IfOk, IfErr};
     ghost use Rattle.deb_base.specs.Bodies.{IsBody};
     ghost use Rattle.deb_field.specs.Faults.{IsFaultOf, IsRead};
-    ghost use Rattle.deb_field.specs.Kinds.{kind_of};
+    ghost use Rattle.deb_base.specs.Kinds.{kind_of};
     ghost use Rattle.deb_field.specs.LineBegins.{begins_with_newline};
     ghost use Rattle.deb_field.specs.ValueMeanings.{kind_of_value, value_meaning};
     ghost use Rattle.deb_field.specs.Values.{ValueMeaning, SpellsKind, SpellsValue, value_text};
@@ -98,8 +96,14 @@ impl<'a> Value<'a> {
         Value::of_kind(alloc, kind_of(doc, name), body)
     }
 
-    /// The value that a body spells as one of a kind.
-    fn of_kind(alloc: Global, kind: Kind, body: &'a [u8]) -> Result<Value<'a>, ValueFault>
+    /// Parses a body as a value of a kind.
+    ///
+    /// The value borrows the body. Only a relation takes memory.
+    ///
+    /// # Errors
+    ///
+    /// Those of `parse`.
+    pub fn of_kind(alloc: Global, kind: Kind, body: &'a [u8]) -> Result<Value<'a>, ValueFault>
         ensures ok { IfOk result (λ value. SpellsKind kind body.now (value_meaning value)) }
         ensures kind { IfOk result (λ value. kind_of_value value ≡ kind) }
         ensures refused { IfErr result (IsFaultOf kind body.now) }

@@ -3,7 +3,7 @@
 ghost use Rattle.deb_field.specs.Values.{ValueMeaning, value_text, SpellsKind};
 ghost use Rattle.deb_field.specs.ValueLaws.{kind_law};
 ghost use Rattle.deb_field.specs.ValueMeanings.{kind_of_value, value_meaning, value_spelled};
-ghost use Rattle.deb_field.specs.declared.kind.Kind.{Kind as FieldKind};
+ghost use Rattle.deb_base.specs.declared.kind.Kind.{Kind as FieldKind};
 
 use crate::canon::Canon;
 use crate::value::Value;

@@ -11,7 +11,7 @@ use Rattle.deb_syntax.specs.Fields.{Field, are_fields}
 use Rattle.deb_syntax.specs.Meaning.{byte_order, entries_of}
 use Rattle.deb_syntax.specs.Raw.{field_named}
 use Rattle.deb_syntax.proofs.JudgingLawsMeaning.{body_at-entries_of}
-use Rattle.deb_field.specs.Kinds.{kind_of, required}
+use Rattle.deb_base.specs.Kinds.{kind_at, known_row, kind_of, required}
 use Rattle.deb_field.specs.ValueLaws.{value_law}
 use Rattle.deb_field.specs.Values.{ValueMeaning, NameMeans, VersionMeans, ArchitectureMeans, MultiArchMeans, RelationMeans, value_text, SpellsValue}
 use Rattle.deb_field.specs.declared.flag.MultiArch.{MultiArch}
@@ -84,35 +84,35 @@ module _ (seen : Seen) (passes : IsTrue (is_judged Packages seen)) (fields : are
 
   -- so it is of the kind of the field
   name-said : (o : Option ValueMeaning) → HasValue Packages seen (codes "Package") o → (name : List ℕ) × (o ≡ Some (NameMeans name))
-  unfolding kind_of
+  unfolding kind_of kind_at known_row
   name-said o has = elim (under (codes "Package") o has) [
     | inl none ↦ absurd (name-there (subst (HasValue Packages seen (codes "Package")) none has))
     | inr s ↦ (s.2.0, s.3 ∙ ap Some s.2.1)
   ]
 
   architecture-said : (o : Option ValueMeaning) → HasValue Packages seen (codes "Architecture") o → (name : List ℕ) × (o ≡ Some (ArchitectureMeans name))
-  unfolding kind_of
+  unfolding kind_of kind_at known_row
   architecture-said o has = elim (under (codes "Architecture") o has) [
     | inl none ↦ absurd (architecture-there (subst (HasValue Packages seen (codes "Architecture")) none has))
     | inr s ↦ (s.2.0, s.3 ∙ ap Some s.2.1)
   ]
 
   version-said : (o : Option ValueMeaning) → HasValue Packages seen (codes "Version") o → (version : Version) × (o ≡ Some (VersionMeans version))
-  unfolding kind_of
+  unfolding kind_of kind_at known_row
   version-said o has = elim (under (codes "Version") o has) [
     | inl none ↦ absurd (version-there (subst (HasValue Packages seen (codes "Version")) none has))
     | inr s ↦ (s.2.0, s.3 ∙ ap Some s.2.1)
   ]
 
   multi_arch-said : (o : Option ValueMeaning) → HasValue Packages seen (codes "Multi-Arch") o → (word : Option MultiArch) × (o ≡ option_map MultiArchMeans word)
-  unfolding kind_of
+  unfolding kind_of kind_at known_row
   multi_arch-said o has = elim (under (codes "Multi-Arch") o has) [
     | inl none ↦ (None, none)
     | inr s ↦ (Some s.2.0, s.3 ∙ ap Some s.2.1)
   ]
 
   provides-said : (o : Option ValueMeaning) → HasValue Packages seen (codes "Provides") o → (relation : Option Relation) × (o ≡ option_map RelationMeans relation)
-  unfolding kind_of
+  unfolding kind_of kind_at known_row
   provides-said o has = elim (under (codes "Provides") o has) [
     | inl none ↦ (None, none)
     | inr s ↦ (Some s.2.0, s.3 ∙ ap Some s.2.1)

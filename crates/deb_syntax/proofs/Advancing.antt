@@ -1,5 +1,5 @@
 -- What the calls of a reader of paragraphs say of a text that fits, from what its walk finds ahead.
-use Rattle.deb_syntax.proofs.Common.{◌≡◌, ◌≢◌, ℕ, ◌+◌, ◌-◌, ◌<◌, ◌≤◌, ◌&&◌, inl, inr, Bool, true, false, List, [], ◌∷◌, ◌++◌, Option, Some, None, Result, Ok, Err, length, take, refl, sym, ap, ◌∙◌, subst, append_assoc, arith, rules, IsTrue, length-append, get_or, IfNone, IfSome, IsSome, Shown, lt-leb, and_from, append_cancel_left, append-nil, Line, newline, pieces_of, HasNoNewline, is_blank, is_all_blank, line_length, ParagraphTooLong, Fault, Refused, Memory, Read, Write, Refusal, Begun, Extent, left_answer, left_begin, room_ahead, IsAhead, IsFirst, IsNear, PassesBlanks, EndsInSight, KeepsLine, HidesLine, TakesNoMore, PassesAll, IsExtentOf, PassesParagraph, IsNextRun, SameCounts, Seen, part_within, paragraphs_within, next_answer, next_begin, seen_from, AreBlank, AreNotBlank, FeedState, PassesOn, feed_state, buffer_of, start_of, piece_limit, left_count, Takes, are_fields, are_numbered, Feed, Place, list_all, length-take-le, judged, lines_of, with_newlines, Paragraph, paragraphs_from, paragraphs_of, total_length, State, state_from, Fits, passed_count, GivesNext, GivesNone, GivesLine, BeginsHere, FindsFirst, Answers, IsRefusalOfText, Moment, Advances, Begins, KeepsErrors, tells_end, IsReadersFault, IsFaultOf, fields_at, lies_within, PassesNext, IsPassed, standing_of, stands_within, EndsHidden, HidesLong}
+use Rattle.deb_syntax.proofs.Common.{◌≡◌, ◌≢◌, ℕ, ◌+◌, ◌-◌, ◌<◌, ◌≤◌, ◌&&◌, inl, inr, Bool, true, false, List, [], ◌∷◌, ◌++◌, Option, Some, None, Result, Ok, Err, length, take, refl, sym, ap, ◌∙◌, subst, append_assoc, arith, rules, IsTrue, length-append, get_or, IfNone, IfSome, IsSome, Shown, lt-leb, and_from, append_cancel_left, append-nil, Line, newline, pieces_of, HasNoNewline, is_blank, is_all_blank, line_length, ParagraphTooLong, Fault, Refused, Memory, Read, Write, Refusal, Begun, Extent, left_answer, left_begin, room_ahead, IsAhead, IsFirst, IsNear, PassesBlanks, EndsInSight, KeepsLine, HidesLine, TakesNoMore, PassesAll, IsExtentOf, PassesParagraph, IsNextRun, SameCounts, Seen, part_within, paragraphs_within, next_answer, next_begin, seen_from, AreBlank, AreNotBlank, FeedState, PassesOn, feed_state, buffer_of, start_of, piece_limit, left_count, Takes, are_fields, are_numbered, Feed, Place, list_all, judged, lines_of, with_newlines, Paragraph, paragraphs_from, paragraphs_of, total_length, State, state_from, Fits, passed_count, GivesNext, GivesNone, GivesLine, BeginsHere, FindsFirst, Answers, IsRefusalOfText, Moment, Advances, Begins, KeepsErrors, tells_end, IsReadersFault, IsFaultOf, fields_at, lies_within, PassesNext, IsPassed, standing_of, stands_within, EndsHidden, HidesLong}
 use Rattle.deb_base.specs.Bodies.{paragraph_limit}
 use Rattle.std.specs.List.{slice_range}
 use Rattle.deb_syntax.proofs.Feeds.{front_of_unread, unread_within}
@@ -260,15 +260,14 @@ module _ (mid : Feed) (buffer : List ℕ) (e : Extent) (from : ℕ) (places : Li
   pub standing_bytes : slice_range buffer from (from + e.end) ≡ take e.end (feed_state mid).unread
   standing_bytes = ap (λ zs. slice_range zs from (from + e.end)) same ∙ ap (λ k. slice_range (buffer_of mid) k (k + e.end)) at ∙ front_of_unread mid e.end x.end_within
 
-  pub stands_test : (n : ℕ) → 1 ≤ n → judged n (pieces_of (take e.end (feed_state mid).unread)) ≡ Ok (fields_at (take e.end (feed_state mid).unread) places) → IsTrue (list_all (lies_within (length (take e.end (feed_state mid).unread))) places) → IsTrue (stands_within buffer places (Some (record { from = from; to = from + e.end; first_line = n })))
+  pub stands_test : (n : ℕ) → 1 ≤ n → judged n (pieces_of (take e.end (feed_state mid).unread)) ≡ Ok (fields_at (take e.end (feed_state mid).unread) places) → IsTrue (list_all (lies_within (take e.end (feed_state mid).unread)) places) → IsTrue (stands_within buffer places (Some (record { from = from; to = from + e.end; first_line = n })))
   stands_test n some judges within =
-      let len : length (take e.end (feed_state mid).unread) ≡ e.end = length-take-le e.end (feed_state mid).unread x.end_within in
       let room : from + e.end ≤ length buffer = omega (arith, at, x.end_within, unread_within mid, ap length same) in
       let not_blank : AreNotBlank (pieces_of (take e.end (feed_state mid).unread)) = subst AreNotBlank (sym x.pieces) x.not_blank in
       let short : total_length (pieces_of (take e.end (feed_state mid).unread)) ≤ paragraph_limit = subst (λ lines. total_length lines ≤ paragraph_limit) (sym x.pieces) x.short in
       let fields = are_fields-judged n (take e.end (feed_state mid).unread) (fields_at (take e.end (feed_state mid).unread) places) not_blank short judges in
       let numbered = are_numbered-judged n (take e.end (feed_state mid).unread) (fields_at (take e.end (feed_state mid).unread) places) some not_blank short judges in
-      within_test from (from + e.end) (length buffer) (length (take e.end (feed_state mid).unread)) places _ (omega arith) room (omega (arith, len)) within
+      within_test from (from + e.end) buffer (take e.end (feed_state mid).unread) places _ (omega arith) room standing_bytes within
       (ap (λ zs. are_fields (fields_at zs places) && are_numbered n (fields_at zs places)) standing_bytes ∙ and_from _ _ fields numbered)
 
   -- and these are its fields

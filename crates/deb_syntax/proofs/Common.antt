@@ -43,7 +43,11 @@ pub use Rattle.deb_base.specs.Bodies.{HasNoNewline, IsBody, Line, begins_with_bl
 pub use Rattle.deb_base.specs.Devices.{Shown, read_failures_after}
 pub use Rattle.deb_base.specs.Faults.{IsReadersFault}
 pub use Rattle.deb_base.specs.FieldNames.{colon, is_name, is_name_byte, may_begin_name}
+pub use Rattle.deb_base.specs.Kinds.{known_row}
+pub use Rattle.deb_base.specs.KnownFields.{IsAtFront, row_of}
 pub use Rattle.deb_base.specs.Names.{canonical_name, folded}
+pub use Rattle.deb_base.specs.declared.known_fields.FieldId.{FieldId}
+pub use Rattle.deb_base.specs.declared.known_fields.NameAtFront.{NameAtFront}
 pub use Rattle.deb_base.specs.Trimming.{trimmed}
 pub use Rattle.deb_base.specs.declared.code.Code.{Code}
 pub use Rattle.deb_base.specs.declared.code.Code.TheVariants.{BadFieldName, DuplicateField, FileTooLong, NoColon, NotUtf8, ParagraphTooLong}
@@ -62,8 +66,8 @@ pub use Rattle.deb_syntax.specs.Laws.{AreRuns, IsFirstRefusal, IsLineRefusal, Is
 pub use Rattle.deb_syntax.specs.Lines.{IsClosed, Paragraph, begins_blank, ends_blank, ends_line, file_limit, lines_of, paragraphs_from, paragraphs_of, total_length, with_line, with_newlines}
 pub use Rattle.deb_syntax.specs.Meaning.{Accepted, Entries, HaveMeanings, Means, byte_order, entries_after, entries_of}
 pub use Rattle.deb_syntax.specs.Paragraphs.{state_of}
-pub use Rattle.deb_syntax.specs.Places.{IsFaultOf, Keeps, LastGoesOn, StandsAt, begun_at, begun_fields, ends_before, field_at, fields_at, has_stood, is_kept, is_marked, lies_within, mark_of, name_at, pieces_behind}
-pub use Rattle.deb_syntax.specs.Raw.{field_named, fields_of}
+pub use Rattle.deb_syntax.specs.Places.{IsFaultOf, Keeps, KeepsNext, LastGoesOn, StandsAt, begun_at, begun_fields, ends_before, field_at, fields_at, has_row, has_stood, is_kept, lies_within, name_at, pieces_behind}
+pub use Rattle.deb_syntax.specs.Raw.{field_named, fields_of, has_field_in}
 pub use Rattle.deb_syntax.specs.Reading.{Advances, Answers, Begins, BeginsHere, FindsFirst, Fits, GivesLine, GivesNext, GivesNone, IsRefusalOfText, Moment, KeepsErrors, State, passed_count, state_from, tells_end}
 pub use Rattle.deb_syntax.specs.Standing.{EndsHidden, HidesLong, IsPassed, PassesNext, standing_of, stands_within}
 pub use Rattle.deb_syntax.specs.Walking.{CanGoOn, CannotBeBlank, Describes, EndsIn, EndsNotBlank, GoesAlong, GoesThroughBlanks, RunStands, SkipsBlanks, StandInFront, Stops}

@@ -1,5 +1,5 @@
 -- What a line that begins a field makes of the fields before it, from what a search for its colon says.
-use Rattle.deb_syntax.proofs.Common.{◌≡◌, ℕ, zero, suc, ◌==◌, ◌+◌, ◌-◌, ◌<◌, ◌≤◌, Bool, true, false, not, cond, ◌&&◌, List, [], ◌∷◌, ◌++◌, length, map, take, drop, nat_lt, slice_index, slice_range, Some, None, Ok, Err, refl, sym, ap, ◌∙◌, arith, length-take, length-drop, list_all, position_or_len, prefix_len, and_parts, and_from, eqb-true, ltb-true, lt-ltb, true≢false, cond-true, cond-false, map_push, take-append-drop, drop_more, All-from_get_or, list_any_at, list_any_none, position_or_len_is, IsFirstByte, is_byte, BadFieldName, NoColon, DuplicateField, Line, Field, has_name, colon, is_name, is_name_byte, each_name_byte, begins_armour, begins_comment, has_colon, begun, is_named, field_line, begun_at, begun_fields, name_at, has_stood, Place}
+use Rattle.deb_syntax.proofs.Common.{◌≡◌, ℕ, zero, suc, ◌==◌, ◌+◌, ◌-◌, ◌<◌, ◌≤◌, Bool, true, false, not, cond, ◌&&◌, List, [], ◌∷◌, ◌++◌, length, map, take, drop, nat_lt, slice_index, slice_range, Some, None, Ok, Err, refl, sym, ap, ◌∙◌, arith, length-take, length-drop, list_all, position_or_len, prefix_len, and_parts, and_from, eq-eqb, eqb-true, ltb-true, lt-ltb, true≢false, cond-true, cond-false, map_push, take-append-drop, drop_more, All-from_get_or, list_any_at, list_any_none, position_or_len_is, IsFirstByte, is_byte, BadFieldName, NoColon, DuplicateField, Line, Field, has_name, colon, is_name, is_name_byte, each_name_byte, begins_armour, begins_comment, has_colon, begun, is_named, field_line, begun_at, begun_fields, name_at, has_stood, known_row, row_of, FieldId, IsAtFront, NameAtFront, Place}
 use Rattle.deb_syntax.proofs.JudgingLaws.{field_line-name}
 use Rattle.deb_syntax.proofs.Pieces.{not_true}
 use Rattle.deb_syntax.proofs.PlaceLemmas.{LiesWithin, has_name-begun}
@@ -47,19 +47,29 @@ module _ (n : ℕ) (fields : List Field) (line : Line) where
       let split : line ≡ take at line ++ colon ∷ drop (at + 1) line = sym (take-append-drop at line) ∙ ap (λ zs. take at line ++ zs) (drop_more line at 0 (ltb-true _ _ front.0) ∙ ap (λ b. b ∷ drop (at + 1) line) (eqb-true _ _ front.1)) in
       ap (field_line n fields) split ∙ field_line-name n fields (take at line) (drop (at + 1) line) parts.1
 
+-- a name at the front of a line
+pub is_named-at_front : (line : Line) (front : NameAtFront) → IsAtFront line front → is_named line front.len ≡ true
+is_named-at_front line front is = and_from _ _ (and_from _ _ (lt-ltb front.len (length line) is.within) (eq-eqb _ _ is.colon)) is.name
+
+pub at_front-is_named : (line : Line) (len : ℕ) (id : FieldId) → is_named line len ≡ true → row_of id ≡ known_row (take len line) → IsAtFront line (record { id = id; len = len })
+at_front-is_named line len id named is =
+    let parts = and_parts (nat_lt len (length line) && (slice_index line len == colon)) (is_name (take len line)) named in
+    let front = and_parts (nat_lt len (length line)) (slice_index line len == colon) parts.0 in
+    record { within = ltb-true _ _ front.0; colon = eqb-true _ _ front.1; name = parts.1; id = is }
+
 -- the place of a field that the line from `start` to `end` begins, with its colon at `at`
 module _ (text : List ℕ) (start end at : ℕ) (ordered : start ≤ end) (within : end ≤ length text) (inside : at < length (slice_range text start end)) where
   fits : start + at < end
   fits = omega (arith, inside, length-take (end - start) (drop start text), length-drop start text)
 
-  pub LiesWithin-begun : (n : ℕ) → LiesWithin (length text) (record { line = n; start = start; colon = start + at; end = end })
-  LiesWithin-begun n = record { named = omega arith; more = fits; inside = within }
-
   pub name_at-begun : take at (slice_range text start end) ≡ slice_range text start (start + at)
   name_at-begun = take-slice_range text start end at (omega (arith, fits))
 
-  begun_at-begun : (n : ℕ) → record { name = take at (slice_range text start end); line = n; body = drop (at + 1) (slice_range text start end) } ≡ begun_at text (record { line = n; start = start; colon = start + at; end = end })
-  begun_at-begun n =
+  pub LiesWithin-begun : (n : ℕ) (id : FieldId) → row_of id ≡ known_row (take at (slice_range text start end)) → LiesWithin text (record { line = n; start = start; colon = start + at; end = end; id = id })
+  LiesWithin-begun n id is = record { named = omega arith; more = fits; inside = within; id = is ∙ ap known_row name_at-begun }
+
+  begun_at-begun : (n : ℕ) (id : FieldId) → record { name = take at (slice_range text start end); line = n; body = drop (at + 1) (slice_range text start end) } ≡ begun_at text (record { line = n; start = start; colon = start + at; end = end; id = id })
+  begun_at-begun n id =
       let e : start + (at + 1) ≡ start + at + 1 = omega arith in
       let body : drop (at + 1) (slice_range text start end) ≡ slice_range text (start + at + 1) end = drop-slice_range text start end (at + 1) ∙ ap (λ i. slice_range text i end) e in
       let field : List ℕ → List ℕ → Field = λ name rest. record { name = name; line = n; body = rest } in
@@ -70,13 +80,13 @@ module _ (text : List ℕ) (start end at : ℕ) (ordered : start ≤ end) (withi
     pub field_line-stood : has_stood (take at (slice_range text start end)) (map (name_at text) places) ≡ true → field_line n (begun_fields text places) (slice_range text start end) ≡ Err (record { code = DuplicateField; line = n })
     field_line-stood stood = judges ∙ cond-true (has_name (take at (slice_range text start end)) (begun_fields text places)) _ _ (has_name-begun text _ places ∙ stood)
 
-    pub field_line-new : has_stood (take at (slice_range text start end)) (map (name_at text) places) ≡ false → field_line n (begun_fields text places) (slice_range text start end) ≡ Ok (begun_fields text (places ++ record { line = n; start = start; colon = start + at; end = end } ∷ []))
-    field_line-new new =
+    pub field_line-new : (id : FieldId) → has_stood (take at (slice_range text start end)) (map (name_at text) places) ≡ false → field_line n (begun_fields text places) (slice_range text start end) ≡ Ok (begun_fields text (places ++ record { line = n; start = start; colon = start + at; end = end; id = id } ∷ []))
+    field_line-new id new =
         judges
         ∙ cond-false (has_name (take at (slice_range text start end)) (begun_fields text places)) _ _ (has_name-begun text _ places ∙ new)
-        ∙ ap (λ f. Ok (begun_fields text places ++ f ∷ [])) (begun_at-begun n)
-        ∙ ap Ok (sym (map_push (begun_at text) places (record { line = n; start = start; colon = start + at; end = end })))
+        ∙ ap (λ f. Ok (begun_fields text places ++ f ∷ [])) (begun_at-begun n id)
+        ∙ ap Ok (sym (map_push (begun_at text) places (record { line = n; start = start; colon = start + at; end = end; id = id })))
 
-pub ruleset naming = (field_line-found, not_named, field_line-no_colon, field_line-bad_name)
+pub ruleset naming = (field_line-found, is_named-at_front, at_front-is_named, not_named, field_line-no_colon, field_line-bad_name)
 
 pub ruleset beginning = (field_line-stood, field_line-new)

@@ -28,7 +28,7 @@ pub mod LinesLawsRuns
 pub mod LinesLawsTexts
 pub mod LinesOfPieces
 pub mod Lookups
-pub mod NameMarks
+pub mod NameIds
 pub mod NameSets
 pub mod NextParagraph
 pub mod ParagraphLines

@@ -1,7 +1,9 @@
 -- A search for a field by its name, one field after another.
-use Rattle.deb_syntax.proofs.Common.{◌≡◌, ℕ, ◌+◌, ◌<◌, cond, List, length, drop, get_or, Some, ap, ◌∙◌, drop_more, bytes_eq-Decides, bytes_eq, folded, name_at, field_at, fields_at, field_named, Place}
+use Rattle.deb_syntax.proofs.Common.{◌≡◌, ℕ, ◌+◌, ◌<◌, cond, List, length, drop, get_or, Some, ap, ◌∙◌, drop_more, bytes_eq-Decides, bytes_eq, folded, name_at, field_at, fields_at, field_named, has_field_in, lies_within, known_row, row_of, list_all, IsTrue, true, sym, eq-eqb, eqb-true, ◌==◌, ◌||◌, Place}
+use Rattle.std.proofs.lemmas.List.Sums.{AllPass-from_list_all}
 use Rattle.deb_syntax.proofs.FieldTests.{is_field-at}
 use Rattle.deb_syntax.proofs.Pieces.{not_true}
+use Rattle.deb_syntax.proofs.PlaceLemmas.{LiesWithin-from_test}
 
 module _ (text name : List ℕ) (places : List Place) (i : ℕ) (d : Place) (within : i < length places) where
   step : field_named name (fields_at text (drop i places)) ≡ cond (bytes_eq (folded (name_at text (get_or places i d))) (folded name)) (Some (field_at text (get_or places i d))) (field_named name (fields_at text (drop (i + 1) places)))
@@ -14,5 +16,23 @@ module _ (text name : List ℕ) (places : List Place) (i : ℕ) (d : Place) (wit
   pub field_named-passed : (folded (name_at text (get_or places i d)) ≡ folded name → ⊥) → field_named name (fields_at text (drop i places)) ≡ field_named name (fields_at text (drop (i + 1) places))
   field_named-passed other =
       step ∙ ap (λ t. cond t (Some (field_at text (get_or places i d))) (field_named name (fields_at text (drop (i + 1) places)))) (not_true _ (λ e. other ((bytes_eq-Decides (folded (name_at text (get_or places i d))) (folded name)).0 e)))
+
+-- a search for a row of the table
+module _ (text : List ℕ) (row : ℕ) (places : List Place) (i : ℕ) (d : Place) (within : i < length places) (lie : IsTrue (list_all (lies_within text) places)) where
+  row_here : row_of (get_or places i d).id ≡ known_row (name_at text (get_or places i d))
+  row_here = (LiesWithin-from_test text (get_or places i d) (AllPass-from_list_all (lies_within text) places lie i d within)).id
+
+  row_step : has_field_in row (fields_at text (drop i places)) ≡ ((row_of (get_or places i d).id == row) || has_field_in row (fields_at text (drop (i + 1) places)))
+  row_step =
+      ap (λ l. has_field_in row (fields_at text l)) (drop_more places i d within)
+      ∙ ap (λ n. (n == row) || has_field_in row (fields_at text (drop (i + 1) places))) (sym row_here)
+
+  pub has_field_in-found : row_of (get_or places i d).id ≡ row → has_field_in row (fields_at text (drop i places)) ≡ true
+  has_field_in-found same = row_step ∙ ap (λ t. t || has_field_in row (fields_at text (drop (i + 1) places))) (eq-eqb _ _ same)
+
+  pub has_field_in-passed : (row_of (get_or places i d).id ≡ row → ⊥) → has_field_in row (fields_at text (drop i places)) ≡ has_field_in row (fields_at text (drop (i + 1) places))
+  has_field_in-passed other = row_step ∙ ap (λ t. t || has_field_in row (fields_at text (drop (i + 1) places))) (not_true _ (λ e. other (eqb-true _ _ e)))
+
+pub ruleset having = (has_field_in-found, has_field_in-passed)
 
 pub ruleset looking = (field_named-found, field_named-passed, is_field-at)

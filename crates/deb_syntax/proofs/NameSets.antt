@@ -2,7 +2,7 @@
 use Rattle.deb_syntax.proofs.Common.{◌≡◌, ℕ, ◌+◌, ◌<◌, Bool, true, false, cond, ◌||◌, List, [], ◌∷◌, ◌++◌, length, map, take, drop, get_or, refl, sym, ap, ◌∙◌, subst, list_any, bytes_eq, nat_list_eq_equiv, drop_more, take_more, map_push, list_any-append, bytes_eq-Decides, folded, name_at, has_stood, is_kept, FoldedName, Place}
 use Rattle.deb_syntax.proofs.Pieces.{not_true}
 
-or_false : (b : Bool) → (b || false) ≡ b
+pub or_false : (b : Bool) → (b || false) ≡ b
 or_false true = refl
 or_false false = refl
 

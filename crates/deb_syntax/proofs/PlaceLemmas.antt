@@ -1,27 +1,31 @@
 -- Places of fields: the last one goes on to a line's end, or a further one begins at a line.
-use Rattle.deb_syntax.proofs.Common.{◌≡◌, ℕ, ◌+◌, ◌-◌, ◌<◌, ◌≤◌, ◌==◌, Bool, true, ◌&&◌, List, [], ◌∷◌, ◌++◌, length, map, set, take, nat_le, nat_lt, slice_index, slice_index_or, slice_range, refl, sym, ap, subst, ◌∙◌, arith, Ok, list_all, bytes_eq, eq-eqb, eqb-true, and_parts, and_from, leb-true, ltb-true, le-leb, lt-ltb, map_push, take_all, take_more, take_more_set, length-set, list_all-append, folded, newline, has_name, continuation_line, with_text, name_at, begun_at, begun_fields, lies_within, LastGoesOn, ends_before, has_stood, Keeps, StandsAt, Place, Names}
+use Rattle.deb_syntax.proofs.Common.{◌≡◌, ℕ, ◌+◌, ◌-◌, ◌<◌, ◌≤◌, ◌==◌, Bool, true, ◌&&◌, List, [], ◌∷◌, ◌++◌, length, map, set, take, nat_le, nat_lt, slice_index, slice_index_or, slice_range, refl, sym, ap, subst, ◌∙◌, arith, Ok, list_all, bytes_eq, eq-eqb, known_row, row_of, eqb-true, and_parts, and_from, leb-true, ltb-true, le-leb, lt-ltb, map_push, take_all, take_more, take_more_set, length-set, list_all-append, folded, newline, has_name, continuation_line, with_text, name_at, begun_at, begun_fields, lies_within, LastGoesOn, ends_before, has_stood, Keeps, StandsAt, Place, Names}
 use Rattle.deb_syntax.proofs.JudgingLaws.{continuation_line-push}
+use Rattle.deb_syntax.proofs.NameIds.{Keeps-longer}
 use Rattle.deb_syntax.proofs.Slices.{slice_range-join, list_any-map}
 
 -- the parts of `lies_within`
-pub record LiesWithin (n : ℕ) (place : Place) : Type 0 where
+pub record LiesWithin (text : List ℕ) (place : Place) : Type 0 where
   pub named : place.start ≤ place.colon
   pub more : place.colon < place.end
-  pub inside : place.end ≤ n
+  pub inside : place.end ≤ length text
+  pub id : row_of place.id ≡ known_row (name_at text place)
 
-pub LiesWithin-from_test : (n : ℕ) (place : Place) → lies_within n place ≡ true → LiesWithin n place
-LiesWithin-from_test n place h =
-    let outer = and_parts (nat_le place.start place.colon && nat_lt place.colon place.end) (nat_le place.end n) h in
+pub LiesWithin-from_test : (text : List ℕ) (place : Place) → lies_within text place ≡ true → LiesWithin text place
+LiesWithin-from_test text place h =
+    let whole = and_parts (nat_le place.start place.colon && nat_lt place.colon place.end && nat_le place.end (length text)) (row_of place.id == known_row (name_at text place)) h in
+    let outer = and_parts (nat_le place.start place.colon && nat_lt place.colon place.end) (nat_le place.end (length text)) whole.0 in
     let inner = and_parts (nat_le place.start place.colon) (nat_lt place.colon place.end) outer.0 in
     record {
       named = leb-true place.start place.colon inner.0;
       more = ltb-true place.colon place.end inner.1;
-      inside = leb-true place.end n outer.1;
+      inside = leb-true place.end (length text) outer.1;
+      id = eqb-true _ _ whole.1;
     }
 
-pub lies_within-from : (n : ℕ) (place : Place) → LiesWithin n place → lies_within n place ≡ true
-lies_within-from n place h =
-    and_from _ _ (and_from _ _ (le-leb place.start place.colon h.named) (lt-ltb place.colon place.end h.more)) (le-leb place.end n h.inside)
+pub lies_within-from : (text : List ℕ) (place : Place) → LiesWithin text place → lies_within text place ≡ true
+lies_within-from text place h =
+    and_from _ _ (and_from _ _ (and_from _ _ (le-leb place.start place.colon h.named) (lt-ltb place.colon place.end h.more)) (le-leb place.end (length text) h.inside)) (eq-eqb _ _ h.id)
 
 ends_before-push : (places : List Place) (p : Place) (start : ℕ) → ends_before start (places ++ p ∷ []) ≡ (p.end + 1 == start)
 ends_before-push [] p start = refl
@@ -29,11 +33,11 @@ ends_before-push (q ∷ []) p start = refl
 ends_before-push (q ∷ r ∷ rs) p start = ends_before-push (r ∷ rs) p start
 
 -- a further field
-pub StandsAt-push : (text : List ℕ) (places : List Place) (names : Names) (p : Place) → list_all (lies_within (length text)) places ≡ true → LiesWithin (length text) p → Keeps (map (name_at text) places ++ name_at text p ∷ []) names → StandsAt text (p.end + 1) (places ++ p ∷ []) names
+pub StandsAt-push : (text : List ℕ) (places : List Place) (names : Names) (p : Place) → list_all (lies_within text) places ≡ true → LiesWithin text p → Keeps text (places ++ p ∷ []) names → StandsAt text (p.end + 1) (places ++ p ∷ []) names
 StandsAt-push text places names p within lies keeps = record {
-  within = list_all-append (lies_within (length text)) places (p ∷ []) ∙ and_from _ _ within (and_from _ _ (lies_within-from (length text) p lies) refl);
+  within = list_all-append (lies_within text) places (p ∷ []) ∙ and_from _ _ within (and_from _ _ (lies_within-from text p lies) refl);
   reached = ends_before-push places p (p.end + 1) ∙ eq-eqb _ _ refl;
-  kept = subst (λ stood. Keeps stood names) (sym (map_push (name_at text) places p)) keeps;
+  kept = keeps;
 }
 
 -- a write of the last place's end
@@ -50,19 +54,19 @@ last_goes_on end places n p count is =
 -- the last field goes on to the end of a further line
 module _ (text : List ℕ) (start end : ℕ) (ordered : start ≤ end) (within : end ≤ length text) (places longer : List Place) (names : Names)
     (h : LastGoesOn end places longer) (stands : StandsAt text start places names) where
-  parts : (list_all (lies_within (length text)) h.front ≡ true) × (list_all (lies_within (length text)) (h.last ∷ []) ≡ true)
-  parts = and_parts _ _ (sym (list_all-append (lies_within (length text)) h.front (h.last ∷ [])) ∙ subst (λ l. list_all (lies_within (length text)) l ≡ true) h.is stands.within)
+  parts : (list_all (lies_within text) h.front ≡ true) × (list_all (lies_within text) (h.last ∷ []) ≡ true)
+  parts = and_parts _ _ (sym (list_all-append (lies_within text) h.front (h.last ∷ [])) ∙ subst (λ l. list_all (lies_within text) l ≡ true) h.is stands.within)
 
-  lies : LiesWithin (length text) h.last
-  lies = LiesWithin-from_test (length text) h.last (and_parts _ true parts.1).0
+  lies : LiesWithin text h.last
+  lies = LiesWithin-from_test text h.last (and_parts _ true parts.1).0
 
   reached : h.last.end + 1 ≡ start
   reached = eqb-true _ _ (sym (ends_before-push h.front h.last start) ∙ subst (λ l. ends_before start l ≡ true) h.is stands.reached)
 
   pub StandsAt-longer : StandsAt text (end + 1) longer names
   StandsAt-longer =
-      let kept = subst (λ stood. Keeps stood names) (ap (map (name_at text)) h.is ∙ map_push (name_at text) h.front h.last) stands.kept in
-      rw h.becomes (StandsAt-push text h.front names (record h.last { end = end }) parts.0 (record { named = lies.named; more = omega (arith, lies.more, reached); inside = within }) kept)
+      let kept = Keeps-longer text h.front h.last end names (subst (λ l. Keeps text l names) h.is stands.kept) in
+      rw h.becomes (StandsAt-push text h.front names (record h.last { end = end }) parts.0 (record { named = lies.named; more = omega (arith, lies.more, reached); inside = within; id = lies.id }) kept)
 
   pub continuation_line-begun : (n : ℕ) → (0 < start → slice_index text (start - 1) ≡ newline) → continuation_line n (begun_fields text places) (slice_range text start end) ≡ Ok (begun_fields text longer)
   continuation_line-begun n break =

@@ -5,7 +5,7 @@ use Rattle.std.specs.Io.KnownBytes.{Consumes, IsAtEnd}
 use Rattle.deb_base.specs.Devices.{Shown, read_failures_after}
 use Rattle.deb_base.specs.Reading.{piece_limit, IsMemoryOrRead}
 use Rattle.deb_base.specs.declared.fault.Fault.{Fault}
-use Rattle.deb_base.specs.declared.fault.Fault.TheVariants.{Memory, Read}
+use Rattle.deb_base.specs.declared.fault.Fault.TheVariants.{Memory}
 use Rattle.deb_syntax.specs.Lines.{file_limit}
 use Rattle.deb_syntax.specs.declared.window.Window.{Window}
 use Rattle.deb_syntax.specs.declared.feed.Feed.{Feed}

@@ -1,11 +1,13 @@
 -- Where the fields of a paragraph stand in its bytes, and what stands there. Debian Policy 5.1;
 -- deb822(5), "Syntax".
-use Rattle.std.specs.Prelude.{◌≡◌, ℕ, ◌+◌, ◌-◌, ◌*◌, ◌%◌, ◌<◌, ◌≤◌, ◌==◌, ◌&&◌, Bool, true, false, List, [], ◌∷◌, ◌++◌, length, map, nat_le, nat_lt, drop, get_or, replicate, slice_index, slice_range, if◌then◌else◌, IsTrue, Result, Err, codes, refl}
+use Rattle.std.specs.Prelude.{◌≡◌, ◌⊎◌, ℕ, ◌+◌, ◌<◌, ◌≤◌, ◌==◌, ◌&&◌, Bool, true, false, List, [], ◌∷◌, ◌++◌, length, map, nat_le, nat_lt, drop, get_or, slice_range, if◌then◌else◌, IsTrue, Result, Err, codes, refl}
 use Rattle.std.specs.List.{list_all, list_any}
 use Rattle.std.specs.Str.{bytes_eq}
-use Rattle.std.specs.Char.{to_ascii_lowercase}
+use Rattle.deb_base.specs.Kinds.{known_row}
+use Rattle.deb_base.specs.KnownFields.{row_of}
 use Rattle.deb_base.specs.Names.{folded}
 use Rattle.deb_base.specs.declared.fault.Fault.{Fault}
+use Rattle.deb_base.specs.declared.known_fields.FieldId.{FieldId}
 use Rattle.deb_base.specs.declared.fault.Fault.TheVariants.{Refused, Memory, Read, Write}
 use Rattle.deb_base.specs.declared.refusal.Refusal.{Refusal}
 use Rattle.deb_base.specs.Bodies.{Line, pieces_of}
@@ -31,10 +33,11 @@ field_at text place =
 abbrev pub fields_at : List ℕ → List Place → List Field
 fields_at text places = map (field_at text) places
 
--- whether a place lies within a text of n bytes, and its colon before its end
-abbrev pub lies_within : ℕ → Place → Bool
-lies_within n place =
-    nat_le place.start place.colon && nat_lt place.colon place.end && nat_le place.end n
+-- whether a place lies within a text, its colon before its end, and its id is that of its name
+abbrev pub lies_within : List ℕ → Place → Bool
+lies_within text place =
+    nat_le place.start place.colon && nat_lt place.colon place.end
+    && nat_le place.end (length text) && (row_of place.id == known_row (name_at text place))
 
 -- a field of which more lines may come: in place of its body, all that stands behind its colon so
 -- far
@@ -74,30 +77,30 @@ has_stood name stood = list_any (λ other. bytes_eq (folded other) (folded name)
 abbrev pub is_kept : List ℕ → List FoldedName → Bool
 is_kept name names = list_any (λ other. bytes_eq (folded name) (folded other.0.now)) names
 
--- a number below 256 that names have in common which are equal without ASCII case: of a name's
--- length, its first and its last byte
-unfoldable pub mark_of : List ℕ → ℕ
-mark_of name =
-    (length name % 256 * 5 + to_ascii_lowercase (slice_index name 0) * 7
-    + to_ascii_lowercase (slice_index name (length name - 1)) * 31) % 256
+-- whether a field of the table is at one of the places
+abbrev pub has_row : ℕ → List Place → Bool
+has_row row places = list_any (λ place. row_of place.id == row) places
 
--- whether the mark of a name is set
-abbrev pub is_marked : List Bool → List ℕ → Bool
-is_marked marks name = get_or marks (mark_of name) false
+-- What is kept of the names at the places: which of the table stood, and of the others all in a
+-- set, or none.
+pub record Keeps (text : List ℕ) (places : List Place) (names : Names) : Type 0 where
+  pub known : (row : ℕ) → row < 54 → get_or names.known row false ≡ has_row row places
+  pub others : (names.all.keys ≡ [])
+      ⊎ ((name : List ℕ) → 54 ≤ known_row name
+      → is_kept name names.all.keys ≡ has_stood name (map (name_at text) places))
 
--- What is kept of the names that stood before: their marks while they are few, and else all in a
--- set.
-pub record Keeps (stood : List (List ℕ)) (names : Names) : Type 0 where
-  pub few : length stood ≤ 32 → names.all.keys ≡ []
-  pub marked : length stood ≤ 32 → list_all (is_marked names.marks) stood ≡ true
-  pub all : 32 < length stood → (name : List ℕ) → is_kept name names.all.keys ≡ has_stood name stood
+-- The name that comes next is kept, wherever its field ends.
+abbrev pub KeepsNext : List ℕ → List Place → List ℕ → Names → Type 0
+KeepsNext text places name names =
+    (place : Place) → name_at text place ≡ name → row_of place.id ≡ known_row name
+    → Keeps text (places ++ place ∷ []) names
 
 -- What is kept of the lines before the one that begins at `start`: the places lie within the text,
 -- the last of them ends at that line, and their names are kept.
 pub record StandsAt (text : List ℕ) (start : ℕ) (places : List Place) (names : Names) : Type 0 where
-  pub within : IsTrue (list_all (lies_within (length text)) places)
+  pub within : IsTrue (list_all (lies_within text) places)
   pub reached : IsTrue (ends_before start places)
-  pub kept : Keeps (map (name_at text) places) names
+  pub kept : Keeps text places names
 
 -- the fault is the refusal that is judged, or out of memory
 abbrev pub IsFaultOf : Result (List Field) Refusal → Fault → Type 0
@@ -106,30 +109,54 @@ IsFaultOf judgement Memory = Unit {0}
 IsFaultOf judgement Read = ⊥
 IsFaultOf judgement Write = ⊥
 
+-- for the worked cases: the id of a name that isn't in the table, and a place of such a name
+abbrev other : FieldId
+other = record { 0 = 54 }
+
+abbrev place_from : (line start colon end : ℕ) → Place
+place_from line start colon end = record {
+  line = line;
+  start = start;
+  colon = colon;
+  end = end;
+  id = other;
+}
+
+-- a place of `Tag` and of three bytes behind the colon, with the id of a row
+abbrev tag_in : ℕ → Place
+tag_in row = record (place_from 1 0 3 6) { id = record { 0 = row } }
+
 -- the second line belongs to the field of the first
 two_places : fields_at (codes "A: 1 \n 2\nB:")
-    (record { line = 1; start = 0; colon = 1; end = 8 }
-    ∷ record { line = 3; start = 9; colon = 10; end = 11 } ∷ [])
+    (place_from 1 0 1 8 ∷ place_from 3 9 10 11 ∷ [])
     ≡ record { name = codes "A"; line = 1; body = codes "1 \n 2" }
     ∷ record { name = codes "B"; line = 3; body = [] } ∷ []
 two_places = refl
 
-places_within : list_all (lies_within 11) (record { line = 1; start = 0; colon = 1; end = 8 }
-    ∷ record { line = 3; start = 9; colon = 10; end = 11 } ∷ []) ≡ true
+places_within : list_all (lies_within (codes "A: 1 \n 2\nB:"))
+    (place_from 1 0 1 8 ∷ place_from 3 9 10 11 ∷ []) ≡ true
+unfolding known_row
 places_within = refl
 
-place_beyond : lies_within 10 (record { line = 3; start = 9; colon = 10; end = 11 }) ≡ false
+place_beyond : lies_within (codes "A: 1 \n 2\nB") (place_from 3 9 10 11) ≡ false
+unfolding known_row
 place_beyond = refl
 
+-- without case, with the id of another row, and with none of the table
+other_ids : (lies_within (codes "Tag: 1") (tag_in 47) ≡ true)
+    × (lies_within (codes "tAG: 1") (tag_in 47) ≡ true)
+    × (lies_within (codes "Tag: 1") (tag_in 48) ≡ false)
+    × (lies_within (codes "Tag: 1") (tag_in 54) ≡ false)
+unfolding known_row
+other_ids = (refl, refl, refl, refl)
+
 -- of places that end before the line's begin the last goes on to the line's end
-last_place_goes_on : LastGoesOn 11 (record { line = 1; start = 0; colon = 1; end = 4 }
-    ∷ record { line = 2; start = 5; colon = 6; end = 8 } ∷ [])
-    (record { line = 1; start = 0; colon = 1; end = 4 }
-    ∷ record { line = 2; start = 5; colon = 6; end = 11 } ∷ [])
+last_place_goes_on : LastGoesOn 11 (place_from 1 0 1 4 ∷ place_from 2 5 6 8 ∷ [])
+    (place_from 1 0 1 4 ∷ place_from 2 5 6 11 ∷ [])
 last_place_goes_on =
     record {
-      front = record { line = 1; start = 0; colon = 1; end = 4 } ∷ [];
-      last = record { line = 2; start = 5; colon = 6; end = 8 };
+      front = place_from 1 0 1 4 ∷ [];
+      last = place_from 2 5 6 8;
       is = refl;
       becomes = refl;
     }
@@ -137,8 +164,8 @@ last_place_goes_on =
 no_place_before : ends_before 0 [] ≡ true
 no_place_before = refl
 
-places_before : (ends_before 9 (record { line = 1; start = 0; colon = 1; end = 8 } ∷ []) ≡ true)
-    × (ends_before 8 (record { line = 1; start = 0; colon = 1; end = 8 } ∷ []) ≡ false)
+places_before : (ends_before 9 (place_from 1 0 1 8 ∷ []) ≡ true)
+    × (ends_before 8 (place_from 1 0 1 8 ∷ []) ≡ false)
 places_before = (refl, refl)
 
 pieces_behind_place : (pieces_behind (codes "a\nb") 1 ≡ codes "b" ∷ [])
@@ -146,20 +173,14 @@ pieces_behind_place : (pieces_behind (codes "a\nb") 1 ≡ codes "b" ∷ [])
 pieces_behind_place = (refl, refl, refl)
 
 -- a colon at the end of a place, or before its begin
-place_of_no_field : (lies_within 10 (record { line = 1; start = 0; colon = 2; end = 2 }) ≡ false)
-    × (lies_within 10 (record { line = 1; start = 3; colon = 2; end = 4 }) ≡ false)
+place_of_no_field : (lies_within (codes "A: 1 \n 2\nB:") (place_from 1 0 2 2) ≡ false)
+    × (lies_within (codes "A: 1 \n 2\nB:") (place_from 1 3 2 4) ≡ false)
+unfolding known_row
 place_of_no_field = (refl, refl)
-
--- names without case have one mark, and the mark goes by the length, the first byte and the last
-marks_of_names : (mark_of (codes "Package") ≡ mark_of (codes "pACKAGE"))
-    × (mark_of (codes "Package") ≡ 110) × (mark_of (codes "Packages") ≡ 37) × (mark_of [] ≡ 0)
-unfolding mark_of
-marks_of_names = (refl, refl, refl, refl)
 
 -- the body of a field that goes on isn't trimmed
 fields_begun : begun_fields (codes "A: 1 \n 2\nB:")
-    (record { line = 1; start = 0; colon = 1; end = 8 }
-    ∷ record { line = 3; start = 9; colon = 10; end = 11 } ∷ [])
+    (place_from 1 0 1 8 ∷ place_from 3 9 10 11 ∷ [])
     ≡ record { name = codes "A"; line = 1; body = codes " 1 \n 2" }
     ∷ record { name = codes "B"; line = 3; body = [] } ∷ []
 fields_begun = refl
@@ -177,9 +198,7 @@ kept_names_without_case : (is_kept (codes "pACKAGE")
     × (is_kept (codes "Package") [] ≡ false)
 kept_names_without_case = (refl, refl, refl)
 
--- the mark of `Package` is 110
-marked_name : (is_marked (replicate 110 false ++ true ∷ []) (codes "pACKAGE") ≡ true)
-    × (is_marked (replicate 110 true ++ false ∷ true ∷ []) (codes "Package") ≡ false)
-    × (is_marked [] (codes "Package") ≡ false)
-unfolding mark_of
-marked_name = (refl, refl, refl)
+rows_of_places : (has_row 47 (tag_in 47 ∷ []) ≡ true)
+    × (has_row 46 (tag_in 47 ∷ []) ≡ false)
+    × (has_row 47 [] ≡ false)
+rows_of_places = (refl, refl, refl)

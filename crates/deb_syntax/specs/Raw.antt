@@ -1,11 +1,14 @@
 -- What a view of a paragraph shows of it: its fields and the number of its first line. Debian
 -- Policy 5.1.
-use Rattle.std.specs.Prelude.{◌≡◌, ℕ, List, [], ◌∷◌, Option, Some, None, find, codes, refl}
+use Rattle.std.specs.Prelude.{◌≡◌, ℕ, ◌==◌, Bool, true, false, List, [], ◌∷◌, Option, Some, None, find, codes, refl}
+use Rattle.std.specs.List.{list_any}
 use Rattle.std.specs.Str.{bytes_eq, is_utf8, chars}
 use lib.Utf8.{encode}
 use denote.Ref.{Bor}
 use Rattle.deb_base.specs.Bodies.{paragraph_limit}
+use Rattle.deb_base.specs.Kinds.{known_row}
 use Rattle.deb_base.specs.Names.{folded}
+use Rattle.deb_base.specs.declared.known_fields.FieldId.{FieldId}
 use Rattle.deb_syntax.specs.Fields.{Field}
 use Rattle.deb_syntax.specs.Places.{fields_at}
 use Rattle.deb_syntax.specs.declared.place.Place.{Place}
@@ -31,6 +34,18 @@ fields_left fields = fields_at fields.text.now fields.places.now
 abbrev pub field_named : List ℕ → List Field → Option Field
 field_named name fields = find (λ field. bytes_eq (folded field.name) (folded name)) fields
 
+-- whether there is a field whose name is in this row of the table
+abbrev pub has_field_in : ℕ → List Field → Bool
+has_field_in row fields = list_any (λ field. known_row field.name == row) fields
+
+-- `Package` is in row 31
+fields_in_rows : (has_field_in 31 (record { name = codes "Tag"; line = 1; body = [] }
+    ∷ record { name = codes "pACKAGE"; line = 2; body = [] } ∷ []) ≡ true)
+    × (has_field_in 31 (record { name = codes "Tag"; line = 1; body = [] } ∷ []) ≡ false)
+    × (has_field_in 31 [] ≡ false)
+unfolding known_row
+fields_in_rows = (refl, refl, refl)
+
 named_without_case : field_named (codes "vERSION")
     (record { name = codes "Package"; line = 1; body = codes "aa" }
     ∷ record { name = codes "Version"; line = 2; body = codes "1" } ∷ [])
@@ -45,20 +60,30 @@ named_otherwise = refl
 abbrev to : {T : Type 0} → T → Bor T
 to value = record { ref_ptr = (0, 0); now = value }
 
+abbrev other : FieldId
+other = record { 0 = 54 }
+
 abbrev two_places : List Place
 two_places =
-    record { line = 5; start = 0; colon = 1; end = 7 }
-    ∷ record { line = 7; start = 8; colon = 9; end = 10 } ∷ []
+    record { line = 5; start = 0; colon = 1; end = 7; id = other }
+    ∷ record { line = 7; start = 8; colon = 9; end = 10; id = other } ∷ []
 
-field_shown : field_of (record {
+abbrev a_field : RawField
+unfolding known_row
+a_field = record {
   name = to (codes "A");
   line = 3;
   body = to (codes "1");
-}) ≡ record { name = codes "A"; line = 3; body = codes "1" }
+  id = other;
+  named = refl;
+}
+
+field_shown : field_of a_field ≡ record { name = codes "A"; line = 3; body = codes "1" }
+unfolding a_field
 field_shown = refl
 
 abbrev two_fields : Raw
-unfolding paragraph_limit is_utf8 chars encode
+unfolding paragraph_limit is_utf8 chars encode known_row
 two_fields = record {
   text = to (codes "A: 1\n 2\nB:");
   places = to two_places;

@@ -1,12 +1,14 @@
 -- What stands in the buffer of a reader of paragraphs: the paragraph that was found last, and the
 -- line that is hidden.
-use Rattle.std.specs.Prelude.{◌≡◌, ◌≢◌, ◌⊎◌, ◌<◌, ◌≤◌, ◌++◌, Result, Ok, Err, ◌+◌, ◌-◌, [], length, ℕ, ◌&&◌, Bool, true, nat_le, List, Option, Some, None, IsTrue, get_or, slice_range, false, ◌∷◌, codes, refl}
+use Rattle.std.specs.Prelude.{◌≡◌, ◌≢◌, ◌⊎◌, ◌<◌, ◌≤◌, ◌++◌, Result, Ok, Err, ◌+◌, [], length, ℕ, ◌&&◌, Bool, true, nat_le, List, Option, Some, None, IsTrue, get_or, slice_range, false, ◌∷◌, codes, refl}
 use Rattle.std.specs.Str.{is_utf8, chars}
 use lib.Utf8.{encode}
 use Rattle.std.specs.List.{list_all}
 use Rattle.deb_base.specs.Bodies.{Line, newline, paragraph_limit}
 use Rattle.deb_base.specs.Faults.{IsReadersFault}
+use Rattle.deb_base.specs.Kinds.{known_row}
 use Rattle.deb_base.specs.declared.fault.Fault.{Fault}
+use Rattle.deb_base.specs.declared.known_fields.FieldId.{FieldId}
 use Rattle.deb_syntax.specs.Ahead.{left_answer, room_ahead, IsAhead, IsNextRun}
 use Rattle.deb_syntax.specs.Extents.{AreBlank, AreNotBlank}
 use Rattle.deb_syntax.specs.Judging.{judged}
@@ -29,7 +31,7 @@ abbrev pub stands_within : List ℕ → List Place → Option Standing → Bool
 stands_within buffer places None = true
 stands_within buffer places (Some at) =
     nat_le at.from at.to && nat_le at.to (length buffer)
-    && list_all (lies_within (at.to - at.from)) places
+    && list_all (lies_within (slice_range buffer at.from at.to)) places
     && (are_fields (standing_of buffer places at).fields
     && are_numbered at.first_line (standing_of buffer places at).fields)
 
@@ -85,10 +87,13 @@ IsPassed text before (Err fault) after left =
 abbrev buffer : List ℕ
 buffer = codes "\n\nA: 1\n 2\nB:\nC"
 
+abbrev other : FieldId
+other = record { 0 = 54 }
+
 abbrev two_places : List Place
 two_places =
-    record { line = 5; start = 0; colon = 1; end = 7 }
-    ∷ record { line = 7; start = 8; colon = 9; end = 10 } ∷ []
+    record { line = 5; start = 0; colon = 1; end = 7; id = other }
+    ∷ record { line = 7; start = 8; colon = 9; end = 10; id = other } ∷ []
 
 abbrev two_fields : Seen
 two_fields = record {
@@ -109,7 +114,7 @@ error_shown fault = refl
 -- none, and one that is whole
 paragraphs_within_buffer : (stands_within buffer two_places None ≡ true)
     × (stands_within buffer two_places (Some (record { from = 2; to = 12; first_line = 5 })) ≡ true)
-unfolding paragraph_limit is_utf8 chars encode
+unfolding paragraph_limit is_utf8 chars encode known_row
 paragraphs_within_buffer = (refl, refl)
 
 -- it ends before it begins, goes beyond the buffer, or a field goes beyond it; its first line has
@@ -122,8 +127,8 @@ paragraphs_beyond_buffer : (stands_within buffer []
     ≡ false)
     × (stands_within buffer two_places (Some (record { from = 2; to = 12; first_line = 0 }))
     ≡ false)
-    × (stands_within (codes "A:a:") (record { line = 1; start = 0; colon = 1; end = 2 }
-    ∷ record { line = 2; start = 2; colon = 3; end = 4 } ∷ [])
+    × (stands_within (codes "A:a:") (record { line = 1; start = 0; colon = 1; end = 2; id = other }
+    ∷ record { line = 2; start = 2; colon = 3; end = 4; id = other } ∷ [])
     (Some (record { from = 0; to = 4; first_line = 1 })) ≡ false)
-unfolding paragraph_limit is_utf8 chars encode
+unfolding paragraph_limit is_utf8 chars encode known_row
 paragraphs_beyond_buffer = (refl, refl, refl, refl, refl)

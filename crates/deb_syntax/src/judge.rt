@@ -1,9 +1,11 @@
 //! Checks the bytes of one paragraph, and finds its fields.
 
-ghost use Rattle.std.specs.Prelude.{◌≡◌, ℕ, ◌+◌, ◌-◌, ◌^◌, ◌<◌, ◌≤◌, List, [], ◌∷◌, ◌++◌, length, take, drop, slice_index, slice_range, if◌then◌else◌, ◌↔◌, IsTrue, IsFalse, IsUtf8, Some, IfOk, IfErr, OnOk};
-ghost use Rattle.std.specs.List.{list_all};
+ghost use Rattle.std.specs.Prelude.{◌≡◌, ℕ, false, ◌+◌, ◌-◌, ◌^◌, ◌<◌, ◌≤◌, List, [], ◌∷◌, ◌++◌, length, take, drop, slice_index, slice_range, if◌then◌else◌, ◌↔◌, IsTrue, IsFalse, IsUtf8, Some, IfSome, IfNone, IfOk, IfErr, OnOk};
+ghost use Rattle.std.specs.List.{list_all, prefix_len};
 ghost use Rattle.memchr.specs.Find.{IsFirstByte, is_byte};
 ghost use Rattle.deb_base.specs.FieldNames.{colon, is_name, is_name_byte};
+ghost use Rattle.deb_base.specs.Kinds.{known_row};
+ghost use Rattle.deb_base.specs.KnownFields.{row_of, IsAtFront};
 ghost use Rattle.deb_base.specs.Bodies.{newline, pieces_of};
 ghost use Rattle.deb_syntax.specs.Fields.{Field, has_name};
 ghost use Rattle.deb_syntax.specs.Judging.{begins_comment, is_named, field_line, judged, line_judged};
@@ -12,7 +14,7 @@ ghost use Rattle.deb_syntax.specs.Places.{begun_fields, fields_at, lies_within, 
 use crate::field_name::{is_name, name_bytes};
 use crate::place::Place;
 use crate::seen_names::{Names, add};
-use deb_base::{Code, Fault, Refusal, begins_with_blank};
+use deb_base::{Code, Fault, FieldId, NameAtFront, Refusal, begins_with_blank};
 use memchr::memchr;
 use simdutf8::is_utf8;
 use std::alloc::Global;
@@ -52,7 +54,7 @@ pub(crate) fn judge(
     requires { first_line + length text.now < 2 ^ 64 }
     ensures ok { OnOk result
         (judged first_line (pieces_of text.now) ≡ Ok (fields_at text.now places.new.items)) }
-    ensures within { OnOk result (IsTrue (list_all (lies_within (length text.now))
+    ensures within { OnOk result (IsTrue (list_all (lies_within text.now)
         places.new.items)) }
     ensures fault { IfErr result (IsFaultOf (judged first_line (pieces_of text.now))) }
 {
@@ -174,43 +176,64 @@ fn begin_field<'a>(
         (field_line line.number (begun_fields text.now places.old.items) content)) }
 {
     let content = &text[line.start..line.end];
-    let colon = colon_of(content, line)?;
-    if !add(names, text, places.as_slice(), &content[..colon])? {
+    let front = name_of(content, line)?;
+    let name = &content[..front.len];
+    if !add(names, text, places.as_slice(), name, front.id)? {
         return Err(refused(Code::DuplicateField, line));
     }
     let place = Place {
         line: line.number,
         start: line.start,
-        colon: line.start + colon,
+        colon: line.start + front.len,
         end: line.end,
+        id: front.id,
     };
     places.push(place)?;
     Ok(())
 }
 
-/// Where the colon stands behind the name in a line that begins a field, perhaps one that stood
-/// before.
+/// The name in a line that begins a field, perhaps one that stood before.
 #[tactic(auto, using(crate::proofs::FieldLines::naming))]
-fn colon_of(content: &[u8], line: Line) -> Result<usize, Fault>
-    ensures within { IfOk result (λ colon. colon < length content.now) }
-    ensures ok { IfOk result (λ colon. (fields : List Field) →
-        let name = take colon content.now in
+fn name_of(content: &[u8], line: Line) -> Result<NameAtFront, Fault>
+    ensures within { IfOk result (λ front. front.len < length content.now) }
+    ensures id { IfOk result (λ front. row_of front.id ≡ known_row (take front.len content.now)) }
+    ensures ok { IfOk result (λ front. (fields : List Field) →
+        let name = take front.len content.now in
         field_line line.number fields content.now ≡ (if has_name name fields
         then Err (record { code = Code.DuplicateField; line = line.number })
         else Ok (fields ++ record {
           name = name;
           line = line.number;
-          body = drop (colon + 1) content.now;
+          body = drop (front.len + 1) content.now;
         } ∷ []))) }
     ensures refused { IfErr result (λ fault. (fields : List Field) →
         IsFaultOf (field_line line.number fields content.now) fault) }
 {
-    let len = name_bytes(content);
-    if is_named(content, len) {
-        Ok(len)
-    } else {
-        Err(refused(no_name(content), line))
+    match name_at_front(content) {
+        Some(front) => Ok(front),
+        None => Err(refused(no_name(content), line)),
     }
+}
+
+/// The name at the front of a line, if it is one and a colon follows it.
+#[tactic(auto, using(crate::proofs::FieldLines::naming))]
+fn name_at_front(content: &[u8]) -> Option<NameAtFront>
+    ensures some { IfSome result (IsAtFront content.now) }
+    ensures none { IfNone result
+        (is_named content.now (prefix_len is_name_byte content.now) ≡ false) }
+{
+    let known = FieldId::at_front(content);
+    if known.is_some() {
+        return known;
+    }
+    let len = name_bytes(content);
+    if !is_named(content, len) {
+        return None;
+    }
+    Some(NameAtFront {
+        id: FieldId::of(&content[..len]),
+        len,
+    })
 }
 
 /// Whether the first bytes of a line, which are all the bytes of a name at its front, are a name

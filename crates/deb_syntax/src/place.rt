@@ -1,5 +1,7 @@
 //! The places of a paragraph's fields in its bytes.
 
+use deb_base::FieldId;
+
 /// Where a field stands in the bytes of its paragraph.
 #[derive(Clone, Copy)]
 pub(crate) struct Place {
@@ -11,4 +13,6 @@ pub(crate) struct Place {
     pub(crate) colon: usize,
     /// Where the last line that belongs to the field ends, without its newline.
     pub(crate) end: usize,
+    /// Which field of the table it is.
+    pub(crate) id: FieldId,
 }

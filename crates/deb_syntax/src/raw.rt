@@ -4,11 +4,13 @@ ghost use Rattle.std.specs.Prelude.{◌≡◌, ◌≤◌, ◌↔◌, [], length,
 ghost use Rattle.std.specs.List.{list_all};
 ghost use Rattle.deb_base.specs.Bodies.{IsBody};
 ghost use Rattle.deb_base.specs.FieldNames.{is_name};
+ghost use Rattle.deb_base.specs.Kinds.{known_row};
+ghost use Rattle.deb_base.specs.KnownFields.{row_of};
 ghost use Rattle.deb_syntax.specs.Fields.{is_field, are_fields, are_numbered};
 ghost use Rattle.deb_syntax.specs.Places.{field_at, fields_at, lies_within};
 
 use crate::place::Place;
-use deb_base::{same_name, trimmed};
+use deb_base::{FieldId, same_name, trimmed};
 
 /// A field of a paragraph, as slices of the paragraph's bytes (Debian Policy 5.1).
 #[derive(Clone, Copy, Debug)]
@@ -20,6 +22,9 @@ pub struct RawField<'a> {
     /// The text after the colon, with the field's continuation lines, without the spaces and tabs
     /// at both ends. Line ends inside it, and the spaces and tabs next to them, stay.
     pub body: &'a [u8],
+    /// Which field of the table it is: that of its name.
+    pub id: FieldId,
+    ghost named: { row_of id ≡ known_row name.now },
 }
 
 impl<'a> RawField<'a> {
@@ -27,7 +32,7 @@ impl<'a> RawField<'a> {
 
     /// The field at a place of a paragraph's bytes.
     fn at(text: &'a [u8], place: Place) -> RawField<'a>
-        requires within { IsTrue (lies_within (length text.now) place) }
+        requires within { IsTrue (lies_within text.now place) }
         requires field { IsTrue (is_field (field_at text.now place)) }
         ensures field { field_of result ≡ field_at text.now place }
         ensures name { IsTrue (is_name result.name.now) }
@@ -37,6 +42,7 @@ impl<'a> RawField<'a> {
             name: &text[place.start..place.colon],
             line: place.line,
             body: trimmed(&text[place.colon + 1..place.end]),
+            id: place.id,
         }
     }
 }
@@ -50,18 +56,18 @@ pub struct Raw<'a> {
     text: &'a [u8],
     places: &'a [Place],
     first_line: u64,
-    ghost within: { IsTrue (list_all (lies_within (length text.now)) places.now) },
+    ghost within: { IsTrue (list_all (lies_within text.now) places.now) },
     ghost fields: { IsTrue (are_fields (fields_at text.now places.now)) },
     ghost numbered: { IsTrue (are_numbered first_line (fields_at text.now places.now)) },
 }
 
 impl<'a> Raw<'a> {
     ghost use Rattle.deb_syntax.specs.Raw.{field_of, fields_of, fields_left};
-    ghost use Rattle.deb_syntax.specs.Raw.{first_line_of, field_named};
+    ghost use Rattle.deb_syntax.specs.Raw.{first_line_of, field_named, has_field_in};
 
     /// The paragraph of these bytes, whose fields stand at the places.
     pub(crate) fn new(text: &'a [u8], places: &'a [Place], first_line: u64) -> Raw<'a>
-        requires within { IsTrue (list_all (lies_within (length text.now)) places.now) }
+        requires within { IsTrue (list_all (lies_within text.now) places.now) }
         requires fields { IsTrue (are_fields (fields_at text.now places.now)) }
         requires numbered { IsTrue (are_numbered first_line (fields_at text.now places.now)) }
         ensures fields { fields_of result ≡ fields_at text.now places.now }
@@ -123,6 +129,19 @@ impl<'a> Raw<'a> {
         None
     }
 
+    /// Returns whether the paragraph has this field of the table.
+    #[tactic(auto, using(crate::proofs::Lookups::having))]
+    pub fn has(&self, id: FieldId) -> bool
+        ensures { result ≡ has_field_in (row_of id) (fields_of self.now) }
+    {
+        for place in self.places {
+            if place.id.row() == id.row() {
+                return true;
+            }
+        }
+        false
+    }
+
     /// Returns the fields in file order.
     pub fn fields(&self) -> Fields<'a>
         ensures { fields_left result ≡ fields_of self.now }
@@ -139,7 +158,7 @@ impl<'a> Raw<'a> {
 pub struct Fields<'a> {
     text: &'a [u8],
     places: &'a [Place],
-    ghost within: { IsTrue (list_all (lies_within (length text.now)) places.now) },
+    ghost within: { IsTrue (list_all (lies_within text.now) places.now) },
     ghost fields: { IsTrue (are_fields (fields_at text.now places.now)) },
 }
 

@@ -3,105 +3,89 @@
 ghost use Rattle.std.specs.Prelude.{◌≡◌, ◌++◌, [], ◌∷◌, ◌||◌, ◌==◌, ◌<◌, ℕ, List, false, get_or, length, map, not, IsTrue, IfOk, IfErr, OnOk};
 ghost use Rattle.std.specs.List.{list_all};
 ghost use Rattle.std.specs.Str.{bytes_eq};
+ghost use Rattle.deb_base.specs.Kinds.{known_row};
+ghost use Rattle.deb_base.specs.KnownFields.{row_of};
 ghost use Rattle.deb_base.specs.Names.{folded};
-ghost use Rattle.deb_syntax.specs.Places.{name_at, lies_within, has_stood, is_kept, is_marked, mark_of, Keeps};
+ghost use Rattle.deb_syntax.specs.Places.{name_at, lies_within, has_stood, is_kept, Keeps, KeepsNext};
 
 use crate::folded_name::FoldedName;
 use crate::place::Place;
-use deb_base::{Fault, same_name};
+use deb_base::{Fault, FieldId, KNOWN_FIELDS, same_name};
 use indexmap::IndexSet;
 use std::alloc::Global;
 
-/// So many names are compared one with another, without memory; beyond, they are kept in a set.
+/// Up to so many fields a name that isn't in the table is compared with each one before it, without
+/// memory; beyond, the names are kept in a set.
 const FEW: usize = 32;
 
 /// What is kept of the names of the fields so far.
 #[derive(Drop)]
 pub(crate) struct Names<'a> {
-    /// The marks of few names: a name whose mark isn't set is new.
-    marks: [bool; 256],
+    /// Which fields of the table stood.
+    known: [bool; KNOWN_FIELDS],
+    /// All names, or none while they are few.
     all: IndexSet<FoldedName<'a>>,
 }
 
 impl<'a> Names<'a> {
     /// No names.
     pub(crate) fn new(alloc: Global) -> Names<'a>
-        ensures { result.all.keys ≡ [] }
+        ensures { (text : List ℕ) → Keeps text [] result }
     {
         Names {
-            marks: [false; 256],
+            known: [false; KNOWN_FIELDS],
             all: IndexSet::new(alloc),
         }
     }
 }
 
-/// Adds a name behind those at the places, and says whether it is new. Memory: a growth of the set
-/// was refused. Where it isn't new, or after out of memory, the set is of no further use.
+/// Adds the name of a field behind those at the places, and says whether it is new. Memory: a
+/// growth of the set was refused. Where it isn't new, or after out of memory, the set is of no
+/// further use.
 pub(crate) fn add<'a>(
     names: &mut Names<'a>,
     text: &'a [u8],
     places: &[Place],
     name: &'a [u8],
+    id: FieldId,
 ) -> Result<bool, Fault>
-    requires within { IsTrue (list_all (lies_within (length text.now)) places.now) }
-    requires keeps { Keeps (map (name_at text.now) places.now) names.old }
+    requires within { IsTrue (list_all (lies_within text.now) places.now) }
+    requires id { row_of id ≡ known_row name.now }
+    requires keeps { Keeps text.now places.now names.old }
     ensures new { IfOk result (λ new.
         new ≡ not (has_stood name.now (map (name_at text.now) places.now))) }
-    ensures keeps { IfOk result (λ new. IsTrue new →
-        Keeps (map (name_at text.now) places.now ++ name.now ∷ []) names.new) }
+    ensures keeps { IfOk result (λ new. IsTrue new
+        → KeepsNext text.now places.now name.now names.new) }
     ensures fault { IfErr result (λ fault. fault ≡ Fault.Memory) }
 {
-    if places.len() < FEW {
-        return Ok(add_to_few(&mut names.marks, text, places, name));
+    if id.is_known() {
+        return Ok(add_known(&mut names.known, id.row()));
     }
-    if places.len() == FEW {
+    if names.all.is_empty() {
+        if places.len() < FEW {
+            return Ok(!stands_at(text, places, name));
+        }
         keep_all(&mut names.all, text, places)?;
     }
     keep(&mut names.all, name)
 }
 
-/// Adds a name behind those at the places, whose marks are set, and says whether it is new.
-#[tactic(auto, using(crate::proofs::NameMarks::marking))]
-fn add_to_few(marks: &mut [bool; 256], text: &[u8], places: &[Place], name: &[u8]) -> bool
-    requires within { IsTrue (list_all (lies_within (length text.now)) places.now) }
-    requires marked { IsTrue (list_all (is_marked marks.old) (map (name_at text.now) places.now)) }
-    ensures new { result ≡ not (has_stood name.now (map (name_at text.now) places.now)) }
-    ensures marked { IsTrue (list_all (is_marked marks.new)
-        (map (name_at text.now) places.now ++ name.now ∷ [])) }
+/// Adds a field of the table, and says whether it is new.
+fn add_known(known: &mut [bool; KNOWN_FIELDS], row: usize) -> bool
+    requires { row < KNOWN_FIELDS }
+    ensures new { result ≡ not (get_or known.old row false) }
+    ensures known { (k : ℕ) → get_or known.new k false
+        ≡ (get_or known.old k false || (k == row)) }
 {
-    let mark = mark_of(name);
-    if marks[mark] {
-        return !stands_at(text, places, name);
-    }
-    set_mark(marks, mark);
-    true
-}
-
-/// A number below 256 that names have in common which are equal without ASCII case.
-#[tactic(auto, unfolding(crate::specs::Places::mark_of))]
-fn mark_of(name: &[u8]) -> usize
-    ensures value { result ≡ mark_of name.now }
-    ensures small { result < 256 }
-{
-    if name.is_empty() {
-        return 0;
-    }
-    let first = name[0].to_ascii_lowercase() as usize;
-    let last = name[name.len() - 1].to_ascii_lowercase() as usize;
-    (name.len() % 256 * 5 + first * 7 + last * 31) % 256
-}
-
-fn set_mark(marks: &mut [bool; 256], mark: usize)
-    requires { mark < 256 }
-    ensures { (k : ℕ) → get_or marks.new k false ≡ (get_or marks.old k false || (k == mark)) }
-{
-    marks[mark] = true;
+    let stood = known[row];
+    known[row] = true;
+    !stood
 }
 
 /// Whether the name stands at one of the places.
 #[tactic(auto, using(crate::proofs::NameSets::standing))]
 fn stands_at(text: &[u8], places: &[Place], name: &[u8]) -> bool
-    requires { IsTrue (list_all (lies_within (length text.now)) places.now) }
+    requires { IsTrue (list_all (lies_within text.now) places.now) }
     ensures { result ≡ has_stood name.now (map (name_at text.now) places.now) }
 {
     for place in places {
@@ -119,7 +103,7 @@ fn keep_all<'a>(
     text: &'a [u8],
     places: &[Place],
 ) -> Result<(), Fault>
-    requires within { IsTrue (list_all (lies_within (length text.now)) places.now) }
+    requires within { IsTrue (list_all (lies_within text.now) places.now) }
     requires empty { all.old.keys ≡ [] }
     ensures all { OnOk result ((name : List ℕ) →
         is_kept name all.new.keys ≡ has_stood name (map (name_at text.now) places.now)) }

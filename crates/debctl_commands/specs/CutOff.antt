@@ -16,7 +16,7 @@ use Rattle.deb_base.specs.declared.fault.Fault.{Fault}
 use Rattle.deb_base.specs.declared.refusal.Refusal.{Refusal}
 use Rattle.deb_version.specs.Faults.{first_fault}
 use Rattle.deb_syntax.specs.Lines.{file_limit}
-use Rattle.deb_field.specs.Kinds.{kind_of}
+use Rattle.deb_base.specs.Kinds.{kind_at, known_row, kind_of}
 use Rattle.deb_control.specs.Refusals.{refusal_under}
 use Rattle.deb_control.specs.Rules.{Rules}
 use Rattle.deb_explain.specs.Explanations.{WhyRefused, explanation_of}
@@ -94,7 +94,7 @@ fronts : (cut_off_explanation Packages (codes "\n# x") ≡ too_long_at 2)
       refusal = record { code = BadNumber; line = 2 };
       about = AboutField (codes "Size") 7 (codes "1k") None;
     })
-unfolding file_limit paragraph_limit is_utf8 chars encode kind_of first_fault
+unfolding file_limit paragraph_limit is_utf8 chars encode kind_of kind_at known_row first_fault
 fronts = (refl, refl, refl)
 
 status_of_cut_off : refused_status (codes "") ≡ 2

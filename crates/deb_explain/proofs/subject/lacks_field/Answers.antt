@@ -1,6 +1,6 @@
 use Rattle.std.proofs.Common.{◌≡◌, ◌∙◌, Bool, true, false, not, ap, refl, sym}
 use Rattle.deb_syntax.specs.Raw.{fields_of}
-use Rattle.deb_control.proofs.FieldsRead.{has_name-found}
+use Rattle.deb_explain.proofs.NamedFields.{has_name-found}
 use Rattle.deb_explain.proofs.subject.lacks_field.Goals as goal
 
 not-not : (t : Bool) → not (not t) ≡ t

@@ -1,4 +1,4 @@
-use Rattle.deb_syntax.proofs.Common.{◌≡◌, ◌+◌, Ok, IsTrue, List, ℕ, take, length, subst, arith, list_all, pieces_of, feed_state, buffer_of, judged, IsFaultOf, fields_at, lies_within}
+use Rattle.deb_syntax.proofs.Common.{◌≡◌, ◌+◌, Ok, IsTrue, List, ℕ, take, subst, arith, list_all, pieces_of, feed_state, buffer_of, judged, IsFaultOf, fields_at, lies_within}
 use Rattle.deb_syntax.proofs.Advancing.{passes_next, judged_fault, judged_is_readers, stands_test, standing_fields}
 use Rattle.deb_syntax.proofs.paragraphs.pass_paragraph.Goals as goal
 
@@ -19,7 +19,7 @@ returns-in-Ok-clause-stands g c =
     let end = c.in_ok-extent.extent.end in
     stands_test c.paragraph_extent.new.feed (buffer_of c.pass.new.self) c.in_ok-extent.extent c.start-from.result c.judge.new.places.items c.pass.ensures.buffer c.start-from.ensures c.in_ok-extent.ensures.found n (omega arith)
     (subst (λ (zs : List ℕ). judged n (pieces_of (take end zs)) ≡ Ok (fields_at (take end zs) c.judge.new.places.items)) c.unread.ensures c.in-Ok.ensures.ok)
-    (subst (λ (zs : List ℕ). IsTrue (list_all (lies_within (length (take end zs))) c.judge.new.places.items)) c.unread.ensures c.in-Ok.ensures.within)
+    (subst (λ (zs : List ℕ). IsTrue (list_all (lies_within (take end zs)) c.judge.new.places.items)) c.unread.ensures c.in-Ok.ensures.within)
 
 pub returns-in-Ok-clause-ahead : goal.returns-in-Ok-clause-ahead
 returns-in-Ok-clause-ahead g c = λ text is.

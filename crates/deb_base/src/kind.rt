@@ -1,4 +1,4 @@
-//! The kinds of values. `tables` says which field has which kind.
+//! The kinds of values. `known_fields` says which field has which kind.
 
 ghost use Rattle.std.specs.Prelude.{◌≡◌};
 
@@ -46,7 +46,7 @@ pub enum Relationship {
 }
 
 impl Relationship {
-    ghost use Rattle.deb_field.specs.Kinds.{takes_alternatives, takes_all_operators};
+    ghost use Rattle.deb_base.specs.Kinds.{takes_alternatives, takes_all_operators};
 
     /// Returns whether a group may have two or more alternatives.
     pub fn takes_alternatives(self) -> bool

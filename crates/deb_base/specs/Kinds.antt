@@ -1,19 +1,18 @@
--- What documents of each kind hold, and which field has which kind of value, each as a table.
--- Debian Policy 5.1 (names are found without case), 5.3 (binary packages), 5.4 (source packages),
+-- The table of the fields that are known by name: which kind of value each has, and which fields a
+-- document requires. Debian Policy 5.1 (names are found without case), 5.3 (binary packages), 5.4 (source packages),
 -- 5.6 (the fields), 7.1 to 7.8 (relationship fields); that unknown fields are text is this
 -- project's own.
-use Rattle.std.specs.Prelude.{◌≡◌, ℕ, Bool, true, false, cond, List, [], ◌∷◌, length, map, codes, refl}
+use Rattle.std.specs.Prelude.{◌≡◌, ℕ, Bool, true, false, List, [], ◌∷◌, length, map, get_or, codes, refl}
+use Rattle.std.specs.List.{list_all, position_or_len, range_with_len}
 use Rattle.std.specs.Str.{bytes_eq}
-use Rattle.deb_base.specs.Codes.{number_of, name_of}
-pub use Rattle.deb_base.specs.Docs.{doc_named, is_single}
+use Rattle.deb_base.specs.FieldNames.{is_name}
 use Rattle.deb_base.specs.Names.{folded, canonical_name}
-use Rattle.deb_base.specs.declared.code.Code.TheVariants as code
 use Rattle.deb_base.specs.declared.doc.Doc.{Doc}
 use Rattle.deb_base.specs.declared.doc.Doc.TheVariants as docs
-use Rattle.deb_field.specs.declared.kind.Kind.{Kind}
-use Rattle.deb_field.specs.declared.kind.Kind.TheVariants.{Name, Source, Version, Architecture, ArchitectureWords, Flag, MultiArch, Number, Line, Folded, Relation, Text}
-use Rattle.deb_field.specs.declared.kind.Relationship.{Relationship}
-use Rattle.deb_field.specs.declared.kind.Relationship.TheVariants.{Depends, Conflicts, Provides}
+use Rattle.deb_base.specs.declared.kind.Kind.{Kind}
+use Rattle.deb_base.specs.declared.kind.Kind.TheVariants.{Name, Source, Version, Architecture, ArchitectureWords, Flag, MultiArch, Number, Line, Folded, Relation, Text}
+use Rattle.deb_base.specs.declared.kind.Relationship.{Relationship}
+use Rattle.deb_base.specs.declared.kind.Relationship.TheVariants.{Depends, Conflicts, Provides}
 
 -- where a group may have two or more alternatives (7.1; that other fields take none is this
 -- project's own)
@@ -28,98 +27,114 @@ takes_all_operators Depends = true
 takes_all_operators Conflicts = true
 takes_all_operators Provides = false
 
--- a row of the table of fields: a name, and the kind of its values
+-- a row of the table of fields: a name as it is usually spelled, and the kind of its values
 abbrev pub FieldRow : Type 0
 FieldRow = List ℕ × Kind
 
--- the fields that aren't texts, but for Architecture: those of 5.6, those that declare dependencies
--- (7.2, 7.7), the other relationship fields (7.3, 7.4, 7.6 to 7.8), and Provides (7.5)
-abbrev pub field_kinds : List FieldRow
-field_kinds =
-    (codes "Package", Name)
-    ∷ (codes "Source", Source)
-    ∷ (codes "Version", Version)
-    ∷ (codes "Essential", Flag)
-    ∷ (codes "Multi-Arch", MultiArch)
-    ∷ (codes "Installed-Size", Number)
-    ∷ (codes "Size", Number)
-    ∷ (codes "Maintainer", Line)
-    ∷ (codes "Homepage", Line)
-    ∷ (codes "Section", Line)
-    ∷ (codes "Priority", Line)
-    ∷ (codes "Filename", Line)
-    ∷ (codes "Format", Line)
-    ∷ (codes "Standards-Version", Line)
+-- the fields that are known by name, in ascending order of the canonical spellings of their names:
+-- those of 5.6, those that declare dependencies (7.2, 7.7), the other relationship fields (7.3,
+-- 7.4, 7.6 to 7.8), Provides (7.5), and texts that Debian's files often have
+abbrev pub known_fields : List FieldRow
+known_fields =
+    (codes "Architecture", Architecture)
     ∷ (codes "Binary", Folded)
-    ∷ (codes "Uploaders", Folded)
-    ∷ (codes "Depends", Relation Depends)
-    ∷ (codes "Pre-Depends", Relation Depends)
-    ∷ (codes "Recommends", Relation Depends)
-    ∷ (codes "Suggests", Relation Depends)
-    ∷ (codes "Enhances", Relation Depends)
-    ∷ (codes "Build-Depends", Relation Depends)
-    ∷ (codes "Build-Depends-Indep", Relation Depends)
-    ∷ (codes "Build-Depends-Arch", Relation Depends)
     ∷ (codes "Breaks", Relation Conflicts)
-    ∷ (codes "Conflicts", Relation Conflicts)
-    ∷ (codes "Replaces", Relation Conflicts)
-    ∷ (codes "Built-Using", Relation Conflicts)
+    ∷ (codes "Bugs", Text)
     ∷ (codes "Build-Conflicts", Relation Conflicts)
-    ∷ (codes "Build-Conflicts-Indep", Relation Conflicts)
     ∷ (codes "Build-Conflicts-Arch", Relation Conflicts)
+    ∷ (codes "Build-Conflicts-Indep", Relation Conflicts)
+    ∷ (codes "Build-Depends", Relation Depends)
+    ∷ (codes "Build-Depends-Arch", Relation Depends)
+    ∷ (codes "Build-Depends-Indep", Relation Depends)
+    ∷ (codes "Build-Ids", Text)
+    ∷ (codes "Built-Using", Relation Conflicts)
+    ∷ (codes "Checksums-Sha1", Text)
+    ∷ (codes "Checksums-Sha256", Text)
+    ∷ (codes "Conflicts", Relation Conflicts)
+    ∷ (codes "Depends", Relation Depends)
+    ∷ (codes "Description", Text)
+    ∷ (codes "Description-md5", Text)
+    ∷ (codes "Dgit", Text)
+    ∷ (codes "Directory", Text)
+    ∷ (codes "Enhances", Relation Depends)
+    ∷ (codes "Essential", Flag)
+    ∷ (codes "Filename", Line)
+    ∷ (codes "Files", Text)
+    ∷ (codes "Format", Line)
+    ∷ (codes "Homepage", Line)
+    ∷ (codes "Installed-Size", Number)
+    ∷ (codes "Maintainer", Line)
+    ∷ (codes "MD5sum", Text)
+    ∷ (codes "Multi-Arch", MultiArch)
+    ∷ (codes "Origin", Text)
+    ∷ (codes "Package", Name)
+    ∷ (codes "Package-List", Text)
+    ∷ (codes "Pre-Depends", Relation Depends)
+    ∷ (codes "Priority", Line)
     ∷ (codes "Provides", Relation Provides)
+    ∷ (codes "Python-Version", Text)
+    ∷ (codes "Recommends", Relation Depends)
+    ∷ (codes "Replaces", Relation Conflicts)
+    ∷ (codes "Ruby-Versions", Text)
+    ∷ (codes "Section", Line)
+    ∷ (codes "SHA1", Text)
+    ∷ (codes "SHA256", Text)
+    ∷ (codes "Size", Number)
+    ∷ (codes "Source", Source)
+    ∷ (codes "Standards-Version", Line)
+    ∷ (codes "Suggests", Relation Depends)
+    ∷ (codes "Tag", Text)
+    ∷ (codes "Task", Text)
+    ∷ (codes "Testsuite", Text)
+    ∷ (codes "Uploaders", Folded)
+    ∷ (codes "Vcs-Browser", Text)
+    ∷ (codes "Vcs-Git", Text)
+    ∷ (codes "Version", Version)
     ∷ []
 
--- a row of the table of documents
-pub record DocumentKind : Type 0 where
-  -- the fields that each paragraph has to have
-  pub required : List (List ℕ)
-  -- what Architecture holds
-  pub architecture : Kind
-  -- what the other fields hold; those without a row are texts
-  pub fields : List FieldRow
+-- the number of the first row that has the name, counted from 0 and without case; of no row: how
+-- many rows there are
+unfoldable pub known_row : List ℕ → ℕ
+known_row name = position_or_len (λ row. bytes_eq (folded row.0) (folded name)) known_fields
 
-abbrev pub document : Doc → DocumentKind
-document docs.Binary = record {
-  required = codes "Package" ∷ codes "Version" ∷ codes "Architecture" ∷ [];
-  architecture = Architecture;
-  fields = field_kinds;
-}
-document docs.Packages = record {
-  required = codes "Package" ∷ codes "Version" ∷ codes "Architecture" ∷ [];
-  architecture = Architecture;
-  fields = field_kinds;
-}
-document docs.Source = record {
-  required = codes "Format" ∷ codes "Source" ∷ codes "Version" ∷ [];
-  architecture = ArchitectureWords;
-  fields = field_kinds;
-}
-document docs.Sources = record {
-  required = codes "Package" ∷ codes "Version" ∷ [];
-  architecture = ArchitectureWords;
-  fields = field_kinds;
-}
-document docs.Any = record {
-  required = [];
-  architecture = Text;
-  fields = [];
-}
+-- the kind in a row; of no row: text
+unfoldable pub kind_at : ℕ → Kind
+kind_at row = get_or (map (λ row. row.1) known_fields) row Text
 
--- the fields that each paragraph has to have
-abbrev pub required : Doc → List (List ℕ)
-required doc = (document doc).required
+-- Architecture of a source package holds words (5.6.8)
+abbrev pub in_source : Kind → Kind
+in_source Architecture = ArchitectureWords
+in_source Name = Name
+in_source Source = Source
+in_source Version = Version
+in_source ArchitectureWords = ArchitectureWords
+in_source Flag = Flag
+in_source MultiArch = MultiArch
+in_source Number = Number
+in_source Line = Line
+in_source Folded = Folded
+in_source (Relation sort) = Relation sort
+in_source Text = Text
 
--- the kind of the first row that has the name, which is folded; of no row: text
-abbrev pub kind_among : List FieldRow → List ℕ → Kind
-kind_among [] name = Text
-kind_among (row ∷ rows) name = cond (bytes_eq (folded row.0) name) row.1 (kind_among rows name)
+-- what a field of the kind holds in a document; under Any each is a text
+abbrev pub kind_in : Doc → Kind → Kind
+kind_in docs.Binary kind = kind
+kind_in docs.Packages kind = kind
+kind_in docs.Source kind = in_source kind
+kind_in docs.Sources kind = in_source kind
+kind_in docs.Any kind = Text
 
 -- the kind of a field, by its name without case
 unfoldable pub kind_of : Doc → List ℕ → Kind
-kind_of doc name =
-    kind_among ((codes "Architecture", (document doc).architecture) ∷ (document doc).fields)
-    (folded name)
+kind_of doc name = kind_in doc (kind_at (known_row name))
+
+-- the fields that each paragraph has to have
+abbrev pub required : Doc → List (List ℕ)
+required docs.Binary = codes "Package" ∷ codes "Version" ∷ codes "Architecture" ∷ []
+required docs.Packages = codes "Package" ∷ codes "Version" ∷ codes "Architecture" ∷ []
+required docs.Source = codes "Format" ∷ codes "Source" ∷ codes "Version" ∷ []
+required docs.Sources = codes "Package" ∷ codes "Version" ∷ []
+required docs.Any = []
 
 -- The kind of a field goes by its name without case alone.
 abbrev pub KindGoesByName : Type 0
@@ -137,9 +152,7 @@ FieldsOfAnyAreTexts = (name : List ℕ) → kind_of docs.Any name ≡ Text
 -- Worked cases. Each name is written out here, and not taken from the table; the table has no more
 -- rows than there are names here.
 
-all_rows : map (λ doc. length (document doc).fields)
-    (docs.Binary ∷ docs.Packages ∷ docs.Source ∷ docs.Sources ∷ docs.Any ∷ [])
-    ≡ 32 ∷ 32 ∷ 32 ∷ 32 ∷ 0 ∷ []
+all_rows : length known_fields ≡ 54
 all_rows = refl
 
 -- under a kind of document these fields have the kind
@@ -155,35 +168,35 @@ HasKindInEach kind names =
     × HasKind docs.Sources kind names
 
 names : HasKindInEach Name (codes "Package" ∷ codes "pACKAGE" ∷ [])
-unfolding kind_of
+unfolding kind_of kind_at known_row
 names = (refl, refl, refl, refl)
 
 sources : HasKindInEach Source (codes "Source" ∷ codes "SOURCE" ∷ [])
-unfolding kind_of
+unfolding kind_of kind_at known_row
 sources = (refl, refl, refl, refl)
 
 versions : HasKindInEach Version (codes "Version" ∷ codes "version" ∷ [])
-unfolding kind_of
+unfolding kind_of kind_at known_row
 versions = (refl, refl, refl, refl)
 
 architectures : HasKind docs.Binary Architecture (codes "Architecture" ∷ codes "architecturE" ∷ [])
     × HasKind docs.Packages Architecture (codes "Architecture" ∷ codes "ARCHITECTURE" ∷ [])
     × HasKind docs.Source ArchitectureWords (codes "Architecture" ∷ codes "architecture" ∷ [])
     × HasKind docs.Sources ArchitectureWords (codes "Architecture" ∷ codes "ARCHITecture" ∷ [])
-unfolding kind_of
+unfolding kind_of kind_at known_row
 architectures = (refl, refl, refl, refl)
 
 flags : HasKindInEach Flag (codes "Essential" ∷ codes "eSSENTIAL" ∷ [])
-unfolding kind_of
+unfolding kind_of kind_at known_row
 flags = (refl, refl, refl, refl)
 
 multi_archs : HasKindInEach MultiArch (codes "Multi-Arch" ∷ codes "MULTI-arch" ∷ [])
-unfolding kind_of
+unfolding kind_of kind_at known_row
 multi_archs = (refl, refl, refl, refl)
 
 numbers : HasKindInEach Number
     (codes "Installed-Size" ∷ codes "Size" ∷ codes "INSTALLED-SIZE" ∷ codes "sIZE" ∷ [])
-unfolding kind_of
+unfolding kind_of kind_at known_row
 numbers = (refl, refl, refl, refl)
 
 lines : HasKindInEach Line
@@ -191,12 +204,12 @@ lines : HasKindInEach Line
     ∷ codes "Filename" ∷ codes "Format" ∷ codes "Standards-Version"
     ∷ codes "maintainer" ∷ codes "HOMEPAGE" ∷ codes "SECTION" ∷ codes "priority"
     ∷ codes "fileName" ∷ codes "fORMAT" ∷ codes "standards-version" ∷ [])
-unfolding kind_of
+unfolding kind_of kind_at known_row
 lines = (refl, refl, refl, refl)
 
 lists : HasKindInEach Folded
     (codes "Binary" ∷ codes "Uploaders" ∷ codes "BINARY" ∷ codes "uploaders" ∷ [])
-unfolding kind_of
+unfolding kind_of kind_at known_row
 lists = (refl, refl, refl, refl)
 
 dependencies : HasKindInEach (Relation Depends)
@@ -206,7 +219,7 @@ dependencies : HasKindInEach (Relation Depends)
     ∷ codes "DEPENDS" ∷ codes "pre-dEPENDS" ∷ codes "recommends" ∷ codes "SUGGESTS"
     ∷ codes "enhances" ∷ codes "build-depends" ∷ codes "BUILD-DEPENDS-INDEP"
     ∷ codes "build-Depends-arch" ∷ [])
-unfolding kind_of
+unfolding kind_of kind_at known_row
 dependencies = (refl, refl, refl, refl)
 
 conflicts : HasKindInEach (Relation Conflicts)
@@ -214,21 +227,23 @@ conflicts : HasKindInEach (Relation Conflicts)
     ∷ codes "Build-Conflicts" ∷ codes "Build-Conflicts-Indep" ∷ codes "Build-Conflicts-Arch"
     ∷ codes "BREAKS" ∷ codes "conflicts" ∷ codes "REPLACES" ∷ codes "built-using"
     ∷ codes "build-conflicts" ∷ codes "build-conflicts-indep" ∷ codes "BUILD-CONFLICTS-ARCH" ∷ [])
-unfolding kind_of
+unfolding kind_of kind_at known_row
 conflicts = (refl, refl, refl, refl)
 
 provides : HasKindInEach (Relation Provides) (codes "Provides" ∷ codes "PROVIDES" ∷ [])
-unfolding kind_of
+unfolding kind_of kind_at known_row
 provides = (refl, refl, refl, refl)
 
--- fields of Debian's files that are in no table, names that are nearly in one, and no name
+-- texts of the table, fields of Debian's files that aren't in it, names that nearly are, and no name
 texts : HasKindInEach Text
-    (codes "Description" ∷ codes "Files" ∷ codes "Checksums-Sha1" ∷ codes "Checksums-Sha256"
-    ∷ codes "Package-List" ∷ codes "MD5sum" ∷ codes "SHA256" ∷ codes "Directory" ∷ codes "Tag"
+    (codes "Bugs" ∷ codes "Build-Ids" ∷ codes "Description-md5" ∷ codes "Dgit" ∷ codes "Origin"
+    ∷ codes "Python-Version" ∷ codes "Ruby-Versions" ∷ codes "SHA1" ∷ codes "Task"
+    ∷ codes "Vcs-Browser" ∷ codes "Description" ∷ codes "Files" ∷ codes "Checksums-Sha1"
+    ∷ codes "Checksums-Sha256" ∷ codes "Package-List" ∷ codes "MD5sum" ∷ codes "SHA256" ∷ codes "Directory" ∷ codes "Tag"
     ∷ codes "Conffiles" ∷ codes "Changes" ∷ codes "Date" ∷ codes "Vcs-Git" ∷ codes "Testsuite"
     ∷ codes "Static-Built-Using" ∷ codes "Build-Provides" ∷ codes "Build-Depends-Any"
     ∷ codes "Depend" ∷ codes "Packages" ∷ codes "Multi_Arch" ∷ codes "Version-" ∷ [] ∷ [])
-unfolding kind_of
+unfolding kind_of kind_at known_row
 texts = (refl, refl, refl, refl)
 
 -- under Any the same fields are texts too
@@ -242,7 +257,7 @@ texts_of_any : HasKind docs.Any Text
     ∷ codes "Build-Depends-Arch" ∷ codes "Breaks" ∷ codes "Conflicts" ∷ codes "Replaces"
     ∷ codes "Built-Using" ∷ codes "Build-Conflicts" ∷ codes "Build-Conflicts-Indep"
     ∷ codes "Build-Conflicts-Arch" ∷ codes "Provides" ∷ codes "Files" ∷ codes "vERSION" ∷ [] ∷ [])
-unfolding kind_of
+unfolding kind_of kind_at known_row
 texts_of_any = refl
 
 required_fields : (required docs.Binary
@@ -253,30 +268,14 @@ required_fields : (required docs.Binary
     × (required docs.Any ≡ [])
 required_fields = (refl, refl, refl, refl, refl)
 
--- the codes of refusals, which go from the text of a file over its paragraphs and values to words
-numbers_of_codes : map number_of
-    (code.NotUtf8 ∷ code.Armour ∷ code.Comment ∷ code.StrayContinuation ∷ code.BadFieldName
-    ∷ code.NoColon ∷ code.DuplicateField ∷ code.ParagraphTooLong ∷ code.FileTooLong
-    ∷ code.NoParagraph ∷ code.TooManyParagraphs ∷ code.MissingField ∷ code.NotOneLine
-    ∷ code.BadName ∷ code.BadNumber ∷ code.BadWord ∷ code.BadArchitecture ∷ code.BadVersion
-    ∷ code.BadRelation ∷ code.AlternativesNotAllowed ∷ code.ProvidesBound ∷ code.Wildcard
-    ∷ code.BadEnvironment ∷ [])
-    ≡ 1 ∷ 2 ∷ 3 ∷ 4 ∷ 5 ∷ 6 ∷ 7 ∷ 8 ∷ 9 ∷ 10 ∷ 11 ∷ 12 ∷ 13 ∷ 14 ∷ 15 ∷ 16 ∷ 17 ∷ 18 ∷ 19 ∷ 20
-    ∷ 21 ∷ 22 ∷ 23 ∷ []
-numbers_of_codes = refl
+-- each row has a name, and no two of them have one name
+pub names_of_rows : (list_all (λ row. is_name row.0) known_fields ≡ true)
+    × (map (λ row. known_row row.0) known_fields ≡ range_with_len 0 54)
+unfolding known_row
+names_of_rows = (refl, refl)
 
-names_of_codes : map name_of
-    (code.NotUtf8 ∷ code.Armour ∷ code.Comment ∷ code.StrayContinuation ∷ code.BadFieldName
-    ∷ code.NoColon ∷ code.DuplicateField ∷ code.ParagraphTooLong ∷ code.FileTooLong
-    ∷ code.NoParagraph ∷ code.TooManyParagraphs ∷ code.MissingField ∷ code.NotOneLine
-    ∷ code.BadName ∷ code.BadNumber ∷ code.BadWord ∷ code.BadArchitecture ∷ code.BadVersion
-    ∷ code.BadRelation ∷ code.AlternativesNotAllowed ∷ code.ProvidesBound ∷ code.Wildcard
-    ∷ code.BadEnvironment ∷ [])
-    ≡ codes "NotUtf8" ∷ codes "Armour" ∷ codes "Comment" ∷ codes "StrayContinuation"
-    ∷ codes "BadFieldName" ∷ codes "NoColon" ∷ codes "DuplicateField" ∷ codes "ParagraphTooLong"
-    ∷ codes "FileTooLong" ∷ codes "NoParagraph" ∷ codes "TooManyParagraphs" ∷ codes "MissingField"
-    ∷ codes "NotOneLine" ∷ codes "BadName" ∷ codes "BadNumber" ∷ codes "BadWord"
-    ∷ codes "BadArchitecture" ∷ codes "BadVersion" ∷ codes "BadRelation"
-    ∷ codes "AlternativesNotAllowed" ∷ codes "ProvidesBound" ∷ codes "Wildcard"
-    ∷ codes "BadEnvironment" ∷ []
-names_of_codes = refl
+rows_of_names : map known_row
+    (codes "ARCHITECTURE" ∷ codes "package" ∷ codes "version" ∷ codes "Status" ∷ codes "Packag"
+    ∷ [] ∷ []) ≡ 0 ∷ 31 ∷ 53 ∷ 54 ∷ 54 ∷ 54 ∷ []
+unfolding known_row
+rows_of_names = refl

@@ -1,0 +1,241 @@
+//! The table of the fields that are known by name: the kind of each one's values, and which of them
+//! a kind of document requires.
+
+ghost use Rattle.std.specs.Prelude.{◌≡◌, ◌↔◌, ◌<◌, ℕ, List, map, length, nat_lt, IfSome, IsTrue};
+ghost use Rattle.deb_base.specs.Kinds.{in_source, kind_at, kind_of, known_fields, known_row, required};
+ghost use Rattle.deb_base.specs.KnownFields.{row_in, row_of, IsAtFront};
+
+use crate::doc::Doc;
+use crate::kind::{Kind, Relationship};
+use crate::names::same_name;
+
+const DEPENDENCY: Kind = Kind::Relation(Relationship::Depends);
+
+const CONFLICT: Kind = Kind::Relation(Relationship::Conflicts);
+
+/// The first row whose name begins with each capital letter or a later one, and the number of rows.
+static FIRST_ROWS: [u8; 27] = [
+    0, 1, 12, 15, 20, 22, 25, 25, 26, 27, 27, 27, 27, 30, 30, 31, 37, 37, 40, 47, 50, 51, 54, 54,
+    54, 54, 54,
+];
+
+const ARCHITECTURE: FieldId = FieldId(0);
+
+const FORMAT: FieldId = FieldId(24);
+
+const PACKAGE: FieldId = FieldId(31);
+
+const SOURCE: FieldId = FieldId(44);
+
+const VERSION: FieldId = FieldId(53);
+
+/// How many fields the table has.
+pub const KNOWN_FIELDS: usize = 54;
+
+/// A field of the table, or any other field.
+#[derive(Clone, Copy, Debug, PartialEq, Eq)]
+pub struct FieldId(u8);
+
+/// A name of the table at the front of a line.
+#[derive(Clone, Copy, Debug)]
+pub struct NameAtFront {
+    /// The field of this name.
+    pub id: FieldId,
+    /// The length of the name in bytes.
+    pub len: usize,
+}
+
+impl FieldId {
+    /// Returns the field of the table with this name, without ASCII case (Debian Policy 5.1), or
+    /// the id that all other names have.
+    pub fn of(name: &[u8]) -> FieldId
+        ensures { row_of result ≡ known_row name.now }
+    {
+        let mut row: u8 = 0;
+        while usize::from(row) < fields().len() && !same_name(fields()[usize::from(row)].0, name) {
+            row += 1;
+        }
+        FieldId(row)
+    }
+
+    /// Returns the field of the table whose name, as it is usually spelled, begins a line and has a
+    /// colon after it, or `None` if no such name does.
+    pub fn at_front(line: &[u8]) -> Option<NameAtFront>
+        ensures { IfSome result (IsAtFront line.now) }
+    {
+        let letter = usize::from(line.first()?.wrapping_sub(b'A'));
+        let mut row = *FIRST_ROWS.get(letter)?;
+        let end = *FIRST_ROWS.get(letter + 1)?;
+        while row < end {
+            if let Some(front) = row_at_front(row, line) {
+                return Some(front);
+            }
+            row += 1;
+        }
+        None
+    }
+
+    /// Returns the number of the field's row in the table, counted from 0, or of a row behind the
+    /// last.
+    pub fn row(self) -> usize
+        ensures { result ≡ row_of self }
+    {
+        usize::from(self.0)
+    }
+
+    /// Returns whether the table has the field.
+    pub fn is_known(self) -> bool
+        ensures { result ≡ nat_lt (row_of self) 54 }
+    {
+        usize::from(self.0) < KNOWN_FIELDS
+    }
+
+    /// Returns the kind of value of a field with this id (Debian Policy 5.6 and 7). A field that
+    /// the table doesn't have is text.
+    pub fn kind(self, doc: Doc) -> Kind
+        ensures { (name : List ℕ) → known_row name ≡ row_of self → result ≡ kind_of doc name }
+    {
+        let kind = self.usual_kind();
+        match doc {
+            Doc::Binary | Doc::Packages => kind,
+            Doc::Source | Doc::Sources => in_source(kind),
+            Doc::Any => Kind::Text,
+        }
+    }
+
+    /// The kind in the row of the table; of no row: text.
+    fn usual_kind(self) -> Kind
+        ensures { result ≡ kind_at (row_of self) }
+    {
+        let row = usize::from(self.0);
+        if row < fields().len() {
+            fields()[row].1
+        } else {
+            Kind::Text
+        }
+    }
+}
+
+/// The fields that are known by name, as the names are usually spelled, in ascending order of their
+/// canonical spellings (Debian Policy 5.6 and 7).
+fn fields() -> &'static [(&'static [u8], Kind)]
+    ensures { map row_in result.now ≡ known_fields }
+{
+    &[
+        (b"Architecture", Kind::Architecture),
+        (b"Binary", Kind::Folded),
+        (b"Breaks", CONFLICT),
+        (b"Bugs", Kind::Text),
+        (b"Build-Conflicts", CONFLICT),
+        (b"Build-Conflicts-Arch", CONFLICT),
+        (b"Build-Conflicts-Indep", CONFLICT),
+        (b"Build-Depends", DEPENDENCY),
+        (b"Build-Depends-Arch", DEPENDENCY),
+        (b"Build-Depends-Indep", DEPENDENCY),
+        (b"Build-Ids", Kind::Text),
+        (b"Built-Using", CONFLICT),
+        (b"Checksums-Sha1", Kind::Text),
+        (b"Checksums-Sha256", Kind::Text),
+        (b"Conflicts", CONFLICT),
+        (b"Depends", DEPENDENCY),
+        (b"Description", Kind::Text),
+        (b"Description-md5", Kind::Text),
+        (b"Dgit", Kind::Text),
+        (b"Directory", Kind::Text),
+        (b"Enhances", DEPENDENCY),
+        (b"Essential", Kind::Flag),
+        (b"Filename", Kind::Line),
+        (b"Files", Kind::Text),
+        (b"Format", Kind::Line),
+        (b"Homepage", Kind::Line),
+        (b"Installed-Size", Kind::Number),
+        (b"Maintainer", Kind::Line),
+        (b"MD5sum", Kind::Text),
+        (b"Multi-Arch", Kind::MultiArch),
+        (b"Origin", Kind::Text),
+        (b"Package", Kind::Name),
+        (b"Package-List", Kind::Text),
+        (b"Pre-Depends", DEPENDENCY),
+        (b"Priority", Kind::Line),
+        (b"Provides", Kind::Relation(Relationship::Provides)),
+        (b"Python-Version", Kind::Text),
+        (b"Recommends", DEPENDENCY),
+        (b"Replaces", CONFLICT),
+        (b"Ruby-Versions", Kind::Text),
+        (b"Section", Kind::Line),
+        (b"SHA1", Kind::Text),
+        (b"SHA256", Kind::Text),
+        (b"Size", Kind::Number),
+        (b"Source", Kind::Source),
+        (b"Standards-Version", Kind::Line),
+        (b"Suggests", DEPENDENCY),
+        (b"Tag", Kind::Text),
+        (b"Task", Kind::Text),
+        (b"Testsuite", Kind::Text),
+        (b"Uploaders", Kind::Folded),
+        (b"Vcs-Browser", Kind::Text),
+        (b"Vcs-Git", Kind::Text),
+        (b"Version", Kind::Version),
+    ]
+}
+
+/// The name in a row, if it begins the line and has a colon after it.
+fn row_at_front(row: u8, line: &[u8]) -> Option<NameAtFront>
+    ensures { IfSome result (IsAtFront line.now) }
+{
+    if usize::from(row) >= fields().len() {
+        return None;
+    }
+    let name = fields()[usize::from(row)].0;
+    let len = name.len();
+    if len < line.len() && line[len] == b':' && &line[..len] == name {
+        return Some(NameAtFront {
+            id: FieldId(row),
+            len,
+        });
+    }
+    None
+}
+
+/// What a field of the kind holds in the description of a source package.
+fn in_source(kind: Kind) -> Kind
+    ensures { result ≡ in_source kind }
+{
+    match kind {
+        Kind::Architecture => Kind::ArchitectureWords,
+        other => other,
+    }
+}
+
+/// Returns the kind of value of the field with this name (Debian Policy 5.6 and 7). Names are found
+/// without ASCII case (5.1). A field that the table doesn't have is text.
+pub fn kind_of(doc: Doc, name: &[u8]) -> Kind
+    ensures { result ≡ kind_of doc name.now }
+{
+    FieldId::of(name).kind(doc)
+}
+
+/// Returns the names of the fields that each paragraph of a document of this kind must have (Debian
+/// Policy 5.3 and 5.4).
+pub fn required(doc: Doc) -> &'static [&'static [u8]]
+    ensures { map (λ name. name.now) result.now ≡ required doc }
+{
+    match doc {
+        Doc::Binary | Doc::Packages => &[b"Package", b"Version", b"Architecture"],
+        Doc::Source => &[b"Format", b"Source", b"Version"],
+        Doc::Sources => &[b"Package", b"Version"],
+        Doc::Any => &[],
+    }
+}
+
+/// Returns the fields of the table that `required` names, in the same order.
+pub fn required_fields(doc: Doc) -> &'static [FieldId]
+    ensures { map row_of result.now ≡ map known_row (required doc) }
+{
+    match doc {
+        Doc::Binary | Doc::Packages => &[PACKAGE, VERSION, ARCHITECTURE],
+        Doc::Source => &[FORMAT, SOURCE, VERSION],
+        Doc::Sources => &[PACKAGE, VERSION],
+        Doc::Any => &[],
+    }
+}
