@@ -113,7 +113,8 @@ risen_counts : (r : Result ℕ Fault) → (ReadFaultIffFailed 3 4 r → IsErrOf 
     × (WriteFaultIffFailed 3 4 r → IsErrOf r Write)
 risen_counts r = (λ tells. (tells (lit≤ tt)).1 (lit≤ tt), λ tells. (tells (lit≤ tt)).1 (lit≤ tt))
 
-answers_of_counts : (r : Result ℕ Fault) (n : ℕ) → (ReadFaultIffFailed 3 n r → IsErrOf r Read → 3 < n)
+answers_of_counts : (r : Result ℕ Fault) (n : ℕ)
+    → (ReadFaultIffFailed 3 n r → IsErrOf r Read → 3 < n)
     × (WriteFaultIffFailed 3 n r → IsErrOf r Write → 3 < n)
 answers_of_counts r n = (
   λ tells told. (tells (lit≤ tt)).0 told,

@@ -1,7 +1,7 @@
 -- The table of the fields that are known by name: which kind of value each has, and which fields a
--- document requires. Debian Policy 5.1 (names are found without case), 5.3 (binary packages), 5.4 (source packages),
--- 5.6 (the fields), 7.1 to 7.8 (relationship fields); that unknown fields are text is this
--- project's own.
+-- document requires. Debian Policy 5.1 (names are found without case), 5.3 (binary packages), 5.4
+-- (source packages), 5.6 (the fields), 7.1 to 7.8 (relationship fields); that unknown fields are
+-- text is this project's own.
 use Rattle.std.specs.Prelude.{◌≡◌, ℕ, Bool, true, false, List, [], ◌∷◌, length, map, get_or, codes, refl}
 use Rattle.std.specs.List.{list_all, position_or_len, range_with_len}
 use Rattle.std.specs.Str.{bytes_eq}
@@ -234,12 +234,14 @@ provides : HasKindInEach (Relation Provides) (codes "Provides" ∷ codes "PROVID
 unfolding kind_of kind_at known_row
 provides = (refl, refl, refl, refl)
 
--- texts of the table, fields of Debian's files that aren't in it, names that nearly are, and no name
+-- texts of the table, fields of Debian's files that aren't in it, names that nearly are, and no
+-- name
 texts : HasKindInEach Text
     (codes "Bugs" ∷ codes "Build-Ids" ∷ codes "Description-md5" ∷ codes "Dgit" ∷ codes "Origin"
     ∷ codes "Python-Version" ∷ codes "Ruby-Versions" ∷ codes "SHA1" ∷ codes "Task"
     ∷ codes "Vcs-Browser" ∷ codes "Description" ∷ codes "Files" ∷ codes "Checksums-Sha1"
-    ∷ codes "Checksums-Sha256" ∷ codes "Package-List" ∷ codes "MD5sum" ∷ codes "SHA256" ∷ codes "Directory" ∷ codes "Tag"
+    ∷ codes "Checksums-Sha256" ∷ codes "Package-List" ∷ codes "MD5sum" ∷ codes "SHA256"
+    ∷ codes "Directory" ∷ codes "Tag"
     ∷ codes "Conffiles" ∷ codes "Changes" ∷ codes "Date" ∷ codes "Vcs-Git" ∷ codes "Testsuite"
     ∷ codes "Static-Built-Using" ∷ codes "Build-Provides" ∷ codes "Build-Depends-Any"
     ∷ codes "Depend" ∷ codes "Packages" ∷ codes "Multi_Arch" ∷ codes "Version-" ∷ [] ∷ [])

@@ -13,6 +13,65 @@ const DEPENDENCY: Kind = Kind::Relation(Relationship::Depends);
 
 const CONFLICT: Kind = Kind::Relation(Relationship::Conflicts);
 
+/// The fields that are known by name, as the names are usually spelled, in ascending order of their
+/// canonical spellings (Debian Policy 5.6 and 7).
+static FIELDS: [(&'static [u8], Kind); KNOWN_FIELDS] = [
+    (b"Architecture", Kind::Architecture),
+    (b"Binary", Kind::Folded),
+    (b"Breaks", CONFLICT),
+    (b"Bugs", Kind::Text),
+    (b"Build-Conflicts", CONFLICT),
+    (b"Build-Conflicts-Arch", CONFLICT),
+    (b"Build-Conflicts-Indep", CONFLICT),
+    (b"Build-Depends", DEPENDENCY),
+    (b"Build-Depends-Arch", DEPENDENCY),
+    (b"Build-Depends-Indep", DEPENDENCY),
+    (b"Build-Ids", Kind::Text),
+    (b"Built-Using", CONFLICT),
+    (b"Checksums-Sha1", Kind::Text),
+    (b"Checksums-Sha256", Kind::Text),
+    (b"Conflicts", CONFLICT),
+    (b"Depends", DEPENDENCY),
+    (b"Description", Kind::Text),
+    (b"Description-md5", Kind::Text),
+    (b"Dgit", Kind::Text),
+    (b"Directory", Kind::Text),
+    (b"Enhances", DEPENDENCY),
+    (b"Essential", Kind::Flag),
+    (b"Filename", Kind::Line),
+    (b"Files", Kind::Text),
+    (b"Format", Kind::Line),
+    (b"Homepage", Kind::Line),
+    (b"Installed-Size", Kind::Number),
+    (b"Maintainer", Kind::Line),
+    (b"MD5sum", Kind::Text),
+    (b"Multi-Arch", Kind::MultiArch),
+    (b"Origin", Kind::Text),
+    (b"Package", Kind::Name),
+    (b"Package-List", Kind::Text),
+    (b"Pre-Depends", DEPENDENCY),
+    (b"Priority", Kind::Line),
+    (b"Provides", Kind::Relation(Relationship::Provides)),
+    (b"Python-Version", Kind::Text),
+    (b"Recommends", DEPENDENCY),
+    (b"Replaces", CONFLICT),
+    (b"Ruby-Versions", Kind::Text),
+    (b"Section", Kind::Line),
+    (b"SHA1", Kind::Text),
+    (b"SHA256", Kind::Text),
+    (b"Size", Kind::Number),
+    (b"Source", Kind::Source),
+    (b"Standards-Version", Kind::Line),
+    (b"Suggests", DEPENDENCY),
+    (b"Tag", Kind::Text),
+    (b"Task", Kind::Text),
+    (b"Testsuite", Kind::Text),
+    (b"Uploaders", Kind::Folded),
+    (b"Vcs-Browser", Kind::Text),
+    (b"Vcs-Git", Kind::Text),
+    (b"Version", Kind::Version),
+];
+
 /// The first row whose name begins with each capital letter or a later one, and the number of rows.
 static FIRST_ROWS: [u8; 27] = [
     0, 1, 12, 15, 20, 22, 25, 25, 26, 27, 27, 27, 27, 30, 30, 31, 37, 37, 40, 47, 50, 51, 54, 54,
@@ -59,7 +118,7 @@ impl FieldId {
     }
 
     /// Returns the field of the table whose name, as it is usually spelled, begins a line and has a
-    /// colon after it, or `None` if no such name does.
+    /// colon after it. `None` says nothing: `of` then finds the field by the whole name.
     pub fn at_front(line: &[u8]) -> Option<NameAtFront>
         ensures { IfSome result (IsAtFront line.now) }
     {
@@ -116,67 +175,11 @@ impl FieldId {
     }
 }
 
-/// The fields that are known by name, as the names are usually spelled, in ascending order of their
-/// canonical spellings (Debian Policy 5.6 and 7).
+/// Lends the table.
 fn fields() -> &'static [(&'static [u8], Kind)]
     ensures { map row_in result.now ≡ known_fields }
 {
-    &[
-        (b"Architecture", Kind::Architecture),
-        (b"Binary", Kind::Folded),
-        (b"Breaks", CONFLICT),
-        (b"Bugs", Kind::Text),
-        (b"Build-Conflicts", CONFLICT),
-        (b"Build-Conflicts-Arch", CONFLICT),
-        (b"Build-Conflicts-Indep", CONFLICT),
-        (b"Build-Depends", DEPENDENCY),
-        (b"Build-Depends-Arch", DEPENDENCY),
-        (b"Build-Depends-Indep", DEPENDENCY),
-        (b"Build-Ids", Kind::Text),
-        (b"Built-Using", CONFLICT),
-        (b"Checksums-Sha1", Kind::Text),
-        (b"Checksums-Sha256", Kind::Text),
-        (b"Conflicts", CONFLICT),
-        (b"Depends", DEPENDENCY),
-        (b"Description", Kind::Text),
-        (b"Description-md5", Kind::Text),
-        (b"Dgit", Kind::Text),
-        (b"Directory", Kind::Text),
-        (b"Enhances", DEPENDENCY),
-        (b"Essential", Kind::Flag),
-        (b"Filename", Kind::Line),
-        (b"Files", Kind::Text),
-        (b"Format", Kind::Line),
-        (b"Homepage", Kind::Line),
-        (b"Installed-Size", Kind::Number),
-        (b"Maintainer", Kind::Line),
-        (b"MD5sum", Kind::Text),
-        (b"Multi-Arch", Kind::MultiArch),
-        (b"Origin", Kind::Text),
-        (b"Package", Kind::Name),
-        (b"Package-List", Kind::Text),
-        (b"Pre-Depends", DEPENDENCY),
-        (b"Priority", Kind::Line),
-        (b"Provides", Kind::Relation(Relationship::Provides)),
-        (b"Python-Version", Kind::Text),
-        (b"Recommends", DEPENDENCY),
-        (b"Replaces", CONFLICT),
-        (b"Ruby-Versions", Kind::Text),
-        (b"Section", Kind::Line),
-        (b"SHA1", Kind::Text),
-        (b"SHA256", Kind::Text),
-        (b"Size", Kind::Number),
-        (b"Source", Kind::Source),
-        (b"Standards-Version", Kind::Line),
-        (b"Suggests", DEPENDENCY),
-        (b"Tag", Kind::Text),
-        (b"Task", Kind::Text),
-        (b"Testsuite", Kind::Text),
-        (b"Uploaders", Kind::Folded),
-        (b"Vcs-Browser", Kind::Text),
-        (b"Vcs-Git", Kind::Text),
-        (b"Version", Kind::Version),
-    ]
+    &FIELDS
 }
 
 /// The name in a row, if it begins the line and has a colon after it.
