@@ -1,8 +1,10 @@
 //! White space and runs of bytes, at the beginning of what is left of a text.
 
-ghost use Rattle.std.specs.Prelude.{◌≡◌, ◌≤◌, length};
+ghost use Rattle.std.specs.Prelude.{◌≡◌, ◌≤◌, length, IsFalse};
 ghost use Rattle.std.specs.List.{prefix_len};
 ghost use Rattle.deb_relation.specs.Reading.{begins, behind_white, is_at_end, is_before, is_in_name, is_in_operator, is_white, behind_run, run_of};
+
+use crate::name_byte::is_in_name;
 
 /// Space, tab and newline.
 pub(crate) fn is_white(byte: u8) -> bool
@@ -34,23 +36,14 @@ pub(crate) fn begins(text: &[u8], byte: u8) -> bool
     matches!(text, [first, ..] if *first == byte)
 }
 
-/// All bytes but white space and `,` `|` `(` `)` `[` `]` `<` `>` `:`.
-fn is_in_name(byte: u8) -> bool
-    ensures { result ≡ is_in_name byte }
+/// Whether a text begins with a byte of a name.
+pub(crate) fn begins_name(text: &[u8]) -> bool
+    ensures { IsFalse result → prefix_len is_in_name text.now ≡ 0 }
 {
-    !(is_white(byte)
-        || byte == b','
-        || byte == b'|'
-        || byte == b'('
-        || byte == b')'
-        || byte == b'['
-        || byte == b']'
-        || byte == b'<'
-        || byte == b'>'
-        || byte == b':')
+    matches!(text, [first, ..] if is_in_name(*first))
 }
 
-pub(crate) fn name_len(text: &[u8]) -> usize
+fn name_len(text: &[u8]) -> usize
     ensures value { result ≡ prefix_len is_in_name text.now }
     ensures bound { result ≤ length text.now }
 {

@@ -30,6 +30,7 @@ mod items;
 mod kept_text;
 pub mod laws;
 mod name;
+mod name_byte;
 mod operator;
 mod relation;
 mod relation_text;

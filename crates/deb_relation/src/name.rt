@@ -8,15 +8,10 @@ ghost use Rattle.deb_relation.specs.Reading.{read_name, read_qualifier};
 ghost use Rattle.deb_relation.specs.Stops.{Gives};
 ghost use Rattle.deb_relation.specs.Views.{text_behind};
 
-use crate::cursor::{begins, cut_name, name_len};
+use crate::cursor::{begins, begins_name, cut_name};
 use crate::fault::{Reason, Stop};
+use crate::name_byte::is_package_byte;
 use deb_base::{is_arch_name, is_package_name};
-
-fn is_package_byte(byte: u8) -> bool
-    ensures { result ≡ is_package_byte byte }
-{
-    byte.is_ascii_lowercase() || byte.is_ascii_digit() || matches!(byte, b'+' | b'-' | b'.')
-}
 
 fn package_len(text: &[u8]) -> usize
     ensures value { result ≡ prefix_len is_package_byte text.now }
@@ -40,7 +35,7 @@ pub(crate) fn read_good_name(text: &[u8]) -> Option<(&[u8], &[u8])>
     ensures { IfSome result (λ p. read_name text.now ≡ Ok (text_behind p)) }
 {
     let (name, behind) = text.split_at(package_len(text));
-    if name.len() >= 2 && begins_small_or_digit(name) && name_len(behind) == 0 {
+    if name.len() >= 2 && begins_small_or_digit(name) && !begins_name(behind) {
         Some((name, behind))
     } else {
         None

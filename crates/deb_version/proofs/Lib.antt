@@ -1,6 +1,7 @@
 mod Common
 pub mod CutLemmas
 pub mod ByteLemmas
+pub mod ByteTables
 pub mod ComponentsLemmas
 pub mod MeaningLemmas
 pub mod FaultLemmas
