@@ -66,7 +66,7 @@ pub use Rattle.deb_syntax.specs.Laws.{AreRuns, IsFirstRefusal, IsLineRefusal, Is
 pub use Rattle.deb_syntax.specs.Lines.{IsClosed, Paragraph, begins_blank, ends_blank, ends_line, file_limit, lines_of, paragraphs_from, paragraphs_of, total_length, with_line, with_newlines}
 pub use Rattle.deb_syntax.specs.Meaning.{Accepted, Entries, HaveMeanings, Means, byte_order, entries_after, entries_of}
 pub use Rattle.deb_syntax.specs.Paragraphs.{state_of}
-pub use Rattle.deb_syntax.specs.Places.{IsFaultOf, Keeps, KeepsNext, LastGoesOn, StandsAt, begun_at, begun_fields, ends_before, field_at, fields_at, has_row, has_stood, is_kept, lies_within, name_at, pieces_behind}
+pub use Rattle.deb_syntax.specs.Places.{IsFaultOf, Keeps, KeepsNext, LastGoesOn, StandsAt, begun_at, begun_fields, ends_before, field_at, fields_at, has_row, has_stood, is_kept, lies_within, name_at}
 pub use Rattle.deb_syntax.specs.Raw.{field_named, fields_of, has_field_in}
 pub use Rattle.deb_syntax.specs.Reading.{Advances, Answers, Begins, BeginsHere, FindsFirst, Fits, GivesLine, GivesNext, GivesNone, IsRefusalOfText, Moment, KeepsErrors, State, passed_count, state_from, tells_end}
 pub use Rattle.deb_syntax.specs.Standing.{EndsHidden, HidesLong, IsPassed, PassesNext, standing_of, stands_within}

@@ -1,10 +1,9 @@
 -- The walk to the end of a paragraph, piece by piece.
-use Rattle.deb_syntax.proofs.Common.{◌≡◌, ◌≢◌, ℕ, ◌+◌, ◌-◌, ◌<◌, ◌≤◌, inl, inr, false, nat_le, List, [], ◌∷◌, ◌++◌, Option, Result, Ok, Err, length, take, drop, refl, sym, ap, subst, ◌∙◌, append_assoc, arith, length-append, take-append-add, drop-append_seam, and_from, cases_lt, false≢true, le-leb, append-nil, take-append-drop, take-append-le, take_all, length-take-le, Line, newline, paragraph_limit, is_blank, is_all_blank, ParagraphTooLong, FileTooLong, Fault, Refused, left_answer, room_ahead, IsAhead, IsNear, KeepsLine, EndsInSight, IsExtentOf, IsNextRun, IsExtentAhead, SameCounts, FeedState, piece_limit, Comes, Sees, room_of, with_newlines, StandInFront, RunStands, CanGoOn, CannotBeBlank, Stops, Begun, Extent, Sight, Run, Stop, Open, Blank, TooLong}
+use Rattle.deb_syntax.proofs.Common.{false_from_ne_true, ◌≡◌, ◌≢◌, ℕ, ◌+◌, ◌-◌, ◌<◌, ◌≤◌, inl, inr, false, nat_le, List, [], ◌∷◌, ◌++◌, Option, Result, Ok, Err, length, take, drop, refl, sym, ap, subst, ◌∙◌, append_assoc, arith, length-append, take-append-add, drop-append_seam, and_from, cases_lt, false≢true, le-leb, append-nil, take-append-drop, take-append-le, take_all, length-take-le, Line, newline, paragraph_limit, is_blank, is_all_blank, ParagraphTooLong, FileTooLong, Fault, Refused, left_answer, room_ahead, IsAhead, IsNear, KeepsLine, EndsInSight, IsExtentOf, IsNextRun, IsExtentAhead, SameCounts, FeedState, piece_limit, Comes, Sees, room_of, with_newlines, StandInFront, RunStands, CanGoOn, CannotBeBlank, Stops, Begun, Extent, Sight, Run, Stop, Open, Blank, TooLong}
 use Rattle.deb_syntax.proofs.Endings.{EndsBlank, blank-found, blank-ahead, some-lines, refused-long, refused-beyond}
 use Rattle.deb_syntax.proofs.EndingSteps.{open-front, open-length, refusal-ahead, some-bytes}
 use Rattle.deb_syntax.proofs.Faults.{readers_fault}
 use Rattle.deb_syntax.proofs.Feeds.{comes_whole, comes_end}
-use Rattle.deb_syntax.proofs.Pieces.{not_true}
 use Rattle.deb_syntax.proofs.WalkingLines.{length-front}
 
 pub record Walks (before : FeedState) (left_before : Option (List ℕ)) (run : Run) (state : FeedState) (left : Option (List ℕ)) : Type 0 where
@@ -16,7 +15,7 @@ pub record Walks (before : FeedState) (left_before : Option (List ℕ)) (run : R
 cannot : (line : List ℕ) → is_blank line ≡ false → CannotBeBlank line
 cannot line h =
     elim (cases_lt (length line) paragraph_limit) [
-      | inl short ↦ inl (not_true _ (λ t. false≢true (sym h ∙ and_from (nat_le (length line + 1) paragraph_limit) (is_all_blank line) (le-leb _ _ (omega arith)) t)))
+      | inl short ↦ inl (false_from_ne_true _ (λ t. false≢true (sym h ∙ and_from (nat_le (length line + 1) paragraph_limit) (is_all_blank line) (le-leb _ _ (omega arith)) t)))
       | inr long ↦ inr long
     ]
 

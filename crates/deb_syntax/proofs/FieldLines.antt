@@ -1,7 +1,6 @@
 -- What a line that begins a field makes of the fields before it, from what a search for its colon says.
-use Rattle.deb_syntax.proofs.Common.{◌≡◌, ℕ, zero, suc, ◌==◌, ◌+◌, ◌-◌, ◌<◌, ◌≤◌, Bool, true, false, not, cond, ◌&&◌, List, [], ◌∷◌, ◌++◌, length, map, take, drop, nat_lt, slice_index, slice_range, Some, None, Ok, Err, refl, sym, ap, ◌∙◌, arith, length-take, length-drop, list_all, position_or_len, prefix_len, and_parts, and_from, eq-eqb, eqb-true, ltb-true, lt-ltb, true≢false, cond-true, cond-false, map_push, take-append-drop, drop_more, All-from_get_or, list_any_at, list_any_none, position_or_len_is, IsFirstByte, is_byte, BadFieldName, NoColon, DuplicateField, Line, Field, has_name, colon, is_name, is_name_byte, each_name_byte, begins_armour, begins_comment, has_colon, begun, is_named, field_line, begun_at, begun_fields, name_at, has_stood, known_row, row_of, FieldId, IsAtFront, NameAtFront, Place}
+use Rattle.deb_syntax.proofs.Common.{false_from_ne_true, ◌≡◌, ℕ, zero, suc, ◌==◌, ◌+◌, ◌-◌, ◌<◌, ◌≤◌, Bool, true, false, not, cond, ◌&&◌, List, [], ◌∷◌, ◌++◌, length, map, take, drop, nat_lt, slice_index, slice_range, Some, None, Ok, Err, refl, sym, ap, ◌∙◌, arith, length-take, length-drop, list_all, position_or_len, prefix_len, and_parts, and_from, eq-eqb, eqb-true, ltb-true, lt-ltb, true≢false, cond-true, cond-false, map_push, take-append-drop, drop_more, All-from_get_or, list_any_at, list_any_none, position_or_len_is, IsFirstByte, is_byte, BadFieldName, NoColon, DuplicateField, Line, Field, has_name, colon, is_name, is_name_byte, each_name_byte, begins_armour, begins_comment, has_colon, begun, is_named, field_line, begun_at, begun_fields, name_at, has_stood, known_row, row_of, FieldId, IsAtFront, NameAtFront, Place}
 use Rattle.deb_syntax.proofs.JudgingLaws.{field_line-name}
-use Rattle.deb_syntax.proofs.Pieces.{not_true}
 use Rattle.deb_syntax.proofs.PlaceLemmas.{LiesWithin, has_name-begun}
 use Rattle.deb_syntax.proofs.Slices.{take-slice_range, drop-slice_range}
 
@@ -16,7 +15,7 @@ prefix_len-at p (b ∷ bs) (suc k) h all other =
 -- where no name and colon stand at the front, what stands before the first colon is no name
 pub not_named : (line : Line) (n k : ℕ) → n ≡ prefix_len is_name_byte line → is_named line n ≡ false → IsFirstByte (is_byte colon) line (Some k) → is_name (take k line) ≡ false
 not_named line n k most not found =
-    not_true _ (λ name.
+    false_from_ne_true _ (λ name.
     let byte : slice_index line k ≡ colon = eqb-true _ _ found.1 in
     let same : prefix_len is_name_byte line ≡ k = prefix_len-at is_name_byte line k found.0.high (each_name_byte (take k line) name) (ap is_name_byte byte) in
     let named : is_named line k ≡ true = and_from _ _ (and_from _ _ (lt-ltb k (length line) found.0.high) found.1) name in
@@ -24,7 +23,7 @@ not_named line n k most not found =
 
 -- the search found no colon
 has_colon-none : (line : Line) → IsFirstByte (is_byte colon) line None → has_colon line ≡ false
-has_colon-none line h = list_any_none (is_byte colon) line (All-from_get_or (λ b. is_byte colon b ≡ false) line 0 (λ k lt. not_true _ (h k (omega arith) lt)))
+has_colon-none line h = list_any_none (is_byte colon) line (All-from_get_or (λ b. is_byte colon b ≡ false) line 0 (λ k lt. false_from_ne_true _ (h k (omega arith) lt)))
 
 module _ (n : ℕ) (fields : List Field) (line : Line) where
   module _ (armour : begins_armour line ≡ false) where
@@ -35,7 +34,7 @@ module _ (n : ℕ) (fields : List Field) (line : Line) where
 
       pub field_line-bad_name : (at : ℕ) → IsFirstByte (is_byte colon) line (Some at) → is_name (take at line) ≡ false → field_line n fields line ≡ Err (record { code = BadFieldName; line = n })
       field_line-bad_name at found bad =
-          let here : position_or_len (is_byte colon) line ≡ at = position_or_len_is (is_byte colon) line at 0 (omega (arith, found.0.high)) (λ k lt. not_true _ (found.0.before k (omega arith) lt)) (λ lt. found.1) in
+          let here : position_or_len (is_byte colon) line ≡ at = position_or_len_is (is_byte colon) line at 0 (omega (arith, found.0.high)) (λ k lt. false_from_ne_true _ (found.0.before k (omega arith) lt)) (λ lt. found.1) in
           let has : has_colon line ≡ true = list_any_at (is_byte colon) line at 0 found.0.high found.1 in
           cond-false (begins_armour line) _ _ armour ∙ cond-false (begins_comment line) _ _ comment ∙ cond-false (not (has_colon line)) _ _ (ap not has)
           ∙ cond-true (not (is_name (begun n line).name)) _ _ (ap (λ i. not (is_name (take i line))) here ∙ ap not bad)

@@ -22,6 +22,7 @@ pub mod JudgingLawsSound
 pub mod JudgingLawsTexts
 pub mod LawProofs
 pub mod LeftAnswers
+pub mod LineEnds
 pub mod LinesLaws
 pub mod LinesLawsPlaces
 pub mod LinesLawsRuns
@@ -34,7 +35,6 @@ pub mod NextParagraph
 pub mod ParagraphLines
 pub mod Parts
 pub mod Passing
-pub mod Pieces
 pub mod PlaceLemmas
 pub mod PlacesWithin
 pub mod Runs

@@ -1,8 +1,7 @@
 -- A search for a field by its name, one field after another.
-use Rattle.deb_syntax.proofs.Common.{◌≡◌, ℕ, ◌+◌, ◌<◌, cond, List, length, drop, get_or, Some, ap, ◌∙◌, drop_more, bytes_eq-Decides, bytes_eq, folded, name_at, field_at, fields_at, field_named, has_field_in, lies_within, known_row, row_of, list_all, IsTrue, true, sym, eq-eqb, eqb-true, ◌==◌, ◌||◌, Place}
+use Rattle.deb_syntax.proofs.Common.{false_from_ne_true, ◌≡◌, ℕ, ◌+◌, ◌<◌, cond, List, length, drop, get_or, Some, ap, ◌∙◌, drop_more, bytes_eq-Decides, bytes_eq, folded, name_at, field_at, fields_at, field_named, has_field_in, lies_within, known_row, row_of, list_all, IsTrue, true, sym, eq-eqb, eqb-true, ◌==◌, ◌||◌, Place}
 use Rattle.std.proofs.lemmas.List.Sums.{AllPass-from_list_all}
 use Rattle.deb_syntax.proofs.FieldTests.{is_field-at}
-use Rattle.deb_syntax.proofs.Pieces.{not_true}
 use Rattle.deb_syntax.proofs.PlaceLemmas.{LiesWithin-from_test}
 
 module _ (text name : List ℕ) (places : List Place) (i : ℕ) (d : Place) (within : i < length places) where
@@ -15,7 +14,7 @@ module _ (text name : List ℕ) (places : List Place) (i : ℕ) (d : Place) (wit
 
   pub field_named-passed : (folded (name_at text (get_or places i d)) ≡ folded name → ⊥) → field_named name (fields_at text (drop i places)) ≡ field_named name (fields_at text (drop (i + 1) places))
   field_named-passed other =
-      step ∙ ap (λ t. cond t (Some (field_at text (get_or places i d))) (field_named name (fields_at text (drop (i + 1) places)))) (not_true _ (λ e. other ((bytes_eq-Decides (folded (name_at text (get_or places i d))) (folded name)).0 e)))
+      step ∙ ap (λ t. cond t (Some (field_at text (get_or places i d))) (field_named name (fields_at text (drop (i + 1) places)))) (false_from_ne_true _ (λ e. other ((bytes_eq-Decides (folded (name_at text (get_or places i d))) (folded name)).0 e)))
 
 -- a search for a row of the table
 module _ (text : List ℕ) (row : ℕ) (places : List Place) (i : ℕ) (d : Place) (within : i < length places) (lie : IsTrue (list_all (lies_within text) places)) where
@@ -31,7 +30,7 @@ module _ (text : List ℕ) (row : ℕ) (places : List Place) (i : ℕ) (d : Plac
   has_field_in-found same = row_step ∙ ap (λ t. t || has_field_in row (fields_at text (drop (i + 1) places))) (eq-eqb _ _ same)
 
   pub has_field_in-passed : (row_of (get_or places i d).id ≡ row → ⊥) → has_field_in row (fields_at text (drop i places)) ≡ has_field_in row (fields_at text (drop (i + 1) places))
-  has_field_in-passed other = row_step ∙ ap (λ t. t || has_field_in row (fields_at text (drop (i + 1) places))) (not_true _ (λ e. other (eqb-true _ _ e)))
+  has_field_in-passed other = row_step ∙ ap (λ t. t || has_field_in row (fields_at text (drop (i + 1) places))) (false_from_ne_true _ (λ e. other (eqb-true _ _ e)))
 
 pub ruleset having = (has_field_in-found, has_field_in-passed)
 

@@ -1,6 +1,5 @@
 -- Names that stood before, one after another, and a set that keeps them.
-use Rattle.deb_syntax.proofs.Common.{◌≡◌, ℕ, ◌+◌, ◌<◌, Bool, true, false, cond, ◌||◌, List, [], ◌∷◌, ◌++◌, length, map, take, drop, get_or, refl, sym, ap, ◌∙◌, subst, list_any, bytes_eq, nat_list_eq_equiv, drop_more, take_more, map_push, list_any-append, bytes_eq-Decides, folded, name_at, has_stood, is_kept, FoldedName, Place}
-use Rattle.deb_syntax.proofs.Pieces.{not_true}
+use Rattle.deb_syntax.proofs.Common.{false_from_ne_true, ◌≡◌, ℕ, ◌+◌, ◌<◌, Bool, true, false, cond, ◌||◌, List, [], ◌∷◌, ◌++◌, length, map, take, drop, get_or, refl, sym, ap, ◌∙◌, subst, list_any, bytes_eq, nat_list_eq_equiv, drop_more, take_more, map_push, list_any-append, bytes_eq-Decides, folded, name_at, has_stood, is_kept, FoldedName, Place}
 
 pub or_false : (b : Bool) → (b || false) ≡ b
 or_false true = refl
@@ -15,7 +14,7 @@ module _ (text name : List ℕ) (places : List Place) (i : ℕ) (d : Place) (wit
   has_stood-found same = step ∙ ap (λ t. t || has_stood name (map (name_at text) (drop (i + 1) places))) ((bytes_eq-Decides (folded (name_at text (get_or places i d))) (folded name)).1 same)
 
   pub has_stood-passed : (folded (name_at text (get_or places i d)) ≡ folded name → ⊥) → has_stood name (map (name_at text) (drop i places)) ≡ has_stood name (map (name_at text) (drop (i + 1) places))
-  has_stood-passed other = step ∙ ap (λ t. t || has_stood name (map (name_at text) (drop (i + 1) places))) (not_true _ (λ e. other ((bytes_eq-Decides (folded (name_at text (get_or places i d))) (folded name)).0 e)))
+  has_stood-passed other = step ∙ ap (λ t. t || has_stood name (map (name_at text) (drop (i + 1) places))) (false_from_ne_true _ (λ e. other ((bytes_eq-Decides (folded (name_at text (get_or places i d))) (folded name)).0 e)))
 
 -- one name more
 pub has_stood-push : (stood : List (List ℕ)) (name other : List ℕ) → has_stood other (stood ++ name ∷ []) ≡ (has_stood other stood || bytes_eq (folded name) (folded other))

@@ -5,6 +5,7 @@ pub mod Feeding
 pub mod Fields
 pub mod Judging
 pub mod Laws
+pub mod LineEnds
 pub mod Lines
 pub mod Meaning
 pub mod Paragraphs

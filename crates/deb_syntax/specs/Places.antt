@@ -1,6 +1,6 @@
 -- Where the fields of a paragraph stand in its bytes, and what stands there. Debian Policy 5.1;
 -- deb822(5), "Syntax".
-use Rattle.std.specs.Prelude.{◌≡◌, ◌⊎◌, ℕ, ◌+◌, ◌<◌, ◌≤◌, ◌==◌, ◌&&◌, Bool, true, false, List, [], ◌∷◌, ◌++◌, length, map, nat_le, nat_lt, drop, get_or, slice_range, if◌then◌else◌, IsTrue, Result, Err, codes, refl}
+use Rattle.std.specs.Prelude.{◌≡◌, ◌⊎◌, ℕ, ◌+◌, ◌<◌, ◌≤◌, ◌==◌, ◌&&◌, Bool, true, false, List, [], ◌∷◌, ◌++◌, length, map, nat_le, nat_lt, get_or, slice_range, IsTrue, Result, Err, codes, refl}
 use Rattle.std.specs.List.{list_all, list_any}
 use Rattle.std.specs.Str.{bytes_eq}
 use Rattle.deb_base.specs.Kinds.{known_row}
@@ -10,7 +10,6 @@ use Rattle.deb_base.specs.declared.fault.Fault.{Fault}
 use Rattle.deb_base.specs.declared.known_fields.FieldId.{FieldId}
 use Rattle.deb_base.specs.declared.fault.Fault.TheVariants.{Refused, Memory, Read, Write}
 use Rattle.deb_base.specs.declared.refusal.Refusal.{Refusal}
-use Rattle.deb_base.specs.Bodies.{Line, pieces_of}
 use Rattle.deb_syntax.specs.Fields.{Field}
 use Rattle.deb_base.specs.Trimming.{trimmed}
 use Rattle.deb_syntax.specs.declared.folded_name.FoldedName.{FoldedName}
@@ -51,10 +50,6 @@ begun_at text place =
 
 abbrev pub begun_fields : List ℕ → List Place → List Field
 begun_fields text places = map (begun_at text) places
-
--- the pieces behind the one that ends at a place of the text
-abbrev pub pieces_behind : List ℕ → ℕ → List Line
-pieces_behind text end = if nat_lt end (length text) then pieces_of (drop (end + 1) text) else []
 
 -- The last of the places goes on to `end`.
 pub record LastGoesOn (end : ℕ) (places longer : List Place) : Type 0 where
@@ -167,10 +162,6 @@ no_place_before = refl
 places_before : (ends_before 9 (place_from 1 0 1 8 ∷ []) ≡ true)
     × (ends_before 8 (place_from 1 0 1 8 ∷ []) ≡ false)
 places_before = (refl, refl)
-
-pieces_behind_place : (pieces_behind (codes "a\nb") 1 ≡ codes "b" ∷ [])
-    × (pieces_behind (codes "a\n") 1 ≡ [] ∷ []) × (pieces_behind (codes "a") 1 ≡ [])
-pieces_behind_place = (refl, refl, refl)
 
 -- a colon at the end of a place, or before its begin
 place_of_no_field : (lies_within (codes "A: 1 \n 2\nB:") (place_from 1 0 2 2) ≡ false)

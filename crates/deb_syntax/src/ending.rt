@@ -1,6 +1,6 @@
 //! Finds the end of the next paragraph (Debian Policy 5.1).
 
-ghost use Rattle.std.specs.Prelude.{◌≡◌, ◌+◌, ◌-◌, ◌<◌, ◌≤◌, ◌^◌, ℕ, List, [], Option, length, IfErr, IsTrue, IsFalse};
+ghost use Rattle.std.specs.Prelude.{◌≡◌, ◌+◌, ◌-◌, ◌<◌, ◌≤◌, ◌^◌, ℕ, List, [], Option, length, take, IfOk, IfErr, IsTrue, IsFalse};
 ghost use Rattle.deb_base.specs.Bodies.{paragraph_limit};
 ghost use Rattle.deb_base.specs.Devices.{read_failures_after};
 ghost use Rattle.deb_base.specs.Faults.{IsReadersFault};
@@ -8,6 +8,7 @@ ghost use Rattle.deb_base.specs.declared.fault.Fault.TheVariants.{Refused};
 ghost use Rattle.deb_base.specs.Reading.{piece_limit};
 ghost use Rattle.deb_syntax.specs.Ahead.{room_ahead, IsAhead, KeepsLine, HasExtent, IsExtentAhead, SameCounts};
 ghost use Rattle.deb_syntax.specs.Reading.{IsRefusalOfText};
+ghost use Rattle.deb_syntax.specs.LineEnds.{line_ends, piece_ends};
 ghost use Rattle.deb_syntax.specs.Lines.{file_limit};
 ghost use Rattle.deb_syntax.specs.Feeding.{feed_state, had, Takes};
 ghost use Rattle.deb_syntax.specs.Walking.{Stops};
@@ -33,15 +34,16 @@ pub(crate) struct Extent {
 }
 
 /// Where the paragraph ends that begins the unread bytes; `begun` is the whole of its first line,
-/// which isn't blank.
+/// which isn't blank. After Ok `ends` holds where each of its lines ends, without its newline.
 ///
 /// Refused: with a line that isn't blank its lines are too long (`ParagraphTooLong`, at that line),
 /// or the file is too long and no blank line behind the paragraph is in sight (`FileTooLong`, at
-/// the line that is cut off).
+/// the line that is cut off). Memory: a growth of `ends`, or of the buffer, was refused.
 pub(crate) fn paragraph_extent<R: Source>(
     feed: &mut Feed,
     begun: Begun,
     reader: &mut R,
+    ends: &mut Vec<u32>,
 ) -> Result<Extent, Fault>
     requires line { KeepsLine begun (feed_state feed.old) }
     requires reach { (feed_state feed.old).bytes + length (feed_state feed.old).unread
@@ -50,6 +52,8 @@ pub(crate) fn paragraph_extent<R: Source>(
     ensures ahead { (text : List ℕ) → IsAhead text [] (feed_state feed.old) (R.left reader.old)
         → IsExtentAhead text
         (feed_state feed.old) result (feed_state feed.new) (R.left reader.new) }
+    ensures ends { IfOk result (λ extent.
+        ends.new.items ≡ piece_ends (take extent.end (feed_state feed.new).unread)) }
     ensures same { SameCounts (feed_state feed.old) (feed_state feed.new) }
     ensures taken { Takes (had (feed_state feed.old)) (R.left reader.old)
         (file_limit + piece_limit) (R.left reader.new) }
@@ -57,6 +61,7 @@ pub(crate) fn paragraph_extent<R: Source>(
     ensures counted { R.failures reader.new ≡ read_failures_after (R.failures reader.old) result }
     ensures source_untouched { IsTrue (feed_state feed.old).ended → reader.new ≡ reader.old }
 {
+    ends.clear();
     let mut run = Run {
         bytes: 0,
         lines: 0,
@@ -66,7 +71,7 @@ pub(crate) fn paragraph_extent<R: Source>(
         let sight = feed.sight(0);
         let tail = sight.tail;
         let is_full = sight.seen.len() >= PARAGRAPH_LIMIT;
-        let taken = take_lines(sight.seen, run);
+        let taken = take_lines(sight.seen, run, ends)?;
         run = taken.run;
         match taken.stop {
             Stop::Blank => return Ok(ended_by_blank(run, run.bytes + run.begun.len)),
@@ -76,7 +81,7 @@ pub(crate) fn paragraph_extent<R: Source>(
         match tail {
             Tail::More if is_full => return extent_beyond(feed, run, reader),
             Tail::More => feed.fill(reader)?,
-            Tail::Nothing => return ended_by_file(feed, run),
+            Tail::Nothing => return ended_by_file(feed, run, ends),
             Tail::Beyond => return Err(refused(feed, Code::FileTooLong, run)),
         }
     }
@@ -105,6 +110,8 @@ fn extent_beyond<R: Source>(feed: &mut Feed, run: Run, reader: &mut R) -> Result
     ensures ahead { (text : List ℕ) → IsAhead text [] (feed_state feed.old) (R.left reader.old)
         → IsExtentAhead text
         (feed_state feed.old) result (feed_state feed.new) (R.left reader.new) }
+    ensures ends { IfOk result (λ extent. line_ends (take run.bytes (feed_state feed.old).unread)
+        ≡ piece_ends (take extent.end (feed_state feed.new).unread)) }
     ensures same { SameCounts (feed_state feed.old) (feed_state feed.new) }
     ensures taken { Takes (had (feed_state feed.old)) (R.left reader.old)
         (file_limit + piece_limit) (R.left reader.new) }
@@ -128,14 +135,17 @@ fn extent_beyond<R: Source>(feed: &mut Feed, run: Run, reader: &mut R) -> Result
 
 /// As `paragraph_extent`, where the file ends with the line behind the run, whose newline is
 /// missing.
-fn ended_by_file(feed: &Feed, run: Run) -> Result<Extent, Fault>
+fn ended_by_file(feed: &Feed, run: Run, ends: &mut Vec<u32>) -> Result<Extent, Fault>
     requires ended { IsTrue (feed_state feed.now).ended }
     requires room { length (feed_state feed.now).unread ≤ room_ahead (feed_state feed.now) }
     requires stops { Stops (feed_state feed.now).unread Open run }
+    requires ends { ends.old.items ≡ line_ends (take run.bytes (feed_state feed.now).unread) }
     ensures found { HasExtent result (feed_state feed.now) }
     ensures ahead { (text : List ℕ) → (left : Option (List ℕ))
         → IsAhead text [] (feed_state feed.now) left
         → IsExtentAhead text (feed_state feed.now) result (feed_state feed.now) left }
+    ensures ends { IfOk result (λ extent.
+        ends.new.items ≡ piece_ends (take extent.end (feed_state feed.now).unread)) }
     ensures fault { IfErr result (λ fault. IsReadersFault fault IsRefusalOfText) }
     ensures counted { (failures : ℕ) → failures ≡ read_failures_after failures result }
 {
@@ -146,6 +156,7 @@ fn ended_by_file(feed: &Feed, run: Run) -> Result<Extent, Fault>
     if all >= PARAGRAPH_LIMIT {
         return Err(refused(feed, Code::ParagraphTooLong, run));
     }
+    ends.push(all as u32)?;
     Ok(Extent {
         end: all,
         skip: all,

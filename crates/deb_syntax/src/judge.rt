@@ -8,8 +8,9 @@ ghost use Rattle.deb_base.specs.Kinds.{known_row};
 ghost use Rattle.deb_base.specs.KnownFields.{row_of, IsAtFront};
 ghost use Rattle.deb_base.specs.Bodies.{newline, pieces_of};
 ghost use Rattle.deb_syntax.specs.Fields.{Field, has_name};
+ghost use Rattle.deb_syntax.specs.LineEnds.{piece_ends};
 ghost use Rattle.deb_syntax.specs.Judging.{begins_comment, is_named, field_line, judged, line_judged};
-ghost use Rattle.deb_syntax.specs.Places.{begun_fields, fields_at, lies_within, pieces_behind, LastGoesOn, StandsAt, IsFaultOf};
+ghost use Rattle.deb_syntax.specs.Places.{begun_fields, fields_at, lies_within, LastGoesOn, StandsAt, IsFaultOf};
 
 use crate::field_name::{is_name, name_bytes};
 use crate::place::Place;
@@ -36,8 +37,8 @@ struct Line {
 /// Finds where the fields of a paragraph stand, or the first refusal of one of its lines (Debian
 /// Policy 5.1; deb822(5), "Syntax").
 ///
-/// `text` is the paragraph's lines with a newline between two of them, and `first_line` is the
-/// number of the first. After Ok `places` holds the places of the fields in the text, and no
+/// `text` is the paragraph's lines with a newline between two of them, `ends` is where each of them
+/// ends in it, and `first_line` is the number of the first. After Ok `places` holds the places of the fields in the text, and no
 /// others; after an error what it holds isn't told.
 ///
 /// Refused: a line isn't UTF-8 (`NotUtf8`), begins an armoured message (`Armour`) or a comment
@@ -48,10 +49,12 @@ struct Line {
 pub(crate) fn judge(
     alloc: Global,
     text: &[u8],
+    ends: &[u32],
     first_line: u64,
     places: &mut Vec<Place>,
 ) -> Result<(), Fault>
-    requires { first_line + length text.now < 2 ^ 64 }
+    requires ends { ends.now ≡ piece_ends text.now }
+    requires lines { first_line + length text.now + 1 < 2 ^ 64 }
     ensures ok { OnOk result
         (judged first_line (pieces_of text.now) ≡ Ok (fields_at text.now places.new.items)) }
     ensures within { OnOk result (IsTrue (list_all (lies_within text.now)
@@ -63,31 +66,13 @@ pub(crate) fn judge(
     let mut names = Names::new(alloc);
     let mut number = first_line;
     let mut start = 0;
-    loop {
-        let end = line_end(text, start);
+    for end in ends {
+        let end = *end as usize;
         judge_line(text, Line { number, start, end }, utf8, places, &mut names)?;
-        if end == text.len() {
-            return Ok(());
-        }
         start = end + 1;
         number += 1;
     }
-}
-
-/// Where the line that begins at `start` ends, without its newline.
-#[tactic(auto, using(crate::proofs::Pieces::cutting))]
-fn line_end(text: &[u8], start: usize) -> usize
-    requires { start ≤ length text.now }
-    ensures after { start ≤ result }
-    ensures within { result ≤ length text.now }
-    ensures newline { result < length text.now → slice_index text.now result ≡ newline }
-    ensures pieces { pieces_of (drop start text.now)
-        ≡ slice_range text.now start result ∷ pieces_behind text.now result }
-{
-    match memchr(b'\n', &text[start..]) {
-        Some(length) => start + length,
-        None => text.len(),
-    }
+    Ok(())
 }
 
 /// Judges one line after the lines before it. `utf8` says that it is UTF-8; else it is asked.

@@ -46,6 +46,8 @@ pub struct Paragraphs {
     /// failed, or if `begins` was called since.
     current: Option<Standing>,
     places: Vec<Place>,
+    /// Where each line of the paragraph ends, while it is judged.
+    ends: Vec<u32>,
     fault: Option<Fault>,
     alloc: Global,
     ghost near: { IsNear (feed_state feed).unread },
@@ -88,6 +90,7 @@ impl Paragraphs {
             finished: false,
             current: None,
             places: Vec::new(alloc),
+            ends: Vec::new(alloc),
             fault: None,
             alloc,
         }
@@ -321,7 +324,8 @@ impl Paragraphs {
         ensures source_untouched { IsTrue (state_of self.old).ended → reader.new ≡ reader.old }
         ensures kept { self.new.fault ≡ self.old.fault }
     {
-        match pass_paragraph(self.alloc, &mut self.feed, begun, reader, &mut self.places) {
+        let (places, ends) = (&mut self.places, &mut self.ends);
+        match pass_paragraph(self.alloc, &mut self.feed, begun, reader, places, ends) {
             Ok(standing) => {
                 self.current = Some(standing);
                 Ok(())
@@ -342,6 +346,7 @@ fn pass_paragraph<R: Source>(
     begun: Begun,
     reader: &mut R,
     places: &mut Vec<Place>,
+    ends: &mut Vec<u32>,
 ) -> Result<Standing, Fault>
     requires line { KeepsLine begun (feed_state feed.old) }
     requires reach { (feed_state feed.old).bytes + length (feed_state feed.old).unread
@@ -358,10 +363,10 @@ fn pass_paragraph<R: Source>(
     ensures counted { R.failures reader.new ≡ read_failures_after (R.failures reader.old) result }
     ensures source_untouched { IsTrue (feed_state feed.old).ended → reader.new ≡ reader.old }
 {
-    let extent = paragraph_extent(feed, begun, reader)?;
+    let extent = paragraph_extent(feed, begun, reader, ends)?;
     let first_line = feed.lines() + 1;
     let paragraph = &feed.unread()[..extent.end];
-    match judge(alloc, paragraph, first_line, places) {
+    match judge(alloc, paragraph, ends.as_slice(), first_line, places) {
         Ok(()) => {
             let from = feed.start();
             feed.pass(extent.skip, extent.bytes, extent.lines);

@@ -1,7 +1,9 @@
-use Rattle.deb_syntax.proofs.Common.{◌∙◌, sym, arith, feed_state}
+use Rattle.deb_syntax.proofs.Common.{◌∙◌, sym, ap, take, arith, feed_state}
 use Rattle.deb_base.specs.Bodies.{paragraph_limit}
 use Rattle.deb_syntax.proofs.EndingSteps.{stops-few, file-some, file-none-found, file-none-ahead, file-last-found, file-last-ahead, file-long-ahead}
 use Rattle.deb_syntax.proofs.Feeds.{feed_few}
+use Rattle.deb_syntax.specs.LineEnds.{piece_ends}
+use Rattle.deb_syntax.proofs.LineEnds.{line_ends-closed, line_ends-last}
 use Rattle.deb_syntax.proofs.ending.ended_by_file.Goals as goal
 
 pub ended_by_end-requires-clause-some : goal.ended_by_end-requires-clause-some
@@ -50,3 +52,14 @@ unfolding paragraph_limit
 returns-clause-ahead c =
     λ text left a.
     file-last-ahead (feed_state c.args.feed.now) c.args.run c.requires.stops text left (sym (c.is_blank.ensures _ c.requires.stops.stands.describes) ∙ c.if-is_blank.false) c.requires.room c.if-all-ge-PARAGRAPH_LIMIT.false c.requires.ended a
+
+pub returns-then-is_blank-clause-ends : goal.returns-then-is_blank-clause-ends
+returns-then-is_blank-clause-ends c =
+    let state = feed_state c.args.feed.now in
+    let s = c.requires.stops in
+    c.requires.ends
+    ∙ line_ends-closed state.unread c.args.run s.lines s.seen s.fresh s.stands (file-some state c.args.run s (sym (c.is_blank.ensures _ s.stands.describes) ∙ c.if-is_blank.true))
+    ∙ ap (λ n. piece_ends (take n state.unread)) (sym c.ended_by_end.ensures.end)
+
+pub returns-clause-ends : goal.returns-clause-ends
+returns-clause-ends c = c.in_ok-push.ensures.items ∙ line_ends-last (feed_state c.args.feed.now).unread c.args.run _ c.requires.stops c.requires.ends

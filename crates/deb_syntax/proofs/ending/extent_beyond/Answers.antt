@@ -1,7 +1,8 @@
-use Rattle.deb_syntax.proofs.Common.{◌≡◌, ◌∙◌, ◌+◌, sym, subst, arith, err_from_is_err_and, ParagraphTooLong, Refused, HasNewline, TextAfterLine, feed_state}
+use Rattle.deb_syntax.proofs.Common.{◌≡◌, ◌∙◌, ◌+◌, ap, sym, subst, arith, err_from_is_err_and, ParagraphTooLong, Refused, HasNewline, TextAfterLine, feed_state}
 use Rattle.deb_base.specs.Bodies.{paragraph_limit}
 use Rattle.deb_syntax.specs.Lines.{file_limit}
 use Rattle.deb_syntax.proofs.EndingSteps.{stops-few, dropped-refused, dropped-within, dropped-some, dropped-long, dropped-blank-found, dropped-blank-ahead, dropped-none-found, dropped-none-ahead}
+use Rattle.deb_syntax.proofs.LineEnds.{dropped-ends}
 use Rattle.deb_syntax.proofs.ending.extent_beyond.Goals as goal
 
 pub drop_line-requires-clause-short : goal.drop_line-requires-clause-short
@@ -93,3 +94,21 @@ returns-in-None-clause-ahead g c = λ text a.
     dropped-none-ahead before after c.args.run c.requires.stops c.in_ok-dropped.dropped d text _ _ c.requires.full
     (sym (c.is_blank.ensures _ d.describes) ∙ c.if-not-is_blank.false) (subst (λ at. HasNewline before c.args.run d.line at after) c.in-None.is h.1)
     (subst (λ at. TextAfterLine text before c.args.run d.line at after (g.R.Source.left c.drop_line.new.reader)) c.in-None.is (h.2 text a)) r.end r.skip r.bytes r.none r.one
+
+pub returns-in-Some-clause-ends : goal.returns-in-Some-clause-ends
+returns-in-Some-clause-ends g c =
+    let before = feed_state c.args.feed.now in
+    let after = feed_state c.drop_line.new.feed in
+    let d = c.in_ok-dropped.ensures.drops.0 in
+    let blank = sym (c.is_blank.ensures _ d.describes) ∙ c.if-not-is_blank.false in
+    dropped-ends before after c.args.run c.requires.stops c.in_ok-dropped.dropped d c.ended_by_blank.result.end
+    (dropped-some before after c.args.run c.requires.stops c.in_ok-dropped.dropped d c.requires.full blank) (ap (λ e. e.end) c.ended_by_blank.ensures)
+
+pub returns-in-None-clause-ends : goal.returns-in-None-clause-ends
+returns-in-None-clause-ends g c =
+    let before = feed_state c.args.feed.now in
+    let after = feed_state c.drop_line.new.feed in
+    let d = c.in_ok-dropped.ensures.drops.0 in
+    let blank = sym (c.is_blank.ensures _ d.describes) ∙ c.if-not-is_blank.false in
+    dropped-ends before after c.args.run c.requires.stops c.in_ok-dropped.dropped d c.ended_by_end.result.end
+    (dropped-some before after c.args.run c.requires.stops c.in_ok-dropped.dropped d c.requires.full blank) (c.ended_by_end.ensures.end)

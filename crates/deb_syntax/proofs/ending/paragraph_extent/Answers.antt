@@ -1,14 +1,18 @@
-use Rattle.deb_syntax.proofs.Common.{◌∙◌, length, Ok, Err, refl, sym, ap, subst, arith, false≢true, feed_state, had, IsTail, Open, Blank, TooLong}
+use Rattle.deb_syntax.proofs.Common.{◌∙◌, ◌-◌, ◌≤◌, take, room_ahead, length, Ok, Err, refl, sym, ap, subst, arith, false≢true, feed_state, had, IsTail, Open, Blank, TooLong, Extent}
 use Rattle.deb_base.specs.Bodies.{paragraph_limit}
-use Rattle.deb_syntax.proofs.EndingWalks.{walks-start, walks-more, same-ahead, sees-unread, seen-stops, unread-stops, blank-some, stop-blank-found, stop-blank-ahead, stop-long-ahead, stop-beyond-ahead}
-use Rattle.deb_syntax.proofs.EndingSteps.{stops-few}
+use Rattle.deb_syntax.proofs.EndingWalks.{walks-start, walks-more, same-ahead, sees-ahead, sees-unread, seen-stops, unread-stops, blank-some, stop-blank-found, stop-blank-ahead, stop-long-ahead, stop-beyond-ahead}
+use Rattle.deb_syntax.proofs.EndingSteps.{open-length, stops-few}
+use Rattle.deb_syntax.proofs.WalkingLines.{length-front}
 use Rattle.deb_syntax.proofs.Feeds.{feed_small}
 use Rattle.deb_syntax.proofs.Takings.{takes_none, takes_more, takes_then, comes_takes, stays_takes, more-reach, still-less}
+use Rattle.deb_syntax.specs.LineEnds.{line_ends, piece_ends}
+use Rattle.deb_syntax.proofs.LineEnds.{line_ends-closed, take-more, take-seen}
 use Rattle.deb_syntax.proofs.ending.paragraph_extent.Goals as goal
 
 pub pieces-init : goal.pieces-init
 pieces-init g c = record {
   walks = walks-start (feed_state c.args.feed.now) (g.R.Source.left c.args.reader.now) c.args.begun c.requires.line;
+  ends = c.clear.ensures.items;
   takes = takes_none _ _ _ (omega arith);
   taken = takes_none _ _ _ c.requires.reach;
   counted = refl;
@@ -20,40 +24,40 @@ sight-sight-requires g c = omega (arith, feed_small c.pieces.feed)
 
 pub ended_by_blank-requires-clause-some : goal.ended_by_blank-requires-clause-some
 ended_by_blank-requires-clause-some g c =
-    blank-some (feed_state c.pieces.feed) c.take_lines-taken.result.run
-    (seen-stops (feed_state c.pieces.feed) c.sight-sight.result c.take_lines-taken.result.stop Blank c.take_lines-taken.result.run c.sight-sight.ensures c.in-Blank.is c.take_lines-taken.ensures.stops)
+    blank-some (feed_state c.pieces.feed) c.in_ok-taken.taken.run
+    (seen-stops (feed_state c.pieces.feed) c.sight-sight.result c.in_ok-taken.taken.stop Blank c.in_ok-taken.taken.run c.sight-sight.ensures c.in-Blank.is c.in_ok-taken.ensures.stops)
 
 pub ended_by_blank-requires-clause-lines : goal.ended_by_blank-requires-clause-lines
 unfolding paragraph_limit
-ended_by_blank-requires-clause-lines g c = omega (arith, stops-few _ _ _ c.take_lines-taken.ensures.stops, c.take_lines-taken.ensures.stops.stands.short)
+ended_by_blank-requires-clause-lines g c = omega (arith, stops-few _ _ _ c.in_ok-taken.ensures.stops, c.in_ok-taken.ensures.stops.stands.short)
 
 pub returns-in-Blank-clause-found : goal.returns-in-Blank-clause-found
 returns-in-Blank-clause-found g c =
-    stop-blank-found (feed_state c.pieces.feed) c.take_lines-taken.result.run
-    (seen-stops (feed_state c.pieces.feed) c.sight-sight.result c.take_lines-taken.result.stop Blank c.take_lines-taken.result.run c.sight-sight.ensures c.in-Blank.is c.take_lines-taken.ensures.stops)
-    _ (omega (arith, c.pieces.invariant.walks.near, c.take_lines-taken.ensures.further)) c.ended_by_blank.ensures
+    stop-blank-found (feed_state c.pieces.feed) c.in_ok-taken.taken.run
+    (seen-stops (feed_state c.pieces.feed) c.sight-sight.result c.in_ok-taken.taken.stop Blank c.in_ok-taken.taken.run c.sight-sight.ensures c.in-Blank.is c.in_ok-taken.ensures.stops)
+    _ (omega (arith, c.pieces.invariant.walks.near, c.in_ok-taken.ensures.further)) c.ended_by_blank.ensures
 
 pub returns-in-Blank-clause-ahead : goal.returns-in-Blank-clause-ahead
 returns-in-Blank-clause-ahead g c = λ text a.
     let state = feed_state c.pieces.feed in
     let w = c.pieces.invariant.walks in
     same-ahead text (feed_state c.args.feed.now) state state (g.R.Source.left c.pieces.reader) (Ok c.ended_by_blank.result) w.counts
-    (stop-blank-ahead state c.take_lines-taken.result.run
-    (seen-stops state c.sight-sight.result c.take_lines-taken.result.stop Blank c.take_lines-taken.result.run c.sight-sight.ensures c.in-Blank.is c.take_lines-taken.ensures.stops)
-    text (g.R.Source.left c.pieces.reader) c.ended_by_blank.result (omega (arith, w.near, c.take_lines-taken.ensures.further)) c.ended_by_blank.ensures (w.ahead text a))
+    (stop-blank-ahead state c.in_ok-taken.taken.run
+    (seen-stops state c.sight-sight.result c.in_ok-taken.taken.stop Blank c.in_ok-taken.taken.run c.sight-sight.ensures c.in-Blank.is c.in_ok-taken.ensures.stops)
+    text (g.R.Source.left c.pieces.reader) c.ended_by_blank.result (omega (arith, w.near, c.in_ok-taken.ensures.further)) c.ended_by_blank.ensures (w.ahead text a))
 
 pub refused-requires : goal.refused-requires
 unfolding paragraph_limit
 refused-requires g c =
-    omega (arith, stops-few _ _ _ c.take_lines-taken.ensures.stops, c.take_lines-taken.ensures.stops.stands.short, c.pieces.feed.few, c.pieces.feed.small)
+    omega (arith, stops-few _ _ _ c.in_ok-taken.ensures.stops, c.in_ok-taken.ensures.stops.stands.short, c.pieces.feed.few, c.pieces.feed.small)
 
 pub returns-in-TooLong-clause-ahead : goal.returns-in-TooLong-clause-ahead
 returns-in-TooLong-clause-ahead g c = λ text a.
     let state = feed_state c.pieces.feed in
     let w = c.pieces.invariant.walks in
     same-ahead text (feed_state c.args.feed.now) state state (g.R.Source.left c.pieces.reader) (Err c.refused.result) w.counts
-    (stop-long-ahead state c.take_lines-taken.result.run
-    (seen-stops state c.sight-sight.result c.take_lines-taken.result.stop TooLong c.take_lines-taken.result.run c.sight-sight.ensures c.in-TooLong.is c.take_lines-taken.ensures.stops)
+    (stop-long-ahead state c.in_ok-taken.taken.run
+    (seen-stops state c.sight-sight.result c.in_ok-taken.taken.stop TooLong c.in_ok-taken.taken.run c.sight-sight.ensures c.in-TooLong.is c.in_ok-taken.ensures.stops)
     text (g.R.Source.left c.pieces.reader) c.refused.result c.refused.ensures (w.ahead text a))
 
 pub extent_beyond-requires-clause-full : goal.extent_beyond-requires-clause-full
@@ -79,12 +83,16 @@ pub pieces-preserved : goal.pieces-preserved
 pieces-preserved g c =
     let state = feed_state c.pieces.feed in
     let tail = subst (IsTail state 0) c.in-More-2.is c.sight-sight.ensures.tail in
+    let stops = unread-stops state c.sight-sight.result c.in_ok-taken.taken.stop Open c.in_ok-taken.taken.run c.sight-sight.ensures tail.0 c.in-Open.is c.in_ok-taken.ensures.stops in
     let takes = takes_then _ _ _ _ (had (feed_state c.fill.new.self)) _ _ _ c.pieces.invariant.takes (comes_takes _ _ _ _ c.in_ok-fill-in-More-2.ensures.taken) (omega arith) in
     record {
-      walks = walks-more (feed_state c.args.feed.now) (g.R.Source.left c.args.reader.now) c.pieces.run c.take_lines-taken.result.run state (feed_state c.fill.new.self)
+      walks = walks-more (feed_state c.args.feed.now) (g.R.Source.left c.args.reader.now) c.pieces.run c.in_ok-taken.taken.run state (feed_state c.fill.new.self)
           (g.R.Source.left c.pieces.reader) (g.R.Source.left c.fill.new.reader) c.pieces.invariant.walks
-          (unread-stops state c.sight-sight.result c.take_lines-taken.result.stop Open c.take_lines-taken.result.run c.sight-sight.ensures tail.0 c.in-Open.is c.take_lines-taken.ensures.stops)
+          stops
           (omega (arith, tail.0)) c.in_ok-fill-in-More-2.ensures.taken;
+      ends = c.in_ok-taken.ensures.ends
+          ∙ ap (λ zs. line_ends (take c.in_ok-taken.taken.run.bytes zs)) (sees-unread state c.sight-sight.result c.sight-sight.ensures tail.0)
+          ∙ ap line_ends (sym (take-more c.in_ok-taken.taken.run.bytes state.unread _ _ (omega (arith, open-length state.unread c.in_ok-taken.taken.run stops)) c.in_ok-fill-in-More-2.ensures.taken.unread));
       takes = takes;
       taken = takes_more _ _ _ _ _ _ takes (omega arith) (more-reach state (feed_state c.fill.new.self) (g.R.Source.left c.pieces.reader) (g.R.Source.left c.fill.new.reader) (feed_small c.pieces.feed) tail.0 c.in_ok-fill-in-More-2.ensures.taken);
       counted = c.in_ok-fill-in-More-2.ensures.counted ∙ c.pieces.invariant.counted;
@@ -100,7 +108,7 @@ returns-in-Nothing-clause-ahead g c = λ text a.
 pub refused-requires-in-Beyond : goal.refused-requires-in-Beyond
 unfolding paragraph_limit
 refused-requires-in-Beyond g c =
-    omega (arith, stops-few _ _ _ c.take_lines-taken.ensures.stops, c.take_lines-taken.ensures.stops.stands.short, c.pieces.feed.few, c.pieces.feed.small)
+    omega (arith, stops-few _ _ _ c.in_ok-taken.ensures.stops, c.in_ok-taken.ensures.stops.stands.short, c.pieces.feed.few, c.pieces.feed.small)
 
 pub returns-in-Beyond-clause-ahead : goal.returns-in-Beyond-clause-ahead
 returns-in-Beyond-clause-ahead g c = λ text a.
@@ -108,8 +116,8 @@ returns-in-Beyond-clause-ahead g c = λ text a.
     let w = c.pieces.invariant.walks in
     let tail = subst (IsTail state 0) c.in-Beyond.is c.sight-sight.ensures.tail in
     same-ahead text (feed_state c.args.feed.now) state state (g.R.Source.left c.pieces.reader) (Err c.refused-in-Beyond.result) w.counts
-    (stop-beyond-ahead state c.take_lines-taken.result.run
-    (seen-stops state c.sight-sight.result c.take_lines-taken.result.stop Open c.take_lines-taken.result.run c.sight-sight.ensures c.in-Open.is c.take_lines-taken.ensures.stops)
+    (stop-beyond-ahead state c.in_ok-taken.taken.run
+    (seen-stops state c.sight-sight.result c.in_ok-taken.taken.stop Open c.in_ok-taken.taken.run c.sight-sight.ensures c.in-Open.is c.in_ok-taken.ensures.stops)
     (omega (arith, tail)) text (g.R.Source.left c.pieces.reader) c.refused-in-Beyond.result c.refused-in-Beyond.ensures (w.ahead text a))
 
 pub returns-in_err-fill-in-More-2-clause-taken : goal.returns-in_err-fill-in-More-2-clause-taken
@@ -117,3 +125,17 @@ returns-in_err-fill-in-More-2-clause-taken g c = takes_then _ _ _ _ _ _ _ _ c.pi
 
 pub returns-in-More-clause-taken : goal.returns-in-More-clause-taken
 returns-in-More-clause-taken g c = takes_then _ _ _ _ _ _ _ _ c.pieces.invariant.takes c.extent_beyond.ensures.taken (omega arith)
+
+pub returns-in-Blank-clause-ends : goal.returns-in-Blank-clause-ends
+returns-in-Blank-clause-ends g c =
+    let state = feed_state c.pieces.feed in
+    let run = c.in_ok-taken.taken.run in
+    let s = seen-stops state c.sight-sight.result c.in_ok-taken.taken.stop Blank run c.sight-sight.ensures c.in-Blank.is c.in_ok-taken.ensures.stops in
+    let room = room_ahead state in
+    let size = length-front (take room state.unread) s.lines _ s.stands.front in
+    let short : run.bytes - 1 ≤ length (take room state.unread) = omega (arith, s.stands.bytes) in
+    c.in_ok-taken.ensures.ends
+    ∙ ap (λ zs. line_ends (take run.bytes zs)) (sees-ahead state c.sight-sight.result c.sight-sight.ensures)
+    ∙ line_ends-closed (take room state.unread) run s.lines s.seen s.fresh s.stands (blank-some state run s)
+    ∙ ap piece_ends (sym (take-seen (run.bytes - 1) room state.unread short))
+    ∙ ap (λ (e : Extent). piece_ends (take e.end state.unread)) (sym c.ended_by_blank.ensures)

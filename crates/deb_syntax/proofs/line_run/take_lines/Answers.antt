@@ -1,14 +1,16 @@
 use Rattle.deb_syntax.proofs.Common.{◌∙◌, ◌+◌, ◌∷◌, ◌≤◌, refl, sym, subst, arith, not-true, not-false, take_rest, newline, GoesAlong}
 use Rattle.deb_base.specs.Bodies.{paragraph_limit}
 use Rattle.deb_syntax.proofs.WalkingRuns.{CanGoOn-within, CanGoOn-few, run-open-from, run-ended-from, run-step}
+use Rattle.deb_syntax.proofs.LineEnds.{line_ends-step}
 use Rattle.deb_syntax.proofs.line_run.take_lines.Goals as goal
 
 pub loop-next-init : goal.loop-next-init
 loop-next-init c = record {
-  stands = c.requires;
-  within = CanGoOn-within c.args.text.now c.args.run c.requires;
-  few = CanGoOn-few c.args.text.now c.args.run c.requires;
+  stands = c.requires.run;
+  within = CanGoOn-within c.args.text.now c.args.run c.requires.run;
+  few = CanGoOn-few c.args.text.now c.args.run c.requires.run;
   further = omega arith;
+  ends = c.requires.ends;
 }
 
 pub returns-then-not-next-clause-stops : goal.returns-then-not-next-clause-stops
@@ -34,9 +36,9 @@ returns-then-is_blank-clause-stops c =
       stopped = ((e.rest, refl), sym (c.is_blank.ensures e.seen e.stands.describes) ∙ c.if-is_blank.true);
     }
 
-pub returns-then-bytes-next-ge-PARAGRAPH_LIMIT-clause-stops : goal.returns-then-bytes-next-ge-PARAGRAPH_LIMIT-clause-stops
+pub returns-then-end-ge-PARAGRAPH_LIMIT-clause-stops : goal.returns-then-end-ge-PARAGRAPH_LIMIT-clause-stops
 unfolding paragraph_limit
-returns-then-bytes-next-ge-PARAGRAPH_LIMIT-clause-stops c =
+returns-then-end-ge-PARAGRAPH_LIMIT-clause-stops c =
     let text = c.args.text.now in
     let l = c.loop-next in
     let e = run-ended-from text (record { bytes = l.bytes; lines = l.lines; begun = l.begun }) c.along-next.result l.invariant.stands
@@ -50,7 +52,7 @@ returns-then-bytes-next-ge-PARAGRAPH_LIMIT-clause-stops c =
       stopped = (
         (e.rest, refl),
         sym (c.is_blank.ensures e.seen e.stands.describes) ∙ c.if-is_blank.false,
-        omega (arith, e.stands.describes.len, c.if-bytes-next-ge-PARAGRAPH_LIMIT.true),
+        omega (arith, e.stands.describes.len, c.if-end-ge-PARAGRAPH_LIMIT.true),
       );
     }
 
@@ -62,7 +64,7 @@ loop-next-preserved c =
     let e = run-ended-from text (record { bytes = l.bytes; lines = l.lines; begun = l.begun }) c.along-next.result l.invariant.stands
     (λ seen d. subst (λ zs. GoesAlong seen zs c.along-next.result) (take_rest text (l.bytes + l.begun.len)) (c.along-next.ensures.goes seen d))
     (not-false _ c.if-not-next.false) in
-    let short : l.bytes + (c.along-next.result.begun.len + 1) ≤ paragraph_limit = omega (arith, c.if-bytes-next-ge-PARAGRAPH_LIMIT.false) in
+    let short : l.bytes + (c.along-next.result.begun.len + 1) ≤ paragraph_limit = omega (arith, c.if-end-ge-PARAGRAPH_LIMIT.false) in
     let stands = run-step text (record { bytes = l.bytes; lines = l.lines; begun = c.along-next.result.begun }) c.nothing-begun.result e c.nothing-begun.ensures
     (sym (c.is_blank.ensures e.seen e.stands.describes) ∙ c.if-is_blank.false) short in
     record {
@@ -70,4 +72,5 @@ loop-next-preserved c =
       within = CanGoOn-within text _ stands;
       few = CanGoOn-few text _ stands;
       further = omega arith;
+      ends = c.in_ok-push.ensures.items ∙ line_ends-step text (record { bytes = l.bytes; lines = l.lines; begun = c.along-next.result.begun }) l.ends.items e l.invariant.ends;
     }
