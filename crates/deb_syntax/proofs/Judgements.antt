@@ -1,5 +1,5 @@
 -- What is judged of one line, and of the lines up to it.
-use Rattle.deb_syntax.proofs.Common.{◌≡◌, ℕ, ◌+◌, true, false, List, [], ◌∷◌, slice_range, Ok, Err, ap, sym, subst, ◌∙◌, IsUtf8, IsTrue, AllByRecursion, false≢true, false_from_ne_true, IsUtf8-from_is_utf8, is_utf8-from_IsUtf8, map-map, NotUtf8, Line, pieces_of, begins_with_blank, Field, line_judged, lines_judged, judged, continuation_line, field_line, ended, begun_at, begun_fields, fields_at, Place, IsUtf8-lines, Fault, IsFaultOf, Refused, Memory, Read, Write}
+use Rattle.deb_syntax.proofs.Common.{◌≡◌, ℕ, ◌+◌, true, false, List, [], ◌∷◌, slice_range, Ok, Err, ap, sym, subst, ◌∙◌, IsUtf8, IsTrue, AllByRecursion, false≢true, false_from_ne_true, IsUtf8-from_is_utf8, is_utf8-from_IsUtf8, map-map, NotUtf8, Line, pieces_of, begins_with_blank, Field, line_judged, lines_judged, judged, continuation_line, field_line, ended, begun_at, begun_fields, fields_at, Place, IsUtf8-lines, Fault, IsFaultOf, Refusal, Refused, Memory, Read, Write}
 use Rattle.deb_syntax.proofs.LineEnds.{pieces_from}
 use Rattle.deb_syntax.proofs.LinesLaws.{joined-pieces_of}
 
@@ -22,10 +22,13 @@ module _ (text : List ℕ) (first n start : ℕ) (places : List Place)
       so_far ∙ ap (lines_judged n (Ok (begun_fields text places))) pieces
       ∙ ap (λ r. lines_judged (n + 1) r (pieces_from text (end + 1))) ok
 
-  pub judged-fault : (end : ℕ) (fault : Fault) → pieces_from text start ≡ slice_range text start end ∷ pieces_from text (end + 1) → IsFaultOf (line_judged n (begun_fields text places) (slice_range text start end)) fault → IsFaultOf (judged first (pieces_of text)) fault
-  judged-fault end (Refused refusal) pieces h =
+  pub judged-refused : (end : ℕ) (refusal : Refusal) → pieces_from text start ≡ slice_range text start end ∷ pieces_from text (end + 1) → line_judged n (begun_fields text places) (slice_range text start end) ≡ Err refusal → judged first (pieces_of text) ≡ Err refusal
+  judged-refused end refusal pieces h =
       so_far ∙ ap (lines_judged n (Ok (begun_fields text places))) pieces
       ∙ ap (λ r. lines_judged (n + 1) r (pieces_from text (end + 1))) h
+
+  pub judged-fault : (end : ℕ) (fault : Fault) → pieces_from text start ≡ slice_range text start end ∷ pieces_from text (end + 1) → IsFaultOf (line_judged n (begun_fields text places) (slice_range text start end)) fault → IsFaultOf (judged first (pieces_of text)) fault
+  judged-fault end (Refused refusal) pieces h = judged-refused end refusal pieces h
   judged-fault end Memory pieces h = tt
   judged-fault end Read pieces h = h
   judged-fault end Write pieces h = h

@@ -1,5 +1,5 @@
 -- Where lines end: those of a run as it grows, those of a paragraph, and one after another.
-use Rattle.deb_syntax.proofs.Common.{◌≡◌, ℕ, ◌+◌, ◌-◌, ◌<◌, ◌≤◌, suc, nat_le, Bool, true, false, cond, eqb, eqb-true, le-leb, lt-leb, cases_lt, inl, inr, List, [], ◌∷◌, ◌++◌, length, take, drop, slice_index, get_or, slice_range, refl, sym, ap, ◌∙◌, arith, length-append, length-drop, take_all, take-append-drop, take-append-le, drop-drop, drop_all, drop_more, length-take-le, Line, newline, line_length, pieces_of, with_byte, with_newlines, StandInFront, RunStands, Stops, Run, Open, FeedState, DroppedLine, DropsLine}
+use Rattle.deb_syntax.proofs.Common.{zero, subst, IsUtf8, AllByRecursion, ◌≡◌, ℕ, ◌+◌, ◌-◌, ◌<◌, ◌≤◌, suc, nat_le, Bool, true, false, cond, eqb, eqb-true, le-leb, lt-leb, cases_lt, inl, inr, List, [], ◌∷◌, ◌++◌, length, take, drop, slice_index, get_or, slice_range, refl, sym, ap, ◌∙◌, arith, length-append, length-drop, take_all, take-append-drop, take-append-le, drop-drop, drop_all, drop_more, length-take-le, Line, newline, line_length, pieces_of, with_byte, with_newlines, StandInFront, RunStands, Stops, Run, Open, FeedState, DroppedLine, DropsLine}
 use Rattle.std.proofs.lemmas.List.{get_or-drop}
 use Rattle.deb_syntax.specs.LineEnds.{ends_from, line_ends, piece_ends}
 use Rattle.deb_syntax.proofs.EndingSteps.{open-front, open-length}
@@ -170,3 +170,11 @@ no_line text ends start k left le = go (pieces_from text start) (sym left ∙ dr
     go : (lines : List Line) → ends_from start lines ≡ [] → lines ≡ []
     go [] is = refl
     go (line ∷ lines) is = let count : suc (length (ends_from (start + line_length line) lines)) ≡ 0 = ap length is in absurd (omega (arith, count))
+
+-- each line of a text that was checked as a whole is UTF-8
+pub known_line : (text : List ℕ) (start end checked : ℕ) (ends : List ℕ) → IsLineAt text start end ends → (0 < checked → AllByRecursion IsUtf8 (pieces_from text start)) → end ≤ checked → IsUtf8 (slice_range text start end)
+known_line text start zero checked ends line all le =
+    let none : zero - start ≡ 0 = omega arith in
+    subst (λ n. IsUtf8 (take n (drop start text))) (sym none) ([], (refl, refl))
+known_line text start (suc end) checked ends line all le =
+    (subst (λ lines. AllByRecursion IsUtf8 lines) line.pieces (all (omega (arith, le)))).0

@@ -38,8 +38,8 @@ struct Line {
 /// Policy 5.1; deb822(5), "Syntax").
 ///
 /// `text` is the paragraph's lines with a newline between two of them, `ends` is where each of them
-/// ends in it, and `first_line` is the number of the first. After Ok `places` holds the places of the fields in the text, and no
-/// others; after an error what it holds isn't told.
+/// ends in it, and `first_line` is the number of the first. After Ok `places` holds the places of
+/// the fields in the text, and no others; after an error what it holds isn't told.
 ///
 /// Refused: a line isn't UTF-8 (`NotUtf8`), begins an armoured message (`Armour`) or a comment
 /// (`Comment`), is a continuation line without a field above it (`StrayContinuation`), has no colon
@@ -62,25 +62,45 @@ pub(crate) fn judge(
     ensures fault { IfErr result (IsFaultOf (judged first_line (pieces_of text.now))) }
 {
     places.clear();
-    let utf8 = is_utf8(text);
+    let checked = utf8_front(text);
     let mut names = Names::new(alloc);
     let mut number = first_line;
     let mut start = 0;
     for end in ends {
         let end = *end as usize;
-        judge_line(text, Line { number, start, end }, utf8, places, &mut names)?;
+        let line = Line { number, start, end };
+        if !is_line_utf8(text, line, checked) {
+            return Err(refused(Code::NotUtf8, line));
+        }
+        judge_line(text, line, places, &mut names)?;
         start = end + 1;
         number += 1;
     }
     Ok(())
 }
 
-/// Judges one line after the lines before it. `utf8` says that it is UTF-8; else it is asked.
+/// How many bytes of the text one look at it shows to be UTF-8: all, or none.
+fn utf8_front(text: &[u8]) -> usize
+    ensures { 0 < result → IsUtf8 text.now }
+{
+    if is_utf8(text) { text.len() } else { 0 }
+}
+
+/// Whether a line is UTF-8. It isn't looked at if it ends within the bytes that were checked.
+fn is_line_utf8(text: &[u8], line: Line, checked: usize) -> bool
+    requires after { line.start ≤ line.end }
+    requires within { line.end ≤ length text.now }
+    requires known { line.end ≤ checked → IsUtf8 (slice_range text.now line.start line.end) }
+    ensures { IsTrue result ↔ IsUtf8 (slice_range text.now line.start line.end) }
+{
+    line.end <= checked || is_utf8(&text[line.start..line.end])
+}
+
+/// Judges one line, which is UTF-8, after the lines before it.
 #[tactic(auto, using(crate::proofs::Judgements::judging, crate::proofs::PlaceLemmas::going_on))]
 fn judge_line<'a>(
     text: &'a [u8],
     line: Line,
-    utf8: bool,
     places: &mut Vec<Place>,
     names: &mut Names<'a>,
 ) -> Result<(), Fault>
@@ -88,7 +108,7 @@ fn judge_line<'a>(
     requires within { line.end ≤ length text.now }
     requires newline { 0 < line.start → slice_index text.now (line.start - 1) ≡ newline }
     requires stands { StandsAt text.now line.start places.old.items names.old }
-    requires utf8 { IsTrue utf8 → IsUtf8 (slice_range text.now line.start line.end) }
+    requires utf8 { IsUtf8 (slice_range text.now line.start line.end) }
     ensures ok { let content = slice_range text.now line.start line.end in
         OnOk result (line_judged line.number (begun_fields text.now places.old.items) content
         ≡ Ok (begun_fields text.now places.new.items)) }
@@ -97,23 +117,11 @@ fn judge_line<'a>(
         IfErr result (IsFaultOf
         (line_judged line.number (begun_fields text.now places.old.items) content)) }
 {
-    let content = &text[line.start..line.end];
-    if !is_line_utf8(content, utf8) {
-        return Err(refused(Code::NotUtf8, line));
-    }
-    if begins_with_blank(content) {
+    if begins_with_blank(&text[line.start..line.end]) {
         continue_field(line, places)
     } else {
         begin_field(text, line, places, names)
     }
-}
-
-/// Whether a line is UTF-8, where that may be known.
-fn is_line_utf8(content: &[u8], known: bool) -> bool
-    requires { IsTrue known → IsUtf8 content.now }
-    ensures { IsTrue result ↔ IsUtf8 content.now }
-{
-    known || is_utf8(content)
 }
 
 /// The refusal of a line.

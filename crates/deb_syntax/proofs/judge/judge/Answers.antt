@@ -1,7 +1,7 @@
 use Rattle.deb_syntax.proofs.Common.{[], ◌∙◌, ◌+◌, ◌-◌, ◌≡◌, slice_index, slice_index_or, refl, sym, subst, ap, arith, IsUtf8, AllByRecursion, Ok, err_from_is_err_and, lines_judged, begun_fields}
 use Rattle.deb_syntax.specs.LineEnds.{ends_from}
-use Rattle.deb_syntax.proofs.Judgements.{judged-step, judged-fault, judged-whole, utf8_pieces}
-use Rattle.deb_syntax.proofs.LineEnds.{next_line, no_line, pieces_from-some}
+use Rattle.deb_syntax.proofs.Judgements.{judged-step, judged-fault, judged-refused, judged-whole, line_judged-not_utf8, utf8_pieces}
+use Rattle.deb_syntax.proofs.LineEnds.{known_line, next_line, no_line, pieces_from-some}
 use Rattle.deb_syntax.proofs.judge.judge.Goals as goal
 
 pub loop-end-init : goal.loop-end-init
@@ -14,17 +14,26 @@ loop-end-init c =
       reached = omega arith;
       behind = λ some within. absurd (omega (arith, some));
       stands = rw c.clear.ensures.items (record { within = refl; reached = refl; kept = c.new-names.ensures text });
-      utf8 = λ is. subst (λ lines. AllByRecursion IsUtf8 lines) whole (utf8_pieces text (c.is_utf8-utf8.ensures.0 is));
+      utf8 = λ is. subst (λ lines. AllByRecursion IsUtf8 lines) whole (utf8_pieces text (c.utf8_front-checked.ensures is));
       so_far = rw c.clear.ensures.items (ap (lines_judged c.args.first_line (Ok (begun_fields text []))) whole);
     }
+
+pub is_line_utf8-requires-clause-within : goal.is_line_utf8-requires-clause-within
+is_line_utf8-requires-clause-within c = (next_line c.args.text.now c.args.ends.now c.loop-end.start c.loop-end.end-index c.loop-end.invariant.left c.loop-end-test.true).within
+
+pub is_line_utf8-requires-clause-known : goal.is_line_utf8-requires-clause-known
+is_line_utf8-requires-clause-known c =
+    let line = next_line c.args.text.now c.args.ends.now c.loop-end.start c.loop-end.end-index c.loop-end.invariant.left c.loop-end-test.true in
+    known_line c.args.text.now c.loop-end.start _ _ _ line c.loop-end.invariant.utf8
 
 pub judge_line-requires-clause-within : goal.judge_line-requires-clause-within
 judge_line-requires-clause-within c = (next_line c.args.text.now c.args.ends.now c.loop-end.start c.loop-end.end-index c.loop-end.invariant.left c.loop-end-test.true).within
 
-pub judge_line-requires-clause-utf8 : goal.judge_line-requires-clause-utf8
-judge_line-requires-clause-utf8 c =
-    let line = next_line c.args.text.now c.args.ends.now c.loop-end.start c.loop-end.end-index c.loop-end.invariant.left c.loop-end-test.true in
-    λ is. (subst (λ lines. AllByRecursion IsUtf8 lines) line.pieces (c.loop-end.invariant.utf8 is)).0
+pub returns-then-not-is_line_utf8-clause-fault : goal.returns-then-not-is_line_utf8-clause-fault
+returns-then-not-is_line_utf8-clause-fault c =
+    let l = c.loop-end in
+    let line = next_line c.args.text.now c.args.ends.now l.start l.end-index l.invariant.left c.loop-end-test.true in
+    rw c.refused.ensures (judged-refused c.args.text.now c.args.first_line l.number l.start l.places.items l.invariant.so_far _ _ line.pieces (line_judged-not_utf8 l.number (begun_fields c.args.text.now l.places.items) _ c.if-not-is_line_utf8.ensures.1))
 
 pub returns-in_err-judge_line-clause-fault : goal.returns-in_err-judge_line-clause-fault
 returns-in_err-judge_line-clause-fault c =

@@ -1,4 +1,4 @@
-use Rattle.deb_syntax.proofs.Common.{◌≡◌, ◌+◌, ◌-◌, ◌<◌, ◌≤◌, length, drop, slice_index, Ok, IsTrue, IsUtf8, AllByRecursion, newline, pieces_of, judged, lines_judged, begun_fields, StandsAt}
+use Rattle.deb_syntax.proofs.Common.{◌≡◌, ◌+◌, ◌-◌, ◌<◌, ◌≤◌, length, drop, slice_index, Ok, IsUtf8, AllByRecursion, newline, pieces_of, judged, lines_judged, begun_fields, StandsAt}
 use Rattle.deb_syntax.specs.LineEnds.{ends_from}
 use Rattle.deb_syntax.proofs.LineEnds.{pieces_from}
 use Rattle.deb_syntax.proofs.judge.judge.Given as goal
@@ -11,6 +11,6 @@ invariant-loop-end l = record {
   reached : l.start ≤ length l.text + 1;
   behind : 0 < l.start → l.start ≤ length l.text → slice_index l.text (l.start - 1) ≡ newline;
   stands : StandsAt l.text l.start l.places.items l.names;
-  utf8 : IsTrue l.utf8 → AllByRecursion IsUtf8 (pieces_from l.text l.start);
+  utf8 : 0 < l.checked → AllByRecursion IsUtf8 (pieces_from l.text l.start);
   so_far : judged l.first_line (pieces_of l.text) ≡ lines_judged l.number (Ok (begun_fields l.text l.places.items)) (pieces_from l.text l.start);
 }
