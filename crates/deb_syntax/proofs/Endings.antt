@@ -124,6 +124,7 @@ blank-found e state b =
       skip_within = b.skip_within;
       within = omega (arith, b.bytes, b.within);
       few = omega (arith, b.bytes, b.counted);
+      counted = omega (arith, b.counted);
       near = omega (arith, ap length b.skip, b.near);
     }
 
@@ -229,6 +230,7 @@ none-found e state b =
         | inl some ↦ omega (arith, b.bytes, b.one some)
         | inr none ↦ let zero : length b.line ≡ 0 = omega arith in omega (arith, b.bytes, b.none zero)
       ];
+      counted = omega (arith, none-lines e state b);
       near = omega (arith, b.skip);
     }
 
@@ -295,6 +297,7 @@ last-found e state b =
       skip_within = omega (arith, b.skip);
       within = omega (arith, b.bytes, b.within);
       few = omega (arith, b.bytes, b.counted);
+      counted = omega (arith, b.counted, length-append b.lines (b.line ∷ []));
       near = omega (arith, b.skip);
     }
   where

@@ -14,6 +14,15 @@ ends_from-push start (first ∷ lines) line =
     let e : start + line_length first + length (with_newlines lines) + length line ≡ start + length (with_newlines (first ∷ lines)) + length line = omega (arith, length-append first (newline ∷ with_newlines lines)) in
     ap (λ l. (start + length first) ∷ l) (ends_from-push (start + line_length first) lines line ∙ ap (λ n. ends_from (start + line_length first) lines ++ n ∷ []) e)
 
+-- each line has one
+length-ends_from : (start : ℕ) (lines : List Line) → length (ends_from start lines) ≡ length lines
+length-ends_from start [] = refl
+length-ends_from start (line ∷ lines) = ap suc (length-ends_from (start + line_length line) lines)
+
+-- so there are as many as the file has lines at most
+pub few_ends : (text ends : List ℕ) (lines : List Line) → ends ≡ piece_ends text → pieces_of text ≡ lines → length ends ≡ length lines
+few_ends text ends lines is pieces = ap length is ∙ length-ends_from 0 (pieces_of text) ∙ ap length pieces
+
 -- whole lines at the front of a text
 line_ends-front : (text : List ℕ) (lines : List Line) (rest : List ℕ) (n : ℕ) → StandInFront text lines rest → n ≡ length (with_newlines lines) → line_ends (take n text) ≡ ends_from 0 lines
 line_ends-front text lines rest n h e =

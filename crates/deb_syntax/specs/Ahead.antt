@@ -166,6 +166,7 @@ pub record IsExtentOf (e : Extent) (feed : FeedState) : Type 0 where
   pub skip_within : e.skip ≤ length feed.unread
   pub within : e.bytes ≤ room_ahead feed
   pub few : e.lines ≤ e.bytes
+  pub counted : length lines ≤ e.lines
   pub near : length (drop e.skip feed.unread) ≤ piece_limit
 
 -- what has passed with the paragraph: its lines and a blank one with its newline, or all of the

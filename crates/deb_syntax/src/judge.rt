@@ -54,7 +54,8 @@ pub(crate) fn judge(
     places: &mut Vec<Place>,
 ) -> Result<(), Fault>
     requires ends { ends.now ≡ piece_ends text.now }
-    requires lines { first_line + length text.now + 1 < 2 ^ 64 }
+    requires small { length text.now < 2 ^ 32 }
+    requires lines { first_line + length ends.now ≤ 2 ^ 32 }
     ensures ok { OnOk result
         (judged first_line (pieces_of text.now) ≡ Ok (fields_at text.now places.new.items)) }
     ensures within { OnOk result (IsTrue (list_all (lies_within text.now)
@@ -109,6 +110,8 @@ fn judge_line<'a>(
     requires newline { 0 < line.start → slice_index text.now (line.start - 1) ≡ newline }
     requires stands { StandsAt text.now line.start places.old.items names.old }
     requires utf8 { IsUtf8 (slice_range text.now line.start line.end) }
+    requires small { length text.now < 2 ^ 32 }
+    requires number { line.number < 2 ^ 32 }
     ensures ok { let content = slice_range text.now line.start line.end in
         OnOk result (line_judged line.number (begun_fields text.now places.old.items) content
         ≡ Ok (begun_fields text.now places.new.items)) }
@@ -137,6 +140,7 @@ fn refused(code: Code, line: Line) -> Fault
 /// Gives a continuation line to the last field.
 #[tactic(auto, using(crate::proofs::PlaceLemmas::going_on))]
 fn continue_field(line: Line, places: &mut Vec<Place>) -> Result<(), Fault>
+    requires { line.end < 2 ^ 32 }
     ensures ok { OnOk result (LastGoesOn line.end places.old.items places.new.items) }
     ensures stray { IfErr result (λ fault. (places.old.items ≡ [])
         × (fault ≡ Fault.Refused (record { code = Code.StrayContinuation; line = line.number }))) }
@@ -145,7 +149,7 @@ fn continue_field(line: Line, places: &mut Vec<Place>) -> Result<(), Fault>
     if count == 0 {
         return Err(refused(Code::StrayContinuation, line));
     }
-    places[count - 1].end = line.end;
+    places[count - 1].end = line.end as u32;
     Ok(())
 }
 
@@ -160,6 +164,8 @@ fn begin_field<'a>(
     requires after { line.start ≤ line.end }
     requires within { line.end ≤ length text.now }
     requires stands { StandsAt text.now line.start places.old.items names.old }
+    requires small { length text.now < 2 ^ 32 }
+    requires number { line.number < 2 ^ 32 }
     ensures ok { let content = slice_range text.now line.start line.end in
         OnOk result (field_line line.number (begun_fields text.now places.old.items) content
         ≡ Ok (begun_fields text.now places.new.items)) }
@@ -175,10 +181,10 @@ fn begin_field<'a>(
         return Err(refused(Code::DuplicateField, line));
     }
     let place = Place {
-        line: line.number,
-        start: line.start,
-        colon: line.start + front.len,
-        end: line.end,
+        line: line.number as u32,
+        start: line.start as u32,
+        colon: (line.start + front.len) as u32,
+        end: line.end as u32,
         id: front.id,
     };
     places.push(place)?;

@@ -2,17 +2,17 @@
 
 use deb_base::FieldId;
 
-/// Where a field stands in the bytes of its paragraph.
+/// Where a field stands in the bytes of its paragraph, which has fewer bytes than 2^32, as its file.
 #[derive(Clone, Copy)]
 pub(crate) struct Place {
     /// The number of the field's first line.
-    pub(crate) line: u64,
+    pub(crate) line: u32,
     /// Where the field's first line, and so its name, begins.
-    pub(crate) start: usize,
-    /// Where the colon behind the name stands.
-    pub(crate) colon: usize,
+    pub(crate) start: u32,
+    /// Where the colon after the name is.
+    pub(crate) colon: u32,
     /// Where the last line that belongs to the field ends, without its newline.
-    pub(crate) end: usize,
+    pub(crate) end: u32,
     /// Which field of the table it is.
     pub(crate) id: FieldId,
 }

@@ -39,9 +39,9 @@ impl<'a> RawField<'a> {
         ensures body { IsBody result.body.now }
     {
         RawField {
-            name: &text[place.start..place.colon],
-            line: place.line,
-            body: trimmed(&text[place.colon + 1..place.end]),
+            name: &text[place.start as usize..place.colon as usize],
+            line: u64::from(place.line),
+            body: trimmed(&text[place.colon as usize + 1..place.end as usize]),
             id: place.id,
         }
     }
@@ -122,7 +122,7 @@ impl<'a> Raw<'a> {
         ensures body { IfSome result (λ field. IsBody field.body.now) }
     {
         for place in self.places {
-            if same_name(&self.text[place.start..place.colon], name) {
+            if same_name(&self.text[place.start as usize..place.colon as usize], name) {
                 return Some(RawField::at(self.text, *place));
             }
         }

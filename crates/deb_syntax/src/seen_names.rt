@@ -89,7 +89,7 @@ fn stands_at(text: &[u8], places: &[Place], name: &[u8]) -> bool
     ensures { result ≡ has_stood name.now (map (name_at text.now) places.now) }
 {
     for place in places {
-        if same_name(&text[place.start..place.colon], name) {
+        if same_name(&text[place.start as usize..place.colon as usize], name) {
             return true;
         }
     }
@@ -110,7 +110,7 @@ fn keep_all<'a>(
     ensures fault { IfErr result (λ fault. fault ≡ Fault.Memory) }
 {
     for place in places {
-        keep(all, &text[place.start..place.colon])?;
+        keep(all, &text[place.start as usize..place.colon as usize])?;
     }
     Ok(())
 }

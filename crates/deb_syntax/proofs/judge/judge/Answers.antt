@@ -48,7 +48,7 @@ loop-end-preserved c =
     let line = next_line c.args.text.now c.args.ends.now l.start l.end-index l.invariant.left c.loop-end-test.true in
     record {
       left = line.others;
-      numbered = omega (arith, l.invariant.numbered, line.after);
+      numbered = omega (arith, l.invariant.numbered);
       reached = omega (arith, line.within);
       behind = λ some within.
           let at : slice_index_or c.args.ends.now l.end-index 0 + 1 - 1 ≡ slice_index_or c.args.ends.now l.end-index 0 = omega arith in

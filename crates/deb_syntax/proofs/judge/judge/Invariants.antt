@@ -7,7 +7,7 @@ use Rattle.deb_syntax.proofs.judge.judge.Given as goal
 abbrev pub invariant-loop-end : goal.invariant-loop-end
 invariant-loop-end l = record {
   left : drop l.end-index l.ends ≡ ends_from l.start (pieces_from l.text l.start);
-  numbered : l.number ≤ l.first_line + l.start;
+  numbered : l.number ≡ l.first_line + l.end-index;
   reached : l.start ≤ length l.text + 1;
   behind : 0 < l.start → l.start ≤ length l.text → slice_index l.text (l.start - 1) ≡ newline;
   stands : StandsAt l.text l.start l.places.items l.names;

@@ -1,6 +1,17 @@
-use Rattle.deb_syntax.proofs.Common.{◌≡◌, ◌+◌, Ok, IsTrue, List, ℕ, take, subst, arith, list_all, pieces_of, feed_state, buffer_of, judged, IsFaultOf, fields_at, lies_within}
+use Rattle.deb_syntax.proofs.Common.{◌∙◌, ◌≡◌, ◌+◌, Ok, IsTrue, List, ℕ, take, subst, arith, list_all, pieces_of, feed_state, buffer_of, judged, IsFaultOf, fields_at, lies_within}
 use Rattle.deb_syntax.proofs.Advancing.{passes_next, judged_fault, judged_is_readers, stands_test, standing_fields}
+use Rattle.deb_syntax.specs.Lines.{file_limit}
+use Rattle.deb_syntax.proofs.Feeds.{feed_few, feed_small}
+use Rattle.deb_syntax.proofs.LineEnds.{few_ends}
 use Rattle.deb_syntax.proofs.paragraphs.pass_paragraph.Goals as goal
+
+pub judge-requires-clause-lines : goal.judge-requires-clause-lines
+unfolding file_limit
+judge-requires-clause-lines g c =
+    let after = c.paragraph_extent.new.feed in
+    let x = c.in_ok-extent.ensures.found in
+    let count = few_ends (take c.in_ok-extent.extent.end (feed_state after).unread) _ x.lines (c.as_slice.ensures.value ∙ c.in_ok-extent.ensures.ends) x.pieces in
+    omega (arith, count, x.counted, x.few, x.within, feed_few after, feed_small after, c.lines-first_line.ensures)
 
 pub returns-in-Err-clause-ahead : goal.returns-in-Err-clause-ahead
 returns-in-Err-clause-ahead g c = λ text is.
