@@ -1,5 +1,6 @@
 -- The length of a paragraph's canonical text is the sum of those of its fields, whatever their order.
-use Rattle.deb_control.proofs.Common.{◌≡◌, ℕ, ◌+◌, ◌==◌, min, Bool, true, false, List, [], ◌∷◌, ◌++◌, length, map, Ordering, Less, Equal, Greater, refl, sym, ap, ◌∙◌, arith, length-append, or_parts, both_ways, sum_by-cons, bytes_eq-Decides, insert_entry, AllByRecursion, sum_by, match_ordering, bytes_eq, newline, folded, capitalised, canonical_name, folded-from_canonical_name, Field, has_name, AreDistinct, byte_order, Entries, entries_after, entries_of, behind_colon, field_text, paragraph_text, Visit, canonical_visit, fields_visited, texts_length}
+use Rattle.deb_control.proofs.Common.{◌≡◌, ℕ, ◌+◌, ◌==◌, cond, Bool, true, false, List, [], ◌∷◌, ◌++◌, length, map, Ordering, Less, Equal, Greater, refl, ap, arith, length-append, or_parts, both_ways, sum_by-cons, bytes_eq-Decides, insert_entry, AllByRecursion, sum_by, match_ordering, bytes_eq, newline, folded, capitalised, canonical_name, folded-from_canonical_name, Field, has_name, AreDistinct, byte_order, Entries, entries_after, entries_of, behind_colon, field_text, paragraph_text, Visit, canonical_visit, fields_visited, texts_length}
+use mir.Val.{bool_byte}
 use Rattle.std.proofs.lemmas.List.Folds.{fold-map}
 use Rattle.deb_control.proofs.Entries.{each_insert}
 use Rattle.deb_control.proofs.FieldValues.{same_from_equal}
@@ -60,13 +61,10 @@ length-field : (name text : List ℕ) → length (field_text (canonical_name nam
 length-field name text =
     omega (arith, length-append (canonical_name name) (58 ∷ (behind_colon text ++ newline ∷ [])), length-append (behind_colon text) (newline ∷ []), length-capitalised true name)
 
-min_twice : (n k m : ℕ) → min (n + min k m) m ≡ min (n + k) m
-min_twice n k m = grind arith
+length-spaced : (spaced : Bool) (text : List ℕ) → behind_colon text ≡ cond spaced (32 ∷ text) text → length (behind_colon text) ≡ bool_byte spaced + length text
+length-spaced true text is = omega (arith, ap length is)
+length-spaced false text is = omega (arith, ap length is)
 
--- as far as a length is counted
-pub length-counted : (name text : List ℕ) (ends behind m : ℕ) → ends ≡ length name + 2 → behind ≡ min (length (behind_colon text)) m → min (ends + behind) m ≡ min (length (field_text (canonical_name name, text))) m
-length-counted name text ends behind m named counted =
-    ap (λ n. min (n + behind) m) named
-    ∙ ap (λ n. min (length name + 2 + n) m) counted
-    ∙ min_twice (length name + 2) (length (behind_colon text)) m
-    ∙ ap (λ n. min n m) (sym (length-field name text))
+-- the sum of what a text, the space before it, and the rest of its field have
+pub length-counted : (spaced : Bool) (name text : List ℕ) (ends n : ℕ) → behind_colon text ≡ cond spaced (32 ∷ text) text → n ≡ length text → ends ≡ length name + 2 + bool_byte spaced → ends + n ≡ length (field_text (canonical_name name, text))
+length-counted spaced name text ends n is counted named = omega (arith, counted, named, length-spaced spaced text is, length-field name text)

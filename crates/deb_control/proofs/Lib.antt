@@ -18,10 +18,12 @@ pub mod DocumentRules
 pub mod SortedFields
 pub mod FieldsRead
 pub mod Building
+mod FaultsOfValues
 pub mod Visited
 pub mod Lengths
 pub mod Measured
 pub mod WrittenTexts
+pub mod Rows
 pub mod ValueLookups
 pub mod FollowedParagraphs
 pub mod CheckedSoFar

@@ -1,6 +1,7 @@
 -- Canonical texts of fields in spans of a buffer, and what they are together once the spans are sorted.
 use Rattle.deb_control.proofs.Common.{◌≡◌, ℕ, ◌+◌, ◌≤◌, IsTrue, List, [], ◌∷◌, ◌++◌, length, map, drop, refl, sym, ap, ◌∙◌, subst, arith, append_assoc, length-append, bytes_eq-Decides, IsPermutation, All, All-from_recursion, All-permutation, AllByRecursion, IsSortedBy, flat_map, insert_entry, colon, newline, canonical_name, canonical_name-canonical_name, Field, AreDistinct, byte_order, Entries, entries_after, entries_of, Seen, Doc, value_text, behind_colon, field_text, paragraph_text, rules_of, is_judged, is_passing, is_text_of, text_built, built, Pairwise, Visit, canonical_visit, fields_visited, visit_text, VisitsValues, part_of, name_in, text_in, names_ascend, HoldsText, CanonSpan}
 use Rattle.std.proofs.lemmas.List.{take-append-le, take_all, drop_at}
+use Rattle.deb_base.specs.Kinds.{known_row}
 use Rattle.deb_base.proofs.CanonicalNames.{folded-canonical_name}
 use Rattle.deb_control.proofs.Building.{built-canonical, built-passing, distinct-from}
 use Rattle.deb_control.proofs.FieldValues.{map-insert}
@@ -21,6 +22,8 @@ texts-more buffer more [] (visit ∷ visited) holds = absurd holds
 texts-more buffer more (span ∷ spans) [] holds = absurd holds
 texts-more buffer more (span ∷ spans) (visit ∷ visited) holds = (
   record {
+    row = holds.0.row;
+    some = holds.0.some;
     name_within = omega (arith, holds.0.name_within, length-append buffer more);
     within = omega (arith, holds.0.within, length-append buffer more);
     name = part-more buffer more span.start span.name_end holds.0.name_within ∙ holds.0.name;
@@ -36,12 +39,14 @@ Pairwise-push related (w ∷ xs) [] x y each one = absurd each
 Pairwise-push related (w ∷ xs) (z ∷ ys) x y each one = (each.0, Pairwise-push related xs ys x y each.1 one)
 
 -- one more, behind them
-pub texts-next : (old named new : List ℕ) (spans spans_now : List CanonSpan) (visited : List Visit) (visit : Visit) (span : CanonSpan) → named ≡ old ++ canonical_name visit.0.name → new ≡ named ++ colon ∷ (behind_colon (value_text visit.1) ++ newline ∷ []) → span.start ≡ length old → span.name_end ≡ length named → span.end ≡ length new → spans_now ≡ spans ++ span ∷ [] → Pairwise (HoldsText old) spans visited → Pairwise (HoldsText new) spans_now (visited ++ visit ∷ [])
-texts-next old named new spans spans_now visited visit span is_named is_new start name_end end pushed holds =
+pub texts-next : (old named new : List ℕ) (spans spans_now : List CanonSpan) (visited : List Visit) (visit : Visit) (span : CanonSpan) → span.row ≡ known_row visit.0.name → named ≡ old ++ canonical_name visit.0.name → new ≡ named ++ colon ∷ (behind_colon (value_text visit.1) ++ newline ∷ []) → span.start ≡ length old → span.name_end ≡ length named → span.end ≡ length new → spans_now ≡ spans ++ span ∷ [] → Pairwise (HoldsText old) spans visited → Pairwise (HoldsText new) spans_now (visited ++ visit ∷ [])
+texts-next old named new spans spans_now visited visit span row is_named is_new start name_end end pushed holds =
     let name = canonical_name visit.0.name in
     let body = colon ∷ (behind_colon (value_text visit.1) ++ newline ∷ []) in
     let whole : new ≡ old ++ visit_text visit = is_new ∙ ap (λ m. m ++ body) is_named ∙ append_assoc old name body in
     let one : HoldsText new span visit = record {
+      row = row;
+      some = omega (arith, end, ap length is_new, length-append named body);
       name_within = omega (arith, name_end, ap length is_new, length-append named body);
       within = omega (arith, end);
       name =
@@ -62,7 +67,7 @@ texts-next old named new spans spans_now visited visit span is_named is_new star
 abbrev pub span_field : List ℕ → CanonSpan → Field
 span_field buffer span = record { name = name_in buffer span; line = 0; body = text_in buffer span }
 
-abbrev text_field : Visit → Field
+abbrev pub text_field : Visit → Field
 text_field visit = record { name = canonical_name visit.0.name; line = 0; body = visit_text visit }
 
 fields-held : (buffer : List ℕ) (spans : List CanonSpan) (visited : List Visit) → Pairwise (HoldsText buffer) spans visited → map (span_field buffer) spans ≡ map text_field visited
@@ -84,14 +89,14 @@ sorted-held buffer now named sorted k d low within = rw (named (k + 1) d (omega 
 abbrev whole : List ℕ × List ℕ → List ℕ × List ℕ
 whole entry = (entry.0, field_text entry)
 
-after-whole : (visited : List Visit) (entries : Entries) → entries_after (map whole entries) (map text_field visited) ≡ map whole (entries_after entries (map canonical_visit visited))
+pub after-whole : (visited : List Visit) (entries : Entries) → entries_after (map whole entries) (map text_field visited) ≡ map whole (entries_after entries (map canonical_visit visited))
 after-whole [] entries = refl
 after-whole (visit ∷ visited) entries =
     let name = canonical_name visit.0.name in
     ap (λ m. entries_after m (map text_field visited)) (ap (λ n. insert_entry byte_order (map whole entries) n (visit_text visit)) (canonical_name-canonical_name visit.0.name) ∙ sym (map-insert (λ n body. field_text (n, body)) entries name (value_text visit.1)))
     ∙ after-whole visited (insert_entry byte_order entries name (value_text visit.1))
 
-texts-whole : (entries : Entries) → flat_map (λ entry. entry.1) (map whole entries) ≡ paragraph_text entries
+pub texts-whole : (entries : Entries) → flat_map (λ entry. entry.1) (map whole entries) ≡ paragraph_text entries
 texts-whole [] = refl
 texts-whole (entry ∷ entries) = ap (λ m. field_text entry ++ m) (texts-whole entries)
 

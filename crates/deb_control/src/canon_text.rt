@@ -1,29 +1,40 @@
 //! The canonical text of a paragraph, written while its fields are visited.
 
-ghost use Rattle.std.specs.Prelude.{◌≡◌, ◌++◌, List, map, OnOk};
-ghost use Rattle.std.specs.List.{flat_map};
+ghost use Rattle.std.specs.Prelude.{◌≡◌, ◌++◌, List, length, map, nat_lt, true, OnOk};
+ghost use Rattle.std.specs.List.{flat_map, list_all};
 ghost use Rattle.std.specs.List.Sorted.{IsPermutation, IsSortedBy};
 ghost use Rattle.deb_syntax.specs.Fields.{AreDistinct};
 ghost use Rattle.deb_syntax.specs.Meaning.{byte_order, entries_of};
 ghost use Rattle.deb_control.specs.Canonical.{paragraph_text};
-ghost use Rattle.deb_control.specs.CanonTexts.{HoldsTexts, name_in, names_ascend, part_of, text_in};
+ghost use Rattle.deb_control.specs.CanonTexts.{HoldsTexts, name_in, names_ascend, part_of, placed, text_in};
 ghost use Rattle.deb_control.specs.Visiting.{Visit, canonical_visit, fields_visited};
 
 use crate::field::append_body;
 use crate::name::append_name;
 use crate::visitor::FieldVisitor;
+use deb_base::KNOWN_FIELDS;
 use deb_field::Value;
 use deb_syntax::RawField;
 use std::alloc::{AllocError, Global};
 use std::cmp::Ordering;
 
-/// Where the canonical text of a field is in a buffer, and where its name ends.
+/// Where the canonical text of a field is in a buffer, where its name ends, and its row in the
+/// table of fields, or one behind the last.
 #[derive(Clone, Copy)]
 pub(crate) struct CanonSpan {
+    pub(crate) row: usize,
     pub(crate) start: usize,
     pub(crate) name_end: usize,
     pub(crate) end: usize,
 }
+
+/// The span of no field, in which there is no text.
+const NO_SPAN: CanonSpan = CanonSpan {
+    row: 0,
+    start: 0,
+    name_end: 0,
+    end: 0,
+};
 
 /// The canonical texts of the fields that were visited, in file order.
 #[derive(Drop)]
@@ -47,9 +58,14 @@ impl CanonText {
             → AreDistinct (fields_visited visited) → OnOk result
             (text.new.items ≡ paragraph_text (entries_of (map canonical_visit visited))) }
     {
-        sort(&mut self.spans, self.buffer.as_slice());
         text.clear();
-        append_spans(self.buffer.as_slice(), self.spans.as_slice(), text)?;
+        let mut rows = [NO_SPAN; KNOWN_FIELDS];
+        if place(self.spans.as_slice(), &mut rows) {
+            append_spans(self.buffer.as_slice(), &rows, text)?;
+        } else {
+            sort(&mut self.spans, self.buffer.as_slice());
+            append_spans(self.buffer.as_slice(), self.spans.as_slice(), text)?;
+        }
         Ok(())
     }
 }
@@ -64,17 +80,34 @@ impl FieldVisitor for CanonText {
 
     fn visit(&mut self, field: &RawField<'_>, value: &Value<'_>) -> Result<(), AllocError> {
         let start = self.buffer.len();
-        append_name(field.name, &mut self.buffer)?;
+        append_name(field, &mut self.buffer)?;
         let name_end = self.buffer.len();
         append_body(value, &mut self.buffer)?;
         let end = self.buffer.len();
         self.spans.push(CanonSpan {
+            row: field.id.row(),
             start,
             name_end,
             end,
         })?;
         Ok(())
     }
+}
+
+/// Puts each span into the row of its field, and returns whether the table has each field. The
+/// canonical names of the rows ascend.
+fn place(spans: &[CanonSpan], rows: &mut [CanonSpan]) -> bool
+    ensures known { result ≡ true
+        → list_all (λ span. nat_lt span.row (length rows.old)) spans.now ≡ true }
+    ensures placed { result ≡ true → rows.new ≡ placed rows.old spans.now }
+{
+    for span in spans {
+        if span.row >= rows.len() {
+            return false;
+        }
+        rows[span.row] = *span;
+    }
+    true
 }
 
 /// Sorts spans by the names in them.
@@ -99,7 +132,9 @@ fn append_spans(buffer: &[u8], spans: &[CanonSpan], text: &mut Vec<u8>) -> Resul
         (text.new.items ≡ text.old.items ++ flat_map (text_in buffer.now) spans.now) }
 {
     for span in spans {
-        text.extend_from_slice(part(buffer, span.start, span.end))?;
+        if span.end > 0 {
+            text.extend_from_slice(part(buffer, span.start, span.end))?;
+        }
     }
     Ok(())
 }

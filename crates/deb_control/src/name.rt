@@ -1,13 +1,75 @@
 //! The canonical spelling of names, and its order.
 
-ghost use Rattle.std.specs.Prelude.{◌≡◌, ◌++◌, if◌then◌else◌, OnOk};
+ghost use Rattle.std.specs.Prelude.{◌≡◌, ◌++◌, ℕ, List, IfSome, if◌then◌else◌, map, OnOk};
 ghost use Rattle.std.specs.Char.{to_ascii_lowercase, to_ascii_uppercase};
-ghost use Rattle.std.specs.Str.{bytes_eq};
+ghost use Rattle.deb_base.specs.Kinds.{known_row};
+ghost use Rattle.deb_base.specs.KnownFields.{row_of};
 ghost use Rattle.deb_base.specs.Names.{canonical_name};
 ghost use Rattle.deb_syntax.specs.Meaning.{byte_order};
+ghost use Rattle.deb_control.specs.CanonTexts.{known_names};
 
+use deb_base::{FieldId, KNOWN_FIELDS};
+use deb_syntax::RawField;
 use std::alloc::AllocError;
 use std::cmp::Ordering;
+
+/// The canonical spellings of the names in the table of fields, row by row.
+static KNOWN_NAMES: [&'static [u8]; KNOWN_FIELDS] = [
+    b"Architecture",
+    b"Binary",
+    b"Breaks",
+    b"Bugs",
+    b"Build-Conflicts",
+    b"Build-Conflicts-Arch",
+    b"Build-Conflicts-Indep",
+    b"Build-Depends",
+    b"Build-Depends-Arch",
+    b"Build-Depends-Indep",
+    b"Build-Ids",
+    b"Built-Using",
+    b"Checksums-Sha1",
+    b"Checksums-Sha256",
+    b"Conflicts",
+    b"Depends",
+    b"Description",
+    b"Description-Md5",
+    b"Dgit",
+    b"Directory",
+    b"Enhances",
+    b"Essential",
+    b"Filename",
+    b"Files",
+    b"Format",
+    b"Homepage",
+    b"Installed-Size",
+    b"Maintainer",
+    b"Md5sum",
+    b"Multi-Arch",
+    b"Origin",
+    b"Package",
+    b"Package-List",
+    b"Pre-Depends",
+    b"Priority",
+    b"Provides",
+    b"Python-Version",
+    b"Recommends",
+    b"Replaces",
+    b"Ruby-Versions",
+    b"Section",
+    b"Sha1",
+    b"Sha256",
+    b"Size",
+    b"Source",
+    b"Standards-Version",
+    b"Suggests",
+    b"Tag",
+    b"Task",
+    b"Testsuite",
+    b"Uploaders",
+    b"Vcs-Browser",
+    b"Vcs-Git",
+    b"Version",
+];
 
 /// Compares the canonical spellings of two names in the order of bytes.
 pub(crate) fn compare(name: &[u8], other: &[u8]) -> Ordering
@@ -35,35 +97,44 @@ pub(crate) fn compare(name: &[u8], other: &[u8]) -> Ordering
     }
 }
 
+/// Appends the canonical spelling of a field's name.
+pub(crate) fn append_name(field: &RawField<'_>, text: &mut Vec<u8>) -> Result<(), AllocError>
+    ensures { OnOk result
+        (text.new.items ≡ text.old.items ++ canonical_name field.now.name.now) }
+{
+    match known_name(field.id) {
+        Some(name) => text.extend_from_slice(name),
+        None => append_spelled(field.name, text),
+    }
+}
+
+/// Returns the canonical spelling of the name of a field of the table, or `None` for any other
+/// field.
+fn known_name(id: FieldId) -> Option<&'static [u8]>
+    ensures { IfSome result
+        (λ found. (name : List ℕ) → known_row name ≡ row_of id → found.now ≡ canonical_name name) }
+{
+    let name = known_names().get(id.row())?;
+    Some(*name)
+}
+
+/// Lends the names.
+fn known_names() -> &'static [&'static [u8]]
+    ensures { map (λ name. name.now) result.now ≡ known_names }
+{
+    &KNOWN_NAMES
+}
+
 /// Appends the canonical spelling of a name.
-pub(crate) fn append_name(name: &[u8], text: &mut Vec<u8>) -> Result<(), AllocError>
+fn append_spelled(name: &[u8], text: &mut Vec<u8>) -> Result<(), AllocError>
     ensures { OnOk result (text.new.items ≡ text.old.items ++ canonical_name name.now) }
 {
-    if is_canonical(name) {
-        return text.extend_from_slice(name);
-    }
     let mut begins_word = true;
     for byte in name {
         text.push(canonical_byte(begins_word, *byte))?;
         begins_word = *byte == b'-';
     }
     Ok(())
-}
-
-/// Whether a name is spelled canonically.
-fn is_canonical(name: &[u8]) -> bool
-    ensures { result ≡ bytes_eq (canonical_name name.now) name.now }
-{
-    let mut rest = name;
-    let mut begins_word = true;
-    while let [byte, behind @ ..] = rest {
-        if canonical_byte(begins_word, *byte) != *byte {
-            return false;
-        }
-        rest = behind;
-        begins_word = *byte == b'-';
-    }
-    true
 }
 
 /// A byte of a name in the canonical spelling: a letter that begins a word in upper case, each

@@ -1,28 +1,29 @@
 //! Checks one paragraph: the only place where it is decided whether a paragraph passes by itself.
 
-ghost use Rattle.std.specs.Prelude.{◌≡◌, ◌≤◌, ◌-◌, ◌^◌, Some, Err, IfOk, IfErr, length, map, min};
+ghost use Rattle.std.specs.Prelude.{◌≡◌, ◌≤◌, ◌-◌, ◌^◌, ◌++◌, ◌∷◌, List, [], Option, Some, Err, IfOk, IfErr, length, map, min};
 ghost use Rattle.deb_base.specs.Bodies.{IsBody};
 ghost use Rattle.deb_base.specs.Faults.{RefusedOrMemory};
 ghost use Rattle.deb_base.specs.Names.{canonical_name};
 ghost use Rattle.deb_syntax.specs.Paragraphs.{seen_of};
 ghost use Rattle.deb_syntax.specs.Raw.{field_of, fields_of};
-ghost use Rattle.deb_base.specs.Kinds.{required};
+ghost use Rattle.deb_base.specs.Kinds.{kind_of, required};
 ghost use Rattle.deb_base.specs.KnownFields.{row_of};
+ghost use Rattle.deb_field.specs.Faults.{IsFaultOrMemory};
 ghost use Rattle.deb_field.specs.Values.{SpellsValue, value_refusal, value_text};
 ghost use Rattle.deb_field.specs.ValueMeanings.{value_meaning};
-ghost use Rattle.deb_control.specs.Canonical.{behind_colon, field_text};
+ghost use Rattle.deb_control.specs.Canonical.{field_text};
 ghost use Rattle.deb_control.specs.Checking.{text_built};
 ghost use Rattle.deb_control.specs.Documents.{rules_of};
 ghost use Rattle.deb_control.specs.Refusals.{built, have_names, value_refusal_of};
 ghost use Rattle.deb_control.specs.Required.{have_rows};
-ghost use Rattle.deb_control.specs.Visiting.{VisitsField, VisitsFields, VisitsValues};
+ghost use Rattle.deb_control.specs.Visiting.{Visit, VisitsField, VisitsFields, VisitsValues, most, visit_of, visit_text};
 
 use crate::field::is_spaced;
 use crate::visitor::FieldVisitor;
-use deb_base::{Code, Fault, FieldId, PARAGRAPH_LIMIT, Refusal, required_fields};
-use deb_field::{Canon, Doc, Value, ValueFault};
+use deb_base::{Code, Fault, FieldId, Kind, PARAGRAPH_LIMIT, Refusal, required_fields};
+use deb_field::{Canon, Doc, Line, Text, Value, ValueFault};
 use deb_syntax::{Raw, RawField};
-use std::alloc::Global;
+use std::alloc::{AllocError, Global};
 
 /// Reads the value of each field of a paragraph in file order, shows it to the visitor, and returns
 /// the length of the paragraph's canonical text.
@@ -96,9 +97,37 @@ fn visit_field<V: FieldVisitor>(
         × (value_refusal doc (canonical_name field.now.name.now) field.now.body.now
         ≡ Some refusal.code))) }
 {
-    let value = value_of(alloc, doc, field)?;
-    visitor.visit(field, &value)?;
-    Ok(canonical_len(field.name, &value))
+    match kind_of_field(doc, field) {
+        Kind::Text => {
+            let text = Value::Text(Text::new(field.body));
+            Ok(visit_value(field, &text, visitor)?)
+        }
+        Kind::Line => match Line::parse(field.body) {
+            Ok(line) => Ok(visit_value(field, &Value::Line(line), visitor)?),
+            Err(code) => Err(refused(code, field.line)),
+        },
+        kind => match Value::of_kind(alloc, kind, field.body) {
+            Ok(value) => Ok(visit_value(field, &value, visitor)?),
+            Err(fault) => Err(fault_at(fault, field.line)),
+        },
+    }
+}
+
+/// Visits a field with this value, and returns the length of its canonical text, or `u64::MAX` if
+/// it is greater.
+fn visit_value<V: FieldVisitor>(
+    field: &RawField<'_>,
+    value: &Value<'_>,
+    visitor: &mut V,
+) -> Result<u64, AllocError>
+    ensures measured { IfOk result
+        (λ n. n ≡ min (length (visit_text (visit_of field.now value.now))) most) }
+    ensures visits { IfOk result
+        (λ n. (visited : List Visit) → V.Visited visitor.old visited
+        → V.Visited visitor.new (visited ++ visit_of field.now value.now ∷ [])) }
+{
+    visitor.visit(field, value)?;
+    Ok(canonical_len(field.name, value))
 }
 
 /// Returns the length of the canonical text of a field with this value, or `u64::MAX` if it is
@@ -107,21 +136,10 @@ fn canonical_len(name: &[u8], value: &Value<'_>) -> u64
     ensures { result ≡ min (length (field_text
         (canonical_name name.now, value_text (value_meaning value.now)))) (2 ^ 64 - 1) }
 {
-    let name_and_ends = name.len() as u64 + 2;
-    name_and_ends.saturating_add(behind_colon_len(value))
-}
-
-/// Returns the length of the text after the colon, or `u64::MAX` if it is greater.
-fn behind_colon_len(value: &Value<'_>) -> u64
-    ensures { result
-        ≡ min (length (behind_colon (value_text (value_meaning value.now)))) (2 ^ 64 - 1) }
-{
-    let length = value.canon_len();
-    if is_spaced(value) {
-        length.saturating_add(1)
-    } else {
-        length
-    }
+    let text_len = value.canon_len();
+    let space = u64::from(is_spaced(value, text_len));
+    let name_and_ends = name.len() as u64 + 2 + space;
+    name_and_ends.saturating_add(text_len)
 }
 
 /// Returns the value of one field.
@@ -140,10 +158,28 @@ pub(crate) fn value_of<'a>(
         × (value_refusal doc (canonical_name field.now.name.now) field.now.body.now
         ≡ Some refusal.code))) }
 {
-    match Value::of_kind(alloc, field.id.kind(doc), field.body) {
+    match Value::of_kind(alloc, kind_of_field(doc, field), field.body) {
         Ok(value) => Ok(value),
-        Err(ValueFault::Refused(code)) => Err(refused(code, field.line)),
-        Err(ValueFault::Memory) => Err(Fault::Memory),
+        Err(fault) => Err(fault_at(fault, field.line)),
+    }
+}
+
+/// Returns the kind of a field's values.
+fn kind_of_field(doc: Doc, field: &RawField<'_>) -> Kind
+    ensures { result ≡ kind_of doc (canonical_name field.now.name.now) }
+{
+    field.id.kind(doc)
+}
+
+/// Returns the fault of a value in a field that begins at this line.
+fn fault_at(fault: ValueFault, line: u64) -> Fault
+    ensures { (refusal : Option Code) → IsFaultOrMemory refusal fault
+        → RefusedOrMemory result
+        (λ refused. (refused.line ≡ line) × (refusal ≡ Some refused.code)) }
+{
+    match fault {
+        ValueFault::Refused(code) => refused(code, line),
+        ValueFault::Memory => Fault::Memory,
     }
 }
 
