@@ -13,3 +13,4 @@ pub mod Joined
 pub mod Meetings
 pub mod Neighbours
 pub mod ProvidedOrder
+pub mod SomeMeets

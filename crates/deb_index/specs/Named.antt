@@ -1,8 +1,8 @@
 -- Which packages of a list have a name and which provide it, by their numbers in the list. Debian
 -- Policy 5.6.7 and 7.5.
-use Rattle.std.specs.Prelude.{◌≡◌, ℕ, ◌+◌, ◌-◌, Bool, true, false, cond, List, [], ◌∷◌, map, None, codes, refl}
+use Rattle.std.specs.Prelude.{◌≡◌, ℕ, ◌+◌, ◌-◌, Bool, true, false, cond, if◌then◌else◌, nat_eq, List, [], ◌∷◌, map, Option, None, Some, codes, refl}
 use Rattle.std.specs.List.{list_any, slice_get}
-use Rattle.std.specs.Option.{option_map_or}
+use Rattle.std.specs.Option.{option_map, option_map_or}
 use Rattle.std.specs.Str.{bytes_eq}
 use Rattle.deb_version.specs.Places.{version_in}
 use Rattle.deb_index.specs.Listed.{Listed}
@@ -25,6 +25,11 @@ numbers_from n test (p ∷ packages) =
 -- is there once.
 abbrev pub numbers_of : (Listed → Bool) → List Listed → List ℕ
 numbers_of test packages = numbers_from 1 test packages
+
+-- the package with a number, which is counted from 1
+abbrev pub package_at : ℕ → List Listed → Option Listed
+package_at number packages =
+    if nat_eq number 0 then None else slice_get packages (number - 1)
 
 -- the package of a number passes a test
 abbrev pub passes_at : (Listed → Bool) → List Listed → ℕ → Bool
@@ -60,6 +65,11 @@ worked-provided : map (λ name. numbers_of (provides name) packages)
     (codes "vv" ∷ codes "aa" ∷ codes "v" ∷ codes "aab" ∷ [])
     ≡ (1 ∷ 2 ∷ []) ∷ (1 ∷ []) ∷ [] ∷ [] ∷ []
 worked-provided = refl
+
+-- the first package, the last, none before the first and none beyond the last
+worked-numbered : map (λ n. option_map (λ p. p.name) (package_at n packages)) (1 ∷ 2 ∷ 0 ∷ 4 ∷ [])
+    ≡ Some (codes "aa") ∷ Some (codes "aab") ∷ None ∷ None ∷ []
+worked-numbered = refl
 
 -- numbers of packages that provide vv: not the third, nor one beyond the list
 worked-at : map (passes_at (provides (codes "vv")) packages) (1 ∷ 2 ∷ 3 ∷ 4 ∷ [])

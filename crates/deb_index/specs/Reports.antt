@@ -61,6 +61,10 @@ abbrev pub answer : Environment → List Listed → Group → Answer
 answer environment packages group =
     answer_with environment group (passing_from 1 (meets_group environment group) packages)
 
+-- the verdict on a group alone
+abbrev pub group_verdict : Environment → List Listed → Group → Verdict
+group_verdict environment packages group = (answer environment packages group).verdict
+
 -- what is told of a relation: of each group in the order of their canonical texts
 abbrev pub report : List Listed → Relation → Environment → List Answer
 report packages relation environment = map (answer environment packages) relation
@@ -129,6 +133,12 @@ worked-ignored : map reported
     ∷ with_formula (codes "dd") (codes "nodoc") ∷ []) ∷ [])
     ≡ (Ignored, []) ∷ (Ignored, []) ∷ (Ignored, []) ∷ []
 worked-ignored = refl
+
+worked-verdicts : map (group_verdict environment packages)
+    ((alone (codes "aa") ∷ []) ∷ (alone (codes "dd") ∷ [])
+    ∷ (with_list (codes "aa") true (codes "amd64") ∷ []) ∷ [])
+    ≡ Met ∷ Unmet ∷ Ignored ∷ []
+worked-verdicts = refl
 
 -- what is ignored is no obstacle, what is unmet is one, and no group is none
 worked-all_met : map (λ relation. all_met (report packages relation environment))

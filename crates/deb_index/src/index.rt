@@ -2,6 +2,7 @@
 
 ghost use Rattle.std.specs.Prelude.{◌≡◌, ◌-◌, ◌≤◌, ℕ, List, map, Some, Err, IfOk, IfErr, IsTrue, length};
 ghost use Rattle.std.specs.List.{slice_get};
+ghost use Rattle.std.specs.Option.{option_map};
 ghost use Rattle.deb_base.specs.Devices.{read_failures_after, ReadFaultIffFailed};
 ghost use Rattle.deb_base.specs.Faults.{IsReadersFault};
 ghost use Rattle.deb_base.specs.Reading.{TakesNoMore};
@@ -16,7 +17,7 @@ ghost use Rattle.deb_index.specs.Asked.{environment_asked, relation_asked};
 ghost use Rattle.deb_index.specs.Kept.{listed_of};
 ghost use Rattle.deb_index.specs.Listing.{ListsAll};
 ghost use Rattle.deb_index.specs.Maps.{numbers_under};
-ghost use Rattle.deb_index.specs.Named.{has_name, numbers_of, provides};
+ghost use Rattle.deb_index.specs.Named.{has_name, numbers_of, package_at, provides};
 ghost use Rattle.deb_index.specs.Questions.{ReportsOf, wildcard};
 ghost use Rattle.deb_index.specs.Reports.{report};
 ghost use Rattle.deb_index.specs.Reported.{report_of};
@@ -127,6 +128,18 @@ impl Index {
         ensures { result.now ≡ numbers_of (provides name.now) (packages_of self.now) }
     {
         self.provided.of(name)
+    }
+
+    /// Returns what the index keeps of the package with a number, which is counted from 1, or
+    /// `None` if there is no such package.
+    pub fn package(&self, number: u64) -> Option<&Package>
+        ensures { option_map (λ p. listed_of p.now) result
+            ≡ package_at number (packages_of self.now) }
+    {
+        if number == 0 {
+            return None;
+        }
+        self.packages.get(number as usize - 1)
     }
 
     /// The package of a number, which is counted from 1.

@@ -16,6 +16,7 @@
 mod candidates;
 mod fault;
 mod index;
+mod judging;
 pub mod laws;
 mod names;
 mod package;

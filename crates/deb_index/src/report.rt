@@ -155,7 +155,7 @@ fn verdict_of(applies: bool, found: &[Found<'_>]) -> Verdict
 }
 
 /// Whether some alternative applies.
-fn some_applies(group: &[Alternative<'_>], environment: &Env) -> bool
+pub(crate) fn some_applies(group: &[Alternative<'_>], environment: &Env) -> bool
     ensures { result
         ≡ some_applies (environment_of environment.now) (map alternative_of group.now) }
 {
