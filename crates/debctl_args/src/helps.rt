@@ -204,6 +204,11 @@ After each `met` line there is a line ` NUMBER PACKAGE VERSION ARCHITECTURE` for
 each package that meets the group; NUMBER is its position in the index, from 1.
 In a relation, the former operators `<` and `>` mean `<=` and `>=`.
 
+Debian's architectures are amd64, arm64, armel, armhf, i386, loong64, mips64el,
+ppc64el, riscv64, s390x and others, which `dpkg-architecture -L` lists. Any other
+name is accepted too. Names are compared exactly: the list `[linux-amd64]` doesn't
+apply to amd64.
+
 Exit statuses:
   0  no group is unmet
   1  a group is unmet
