@@ -5,7 +5,7 @@ use Rattle.debctl_commands.specs.declared.unopened.Unopened.{Unopened}
 use Rattle.debctl_commands.specs.declared.unopened.Unopened.TheVariants.{NotFound, PermissionDenied}
 use Rattle.debctl_commands.specs.declared.unopened.Unopened.TheVariants.{NotADirectory, IsADirectory}
 use Rattle.debctl_commands.specs.declared.unopened.Unopened.TheVariants.{FilesystemLoop}
-use Rattle.debctl_commands.specs.declared.unopened.Unopened.TheVariants.{InvalidFilename, NotUtf8}
+use Rattle.debctl_commands.specs.declared.unopened.Unopened.TheVariants.{InvalidFilename, NotUtf8, ReadBefore}
 use Rattle.debctl_commands.specs.declared.unopened.Unopened.TheVariants.{System, Other}
 
 abbrev pub unopened_words : Unopened → List ℕ
@@ -16,6 +16,7 @@ unopened_words IsADirectory = codes "is a directory"
 unopened_words FilesystemLoop = codes "too many levels of symbolic links"
 unopened_words InvalidFilename = codes "file name too long"
 unopened_words NotUtf8 = codes "the path isn't UTF-8"
+unopened_words ReadBefore = codes "standard input was read before"
 unopened_words (System number) = codes "os error " ++ decimal number
 unopened_words Other = codes "other error"
 
@@ -30,6 +31,7 @@ words_of_reasons : map unopened_words
     ∷ codes "is a directory" ∷ codes "too many levels of symbolic links" ∷ []
 words_of_reasons = refl
 
-words_of_other_reasons : map unopened_words (InvalidFilename ∷ NotUtf8 ∷ Other ∷ [])
-    ≡ codes "file name too long" ∷ codes "the path isn't UTF-8" ∷ codes "other error" ∷ []
+words_of_other_reasons : map unopened_words (InvalidFilename ∷ NotUtf8 ∷ ReadBefore ∷ Other ∷ [])
+    ≡ codes "file name too long" ∷ codes "the path isn't UTF-8"
+    ∷ codes "standard input was read before" ∷ codes "other error" ∷ []
 words_of_other_reasons = refl

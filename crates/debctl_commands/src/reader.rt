@@ -59,17 +59,51 @@ fn unopened(error: &io::Error) -> Unopened {
     }
 }
 
-/// The files of the system. A path that isn't UTF-8 can't be opened.
+/// The files of the system. A path that isn't UTF-8 can't be opened, and standard input can be
+/// opened once.
 #[derive(Drop)]
 pub(crate) struct SystemFiles<'a> {
     rt: &'a HostRuntime,
     failures: u64,
+    /// Whether standard input was opened before.
+    was_input_opened: bool,
 }
 
 impl<'a> SystemFiles<'a> {
+    ghost use Rattle.std.specs.Prelude.{◌≡◌};
+
     /// Returns the files of the system, with no failed opening.
     pub(crate) fn new(rt: &'a HostRuntime) -> SystemFiles<'a> {
-        SystemFiles { rt, failures: 0 }
+        SystemFiles {
+            rt,
+            failures: 0,
+            was_input_opened: false,
+        }
+    }
+
+    /// Returns the files of the system, with no failed opening, after the file of a path was read.
+    pub(crate) fn after_reading(rt: &'a HostRuntime, path: &str) -> SystemFiles<'a> {
+        SystemFiles {
+            rt,
+            failures: 0,
+            was_input_opened: path == "-",
+        }
+    }
+
+    /// Opens the file of a path.
+    fn reader(&mut self, path: &[u8]) -> Result<Reader, Unopened>
+        ensures { self.new.failures ≡ self.old.failures }
+    {
+        let Ok(path) = str::from_utf8(path) else {
+            return Err(Unopened::NotUtf8);
+        };
+        if path == "-" {
+            if self.was_input_opened {
+                return Err(Unopened::ReadBefore);
+            }
+            self.was_input_opened = true;
+        }
+        opened(self.rt, path)
     }
 }
 
@@ -86,19 +120,12 @@ impl Opens for SystemFiles<'_> {
         if self.failures == u64::MAX {
             return Err(Unopened::Other);
         }
-        match opened_by_bytes(self.rt, path) {
+        match self.reader(path) {
             Ok(reader) => Ok(Input::new(reader)),
             Err(why) => {
                 self.failures += 1;
                 Err(why)
             }
         }
-    }
-}
-
-fn opened_by_bytes(rt: &HostRuntime, path: &[u8]) -> Result<Reader, Unopened> {
-    match str::from_utf8(path) {
-        Ok(path) => opened(rt, path),
-        Err(_) => Err(Unopened::NotUtf8),
     }
 }

@@ -181,7 +181,7 @@ fn audit_words(rt: &HostRuntime, options: AuditOptions, words: &[String]) -> Res
     for word in words {
         paths.push(word.as_bytes())?;
     }
-    audit_paths(rt, options, paths.as_slice())
+    audit_paths(rt, options, paths.as_slice(), SystemFiles::new(rt))
 }
 
 /// Audits the files of the paths that a file lists.
@@ -189,16 +189,22 @@ fn audit_listed(rt: &HostRuntime, options: AuditOptions, path: &str) -> Result<u
     match opened(rt, path) {
         Ok(reader) => {
             let list = read_text(rt.alloc(), &mut Input::new(reader), FILE_LIMIT)?;
-            audit_list(rt, options, list.as_slice())
+            let files = SystemFiles::after_reading(rt, path);
+            audit_list(rt, options, list.as_slice(), files)
         }
         Err(why) => report_without_list(rt, options.end, path, why),
     }
 }
 
 /// Audits the files of the paths that a list has.
-fn audit_list(rt: &HostRuntime, options: AuditOptions, list: &[u8]) -> Result<u8, Fault> {
+fn audit_list(
+    rt: &HostRuntime,
+    options: AuditOptions,
+    list: &[u8],
+    files: SystemFiles<'_>,
+) -> Result<u8, Fault> {
     let paths = listed_paths(rt.alloc(), list)?;
-    audit_paths(rt, options, paths.as_slice())
+    audit_paths(rt, options, paths.as_slice(), files)
 }
 
 /// Reports that the list of the paths can't be opened.
@@ -220,14 +226,19 @@ fn report_without_list(
 }
 
 /// Audits the files of some paths, and writes out the record of each.
-fn audit_paths(rt: &HostRuntime, options: AuditOptions, paths: &[&[u8]]) -> Result<u8, Fault> {
+fn audit_paths(
+    rt: &HostRuntime,
+    options: AuditOptions,
+    paths: &[&[u8]],
+    mut files: SystemFiles<'_>,
+) -> Result<u8, Fault> {
     let Streams { out, mut err } = Streams::new(rt)?;
     let mut records = Records::new(out, record_end(options.end));
     let status = run_audit(
         rt.alloc(),
         options,
         paths,
-        &mut SystemFiles::new(rt),
+        &mut files,
         &mut Output::new(&mut records),
         &mut Output::new(&mut err),
     );

@@ -26,6 +26,8 @@ pub enum Unopened {
     InvalidFilename,
     /// The path isn't UTF-8; the standard library opens no such path.
     NotUtf8,
+    /// It is standard input, which was opened before.
+    ReadBefore,
     /// Another error of the system, by its number.
     System(u64),
     /// Another error, which isn't the system's.
@@ -48,6 +50,7 @@ impl Unopened {
             Unopened::FilesystemLoop => put_all(out, b"too many levels of symbolic links"),
             Unopened::InvalidFilename => put_all(out, b"file name too long"),
             Unopened::NotUtf8 => put_all(out, b"the path isn't UTF-8"),
+            Unopened::ReadBefore => put_all(out, b"standard input was read before"),
             Unopened::System(number) => {
                 let mut text = Buffer::new();
                 put_pieces(out, &[b"os error ", text.format(number).as_bytes()])
