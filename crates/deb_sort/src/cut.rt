@@ -7,17 +7,16 @@ ghost use Rattle.deb_syntax.specs.Lines.{lines_of, file_limit};
 ghost use Rattle.deb_sort.specs.Refusals.{first_refusal, refusal_of, line_behind};
 ghost use Rattle.deb_sort.specs.VersionLines.{texts_of};
 
-use crate::version_line::VersionLine;
 use deb_base::{Code, Fault, Refusal};
 use deb_syntax::FILE_LIMIT;
-use deb_version::Version;
+use deb_version::VersionText;
 use std::alloc::{AllocError, Global};
 
-/// The lines of a text, each with its version, or the refusal of the text.
+/// The lines of a text, each a version, or the refusal of the text.
 pub(crate) fn version_lines<'a>(
     alloc: Global,
     text: &'a [u8],
-) -> Result<Vec<VersionLine<'a>>, Fault>
+) -> Result<Vec<VersionText<'a>>, Fault>
     ensures ok { IfOk result (λ lines. texts_of lines.items ≡ lines_of text.now) }
     ensures accepted { IfOk result (λ _. refusal_of text.now ≡ None) }
     ensures fault { IfErr result
@@ -53,23 +52,22 @@ fn cut_lines<'a>(alloc: Global, text: &'a [u8]) -> Result<Vec<&'a [u8]>, AllocEr
 }
 
 /// The versions of lines, or the refusal of the first that is none.
-fn parse_lines<'a>(alloc: Global, texts: &[&'a [u8]]) -> Result<Vec<VersionLine<'a>>, Fault>
+fn parse_lines<'a>(alloc: Global, texts: &[&'a [u8]]) -> Result<Vec<VersionText<'a>>, Fault>
     ensures ok { IfOk result (λ lines. texts_of lines.items ≡ map (λ text. text.now) texts.now) }
     ensures accepted { IfOk result
         (λ _. first_refusal 1 (map (λ text. text.now) texts.now) ≡ None) }
     ensures fault { IfErr result (λ fault. RefusedOrMemory fault
         (λ refusal. first_refusal 1 (map (λ text. text.now) texts.now) ≡ Some refusal)) }
 {
-    let mut lines = Vec::new(alloc);
+    let mut lines = Vec::with_capacity(alloc, texts.len())?;
     for i in 0..texts.len() {
-        let text = texts[i];
-        let Ok(version) = Version::parse(text) else {
+        let Ok(line) = VersionText::parse(texts[i]) else {
             return Err(Fault::Refused(Refusal {
                 code: Code::BadVersion,
                 line: i as u64 + 1,
             }));
         };
-        lines.push(VersionLine { text, version })?;
+        lines.push(line)?;
     }
     Ok(lines)
 }

@@ -30,8 +30,10 @@ mod order;
 mod prefix;
 mod run;
 mod version;
+mod version_text;
 
 pub use canonical_version::CanonicalVersion;
 pub use fault::BadVersion;
 pub use prefix::canonical_prefix;
 pub use version::Version;
+pub use version_text::VersionText;

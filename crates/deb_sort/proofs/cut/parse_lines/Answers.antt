@@ -22,7 +22,7 @@ loop-i-preserved c =
     let texts = c.args.texts.now in
     let i = c.loop-i.i in
     record {
-      texts = ap texts_of c.in_ok-push.ensures.items ∙ texts_push c.loop-i.lines.items _ texts i _ c.loop-i-test.true c.loop-i.invariant.texts refl;
+      texts = ap texts_of c.in_ok-push.ensures.items ∙ texts_push c.loop-i.lines.items _ texts i _ c.loop-i-test.true c.loop-i.invariant.texts c.in-Ok.ensures.ok;
       left = c.loop-i.invariant.left ∙ ap (λ l. first_refusal (i + 1) (names_of l)) (drop_more texts i _ c.loop-i-test.true)
           ∙ first_passes (i + 1) _ (names_of (drop (i + 1) texts)) (ap is_some (c.in-Ok.ensures.faultless.0 refl));
     }
