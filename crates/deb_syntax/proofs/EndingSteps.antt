@@ -1,8 +1,8 @@
 -- Where a paragraph ends, by why no line more was taken: at the file's end, or behind a line that was dropped.
-use Rattle.deb_syntax.proofs.Common.{◌≡◌, ◌≢◌, ℕ, ◌+◌, ◌-◌, ◌<◌, ◌≤◌, true, false, List, [], ◌∷◌, ◌++◌, Option, Some, None, Result, Ok, Err, length, take, drop, IsTrue, refl, sym, ap, subst, ◌∙◌, arith, length-append, length-drop, append-nil, take-append-drop, drop-drop, Line, newline, paragraph_limit, is_blank, Code, ParagraphTooLong, FileTooLong, Fault, Refused, Refusal, left_answer, room_ahead, IsAhead, IsExtentOf, PassesParagraph, IsNextRun, IsExtentAhead, DropsLine, HasNewline, TextAfterLine, IsDropped, Seen, FeedState, with_newlines, StandInFront, Stops, DroppedLine, Extent, Run, Stop, Open}
-use Rattle.deb_syntax.proofs.Endings.{EndsBlank, EndsNone, EndsLast, blank-found, blank-ahead, none-found, none-ahead, last-found, last-ahead, some-lines, some-full, refused-long, refused-end, refused-beyond}
+use Rattle.deb_syntax.proofs.Common.{cond, nat_lt, drop-length, ◌≡◌, ◌≢◌, ℕ, ◌+◌, ◌-◌, ◌<◌, ◌≤◌, true, false, List, [], ◌∷◌, ◌++◌, Option, Some, None, Result, Ok, Err, length, take, drop, IsTrue, refl, sym, ap, subst, ◌∙◌, arith, length-append, length-drop, append-nil, take-append-drop, drop-drop, Line, newline, paragraph_limit, is_blank, Code, ParagraphTooLong, FileTooLong, Fault, Refused, Refusal, left_answer, room_ahead, IsAhead, IsExtentOf, PassesParagraph, IsNextRun, IsExtentAhead, DropsLine, HasNewline, TextAfterLine, IsDropped, Seen, FeedState, with_newlines, StandInFront, Stops, DroppedLine, Extent, Run, Stop, Open}
+use Rattle.deb_syntax.proofs.Endings.{Taken, Ends, ahead, ends-blank, ends-none, ends-last, some-lines, some-full, refused-long, refused-end, refused-beyond}
 use Rattle.deb_syntax.proofs.Faults.{readers_fault}
-use Rattle.deb_syntax.proofs.WalkingLines.{take-front, drop-front, length-front, few_lines-with_newlines}
+use Rattle.deb_syntax.proofs.WalkingLines.{front-step, take-front, drop-front, length-front, few_lines-with_newlines}
 
 -- the line behind a run goes on through all bytes
 pub open-front : (text : List ℕ) (run : Run) (s : Stops text Open run) → StandInFront text s.lines s.seen
@@ -15,6 +15,22 @@ pub open-length : (text : List ℕ) (run : Run) → Stops text Open run → leng
 open-length text run s =
     let whole = length-front text s.lines s.seen (open-front text run s) in
     omega (arith, s.stands.bytes, s.stands.describes.len)
+
+-- its whole lines
+abbrev pub taken-open : (text : List ℕ) (run : Run) → Stops text Open run → Taken text run
+taken-open text run s = record {
+  lines = s.lines;
+  behind = s.seen;
+  front = open-front text run s;
+  not_blank = s.stands.not_blank;
+  bytes = s.stands.bytes;
+  short = s.stands.short;
+  counted = s.stands.counted;
+}
+
+-- nothing is behind a text that passes whole
+at-end : (passed unread : List ℕ) (n : ℕ) → n ≡ length unread → passed ≡ passed ++ (drop n unread ++ [])
+at-end passed unread n is = sym (append-nil passed) ∙ ap (λ zs. passed ++ zs) (sym (append-nil (drop n unread) ∙ ap (λ k. drop k unread) is ∙ drop-length unread))
 
 pub stops-few : (text : List ℕ) (stop : Stop) (run : Run) → Stops text stop run → run.lines ≤ run.bytes
 stops-few text stop run s = let few = few_lines-with_newlines s.lines in omega (arith, s.stands.bytes, s.stands.counted)
@@ -45,61 +61,26 @@ module _ (state : FeedState) (run : Run) (s : Stops state.unread Open run) where
   pub file-some : is_blank s.seen ≡ true → 0 < run.bytes
   file-some blank = let some = some-bytes s.lines (file-lines blank) in omega (arith, s.stands.bytes)
 
-  file-none : (e : Extent) → is_blank s.seen ≡ true → length state.unread ≤ room_ahead state → e.end ≡ run.bytes - 1 → e.skip ≡ run.bytes + run.begun.len → e.bytes ≡ run.bytes + run.begun.len → (run.begun.len ≡ 0 → e.lines ≡ run.lines) → (0 < run.begun.len → e.lines ≡ run.lines + 1) → EndsNone e state
-  file-none e blank room end skip bytes none one =
+  -- a blank line without newline is behind the run, or nothing
+  pub file-none : (e : Extent) → is_blank s.seen ≡ true → IsTrue state.ended → length state.unread ≤ room_ahead state → e ≡ record { end = run.bytes - 1; skip = run.bytes + run.begun.len; bytes = run.bytes + run.begun.len; lines = run.lines + cond (nat_lt 0 run.begun.len) 1 0 } → Ends (with_newlines s.lines ++ s.seen) e state
+  file-none e blank ended room is =
       let size = open-length state.unread run s in
-      record {
-        lines = s.lines;
-        line = s.seen;
-        behind = s.seen;
-        front = open-front state.unread run s;
-        some = file-lines blank;
-        not_blank = s.stands.not_blank;
-        short = omega (arith, s.stands.short, s.stands.bytes);
-        is_line = s.stands.describes.line;
-        blank = blank;
-        end = omega (arith, s.stands.bytes);
-        skip = omega arith;
-        within = omega (arith, s.stands.bytes, s.stands.describes.len);
-        bytes = omega (arith, s.stands.bytes, s.stands.describes.len);
-        none = λ z. omega (arith, s.stands.counted, none (omega (arith, s.stands.describes.len)));
-        one = λ z. omega (arith, s.stands.counted, one (omega (arith, s.stands.describes.len)));
-      }
+      let len = s.stands.describes.len in
+      let bytes = ap (λ (x : Extent). x.bytes) is in
+      ends-none state run (taken-open state.unread run s) s.seen e s.stands.describes.line blank (file-some blank) (ap (λ (x : Extent). x.end) is) (omega (arith, bytes, size, room))
+      ended (ap (λ (x : Extent). x.skip) is ∙ sym size) (omega (arith, bytes, len)) (ap (λ (x : Extent). x.lines) is ∙ ap (λ n. run.lines + cond (nat_lt 0 n) 1 0) len)
 
-  pub file-none-found : (e : Extent) → is_blank s.seen ≡ true → length state.unread ≤ room_ahead state → e.end ≡ run.bytes - 1 → e.skip ≡ run.bytes + run.begun.len → e.bytes ≡ run.bytes + run.begun.len → (run.begun.len ≡ 0 → e.lines ≡ run.lines) → (0 < run.begun.len → e.lines ≡ run.lines + 1) → IsExtentOf e state
-  file-none-found e blank room end skip bytes none one = none-found e state (file-none e blank room end skip bytes none one)
+  -- a line that isn't blank, without newline
+  pub file-last : is_blank s.seen ≡ false → IsTrue state.ended → length state.unread ≤ room_ahead state → run.bytes + run.begun.len < paragraph_limit → Ends state.unread (record { end = run.bytes + run.begun.len; skip = run.bytes + run.begun.len; bytes = run.bytes + run.begun.len; lines = run.lines + 1 }) state
+  file-last line_not ended room short =
+      let extent : ℕ → Extent = λ n. record { end = n; skip = n; bytes = n; lines = run.lines + 1 } in
+      ends-last state run (taken-open state.unread run s) s.seen _ (open-front state.unread run s) s.stands.describes.line line_not (omega (arith, short, s.stands.describes.len)) ended room
+      (ap extent (sym (open-length state.unread run s)))
 
-  pub file-none-ahead : (text : List ℕ) (left : Option (List ℕ)) (e : Extent) → is_blank s.seen ≡ true → length state.unread ≤ room_ahead state → e.end ≡ run.bytes - 1 → e.skip ≡ run.bytes + run.begun.len → e.bytes ≡ run.bytes + run.begun.len → (run.begun.len ≡ 0 → e.lines ≡ run.lines) → (0 < run.begun.len → e.lines ≡ run.lines + 1) → IsTrue state.ended → IsAhead text [] state left → IsExtentAhead text state (Ok e) state left
-  unfolding file-none
-  file-none-ahead text left e blank room end skip bytes none one ended a =
+  pub file-ahead : (passed : List ℕ) (e : Extent) → Ends passed e state → state.unread ≡ passed → e.skip ≡ length state.unread → IsTrue state.ended → (text : List ℕ) (left : Option (List ℕ)) → IsAhead text [] state left → IsExtentAhead text state (Ok e) state left
+  file-ahead passed e b is skip ended text left a =
       let here = ahead-end text state left a ended in
-      none-ahead text e state left (state.lines + 1) (file-none e blank room end skip bytes none one) here.0 (here.1 ∙ (open-front state.unread run s).text)
-
-  file-last : is_blank s.seen ≡ false → length state.unread ≤ room_ahead state → run.bytes + run.begun.len < paragraph_limit → EndsLast (record { end = run.bytes + run.begun.len; skip = run.bytes + run.begun.len; bytes = run.bytes + run.begun.len; lines = run.lines + 1 }) state
-  file-last line_not room short =
-      let size = open-length state.unread run s in
-      record {
-        lines = s.lines;
-        line = s.seen;
-        front = open-front state.unread run s;
-        not_blank = s.stands.not_blank;
-        is_line = s.stands.describes.line;
-        line_not = line_not;
-        short = omega (arith, s.stands.bytes, s.stands.describes.len);
-        end = sym size;
-        skip = sym size;
-        within = room;
-        bytes = sym size;
-        counted = omega (arith, s.stands.counted);
-      }
-
-  pub file-last-found : is_blank s.seen ≡ false → length state.unread ≤ room_ahead state → run.bytes + run.begun.len < paragraph_limit → IsExtentOf (record { end = run.bytes + run.begun.len; skip = run.bytes + run.begun.len; bytes = run.bytes + run.begun.len; lines = run.lines + 1 }) state
-  file-last-found line_not room short = last-found _ state (file-last line_not room short)
-
-  pub file-last-ahead : (text : List ℕ) (left : Option (List ℕ)) → is_blank s.seen ≡ false → length state.unread ≤ room_ahead state → run.bytes + run.begun.len < paragraph_limit → IsTrue state.ended → IsAhead text [] state left → IsExtentAhead text state (Ok (record { end = run.bytes + run.begun.len; skip = run.bytes + run.begun.len; bytes = run.bytes + run.begun.len; lines = run.lines + 1 })) state left
-  file-last-ahead text left line_not room short ended a =
-      let here = ahead-end text state left a ended in
-      last-ahead text _ state left (state.lines + 1) (file-last line_not room short) here.0 here.1
+      ahead text [] passed e state left (state.lines + 1) b here.0 (here.1 ∙ is ∙ at-end passed state.unread e.skip skip) (λ _. refl)
 
   pub file-long-ahead : (text : List ℕ) (left : Option (List ℕ)) (fault : Fault) → is_blank s.seen ≡ false → length state.unread ≤ room_ahead state → paragraph_limit ≤ run.bytes + run.begun.len → IsTrue state.ended → fault ≡ Refused (record { code = ParagraphTooLong; line = state.lines + run.lines + 1 }) → IsAhead text [] state left → IsExtentAhead text state (Err fault) state left
   file-long-ahead text left fault line_not room long ended is a =
@@ -127,10 +108,18 @@ module _ (before after : FeedState) (run : Run) (s : Stops before.unread Open ru
       (omega (arith, s.stands.short, s.stands.bytes)))) (h text a)
 
   module _ (dropped : DroppedLine) (d : DropsLine before run dropped after) where
-    kept-front : StandInFront after.unread s.lines (drop run.bytes after.unread)
-    kept-front = record {
-      text = sym (take-append-drop run.bytes after.unread) ∙ ap (λ zs. zs ++ drop run.bytes after.unread) (d.kept ∙ take-run);
-      lines = s.stands.front.lines;
+    abbrev kept : Taken after.unread run
+    kept = record {
+      lines = s.lines;
+      behind = drop run.bytes after.unread;
+      front = record {
+        text = sym (take-append-drop run.bytes after.unread) ∙ ap (λ zs. zs ++ drop run.bytes after.unread) (d.kept ∙ take-run);
+        lines = s.stands.front.lines;
+      };
+      not_blank = s.stands.not_blank;
+      bytes = s.stands.bytes;
+      short = s.stands.short;
+      counted = s.stands.counted;
     }
 
     same-room : room_ahead after ≡ room_ahead before
@@ -173,72 +162,33 @@ module _ (before after : FeedState) (run : Run) (s : Stops before.unread Open ru
         (record { text = whole ∙ ap (λ zs. zs ++ d.line) take-run; lines = s.stands.front.lines }) d.describes.line
         (omega (arith, within, s.stands.bytes)) s.stands.not_blank line_not (omega (arith, s.stands.short, s.stands.bytes)) (omega arith))
 
-    dropped-blank : (at : ℕ) → paragraph_limit ≤ length before.unread → is_blank d.line ≡ true → (h : HasNewline before run d.line (Some at) after) → EndsBlank (record { end = run.bytes - 1; skip = at + 1; bytes = run.bytes + dropped.line.len + 1; lines = run.lines + 1 }) after
-    dropped-blank at full blank (more, ordered, here, near, within) =
-        let left = length-drop at after.unread in
-        let size = ap length here in
-        let room = same-room in
-        record {
-          lines = s.lines;
-          line = d.line;
-          more = more;
-          behind = drop run.bytes after.unread;
-          front = kept-front;
-          some = full-lines full blank;
-          not_blank = s.stands.not_blank;
-          short = omega (arith, s.stands.short, s.stands.bytes);
-          is_line = d.describes.line;
-          blank = blank;
-          end = omega (arith, s.stands.bytes);
-          skip = sym (drop-drop 1 at after.unread) ∙ ap (drop 1) here;
-          skip_within = omega arith;
-          near = near;
-          within = omega (arith, s.stands.bytes);
-          bytes = omega (arith, s.stands.bytes, d.describes.len);
-          counted = omega (arith, s.stands.counted);
-        }
+    -- a blank line with its newline is behind the run
+    pub dropped-blank : (e : Extent) (at : ℕ) → paragraph_limit ≤ length before.unread → is_blank d.line ≡ true → HasNewline before run d.line (Some at) after → e ≡ record { end = run.bytes - 1; skip = at + 1; bytes = run.bytes + dropped.line.len + 1; lines = run.lines + 1 } → Ends (with_newlines (s.lines ++ d.line ∷ [])) e after
+    dropped-blank e at full blank (more, ordered, here, near, within) is =
+        let bytes = ap (λ (x : Extent). x.bytes) is in
+        let skip = ap (λ (x : Extent). x.skip) is in
+        ends-blank after run kept d.line e d.describes.line blank (dropped-some full blank) (ap (λ (x : Extent). x.end) is) (omega (arith, bytes, d.describes.len, within, same-room))
+        (omega (arith, skip, length-drop at after.unread, ap length here)) (omega (arith, skip, near, length-drop at after.unread, length-drop e.skip after.unread, ap length here)) (omega (arith, bytes, d.describes.len)) (ap (λ (x : Extent). x.lines) is)
+
+    -- or one without, or nothing
+    pub dropped-none : (e : Extent) → paragraph_limit ≤ length before.unread → is_blank d.line ≡ true → HasNewline before run d.line None after → e ≡ record { end = run.bytes - 1; skip = run.bytes; bytes = run.bytes + dropped.line.len; lines = run.lines + cond (nat_lt 0 dropped.line.len) 1 0 } → Ends (with_newlines s.lines ++ d.line) e after
+    dropped-none e full blank (gone, ended, within) is =
+        let bytes = ap (λ (x : Extent). x.bytes) is in
+        ends-none after run kept d.line e d.describes.line blank (dropped-some full blank) (ap (λ (x : Extent). x.end) is) (omega (arith, bytes, d.describes.len, within, same-room))
+        ended (ap (λ (x : Extent). x.skip) is ∙ s.stands.bytes ∙ sym (ap length (gone ∙ take-run))) (omega (arith, bytes, d.describes.len))
+        (ap (λ (x : Extent). x.lines) is ∙ ap (λ n. run.lines + cond (nat_lt 0 n) 1 0) d.describes.len)
 
     same-answer : (n : ℕ) (text : List ℕ) (e : Extent) (left : Option (List ℕ)) → ((x : IsExtentOf e after) × PassesParagraph text e after left x.lines × IsNextRun n (room_ahead after) text x.lines) → ((x : IsExtentOf e after) × PassesParagraph text e after left x.lines × IsNextRun n (room_ahead before) text x.lines)
     same-answer n text e left (x, passes, next) = (x, passes, subst (λ r. IsNextRun n r text x.lines) same-room next)
 
-    pub dropped-blank-found : (e : Extent) (at : ℕ) → paragraph_limit ≤ length before.unread → is_blank d.line ≡ true → HasNewline before run d.line (Some at) after → e ≡ record { end = run.bytes - 1; skip = at + 1; bytes = run.bytes + dropped.line.len + 1; lines = run.lines + 1 } → IsExtentOf e after
-    dropped-blank-found e at full blank h is = subst (λ x. IsExtentOf x after) (sym is) (blank-found _ after (dropped-blank at full blank h))
-
-    pub dropped-blank-ahead : (text : List ℕ) (left : Option (List ℕ)) (e : Extent) (at : ℕ) → paragraph_limit ≤ length before.unread → is_blank d.line ≡ true → HasNewline before run d.line (Some at) after → TextAfterLine text before run d.line (Some at) after left → e ≡ record { end = run.bytes - 1; skip = at + 1; bytes = run.bytes + dropped.line.len + 1; lines = run.lines + 1 } → IsExtentAhead text before (Ok e) after left
-    unfolding dropped-blank
-    dropped-blank-ahead text left e at full blank (more, ordered, here, near, within) (rest, told, whole, ended) is =
-        subst (λ x. IsExtentAhead text before (Ok x) after left) (sym is)
-        (same-answer (before.lines + 1) text _ left
-        (blank-ahead text rest _ after left (before.lines + 1) (dropped-blank at full blank (more, ordered, here, near, within)) told
-        (text-newline text at more rest here whole) ended))
-
-    dropped-none : (e : Extent) → paragraph_limit ≤ length before.unread → is_blank d.line ≡ true → HasNewline before run d.line None after → e.end ≡ run.bytes - 1 → e.skip ≡ run.bytes → e.bytes ≡ run.bytes + dropped.line.len → (dropped.line.len ≡ 0 → e.lines ≡ run.lines) → (0 < dropped.line.len → e.lines ≡ run.lines + 1) → EndsNone e after
-    dropped-none e full blank (gone, ended, within) end skip bytes none one =
-        let size : length after.unread ≡ length (with_newlines s.lines) = ap length (gone ∙ take-run) in
-        let room = same-room in
-        record {
-          lines = s.lines;
-          line = d.line;
-          behind = drop run.bytes after.unread;
-          front = kept-front;
-          some = full-lines full blank;
-          not_blank = s.stands.not_blank;
-          short = omega (arith, s.stands.short, s.stands.bytes);
-          is_line = d.describes.line;
-          blank = blank;
-          end = omega (arith, s.stands.bytes);
-          skip = omega (arith, s.stands.bytes);
-          within = omega (arith, s.stands.bytes);
-          bytes = omega (arith, s.stands.bytes, d.describes.len);
-          none = λ z. omega (arith, s.stands.counted, none (omega (arith, d.describes.len)));
-          one = λ z. omega (arith, s.stands.counted, one (omega (arith, d.describes.len)));
-        }
-
-    pub dropped-none-found : (e : Extent) → paragraph_limit ≤ length before.unread → is_blank d.line ≡ true → HasNewline before run d.line None after → e.end ≡ run.bytes - 1 → e.skip ≡ run.bytes → e.bytes ≡ run.bytes + dropped.line.len → (dropped.line.len ≡ 0 → e.lines ≡ run.lines) → (0 < dropped.line.len → e.lines ≡ run.lines + 1) → IsExtentOf e after
-    dropped-none-found e full blank h end skip bytes none one = none-found e after (dropped-none e full blank h end skip bytes none one)
-
-    pub dropped-none-ahead : (text : List ℕ) (left : Option (List ℕ)) (e : Extent) → paragraph_limit ≤ length before.unread → is_blank d.line ≡ true → HasNewline before run d.line None after → TextAfterLine text before run d.line None after left → e.end ≡ run.bytes - 1 → e.skip ≡ run.bytes → e.bytes ≡ run.bytes + dropped.line.len → (dropped.line.len ≡ 0 → e.lines ≡ run.lines) → (0 < dropped.line.len → e.lines ≡ run.lines + 1) → IsExtentAhead text before (Ok e) after left
-    unfolding dropped-none
-    dropped-none-ahead text left e full blank h (whole, told) end skip bytes none one =
+    pub dropped-blank-ahead : (text : List ℕ) (left : Option (List ℕ)) (e : Extent) (at : ℕ) → Ends (with_newlines (s.lines ++ d.line ∷ [])) e after → e.skip ≡ at + 1 → HasNewline before run d.line (Some at) after → TextAfterLine text before run d.line (Some at) after left → IsExtentAhead text before (Ok e) after left
+    dropped-blank-ahead text left e at b skip (more, ordered, here, near, within) (rest, told, whole, ended) =
+        let stands : StandInFront text s.lines (d.line ++ newline ∷ (more ++ rest)) = record { text = text-newline text at more rest here whole; lines = s.stands.front.lines } in
+        let next : more ≡ drop e.skip after.unread = sym (ap (λ k. drop k after.unread) skip ∙ sym (drop-drop 1 at after.unread) ∙ ap (drop 1) here) in
         same-answer (before.lines + 1) text e left
-        (none-ahead text e after left (before.lines + 1) (dropped-none e full blank h end skip bytes none one) told (whole ∙ ap (λ zs. zs ++ d.line) take-run))
+        (ahead text rest _ e after left (before.lines + 1) b told ((front-step text s.lines d.line (more ++ rest) stands d.describes.line).text ∙ ap (λ zs. with_newlines (s.lines ++ d.line ∷ []) ++ (zs ++ rest)) next) ended)
+
+    pub dropped-none-ahead : (text : List ℕ) (left : Option (List ℕ)) (e : Extent) → Ends (with_newlines s.lines ++ d.line) e after → e.skip ≡ run.bytes → HasNewline before run d.line None after → TextAfterLine text before run d.line None after left → IsExtentAhead text before (Ok e) after left
+    dropped-none-ahead text left e b skip h (whole, told) =
+        same-answer (before.lines + 1) text e left
+        (ahead text [] _ e after left (before.lines + 1) b told (whole ∙ ap (λ zs. zs ++ d.line) take-run ∙ at-end _ after.unread e.skip (skip ∙ s.stands.bytes ∙ sym (ap length (h.0 ∙ take-run)))) (λ _. refl))

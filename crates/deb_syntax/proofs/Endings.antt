@@ -1,13 +1,14 @@
 -- Where a paragraph ends: lines that aren't blank at the front of a text, and a blank line or the end behind them.
-use Rattle.deb_syntax.proofs.Common.{◌≡◌, ◌≢◌, ℕ, ◌+◌, ◌-◌, ◌<◌, ◌≤◌, ◌⊎◌, inl, inr, true, false, nat_le, List, [], ◌∷◌, ◌++◌, Option, Some, Err, length, take, drop, IsTrue, refl, sym, ap, subst, ◌∙◌, append_assoc, arith, length-append, length-drop, drop-length, and_parts, leb-true, false≢true, append-nil, take_all, AllByRecursion, All-append, ParagraphTooLong, FileTooLong, Line, newline, is_blank, is_all_blank, pieces_of, HasNoNewline, left_answer, room_ahead, IsExtentOf, PassesParagraph, IsNextRun, part_within, whole_lines, AreBlank, AreNotBlank, FeedState, piece_limit, lines_of, with_newlines, total_length, begins_blank, paragraphs_from, StandInFront, CannotBeBlank, Extent}
+use Rattle.deb_syntax.proofs.Common.{cond, nat_lt, IsClosed, Run, ◌≡◌, ◌≢◌, ℕ, ◌+◌, ◌-◌, ◌<◌, ◌≤◌, ◌⊎◌, inl, inr, true, false, nat_le, List, [], ◌∷◌, ◌++◌, Option, Some, Err, length, take, drop, IsTrue, refl, sym, ap, subst, ◌∙◌, append_assoc, arith, length-append, length-drop, drop-length, and_parts, leb-true, false≢true, append-nil, take_all, AllByRecursion, All-append, ParagraphTooLong, FileTooLong, Line, newline, is_blank, is_all_blank, pieces_of, HasNoNewline, left_answer, room_ahead, IsExtentOf, PassesParagraph, IsNextRun, part_within, whole_lines, AreBlank, AreNotBlank, FeedState, piece_limit, lines_of, with_newlines, total_length, begins_blank, paragraphs_from, StandInFront, CannotBeBlank, Extent}
 use Rattle.deb_base.specs.Bodies.{paragraph_limit}
+use Rattle.deb_syntax.proofs.Boundaries.{lines_of-append}
 use Rattle.deb_syntax.proofs.LeftAnswers.{left-run, left-long, left-beyond}
 use Rattle.deb_syntax.proofs.NextParagraph.{ends_blank-append}
 use Rattle.deb_syntax.proofs.LinesLawsTexts.{lines_of-with_newlines}
 use Rattle.deb_syntax.proofs.Passing.{ends_line-with_newlines}
 use Rattle.deb_syntax.proofs.Parts.{part_within-all, part_within-some, part_within-append, whole_lines-append, whole_lines-none}
 use Rattle.deb_syntax.proofs.Runs.{paragraphs_from-run}
-use Rattle.deb_syntax.proofs.WalkingLines.{lines_of-with_newlines_and, lines_of-front, length-with_newlines, few_lines-with_newlines, lines_of-unended, pieces_of-with_newlines_and, length-front, front-step, length-with_newlines-step, pieces_of-front}
+use Rattle.deb_syntax.proofs.WalkingLines.{blank-last, count-last, few_lines, one-last, lines_of-with_newlines_and, lines_of-front, length-with_newlines, lines_of-unended, pieces_of-with_newlines_and, length-front, front-step, length-with_newlines-step, pieces_of-front}
 
 some_more : (lines : List Line) (line : Line) → lines ++ line ∷ [] ≢ []
 some_more [] line e = let l : length (line ∷ []) ≡ 0 = ap length e in absurd (omega arith)
@@ -89,248 +90,188 @@ next-run n room text (line ∷ run) rest some is not_blank begins short ends = r
   answer = left-run n room text line run rest is not_blank begins short ends;
 }
 
--- lines in front of a blank line with its newline
-pub record EndsBlank (e : Extent) (state : FeedState) : Type 0 where
+-- Whole lines of a run at the front of a text.
+pub record Taken (text : List ℕ) (run : Run) : Type 0 where
   pub lines : List Line
-  pub line : List ℕ
-  pub more : List ℕ
   pub behind : List ℕ
-  pub front : StandInFront state.unread lines behind
-  pub some : lines ≢ []
+  pub front : StandInFront text lines behind
   pub not_blank : AreNotBlank lines
-  pub short : length (with_newlines lines) ≤ paragraph_limit
-  pub is_line : HasNoNewline line
-  pub blank : is_blank line ≡ true
-  pub end : e.end ≡ length (with_newlines lines) - 1
-  pub skip : drop e.skip state.unread ≡ more
+  pub bytes : run.bytes ≡ length (with_newlines lines)
+  pub short : run.bytes ≤ paragraph_limit
+  pub counted : run.lines ≡ length lines
+
+-- A paragraph ends here, and passes with the blank line behind it, or with all that is left: which bytes and lines of the file those are.
+pub record Ends (passed : List ℕ) (e : Extent) (state : FeedState) : Type 0 where
+  pub lines : List Line
+  pub ending : List Line
+  pub some : lines ≢ []
+  pub pieces : pieces_of (take e.end state.unread) ≡ lines
+  pub not_blank : AreNotBlank lines
+  pub short : total_length lines ≤ paragraph_limit
+  pub end_within : e.end ≤ length state.unread
   pub skip_within : e.skip ≤ length state.unread
-  pub near : length more ≤ piece_limit
-  pub within : length (with_newlines lines) + (length line + 1) ≤ room_ahead state
-  pub bytes : e.bytes ≡ length (with_newlines lines) + (length line + 1)
-  pub counted : e.lines ≡ length lines + 1
+  pub near : length (drop e.skip state.unread) ≤ piece_limit
+  pub is : lines_of passed ≡ lines ++ ending
+  pub blank : AreBlank ending
+  pub one : length ending ≤ 1
+  pub bytes : e.bytes ≡ length passed
+  pub within : length passed ≤ room_ahead state
+  pub counted : e.lines ≡ length lines + length ending
+  pub closed : ((0 < length ending) × IsClosed passed) ⊎ (IsTrue state.ended × (e.skip ≡ length state.unread))
 
-pub blank-found : (e : Extent) (state : FeedState) → EndsBlank e state → IsExtentOf e state
-blank-found e state b =
-    let whole = length-front state.unread b.lines b.behind b.front in
-    let few = few_lines-with_newlines b.lines in
-    let total = length-with_newlines b.lines in
-    record {
-      lines = b.lines;
-      some = b.some;
-      pieces = ap (λ k. pieces_of (take k state.unread)) b.end ∙ pieces_of-front state.unread b.lines b.behind b.some b.front;
-      not_blank = b.not_blank;
-      short = omega (arith, b.short);
-      end_within = omega (arith, b.end);
-      skip_within = b.skip_within;
-      within = omega (arith, b.bytes, b.within);
-      few = omega (arith, b.bytes, b.counted);
-      counted = omega (arith, b.counted);
-      near = omega (arith, ap length b.skip, b.near);
-    }
+pub found : (passed : List ℕ) (e : Extent) (state : FeedState) → Ends passed e state → IsExtentOf e state
+found passed e state b = record {
+  lines = b.lines;
+  some = b.some;
+  pieces = b.pieces;
+  not_blank = b.not_blank;
+  short = b.short;
+  end_within = b.end_within;
+  skip_within = b.skip_within;
+  within = omega (arith, b.bytes, b.within);
+  few = omega (arith, b.bytes, b.counted, few_lines passed, ap length b.is, length-append b.lines b.ending);
+  counted = omega (arith, b.counted);
+  near = b.near;
+}
 
-pub blank-ahead : (text rest : List ℕ) (e : Extent) (state : FeedState) (left : Option (List ℕ)) (n : ℕ) (b : EndsBlank e state) → left ≡ Some rest → text ≡ with_newlines b.lines ++ (b.line ++ newline ∷ (b.more ++ rest)) → (IsTrue state.ended → rest ≡ []) → (x : IsExtentOf e state) × PassesParagraph text e state left x.lines × IsNextRun n (room_ahead state) text x.lines
-unfolding blank-found
-blank-ahead text rest e state left n b told whole ended =
-    let total = length-with_newlines b.lines in
-    let step = length-with_newlines-step b.lines b.line in
-    let all = b.lines ++ b.line ∷ [] in
-    let stands : StandInFront text b.lines (b.line ++ newline ∷ (b.more ++ rest)) = record { text = whole; lines = b.front.lines } in
-    let both : StandInFront text all (b.more ++ rest) = front-step text b.lines b.line (b.more ++ rest) stands b.is_line in
-    let passed_lines : lines_of (with_newlines all) ≡ all = lines_of-with_newlines all both.lines in
-    let behind = part_within (room_ahead state - length (with_newlines all)) (b.more ++ rest) in
-    let is : lines_of (part_within (room_ahead state) text) ≡ b.lines ++ b.line ∷ lines_of behind
-    = part-lines (room_ahead state) text all (b.more ++ rest) both (omega (arith, b.within)) ∙ append_assoc b.lines (b.line ∷ []) (lines_of behind) in (
-      blank-found e state b,
-      record {
-        passed = with_newlines all;
-        ahead = b.more ++ rest;
-        ending = b.line ∷ [];
-        whole = both.text;
-        lines = passed_lines;
-        blank = (b.blank, tt);
-        one = omega arith;
-        closed = inl (
-          ends_line-with_newlines all,
-          subst (λ ls. Rattle.deb_syntax.specs.Lines.ends_blank ls ≡ true) (sym passed_lines) (ends_blank-append b.lines (b.line ∷ []) (some_more [] b.line) b.blank),
-        );
-        rest = rest;
-        told = told;
-        left_ahead = ap (λ zs. zs ++ rest) (sym b.skip);
-        ended = ended;
-        bytes = omega (arith, b.bytes);
-        counted = omega (arith, b.counted, ap length passed_lines, length-append b.lines (b.line ∷ []));
-      },
-      next-run n (room_ahead state) text b.lines (b.line ∷ lines_of behind) b.some is b.not_blank b.blank (omega (arith, b.short)) (inr (omega arith)),
-    )
+begins : (ending more : List Line) → AreBlank ending → (0 < length ending) ⊎ (more ≡ []) → begins_blank (ending ++ more) ≡ true
+begins [] more blank (inl some) = absurd (omega (arith, some))
+begins [] more blank (inr none) = ap begins_blank none
+begins (line ∷ ending) more blank some = blank.0
 
--- lines in front of the end, or of a blank line without newline
-pub record EndsNone (e : Extent) (state : FeedState) : Type 0 where
-  pub lines : List Line
-  pub line : List ℕ
-  pub behind : List ℕ
-  pub front : StandInFront state.unread lines behind
-  pub some : lines ≢ []
-  pub not_blank : AreNotBlank lines
-  pub short : length (with_newlines lines) ≤ paragraph_limit
-  pub is_line : HasNoNewline line
-  pub blank : is_blank line ≡ true
-  pub end : e.end ≡ length (with_newlines lines) - 1
-  pub skip : e.skip ≡ length state.unread
-  pub within : length (with_newlines lines) + length line ≤ room_ahead state
-  pub bytes : e.bytes ≡ length (with_newlines lines) + length line
-  pub none : length line ≡ 0 → e.lines ≡ length lines
-  pub one : 0 < length line → e.lines ≡ length lines + 1
-
--- the lines of a line without newline
-record Unended (line : List ℕ) : Type 0 where
-  blank : AreBlank (lines_of line)
-  begins : begins_blank (lines_of line) ≡ true
-  one : length (lines_of line) ≤ 1
-  none : length line ≡ 0 → length (lines_of line) ≡ 0
-  some : 0 < length line → length (lines_of line) ≡ 1
-
-unended : (line : List ℕ) → HasNoNewline line → is_blank line ≡ true → Unended line
-unended [] h b = record { blank = tt; begins = refl; one = omega arith; none = λ _. refl; some = λ lt. absurd (omega arith) }
-unended (c ∷ line) h b =
-    let is : lines_of (c ∷ line) ≡ (c ∷ line) ∷ [] = Rattle.deb_syntax.proofs.Runs.lines_of-last c line h in
-    let one : length (lines_of (c ∷ line)) ≡ 1 = ap length is in
-    record {
-      blank = subst (λ ls. AreBlank ls) (sym is) (b, tt);
-      begins = ap begins_blank is ∙ b;
-      one = omega arith;
-      none = λ z. absurd (omega arith);
-      some = λ _. one;
-    }
-
-none-lines : (e : Extent) (state : FeedState) (b : EndsNone e state) → e.lines ≡ length b.lines + length (lines_of b.line)
-none-lines e state b =
-    let u = unended b.line b.is_line b.blank in
-    elim (Rattle.std.proofs.lemmas.Bool.cases_lt 0 (length b.line)) [
-      | inl some ↦ omega (arith, u.some some, b.one some)
-      | inr none ↦ let zero : length b.line ≡ 0 = omega arith in omega (arith, u.none zero, b.none zero)
-    ]
-
-pub none-found : (e : Extent) (state : FeedState) → EndsNone e state → IsExtentOf e state
-none-found e state b =
-    let whole = length-front state.unread b.lines b.behind b.front in
-    let few = few_lines-with_newlines b.lines in
-    let total = length-with_newlines b.lines in
-    let u = unended b.line b.is_line b.blank in
-    let left = length-drop e.skip state.unread in
-    record {
-      lines = b.lines;
-      some = b.some;
-      pieces = ap (λ k. pieces_of (take k state.unread)) b.end ∙ pieces_of-front state.unread b.lines b.behind b.some b.front;
-      not_blank = b.not_blank;
-      short = omega (arith, b.short);
-      end_within = omega (arith, b.end);
-      skip_within = omega (arith, b.skip);
-      within = omega (arith, b.bytes, b.within);
-      few = elim (Rattle.std.proofs.lemmas.Bool.cases_lt 0 (length b.line)) [
-        | inl some ↦ omega (arith, b.bytes, b.one some)
-        | inr none ↦ let zero : length b.line ≡ 0 = omega arith in omega (arith, b.bytes, b.none zero)
-      ];
-      counted = omega (arith, none-lines e state b);
-      near = omega (arith, b.skip);
-    }
-
-pub none-ahead : (text : List ℕ) (e : Extent) (state : FeedState) (left : Option (List ℕ)) (n : ℕ) (b : EndsNone e state) → left ≡ Some [] → text ≡ with_newlines b.lines ++ b.line → (x : IsExtentOf e state) × PassesParagraph text e state left x.lines × IsNextRun n (room_ahead state) text x.lines
-unfolding none-found
-none-ahead text e state left n b told whole =
-    let total = length-with_newlines b.lines in
-    let u = unended b.line b.is_line b.blank in
-    let stands : StandInFront text b.lines b.line = record { text = whole; lines = b.front.lines } in
-    let size = length-front text b.lines b.line stands in
-    let within : length text ≤ room_ahead state = omega (arith, b.within) in
-    let lines : lines_of text ≡ b.lines ++ lines_of b.line = lines_of-front text b.lines b.line stands in (
-      none-found e state b,
-      record {
-        passed = text;
-        ahead = [];
-        ending = lines_of b.line;
-        whole = sym (append-nil text);
-        lines = lines;
-        blank = u.blank;
-        one = u.one;
-        closed = inr refl;
-        rest = [];
-        told = told;
-        left_ahead = sym (append-nil (drop e.skip state.unread) ∙ ap (λ k. drop k state.unread) b.skip ∙ drop-length state.unread);
-        ended = λ _. refl;
-        bytes = omega (arith, b.bytes);
-        counted = omega (arith, none-lines e state b, ap length lines, length-append b.lines (lines_of b.line));
-      },
-      next-run n (room_ahead state) text b.lines (lines_of b.line) b.some (ap lines_of (part_within-all (room_ahead state) text within) ∙ lines) b.not_blank u.begins (omega (arith, b.short)) (inl within),
-    )
-
--- lines of which the last ends with the file
-pub record EndsLast (e : Extent) (state : FeedState) : Type 0 where
-  pub lines : List Line
-  pub line : List ℕ
-  pub front : StandInFront state.unread lines line
-  pub not_blank : AreNotBlank lines
-  pub is_line : HasNoNewline line
-  pub line_not : is_blank line ≡ false
-  pub short : length (with_newlines lines) + (length line + 1) ≤ paragraph_limit
-  pub end : e.end ≡ length state.unread
-  pub skip : e.skip ≡ length state.unread
-  pub within : length state.unread ≤ room_ahead state
-  pub bytes : e.bytes ≡ length state.unread
-  pub counted : e.lines ≡ length lines + 1
-
-pub last-found : (e : Extent) (state : FeedState) → EndsLast e state → IsExtentOf e state
-last-found e state b =
-    let whole = length-front state.unread b.lines b.line b.front in
-    let few = few_lines-with_newlines b.lines in
-    let total = length-with_newlines (b.lines ++ b.line ∷ []) in
-    let step = length-with_newlines-step b.lines b.line in
-    let left = length-drop e.skip state.unread in
-    let some : 0 < length b.line = not_zero b.line (not_empty b.line b.line_not) in
-    record {
-      lines = b.lines ++ b.line ∷ [];
-      some = some_more b.lines b.line;
-      pieces = ap (λ k. pieces_of (take k state.unread)) b.end ∙ ap pieces_of (take_all (length state.unread) state.unread (omega arith) ∙ b.front.text)
-          ∙ pieces_of-with_newlines_and b.lines b.line b.front.lines b.is_line;
-      not_blank = All-append _ _ _ b.not_blank (b.line_not, tt);
-      short = omega (arith, b.short);
-      end_within = omega (arith, b.end);
-      skip_within = omega (arith, b.skip);
-      within = omega (arith, b.bytes, b.within);
-      few = omega (arith, b.bytes, b.counted);
-      counted = omega (arith, b.counted, length-append b.lines (b.line ∷ []));
-      near = omega (arith, b.skip);
-    }
+pub ahead : (text rest passed : List ℕ) (e : Extent) (state : FeedState) (left : Option (List ℕ)) (n : ℕ) → Ends passed e state → left ≡ Some rest → text ≡ passed ++ (drop e.skip state.unread ++ rest) → (IsTrue state.ended → rest ≡ []) → (x : IsExtentOf e state) × PassesParagraph text e state left x.lines × IsNextRun n (room_ahead state) text x.lines
+unfolding found
+ahead text rest passed e state left n b told whole ended = (
+  found passed e state b,
+  record {
+    passed = passed;
+    ahead = more;
+    ending = b.ending;
+    whole = whole;
+    lines = b.is;
+    blank = b.blank;
+    one = b.one;
+    closed = elim b.closed [ inl c ↦ inl c.1 | inr end ↦ inr (none end) ];
+    rest = rest;
+    told = told;
+    left_ahead = refl;
+    ended = ended;
+    bytes = b.bytes;
+    counted = omega (arith, b.counted, ap length b.is, length-append b.lines b.ending);
+  },
+  run b.closed,
+)
   where
-    not_zero : (line : List ℕ) → line ≢ [] → 0 < length line
-    not_zero [] some = absurd (some refl)
-    not_zero (c ∷ line) some = omega arith
+    more : List ℕ
+    more = drop e.skip state.unread ++ rest
 
-pub last-ahead : (text : List ℕ) (e : Extent) (state : FeedState) (left : Option (List ℕ)) (n : ℕ) (b : EndsLast e state) → left ≡ Some [] → text ≡ state.unread → (x : IsExtentOf e state) × PassesParagraph text e state left x.lines × IsNextRun n (room_ahead state) text x.lines
-unfolding last-found
-last-ahead text e state left n b told whole =
-    let all = b.lines ++ b.line ∷ [] in
-    let total = length-with_newlines all in
-    let step = length-with_newlines-step b.lines b.line in
-    let within : length text ≤ room_ahead state = omega (arith, ap length whole, b.within) in
-    let lines : lines_of text ≡ all ++ []
-    = ap lines_of whole ∙ lines_of-front state.unread b.lines b.line b.front
-    ∙ ap (λ ls. b.lines ++ ls) (lines_of-unended b.line (not_empty b.line b.line_not) b.is_line) ∙ sym (append-nil all) in (
-      last-found e state b,
+    none : IsTrue state.ended × (e.skip ≡ length state.unread) → drop e.skip state.unread ++ rest ≡ []
+    none end = ap (λ zs. drop e.skip state.unread ++ zs) (ended end.0) ∙ append-nil (drop e.skip state.unread) ∙ ap (λ k. drop k state.unread) end.1 ∙ drop-length state.unread
+
+    run : ((0 < length b.ending) × IsClosed passed) ⊎ (IsTrue state.ended × (e.skip ≡ length state.unread)) → IsNextRun n (room_ahead state) text b.lines
+    run (inl (some, closed)) =
+        let others = lines_of (part_within (room_ahead state - length passed) (drop e.skip state.unread ++ rest)) in
+        next-run n (room_ahead state) text b.lines (b.ending ++ others) b.some
+        (ap (λ t. lines_of (part_within (room_ahead state) t)) whole
+        ∙ ap lines_of (part_within-append (room_ahead state) passed (drop e.skip state.unread ++ rest) closed.0 b.within)
+        ∙ lines_of-append passed (part_within (room_ahead state - length passed) (drop e.skip state.unread ++ rest)) closed.0
+        ∙ ap (λ ls. ls ++ others) b.is ∙ append_assoc b.lines b.ending others)
+        b.not_blank (begins b.ending others b.blank (inl some)) b.short (inr (omega (arith, some, length-append b.ending others)))
+    run (inr end) =
+        let all : text ≡ passed = whole ∙ ap (λ zs. passed ++ zs) (none end) ∙ append-nil passed in
+        let within : length text ≤ room_ahead state = omega (arith, ap length all, b.within) in
+        next-run n (room_ahead state) text b.lines b.ending b.some (ap lines_of (part_within-all (room_ahead state) text within ∙ all) ∙ b.is)
+        b.not_blank (ap begins_blank (sym (append-nil b.ending)) ∙ begins b.ending [] b.blank (inr refl)) b.short (inl within)
+
+module _ (state : FeedState) (run : Run) (t : Taken state.unread run) (line : List ℕ) (e : Extent) where
+  module _ (is_line : HasNoNewline line) (blank : is_blank line ≡ true) (some : 0 < run.bytes) (end : e.end ≡ run.bytes - 1) (room : e.bytes ≤ room_ahead state) where
+    some-taken : t.lines ≢ []
+    some-taken none = absurd (omega (arith, some, t.bytes, ap (λ ls. length (with_newlines ls)) none))
+
+    pieces-taken : pieces_of (take e.end state.unread) ≡ t.lines
+    pieces-taken = ap (λ k. pieces_of (take k state.unread)) (end ∙ ap (λ k. k - 1) t.bytes) ∙ pieces_of-front state.unread t.lines t.behind some-taken t.front
+
+    end-taken : e.end ≤ length state.unread
+    end-taken = omega (arith, end, t.bytes, length-front state.unread t.lines t.behind t.front)
+
+    short-taken : total_length t.lines ≤ paragraph_limit
+    short-taken = omega (arith, t.short, t.bytes, length-with_newlines t.lines)
+
+    -- a blank line with its newline is behind the lines
+    pub ends-blank : e.skip ≤ length state.unread → length (drop e.skip state.unread) ≤ piece_limit → e.bytes ≡ run.bytes + length line + 1 → e.lines ≡ run.lines + 1 → Ends (with_newlines (t.lines ++ line ∷ [])) e state
+    ends-blank skip near bytes count =
+        let all = t.lines ++ line ∷ [] in
+        let step = length-with_newlines-step t.lines line in
+        let is : lines_of (with_newlines all) ≡ all = lines_of-with_newlines all (All-append HasNoNewline t.lines (line ∷ []) t.front.lines (is_line, tt)) in
+        record {
+          lines = t.lines;
+          ending = line ∷ [];
+          some = some-taken;
+          pieces = pieces-taken;
+          not_blank = t.not_blank;
+          short = short-taken;
+          end_within = end-taken;
+          skip_within = skip;
+          near = near;
+          is = is;
+          blank = (blank, tt);
+          one = omega arith;
+          bytes = omega (arith, bytes, t.bytes, step);
+          within = omega (arith, bytes, room, t.bytes, step);
+          counted = omega (arith, count, t.counted);
+          closed = inl (
+            omega arith,
+            (ends_line-with_newlines all, subst (λ ls. Rattle.deb_syntax.specs.Lines.ends_blank ls ≡ true) (sym is) (ends_blank-append t.lines (line ∷ []) (some_more [] line) blank)),
+          );
+        }
+
+    -- a blank line without newline, or nothing
+    pub ends-none : IsTrue state.ended → e.skip ≡ length state.unread → e.bytes ≡ run.bytes + length line → e.lines ≡ run.lines + cond (nat_lt 0 (length line)) 1 0 → Ends (with_newlines t.lines ++ line) e state
+    ends-none ended skip bytes count =
+        let size = length-append (with_newlines t.lines) line in
+        record {
+          lines = t.lines;
+          ending = lines_of line;
+          some = some-taken;
+          pieces = pieces-taken;
+          not_blank = t.not_blank;
+          short = short-taken;
+          end_within = end-taken;
+          skip_within = omega (arith, skip);
+          near = omega (arith, skip, length-drop e.skip state.unread);
+          is = lines_of-with_newlines_and t.lines line t.front.lines;
+          blank = blank-last line is_line blank;
+          one = one-last line is_line;
+          bytes = omega (arith, bytes, t.bytes, size);
+          within = omega (arith, bytes, room, t.bytes, size);
+          counted = omega (arith, count, t.counted, count-last line is_line);
+          closed = inr (ended, skip);
+        }
+
+  -- a last line that isn't blank belongs to them, and the file ends with it
+  pub ends-last : StandInFront state.unread t.lines line → HasNoNewline line → is_blank line ≡ false → run.bytes + length line < paragraph_limit → IsTrue state.ended → length state.unread ≤ room_ahead state → e ≡ record { end = length state.unread; skip = length state.unread; bytes = length state.unread; lines = run.lines + 1 } → Ends state.unread e state
+  ends-last front is_line line_not short ended room is =
+      let all = t.lines ++ line ∷ [] in
+      let end : e.end ≡ length state.unread = ap (λ (x : Extent). x.end) is in
+      let skip : e.skip ≡ length state.unread = ap (λ (x : Extent). x.skip) is in
+      let bytes : e.bytes ≡ length state.unread = ap (λ (x : Extent). x.bytes) is in
+      let count : e.lines ≡ run.lines + 1 = ap (λ (x : Extent). x.lines) is in
       record {
-        passed = text;
-        ahead = [];
+        lines = all;
         ending = [];
-        whole = sym (append-nil text);
-        lines = lines;
+        some = some_more t.lines line;
+        pieces = ap (λ k. pieces_of (take k state.unread)) end ∙ ap pieces_of (take_all (length state.unread) state.unread (omega arith) ∙ front.text)
+            ∙ pieces_of-with_newlines_and t.lines line front.lines is_line;
+        not_blank = All-append _ _ _ t.not_blank (line_not, tt);
+        short = omega (arith, short, t.bytes, length-with_newlines all, length-with_newlines-step t.lines line);
+        end_within = omega (arith, end);
+        skip_within = omega (arith, skip);
+        near = omega (arith, skip, length-drop e.skip state.unread);
+        is = lines_of-front state.unread t.lines line front ∙ ap (λ ls. t.lines ++ ls) (lines_of-unended line (not_empty line line_not) is_line) ∙ sym (append-nil all);
         blank = tt;
         one = omega arith;
-        closed = inr refl;
-        rest = [];
-        told = told;
-        left_ahead = sym (append-nil (drop e.skip state.unread) ∙ ap (λ k. drop k state.unread) b.skip ∙ drop-length state.unread);
-        ended = λ _. refl;
-        bytes = omega (arith, b.bytes, ap length whole);
-        counted = omega (arith, b.counted, ap length (lines ∙ append-nil all), length-append b.lines (b.line ∷ []));
-      },
-      next-run n (room_ahead state) text all [] (some_more b.lines b.line) (ap lines_of (part_within-all (room_ahead state) text within) ∙ lines) (last-found e state b).not_blank refl (omega (arith, b.short)) (inl within),
-    )
+        bytes = bytes;
+        within = room;
+        counted = omega (arith, count, t.counted, length-append t.lines (line ∷ []));
+        closed = inr (ended, skip);
+      }

@@ -1,5 +1,5 @@
 -- The first line ahead that isn't blank: blank lines that pass by pieces, and the line behind them.
-use Rattle.deb_syntax.proofs.Common.{◌≡◌, ℕ, ◌+◌, ◌-◌, ◌<◌, ◌≤◌, ◌==◌, inl, inr, Bool, true, false, cond, List, [], ◌∷◌, ◌++◌, Option, Some, None, Result, Ok, Err, length, take, drop, IsTrue, IsFalse, refl, sym, ap, subst, ◌∙◌, append_assoc, arith, length-append, length-drop, length-take, nat_lt, min, take-append_seam, drop-append_seam, drop-length, false≢true, lt-ltb, take-append-drop, drop_all, MatchBool, unwrap_or, All-append, Line, newline, HasNoNewline, is_blank, paragraph_limit, FileTooLong, Fault, Refused, Refusal, part_within, line_beyond, answer_of_first, begin_of_first, AreBlank, Paragraph, lines_of, with_newlines, paragraphs_from, file_limit, FeedState, Comes, PassesOn, Sees, IsTail, room_of, StandInFront, Describes, EndsNotBlank, SkipsBlanks, left_answer, left_begin, room_ahead, IsAhead, IsNear, PassesBlanks, PassesAll, KeepsLine, HidesLine, HasFirst, IsFirst, HasNewline, TextAfterLine, IsDropped, Begun, First, Sight, Tail, More, Nothing, Beyond, Skipped, Run, DroppedLine, End, Kept, Dropped}
+use Rattle.deb_syntax.proofs.Common.{◌≡◌, ℕ, ◌+◌, ◌-◌, ◌<◌, ◌≤◌, ◌==◌, inl, inr, Bool, true, false, cond, List, [], ◌∷◌, ◌++◌, Option, Some, None, Result, Ok, Err, length, take, drop, IsTrue, IsFalse, refl, sym, ap, subst, ◌∙◌, append_assoc, arith, length-append, length-drop, length-take, nat_lt, min, take-append_seam, drop-append_seam, drop-length, false≢true, take-append-drop, drop_all, MatchBool, unwrap_or, All-append, Line, newline, HasNoNewline, is_blank, paragraph_limit, FileTooLong, Fault, Refused, Refusal, part_within, line_beyond, answer_of_first, begin_of_first, AreBlank, Paragraph, lines_of, with_newlines, paragraphs_from, file_limit, FeedState, Comes, PassesOn, Sees, IsTail, room_of, StandInFront, Describes, EndsNotBlank, SkipsBlanks, left_answer, left_begin, room_ahead, IsAhead, IsNear, PassesBlanks, PassesAll, KeepsLine, HidesLine, HasFirst, IsFirst, HasNewline, TextAfterLine, IsDropped, Begun, First, Sight, Tail, More, Nothing, Beyond, Skipped, Run, DroppedLine, End, Kept, Dropped}
 use Rattle.std.proofs.Common.{append-nil}
 use mir.Val.{bool_byte}
 use Rattle.deb_syntax.proofs.Faults.{readers_fault}
@@ -8,8 +8,8 @@ use Rattle.deb_syntax.proofs.LeftAnswers.{left-beyond, left-cut}
 use Rattle.deb_syntax.proofs.Parts.{part_within-append, part_within-some, line_beyond-append, whole_lines-none}
 use Rattle.deb_syntax.proofs.LinesLawsTexts.{lines_of-with_newlines}
 use Rattle.deb_syntax.proofs.Passing.{ends_line-with_newlines}
-use Rattle.deb_syntax.proofs.Runs.{paragraphs_from-blanks, lines_of-last}
-use Rattle.deb_syntax.proofs.WalkingLines.{lines_of-with_newlines_and, lines_of-unended, with_newlines-append, few_lines-with_newlines}
+use Rattle.deb_syntax.proofs.Runs.{paragraphs_from-blanks}
+use Rattle.deb_syntax.proofs.WalkingLines.{blank-last, count-last, lines_of-with_newlines_and, with_newlines-append, few_lines-with_newlines}
 
 -- what is answered behind blank lines
 left-blanks : {A : Type 0} (f : Option ℕ → List Paragraph → A) (n room : ℕ) (text ahead : List ℕ) (blanks : List Line) → StandInFront text blanks ahead → AreBlank blanks → length (with_newlines blanks) ≤ room
@@ -118,16 +118,6 @@ near-line line h front more e =
     let none : length more ≤ length {A = ℕ} [] = near-piece line [] front more h (append-nil line ∙ e) in
     omega (arith, none)
 
--- how many lines a last line is
-pub count-last : (line : List ℕ) → HasNoNewline line → length (lines_of line) ≡ cond (nat_lt 0 (length line)) 1 0
-count-last [] h = refl
-count-last (b ∷ line) h =
-    ap length (lines_of-unended (b ∷ line) (λ e. zero_not (ap length e)) h)
-    ∙ sym (ap (λ t. cond t 1 0) (lt-ltb 0 (length (b ∷ line)) (omega arith)))
-  where
-    zero_not : length (b ∷ line) ≡ 0 → ⊥
-    zero_not e = omega arith
-
 -- a truth as a number
 pub byte-of : (b : Bool) → bool_byte b ≡ cond b 1 0
 byte-of false = refl
@@ -166,10 +156,6 @@ last-end feed after begun n ended seen room blank passes count text left a =
         ended = λ e. refl;
       },
     )
-  where
-    blank-last : (line : List ℕ) → HasNoNewline line → is_blank line ≡ true → AreBlank (lines_of line)
-    blank-last [] h t = tt
-    blank-last (b ∷ line) h t = subst AreBlank (sym (lines_of-last b line h)) (t, tt)
 
 -- where the unread bytes go on behind a dropped line
 abbrev pub at_of : Option ℕ → ℕ

@@ -1,5 +1,5 @@
 -- Lines at the front of a text, each with its newline, and what stands behind them.
-use Rattle.deb_syntax.proofs.Common.{◌≡◌, ◌≢◌, ℕ, ◌+◌, ◌-◌, ◌≤◌, List, [], ◌∷◌, ◌++◌, length, take, drop, refl, sym, ap, ◌∙◌, append_assoc, arith, length-append, take-append_seam, drop-append_seam, sum_by-append, AllByRecursion, Line, newline, pieces_of, HasNoNewline, line_length, lines_of, with_newlines, total_length, StandInFront}
+use Rattle.deb_syntax.proofs.Common.{◌==◌, true, false, cond, nat_lt, lt-ltb, subst, is_blank, with_byte, AreBlank, ◌≡◌, ◌≢◌, ℕ, ◌+◌, ◌-◌, ◌≤◌, List, [], ◌∷◌, ◌++◌, length, take, drop, refl, sym, ap, ◌∙◌, append_assoc, arith, length-append, take-append_seam, drop-append_seam, sum_by-append, AllByRecursion, Line, newline, pieces_of, HasNoNewline, line_length, lines_of, with_newlines, total_length, StandInFront}
 use Rattle.deb_syntax.proofs.Runs.{lines_of-line, lines_of-last, pieces_of-line, pieces_of-last}
 
 -- the lines of a text that begins with whole lines are these and the lines of the rest
@@ -112,3 +112,25 @@ pieces_of-front text (line ∷ lines) rest some h =
     ∙ ap (λ zs. pieces_of (take (length c.body) zs)) whole
     ∙ ap pieces_of (take-append_seam c.body (newline ∷ rest))
     ∙ c.pieces
+
+-- how many lines a last line is
+pub count-last : (line : List ℕ) → HasNoNewline line → length (lines_of line) ≡ cond (nat_lt 0 (length line)) 1 0
+count-last [] h = refl
+count-last (b ∷ line) h = ap length (lines_of-last b line h) ∙ sym (ap (λ t. cond t 1 0) (lt-ltb 0 (length (b ∷ line)) (omega arith)))
+
+pub one-last : (line : List ℕ) → HasNoNewline line → length (lines_of line) ≤ 1
+one-last [] h = omega arith
+one-last (b ∷ line) h = omega (arith, ap length (lines_of-last b line h))
+
+pub blank-last : (line : List ℕ) → HasNoNewline line → is_blank line ≡ true → AreBlank (lines_of line)
+blank-last [] h t = tt
+blank-last (b ∷ line) h t = subst AreBlank (sym (lines_of-last b line h)) (t, tt)
+
+-- a line has a byte at least
+pub few_lines : (text : List ℕ) → length (lines_of text) ≤ length text
+few_lines [] = omega arith
+few_lines (b ∷ bs) = let ih = few_lines bs in elim (b == newline) as (λ t. length (cond t ([] ∷ lines_of bs) (with_byte b (lines_of bs))) ≤ length (b ∷ bs)) [ true ↦ omega arith | false ↦ go (lines_of bs) ih ]
+  where
+    go : (lines : List Line) → length lines ≤ length bs → length (with_byte b lines) ≤ length (b ∷ bs)
+    go [] h = omega arith
+    go (line ∷ lines) h = omega (arith, h)

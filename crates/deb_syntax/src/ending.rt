@@ -1,6 +1,6 @@
 //! Finds the end of the next paragraph (Debian Policy 5.1).
 
-ghost use Rattle.std.specs.Prelude.{◌≡◌, ◌+◌, ◌-◌, ◌<◌, ◌≤◌, ◌^◌, ℕ, List, [], Option, length, take, IfOk, IfErr, IsTrue, IsFalse};
+ghost use Rattle.std.specs.Prelude.{◌≡◌, ◌+◌, ◌-◌, ◌<◌, ◌≤◌, ◌^◌, ℕ, List, [], Option, length, take, IfOk, IfErr, IsTrue, IsFalse, nat_lt, if◌then◌else◌};
 ghost use Rattle.deb_base.specs.Bodies.{paragraph_limit};
 ghost use Rattle.deb_base.specs.Devices.{read_failures_after};
 ghost use Rattle.deb_base.specs.Faults.{IsReadersFault};
@@ -194,11 +194,13 @@ fn ended_by_end(run: Run, skip: usize) -> Extent
     requires some { 0 < run.bytes }
     requires bytes { run.bytes + run.begun.len < 2 ^ 64 }
     requires lines { run.lines + 1 < 2 ^ 64 }
-    ensures end { result.end ≡ run.bytes - 1 }
-    ensures skip { result.skip ≡ skip }
-    ensures bytes { result.bytes ≡ run.bytes + run.begun.len }
-    ensures none { run.begun.len ≡ 0 → result.lines ≡ run.lines }
-    ensures one { 0 < run.begun.len → result.lines ≡ run.lines + 1 }
+    ensures { result
+        ≡ record {
+          end = run.bytes - 1;
+          skip = skip;
+          bytes = run.bytes + run.begun.len;
+          lines = run.lines + (if nat_lt 0 run.begun.len then 1 else 0);
+        } }
 {
     Extent {
         end: run.bytes - 1,

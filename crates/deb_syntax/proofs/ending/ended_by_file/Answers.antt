@@ -1,6 +1,7 @@
-use Rattle.deb_syntax.proofs.Common.{◌∙◌, sym, ap, take, arith, feed_state}
+use Rattle.deb_syntax.proofs.Common.{refl, Extent, ◌∙◌, sym, ap, take, arith, feed_state}
 use Rattle.deb_base.specs.Bodies.{paragraph_limit}
-use Rattle.deb_syntax.proofs.EndingSteps.{stops-few, file-some, file-none-found, file-none-ahead, file-last-found, file-last-ahead, file-long-ahead}
+use Rattle.deb_syntax.proofs.EndingSteps.{open-front, open-length, stops-few, file-some, file-none, file-last, file-ahead, file-long-ahead}
+use Rattle.deb_syntax.proofs.Endings.{found}
 use Rattle.deb_syntax.proofs.Feeds.{feed_few}
 use Rattle.deb_syntax.specs.LineEnds.{piece_ends}
 use Rattle.deb_syntax.proofs.LineEnds.{line_ends-closed, line_ends-last}
@@ -17,14 +18,15 @@ ended_by_end-requires-clause-lines c =
 
 pub returns-then-is_blank-clause-found : goal.returns-then-is_blank-clause-found
 returns-then-is_blank-clause-found c =
-    let r = c.ended_by_end.ensures in
-    file-none-found (feed_state c.args.feed.now) c.args.run c.requires.stops _ (sym (c.is_blank.ensures _ c.requires.stops.stands.describes) ∙ c.if-is_blank.true) c.requires.room r.end r.skip r.bytes r.none r.one
+    let s = c.requires.stops in
+    found _ _ (feed_state c.args.feed.now) (file-none (feed_state c.args.feed.now) c.args.run s _ (sym (c.is_blank.ensures _ s.stands.describes) ∙ c.if-is_blank.true) c.requires.ended c.requires.room c.ended_by_end.ensures)
 
 pub returns-then-is_blank-clause-ahead : goal.returns-then-is_blank-clause-ahead
 returns-then-is_blank-clause-ahead c =
-    let r = c.ended_by_end.ensures in
-    λ text left a.
-    file-none-ahead (feed_state c.args.feed.now) c.args.run c.requires.stops text left _ (sym (c.is_blank.ensures _ c.requires.stops.stands.describes) ∙ c.if-is_blank.true) c.requires.room r.end r.skip r.bytes r.none r.one c.requires.ended a
+    let state = feed_state c.args.feed.now in
+    let s = c.requires.stops in
+    file-ahead state c.args.run s _ _ (file-none state c.args.run s _ (sym (c.is_blank.ensures _ s.stands.describes) ∙ c.if-is_blank.true) c.requires.ended c.requires.room c.ended_by_end.ensures)
+    (open-front state.unread c.args.run s).text (ap (λ (e : Extent). e.skip) c.ended_by_end.ensures ∙ sym (open-length state.unread c.args.run s)) c.requires.ended
 
 pub refused-requires : goal.refused-requires
 unfolding paragraph_limit
@@ -45,13 +47,16 @@ overflow_add-result c =
 pub returns-clause-found : goal.returns-clause-found
 unfolding paragraph_limit
 returns-clause-found c =
-    file-last-found (feed_state c.args.feed.now) c.args.run c.requires.stops (sym (c.is_blank.ensures _ c.requires.stops.stands.describes) ∙ c.if-is_blank.false) c.requires.room c.if-all-ge-PARAGRAPH_LIMIT.false
+    let s = c.requires.stops in
+    found _ _ (feed_state c.args.feed.now) (file-last (feed_state c.args.feed.now) c.args.run s (sym (c.is_blank.ensures _ s.stands.describes) ∙ c.if-is_blank.false) c.requires.ended c.requires.room c.if-all-ge-PARAGRAPH_LIMIT.false)
 
 pub returns-clause-ahead : goal.returns-clause-ahead
 unfolding paragraph_limit
 returns-clause-ahead c =
-    λ text left a.
-    file-last-ahead (feed_state c.args.feed.now) c.args.run c.requires.stops text left (sym (c.is_blank.ensures _ c.requires.stops.stands.describes) ∙ c.if-is_blank.false) c.requires.room c.if-all-ge-PARAGRAPH_LIMIT.false c.requires.ended a
+    let state = feed_state c.args.feed.now in
+    let s = c.requires.stops in
+    file-ahead state c.args.run s _ _ (file-last state c.args.run s (sym (c.is_blank.ensures _ s.stands.describes) ∙ c.if-is_blank.false) c.requires.ended c.requires.room c.if-all-ge-PARAGRAPH_LIMIT.false)
+    refl (sym (open-length state.unread c.args.run s)) c.requires.ended
 
 pub returns-then-is_blank-clause-ends : goal.returns-then-is_blank-clause-ends
 returns-then-is_blank-clause-ends c =
@@ -59,7 +64,7 @@ returns-then-is_blank-clause-ends c =
     let s = c.requires.stops in
     c.requires.ends
     ∙ line_ends-closed state.unread c.args.run s.lines s.seen s.fresh s.stands (file-some state c.args.run s (sym (c.is_blank.ensures _ s.stands.describes) ∙ c.if-is_blank.true))
-    ∙ ap (λ n. piece_ends (take n state.unread)) (sym c.ended_by_end.ensures.end)
+    ∙ ap (λ n. piece_ends (take n state.unread)) (sym (ap (λ (e : Extent). e.end) c.ended_by_end.ensures))
 
 pub returns-clause-ends : goal.returns-clause-ends
 returns-clause-ends c = c.in_ok-push.ensures.items ∙ line_ends-last (feed_state c.args.feed.now).unread c.args.run _ c.requires.stops c.requires.ends

@@ -1,7 +1,8 @@
-use Rattle.deb_syntax.proofs.Common.{◌≡◌, ◌∙◌, ◌+◌, ap, sym, subst, arith, err_from_is_err_and, ParagraphTooLong, Refused, HasNewline, TextAfterLine, feed_state}
+use Rattle.deb_syntax.proofs.Common.{Extent, ◌≡◌, ◌∙◌, ◌+◌, ap, sym, subst, arith, err_from_is_err_and, ParagraphTooLong, Refused, HasNewline, TextAfterLine, feed_state}
 use Rattle.deb_base.specs.Bodies.{paragraph_limit}
 use Rattle.deb_syntax.specs.Lines.{file_limit}
-use Rattle.deb_syntax.proofs.EndingSteps.{stops-few, dropped-refused, dropped-within, dropped-some, dropped-long, dropped-blank-found, dropped-blank-ahead, dropped-none-found, dropped-none-ahead}
+use Rattle.deb_syntax.proofs.Endings.{found}
+use Rattle.deb_syntax.proofs.EndingSteps.{stops-few, dropped-refused, dropped-within, dropped-some, dropped-long, dropped-blank, dropped-blank-ahead, dropped-none, dropped-none-ahead}
 use Rattle.deb_syntax.proofs.LineEnds.{dropped-ends}
 use Rattle.deb_syntax.proofs.ending.extent_beyond.Goals as goal
 
@@ -62,38 +63,36 @@ returns-in-Some-clause-found g c =
     let before = feed_state c.args.feed.now in
     let after = feed_state c.drop_line.new.feed in
     let d = c.in_ok-dropped.ensures.drops.0 in
-    dropped-blank-found before after c.args.run c.requires.stops c.in_ok-dropped.dropped d _ c.in-Some.newline c.requires.full
-    (sym (c.is_blank.ensures _ d.describes) ∙ c.if-not-is_blank.false) (subst (λ at. HasNewline before c.args.run d.line at after) c.in-Some.is c.in_ok-dropped.ensures.drops.1) c.ended_by_blank.ensures
+    found _ _ after (dropped-blank before after c.args.run c.requires.stops c.in_ok-dropped.dropped d _ c.in-Some.newline c.requires.full
+    (sym (c.is_blank.ensures _ d.describes) ∙ c.if-not-is_blank.false) (subst (λ at. HasNewline before c.args.run d.line at after) c.in-Some.is c.in_ok-dropped.ensures.drops.1) c.ended_by_blank.ensures)
 
 pub returns-in-Some-clause-ahead : goal.returns-in-Some-clause-ahead
 returns-in-Some-clause-ahead g c = λ text a.
     let before = feed_state c.args.feed.now in
     let after = feed_state c.drop_line.new.feed in
-    let h = c.in_ok-dropped.ensures.drops in
-    let d = h.0 in
-    dropped-blank-ahead before after c.args.run c.requires.stops c.in_ok-dropped.dropped d text _ _ c.in-Some.newline c.requires.full
-    (sym (c.is_blank.ensures _ d.describes) ∙ c.if-not-is_blank.false) (subst (λ at. HasNewline before c.args.run d.line at after) c.in-Some.is h.1)
-    (subst (λ at. TextAfterLine text before c.args.run d.line at after (g.R.Source.left c.drop_line.new.reader)) c.in-Some.is (h.2 text a)) c.ended_by_blank.ensures
+    let d = c.in_ok-dropped.ensures.drops.0 in
+    let h = subst (λ at. HasNewline before c.args.run d.line at after) c.in-Some.is c.in_ok-dropped.ensures.drops.1 in
+    dropped-blank-ahead before after c.args.run c.requires.stops c.in_ok-dropped.dropped d text _ _ c.in-Some.newline (dropped-blank before after c.args.run c.requires.stops c.in_ok-dropped.dropped d _ c.in-Some.newline c.requires.full
+    (sym (c.is_blank.ensures _ d.describes) ∙ c.if-not-is_blank.false) (subst (λ at. HasNewline before c.args.run d.line at after) c.in-Some.is c.in_ok-dropped.ensures.drops.1) c.ended_by_blank.ensures) (ap (λ (e : Extent). e.skip) c.ended_by_blank.ensures) h
+    (subst (λ at. TextAfterLine text before c.args.run d.line at after (g.R.Source.left c.drop_line.new.reader)) c.in-Some.is (c.in_ok-dropped.ensures.drops.2 text a))
 
 pub returns-in-None-clause-found : goal.returns-in-None-clause-found
 returns-in-None-clause-found g c =
     let before = feed_state c.args.feed.now in
     let after = feed_state c.drop_line.new.feed in
     let d = c.in_ok-dropped.ensures.drops.0 in
-    let r = c.ended_by_end.ensures in
-    dropped-none-found before after c.args.run c.requires.stops c.in_ok-dropped.dropped d _ c.requires.full
-    (sym (c.is_blank.ensures _ d.describes) ∙ c.if-not-is_blank.false) (subst (λ at. HasNewline before c.args.run d.line at after) c.in-None.is c.in_ok-dropped.ensures.drops.1) r.end r.skip r.bytes r.none r.one
+    found _ _ after (dropped-none before after c.args.run c.requires.stops c.in_ok-dropped.dropped d _ c.requires.full
+    (sym (c.is_blank.ensures _ d.describes) ∙ c.if-not-is_blank.false) (subst (λ at. HasNewline before c.args.run d.line at after) c.in-None.is c.in_ok-dropped.ensures.drops.1) c.ended_by_end.ensures)
 
 pub returns-in-None-clause-ahead : goal.returns-in-None-clause-ahead
 returns-in-None-clause-ahead g c = λ text a.
     let before = feed_state c.args.feed.now in
     let after = feed_state c.drop_line.new.feed in
-    let h = c.in_ok-dropped.ensures.drops in
-    let d = h.0 in
-    let r = c.ended_by_end.ensures in
-    dropped-none-ahead before after c.args.run c.requires.stops c.in_ok-dropped.dropped d text _ _ c.requires.full
-    (sym (c.is_blank.ensures _ d.describes) ∙ c.if-not-is_blank.false) (subst (λ at. HasNewline before c.args.run d.line at after) c.in-None.is h.1)
-    (subst (λ at. TextAfterLine text before c.args.run d.line at after (g.R.Source.left c.drop_line.new.reader)) c.in-None.is (h.2 text a)) r.end r.skip r.bytes r.none r.one
+    let d = c.in_ok-dropped.ensures.drops.0 in
+    let h = subst (λ at. HasNewline before c.args.run d.line at after) c.in-None.is c.in_ok-dropped.ensures.drops.1 in
+    dropped-none-ahead before after c.args.run c.requires.stops c.in_ok-dropped.dropped d text _ _ (dropped-none before after c.args.run c.requires.stops c.in_ok-dropped.dropped d _ c.requires.full
+    (sym (c.is_blank.ensures _ d.describes) ∙ c.if-not-is_blank.false) (subst (λ at. HasNewline before c.args.run d.line at after) c.in-None.is c.in_ok-dropped.ensures.drops.1) c.ended_by_end.ensures) (ap (λ (e : Extent). e.skip) c.ended_by_end.ensures) h
+    (subst (λ at. TextAfterLine text before c.args.run d.line at after (g.R.Source.left c.drop_line.new.reader)) c.in-None.is (c.in_ok-dropped.ensures.drops.2 text a))
 
 pub returns-in-Some-clause-ends : goal.returns-in-Some-clause-ends
 returns-in-Some-clause-ends g c =
@@ -102,7 +101,7 @@ returns-in-Some-clause-ends g c =
     let d = c.in_ok-dropped.ensures.drops.0 in
     let blank = sym (c.is_blank.ensures _ d.describes) ∙ c.if-not-is_blank.false in
     dropped-ends before after c.args.run c.requires.stops c.in_ok-dropped.dropped d c.ended_by_blank.result.end
-    (dropped-some before after c.args.run c.requires.stops c.in_ok-dropped.dropped d c.requires.full blank) (ap (λ e. e.end) c.ended_by_blank.ensures)
+    (dropped-some before after c.args.run c.requires.stops c.in_ok-dropped.dropped d c.requires.full blank) (ap (λ (e : Extent). e.end) c.ended_by_blank.ensures)
 
 pub returns-in-None-clause-ends : goal.returns-in-None-clause-ends
 returns-in-None-clause-ends g c =
@@ -111,4 +110,4 @@ returns-in-None-clause-ends g c =
     let d = c.in_ok-dropped.ensures.drops.0 in
     let blank = sym (c.is_blank.ensures _ d.describes) ∙ c.if-not-is_blank.false in
     dropped-ends before after c.args.run c.requires.stops c.in_ok-dropped.dropped d c.ended_by_end.result.end
-    (dropped-some before after c.args.run c.requires.stops c.in_ok-dropped.dropped d c.requires.full blank) (c.ended_by_end.ensures.end)
+    (dropped-some before after c.args.run c.requires.stops c.in_ok-dropped.dropped d c.requires.full blank) (ap (λ (e : Extent). e.end) c.ended_by_end.ensures)

@@ -1,6 +1,7 @@
 use Rattle.deb_syntax.proofs.Common.{◌∙◌, ◌-◌, ◌≤◌, take, room_ahead, length, Ok, Err, refl, sym, ap, subst, arith, false≢true, feed_state, had, IsTail, Open, Blank, TooLong, Extent}
 use Rattle.deb_base.specs.Bodies.{paragraph_limit}
-use Rattle.deb_syntax.proofs.EndingWalks.{walks-start, walks-more, same-ahead, sees-ahead, sees-unread, seen-stops, unread-stops, blank-some, stop-blank-found, stop-blank-ahead, stop-long-ahead, stop-beyond-ahead}
+use Rattle.deb_syntax.proofs.Endings.{found}
+use Rattle.deb_syntax.proofs.EndingWalks.{walks-start, walks-more, same-ahead, sees-ahead, sees-unread, seen-stops, unread-stops, blank-some, stop-blank, stop-blank-ahead, stop-long-ahead, stop-beyond-ahead}
 use Rattle.deb_syntax.proofs.EndingSteps.{open-length, stops-few}
 use Rattle.deb_syntax.proofs.WalkingLines.{length-front}
 use Rattle.deb_syntax.proofs.Feeds.{feed_small}
@@ -33,18 +34,17 @@ ended_by_blank-requires-clause-lines g c = omega (arith, stops-few _ _ _ c.in_ok
 
 pub returns-in-Blank-clause-found : goal.returns-in-Blank-clause-found
 returns-in-Blank-clause-found g c =
-    stop-blank-found (feed_state c.pieces.feed) c.in_ok-taken.taken.run
-    (seen-stops (feed_state c.pieces.feed) c.sight-sight.result c.in_ok-taken.taken.stop Blank c.in_ok-taken.taken.run c.sight-sight.ensures c.in-Blank.is c.in_ok-taken.ensures.stops)
-    _ (omega (arith, c.pieces.invariant.walks.near, c.in_ok-taken.ensures.further)) c.ended_by_blank.ensures
+    let state = feed_state c.pieces.feed in
+    let s = seen-stops state c.sight-sight.result c.in_ok-taken.taken.stop Blank c.in_ok-taken.taken.run c.sight-sight.ensures c.in-Blank.is c.in_ok-taken.ensures.stops in
+    found _ _ state (stop-blank state c.in_ok-taken.taken.run s c.ended_by_blank.result (omega (arith, c.pieces.invariant.walks.near, c.in_ok-taken.ensures.further)) c.ended_by_blank.ensures)
 
 pub returns-in-Blank-clause-ahead : goal.returns-in-Blank-clause-ahead
 returns-in-Blank-clause-ahead g c = λ text a.
     let state = feed_state c.pieces.feed in
     let w = c.pieces.invariant.walks in
+    let s = seen-stops state c.sight-sight.result c.in_ok-taken.taken.stop Blank c.in_ok-taken.taken.run c.sight-sight.ensures c.in-Blank.is c.in_ok-taken.ensures.stops in
     same-ahead text (feed_state c.args.feed.now) state state (g.R.Source.left c.pieces.reader) (Ok c.ended_by_blank.result) w.counts
-    (stop-blank-ahead state c.in_ok-taken.taken.run
-    (seen-stops state c.sight-sight.result c.in_ok-taken.taken.stop Blank c.in_ok-taken.taken.run c.sight-sight.ensures c.in-Blank.is c.in_ok-taken.ensures.stops)
-    text (g.R.Source.left c.pieces.reader) c.ended_by_blank.result (omega (arith, w.near, c.in_ok-taken.ensures.further)) c.ended_by_blank.ensures (w.ahead text a))
+    (stop-blank-ahead state c.in_ok-taken.taken.run s text (g.R.Source.left c.pieces.reader) c.ended_by_blank.result (stop-blank state c.in_ok-taken.taken.run s c.ended_by_blank.result (omega (arith, c.pieces.invariant.walks.near, c.in_ok-taken.ensures.further)) c.ended_by_blank.ensures) (ap (λ (e : Extent). e.skip) c.ended_by_blank.ensures) (w.ahead text a))
 
 pub refused-requires : goal.refused-requires
 unfolding paragraph_limit
