@@ -1,5 +1,5 @@
 -- The walk to the end of a paragraph, piece by piece.
-use Rattle.deb_syntax.proofs.Common.{length-drop, false_from_ne_true, ◌≡◌, ◌≢◌, ℕ, ◌+◌, ◌-◌, ◌<◌, ◌≤◌, inl, inr, false, nat_le, List, [], ◌∷◌, ◌++◌, Option, Result, Ok, Err, length, take, drop, refl, sym, ap, subst, ◌∙◌, append_assoc, arith, length-append, take-append-add, and_from, cases_lt, false≢true, le-leb, append-nil, take-append-drop, take-append-le, take_all, length-take-le, Line, newline, paragraph_limit, is_blank, is_all_blank, ParagraphTooLong, FileTooLong, Fault, Refused, left_answer, room_ahead, IsAhead, IsNear, KeepsLine, EndsInSight, IsNextRun, IsExtentAhead, SameCounts, FeedState, piece_limit, Comes, Sees, room_of, with_newlines, StandInFront, RunStands, CanGoOn, CannotBeBlank, Stops, Begun, Extent, Sight, Run, Stop, Open, Blank, TooLong}
+use Rattle.deb_syntax.proofs.Common.{length-take, length-drop, false_from_ne_true, ◌≡◌, ◌≢◌, ℕ, ◌+◌, ◌-◌, ◌<◌, ◌≤◌, inl, inr, false, nat_le, List, [], ◌∷◌, ◌++◌, Option, Result, Ok, Err, length, take, drop, refl, sym, ap, subst, ◌∙◌, append_assoc, arith, length-append, take-append-add, and_from, cases_lt, false≢true, le-leb, append-nil, take-append-drop, take-append-le, take_all, Line, newline, paragraph_limit, is_blank, is_all_blank, ParagraphTooLong, FileTooLong, Fault, Refused, left_answer, room_ahead, IsAhead, IsNear, KeepsLine, EndsInSight, IsNextRun, IsExtentAhead, SameCounts, FeedState, piece_limit, Comes, Sees, room_of, with_newlines, StandInFront, RunStands, CanGoOn, CannotBeBlank, Stops, Begun, Extent, Sight, Run, Stop, Open, Blank, TooLong}
 use Rattle.deb_syntax.proofs.Endings.{Ends, ahead, ends-blank, some-lines, refused-long, refused-beyond}
 use Rattle.deb_syntax.proofs.EndingSteps.{open-front, open-length, refusal-ahead, some-bytes}
 use Rattle.deb_syntax.proofs.Faults.{readers_fault}
@@ -99,13 +99,6 @@ same-ahead text before state after left (Ok e) same (x, passes, next) = (x, pass
 same-ahead text before state after left (Err fault) same h = readers_fault fault (λ refusal e.
     subst (λ n. left_answer (n + 1) (room_ahead before) text ≡ Err refusal) same.lines (subst (λ r. left_answer (state.lines + 1) r text ≡ Err refusal) (ap (λ n. Rattle.deb_syntax.specs.Lines.file_limit - n) same.bytes) e)) h
 
-take-short : (n : ℕ) (bytes : List ℕ) → length (take n bytes) ≤ n
-take-short n bytes =
-    elim (cases_lt n (length bytes)) [
-      | inl l ↦ let size = length-take-le n bytes (omega arith) in omega arith
-      | inr l ↦ let size = ap length (take_all n bytes l) in omega arith
-    ]
-
 module _ (state : FeedState) (run : Run) where
   -- a newline comes next among the bytes that are seen
   record InSight (lines : List Line) (line : List ℕ) : Type 0 where
@@ -117,7 +110,7 @@ module _ (state : FeedState) (run : Run) where
   in-sight lines line fresh rest h e =
       let room = room_ahead state in
       let behind = drop room state.unread in
-      let short = take-short room state.unread in
+      let short = length-take room state.unread in
       let size = length-front (take room state.unread) lines (line ++ fresh) h.front in
       let both = length-append line fresh in
       let one = ap length e in

@@ -8,11 +8,7 @@ use Rattle.deb_syntax.proofs.LinesLawsTexts.{lines_of-with_newlines}
 use Rattle.deb_syntax.proofs.Passing.{ends_line-with_newlines}
 use Rattle.deb_syntax.proofs.Parts.{part_within-all, part_within-some, part_within-append, whole_lines-append, whole_lines-none}
 use Rattle.deb_syntax.proofs.Runs.{paragraphs_from-run}
-use Rattle.deb_syntax.proofs.WalkingLines.{blank-last, count-last, few_lines, one-last, lines_of-with_newlines_and, lines_of-front, length-with_newlines, lines_of-unended, pieces_of-with_newlines_and, length-front, front-step, length-with_newlines-step, pieces_of-front}
-
-some_more : (lines : List Line) (line : Line) → lines ++ line ∷ [] ≢ []
-some_more [] line e = let l : length (line ∷ []) ≡ 0 = ap length e in absurd (omega arith)
-some_more (first ∷ lines) line e = let l : length (first ∷ (lines ++ line ∷ [])) ≡ 0 = ap length e in absurd (omega arith)
+use Rattle.deb_syntax.proofs.WalkingLines.{some_more, blank-last, count-last, few_lines, one-last, lines_of-with_newlines_and, lines_of-front, length-with_newlines, lines_of-unended, pieces_of-with_newlines_and, length-front, front-step, length-with_newlines-step, pieces_of-front}
 
 -- what can't be blank isn't
 not_both : (seen : List ℕ) → CannotBeBlank seen → is_blank seen ≡ true → ⊥

@@ -1,16 +1,10 @@
 -- The part of a text that is looked at, behind whole lines of it.
-use Rattle.deb_syntax.proofs.Common.{◌≡◌, ℕ, ◌+◌, ◌-◌, ◌<◌, ◌≤◌, ◌==◌, inl, inr, Bool, true, false, cond, List, [], ◌∷◌, ◌++◌, Some, None, length, take, leb, refl, sym, ap, ◌∙◌, arith, length-append, le-leb, lt-leb, cases_lt, take-append-add, newline, HasNoNewline, with_whole, whole_lines, part_within, line_beyond, lines_of, ends_line}
+use Rattle.deb_syntax.proofs.Common.{cond-true, cond-false, ◌≡◌, ℕ, ◌+◌, ◌-◌, ◌<◌, ◌≤◌, ◌==◌, inl, inr, true, List, [], ◌∷◌, ◌++◌, Some, None, length, take, leb, refl, sym, ap, ◌∙◌, arith, length-append, le-leb, lt-leb, cases_lt, take-append-add, newline, HasNoNewline, with_whole, whole_lines, part_within, line_beyond, lines_of, ends_line}
 use Rattle.deb_syntax.proofs.Boundaries.{lines_of-append}
-
-at_true : {A : Type 0} (b : Bool) (x y : A) → b ≡ true → cond b x y ≡ x
-at_true b x y is = ap (λ t. cond t x y) is
-
-at_false : {A : Type 0} (b : Bool) (x y : A) → b ≡ false → cond b x y ≡ y
-at_false b x y is = ap (λ t. cond t x y) is
 
 -- a newline in front of whole lines is one
 newline-whole : (b : ℕ) (text : List ℕ) → (b == newline) ≡ true → with_whole b text ≡ b ∷ text
-newline-whole b [] is = at_true (b == newline) (b ∷ []) [] is
+newline-whole b [] is = cond-true (b == newline) (b ∷ []) [] is
 newline-whole b (c ∷ cs) is = refl
 
 -- whole lines and then others
@@ -22,21 +16,21 @@ whole_lines-append (x ∷ y ∷ a) b h = ap (with_whole x) (whole_lines-append (
 -- no line of a text without newline is whole
 pub whole_lines-none : (text : List ℕ) → HasNoNewline text → whole_lines text ≡ []
 whole_lines-none [] h = refl
-whole_lines-none (b ∷ bs) h = ap (with_whole b) (whole_lines-none bs h.1) ∙ at_false (b == newline) (b ∷ []) [] h.0
+whole_lines-none (b ∷ bs) h = ap (with_whole b) (whole_lines-none bs h.1) ∙ cond-false (b == newline) (b ∷ []) [] h.0
 
 -- a text that isn't too long
 pub part_within-all : (room : ℕ) (text : List ℕ) → length text ≤ room → part_within room text ≡ text
-part_within-all room text h = at_true (leb (length text) room) _ _ (le-leb (length text) room h)
+part_within-all room text h = cond-true (leb (length text) room) _ _ (le-leb (length text) room h)
 
 -- one that is
 pub part_within-some : (room : ℕ) (text : List ℕ) → room < length text → part_within room text ≡ whole_lines (take room text)
-part_within-some room text h = at_false (leb (length text) room) _ _ (lt-leb (length text) room h)
+part_within-some room text h = cond-false (leb (length text) room) _ _ (lt-leb (length text) room h)
 
 pub line_beyond-none : (n room : ℕ) (text : List ℕ) → length text ≤ room → line_beyond n room text ≡ None
-line_beyond-none n room text h = at_true (leb (length text) room) _ _ (le-leb (length text) room h)
+line_beyond-none n room text h = cond-true (leb (length text) room) _ _ (le-leb (length text) room h)
 
 pub line_beyond-some : (n room : ℕ) (text : List ℕ) → room < length text → line_beyond n room text ≡ Some (n + length (lines_of (part_within room text)))
-line_beyond-some n room text h = at_false (leb (length text) room) _ _ (lt-leb (length text) room h)
+line_beyond-some n room text h = cond-false (leb (length text) room) _ _ (lt-leb (length text) room h)
 
 -- what is looked at of a text that begins with whole lines
 pub part_within-append : (room : ℕ) (a b : List ℕ) → ends_line a ≡ true → length a ≤ room → part_within room (a ++ b) ≡ a ++ part_within (room - length a) b

@@ -1,5 +1,6 @@
 -- Blank lines that are passed in pieces, and the line behind them.
-use Rattle.deb_syntax.proofs.Common.{false_from_ne_true, ◌≡◌, ℕ, zero, suc, ◌+◌, ◌≤◌, ◌<◌, ◌⊎◌, inl, inr, Bool, true, false, List, [], ◌∷◌, ◌++◌, length, take, drop, slice_index, nat_le, refl, sym, ap, subst, ◌∙◌, append_assoc, arith, length-append, length-drop, and_parts, false≢true, take-append-drop, MatchBool, All-append, Line, newline, is_blank_byte, is_all_blank, is_blank, paragraph_limit, with_newlines, AreBlank, StandInFront, Describes, EndsIn, GoesAlong, GoesThroughBlanks, EndsNotBlank, SkipsBlanks, Begun, AlongLine}
+use Rattle.deb_syntax.proofs.Common.{false_from_ne_true, ◌≡◌, ℕ, suc, ◌+◌, ◌≤◌, ◌<◌, ◌⊎◌, inl, inr, Bool, true, false, List, [], ◌∷◌, ◌++◌, length, take, drop, slice_index, nat_le, refl, sym, ap, subst, ◌∙◌, append_assoc, arith, length-append, length-drop, and_parts, false≢true, take-append-drop, MatchBool, All-append, Line, newline, is_blank_byte, is_all_blank, is_blank, paragraph_limit, with_newlines, AreBlank, StandInFront, Describes, EndsIn, GoesAlong, GoesThroughBlanks, EndsNotBlank, SkipsBlanks, Begun, AlongLine}
+use Rattle.std.proofs.lemmas.List.{get_or-drop}
 use Rattle.deb_syntax.proofs.WalkingLines.{drop-front, length-front, few_lines-with_newlines, front-step, length-with_newlines-step}
 use Rattle.deb_syntax.proofs.WalkingSteps.{newline_at, is_blank-longer, is_blank-other}
 
@@ -45,9 +46,7 @@ skip-step text n count begun seen new s through lt here blank nothing =
     }
 
 head_at : (xs : List ℕ) (n b : ℕ) (more : List ℕ) → drop n xs ≡ b ∷ more → slice_index xs n ≡ b
-head_at [] n b more e = absurd (let l : length (drop n []) ≡ length (b ∷ more) = ap length e in omega (arith, length-drop {A = ℕ} n [], l))
-head_at (x ∷ xs) zero b more e = cc
-head_at (x ∷ xs) (suc n) b more e = head_at xs n b more e
+head_at xs n b more e = let at : n ≡ n + 0 = omega arith in ap (slice_index xs) at ∙ sym (get_or-drop n xs 0 0) ∙ ap (λ zs. slice_index zs 0) e
 
 is_blank-some_other : (line : Line) → is_all_blank line ≡ false → is_blank line ≡ false
 is_blank-some_other line h = false_from_ne_true _ (λ t. false≢true (sym h ∙ (and_parts (nat_le (length line + 1) paragraph_limit) (is_all_blank line) t).1))

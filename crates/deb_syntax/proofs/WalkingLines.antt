@@ -51,6 +51,10 @@ pieces_of-with_newlines_and (first ∷ lines) line h k =
     ∙ pieces_of-line first (with_newlines lines ++ line) h.0
     ∙ ap (λ ls. first ∷ ls) (pieces_of-with_newlines_and lines line h.1 k)
 
+pub some_more : (lines : List Line) (line : Line) → lines ++ line ∷ [] ≢ []
+some_more [] line e = let l : length (line ∷ []) ≡ 0 = ap length e in absurd (omega arith)
+some_more (first ∷ lines) line e = let l : length (first ∷ (lines ++ line ∷ [])) ≡ 0 = ap length e in absurd (omega arith)
+
 -- what stands behind whole lines
 pub drop-front : (text : List ℕ) (lines : List Line) (rest : List ℕ) → StandInFront text lines rest → drop (length (with_newlines lines)) text ≡ rest
 drop-front text lines rest h = ap (drop (length (with_newlines lines))) h.text ∙ drop-append_seam (with_newlines lines) rest

@@ -1,6 +1,6 @@
 -- Lines that are taken in pieces: where the line behind them goes on, ends, and joins them.
-use Rattle.deb_syntax.proofs.Common.{◌≡◌, ◌≢◌, ℕ, ◌+◌, ◌≤◌, inl, inr, true, false, List, [], ◌∷◌, ◌++◌, length, drop, refl, sym, ap, subst, ◌∙◌, append_assoc, arith, length-append, drop-append_seam, drop-append-add, append-nil, MatchBool-at_true, MatchBool-at_false, All-append, Line, newline, is_blank, paragraph_limit, with_newlines, Describes, EndsIn, GoesAlong, RunStands, CanGoOn, Stops, Begun, AlongLine, Run, Open}
-use Rattle.deb_syntax.proofs.WalkingLines.{length-front, few_lines-with_newlines, front-step, length-with_newlines-step}
+use Rattle.deb_syntax.proofs.Common.{◌≡◌, ℕ, ◌+◌, ◌≤◌, inl, inr, true, false, List, [], ◌∷◌, ◌++◌, length, drop, refl, sym, ap, subst, ◌∙◌, append_assoc, arith, length-append, drop-append_seam, drop-append-add, append-nil, MatchBool-at_true, MatchBool-at_false, All-append, Line, newline, is_blank, paragraph_limit, with_newlines, Describes, EndsIn, GoesAlong, RunStands, CanGoOn, Stops, Begun, AlongLine, Run, Open}
+use Rattle.deb_syntax.proofs.WalkingLines.{some_more, length-front, few_lines-with_newlines, front-step, length-with_newlines-step}
 use Rattle.deb_syntax.proofs.WalkingSteps.{CannotBeBlank-longer}
 
 -- the bytes behind what was seen
@@ -39,35 +39,12 @@ run-seen text run next lines seen more fresh h described = record {
   begins = elim h.begins [ inl some ↦ inl some | inr cannot ↦ inr (CannotBeBlank-longer seen more cannot) ];
 }
 
--- the line goes on through all bytes
-pub run-open : (text : List ℕ) (run : Run) (next : Begun) (lines : List Line) (seen fresh : List ℕ) → RunStands text run lines seen fresh → Describes next (seen ++ fresh) → Stops text Open (record { bytes = run.bytes; lines = run.lines; begun = next })
-run-open text run next lines seen fresh h described = record {
-  lines = lines;
-  seen = seen ++ fresh;
-  fresh = [];
-  stands = run-seen text run next lines seen fresh [] (subst (λ zs. RunStands text run lines seen zs) (sym (append-nil fresh)) h) described;
-  stopped = refl;
-}
-
 -- the line behind a run, with its newline
 pub record Ended (text : List ℕ) (run : Run) : Type 0 where
   pub lines : List Line
   pub seen : List ℕ
   pub rest : List ℕ
   pub stands : RunStands text run lines seen (newline ∷ rest)
-
--- the line has its newline
-pub run-ended : (text : List ℕ) (run : Run) (next : Begun) (lines : List Line) (seen fresh : List ℕ) → RunStands text run lines seen fresh → EndsIn seen fresh next → Ended text (record { bytes = run.bytes; lines = run.lines; begun = next })
-run-ended text run next lines seen fresh h e = record {
-  lines = lines;
-  seen = seen ++ e.more;
-  rest = e.rest;
-  stands = run-seen text run next lines seen e.more (newline ∷ e.rest) (subst (λ zs. RunStands text run lines seen zs) e.whole h) e.describes;
-}
-
-some_more : (lines : List Line) (line : Line) → lines ++ line ∷ [] ≢ []
-some_more [] line e = let l : length (line ∷ []) ≡ 0 = ap length e in absurd (omega arith)
-some_more (first ∷ lines) line e = let l : length (first ∷ (lines ++ line ∷ [])) ≡ 0 = ap length e in absurd (omega arith)
 
 -- the line joins the run
 pub run-step : (text : List ℕ) (run : Run) (new : Begun) (e : Ended text run) → Describes new [] → is_blank e.seen ≡ false → run.bytes + (run.begun.len + 1) ≤ paragraph_limit → CanGoOn text (record { bytes = run.bytes + (run.begun.len + 1); lines = run.lines + 1; begun = new })
@@ -87,13 +64,23 @@ run-step text run new e nothing blank short =
       },
     )
 
--- what going along the bytes behind a run finds
+-- what going along the bytes behind a run finds: the line goes on through all of them, or has its newline
 pub run-open-from : (text : List ℕ) (run : Run) (next : AlongLine) → CanGoOn text run → ((seen : List ℕ) → Describes run.begun seen → GoesAlong seen (drop (run.bytes + run.begun.len) text) next) → next.ended ≡ false → Stops text Open (record { bytes = run.bytes; lines = run.lines; begun = next.begun })
-run-open-from text run next (lines, seen, fresh, h) went unended =
-    run-open text run next.begun lines seen fresh h
-    (subst (λ zs. Describes next.begun (seen ++ zs)) (fresh-is text run lines seen fresh h) (MatchBool-at_false _ _ unended (went seen h.describes)))
+run-open-from text run next (lines, seen, fresh, h) went unended = record {
+  lines = lines;
+  seen = seen ++ fresh;
+  fresh = [];
+  stands = run-seen text run next.begun lines seen fresh [] (subst (λ zs. RunStands text run lines seen zs) (sym (append-nil fresh)) h)
+      (subst (λ zs. Describes next.begun (seen ++ zs)) (fresh-is text run lines seen fresh h) (MatchBool-at_false _ _ unended (went seen h.describes)));
+  stopped = refl;
+}
 
 pub run-ended-from : (text : List ℕ) (run : Run) (next : AlongLine) → CanGoOn text run → ((seen : List ℕ) → Describes run.begun seen → GoesAlong seen (drop (run.bytes + run.begun.len) text) next) → next.ended ≡ true → Ended text (record { bytes = run.bytes; lines = run.lines; begun = next.begun })
 run-ended-from text run next (lines, seen, fresh, h) went ended =
-    run-ended text run next.begun lines seen fresh h
-    (subst (λ zs. EndsIn seen zs next.begun) (fresh-is text run lines seen fresh h) (MatchBool-at_true _ _ ended (went seen h.describes)))
+    let e : EndsIn seen fresh next.begun = subst (λ zs. EndsIn seen zs next.begun) (fresh-is text run lines seen fresh h) (MatchBool-at_true _ _ ended (went seen h.describes)) in
+    record {
+      lines = lines;
+      seen = seen ++ e.more;
+      rest = e.rest;
+      stands = run-seen text run next.begun lines seen e.more (newline ∷ e.rest) (subst (λ zs. RunStands text run lines seen zs) e.whole h) e.describes;
+    }
