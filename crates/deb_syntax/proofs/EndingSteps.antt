@@ -1,6 +1,6 @@
 -- Where a paragraph ends, by why no line more was taken: at the file's end, or behind a line that was dropped.
 use Rattle.deb_syntax.proofs.Common.{cond, nat_lt, drop-length, ◌≡◌, ◌≢◌, ℕ, ◌+◌, ◌-◌, ◌<◌, ◌≤◌, true, false, List, [], ◌∷◌, ◌++◌, Option, Some, None, Result, Ok, Err, length, take, drop, IsTrue, refl, sym, ap, subst, ◌∙◌, arith, length-append, length-drop, append-nil, take-append-drop, drop-drop, Line, newline, paragraph_limit, is_blank, Code, ParagraphTooLong, FileTooLong, Fault, Refused, Refusal, left_answer, room_ahead, IsAhead, IsExtentOf, PassesParagraph, IsNextRun, IsExtentAhead, DropsLine, HasNewline, TextAfterLine, IsDropped, Seen, FeedState, with_newlines, StandInFront, Stops, DroppedLine, Extent, Run, Stop, Open}
-use Rattle.deb_syntax.proofs.Endings.{Taken, Ends, ahead, ends-blank, ends-none, ends-last, some-lines, some-full, refused-long, refused-end, refused-beyond}
+use Rattle.deb_syntax.proofs.Endings.{RunLines, Ends, ends-ahead, ends-blank, ends-none, ends-last, some-lines, some-full, refused-long, refused-end, refused-beyond}
 use Rattle.deb_syntax.proofs.Faults.{readers_fault}
 use Rattle.deb_syntax.proofs.WalkingLines.{front-step, take-front, drop-front, length-front, few_lines-with_newlines}
 
@@ -17,8 +17,8 @@ open-length text run s =
     omega (arith, s.stands.bytes, s.stands.describes.len)
 
 -- its whole lines
-abbrev pub taken-open : (text : List ℕ) (run : Run) → Stops text Open run → Taken text run
-taken-open text run s = record {
+abbrev pub run_lines-open : (text : List ℕ) (run : Run) → Stops text Open run → RunLines text run
+run_lines-open text run s = record {
   lines = s.lines;
   behind = s.seen;
   front = open-front text run s;
@@ -67,20 +67,20 @@ module _ (state : FeedState) (run : Run) (s : Stops state.unread Open run) where
       let size = open-length state.unread run s in
       let len = s.stands.describes.len in
       let bytes = ap (λ (x : Extent). x.bytes) is in
-      ends-none state run (taken-open state.unread run s) s.seen e s.stands.describes.line blank (file-some blank) (ap (λ (x : Extent). x.end) is) (omega (arith, bytes, size, room))
+      ends-none state run (run_lines-open state.unread run s) s.seen e s.stands.describes.line blank (file-some blank) (ap (λ (x : Extent). x.end) is) (omega (arith, bytes, size, room))
       ended (ap (λ (x : Extent). x.skip) is ∙ sym size) (omega (arith, bytes, len)) (ap (λ (x : Extent). x.lines) is ∙ ap (λ n. run.lines + cond (nat_lt 0 n) 1 0) len)
 
   -- a line that isn't blank, without newline
   pub file-last : is_blank s.seen ≡ false → IsTrue state.ended → length state.unread ≤ room_ahead state → run.bytes + run.begun.len < paragraph_limit → Ends state.unread (record { end = run.bytes + run.begun.len; skip = run.bytes + run.begun.len; bytes = run.bytes + run.begun.len; lines = run.lines + 1 }) state
   file-last line_not ended room short =
       let extent : ℕ → Extent = λ n. record { end = n; skip = n; bytes = n; lines = run.lines + 1 } in
-      ends-last state run (taken-open state.unread run s) s.seen _ (open-front state.unread run s) s.stands.describes.line line_not (omega (arith, short, s.stands.describes.len)) ended room
+      ends-last state run (run_lines-open state.unread run s) s.seen _ (open-front state.unread run s) s.stands.describes.line line_not (omega (arith, short, s.stands.describes.len)) ended room
       (ap extent (sym (open-length state.unread run s)))
 
   pub file-ahead : (passed : List ℕ) (e : Extent) → Ends passed e state → state.unread ≡ passed → e.skip ≡ length state.unread → IsTrue state.ended → (text : List ℕ) (left : Option (List ℕ)) → IsAhead text [] state left → IsExtentAhead text state (Ok e) state left
   file-ahead passed e b is skip ended text left a =
       let here = ahead-end text state left a ended in
-      ahead text [] passed e state left (state.lines + 1) b here.0 (here.1 ∙ is ∙ at-end passed state.unread e.skip skip) (λ _. refl)
+      ends-ahead text [] passed e state left (state.lines + 1) b here.0 (here.1 ∙ is ∙ at-end passed state.unread e.skip skip) (λ _. refl)
 
   pub file-long-ahead : (text : List ℕ) (left : Option (List ℕ)) (fault : Fault) → is_blank s.seen ≡ false → length state.unread ≤ room_ahead state → paragraph_limit ≤ run.bytes + run.begun.len → IsTrue state.ended → fault ≡ Refused (record { code = ParagraphTooLong; line = state.lines + run.lines + 1 }) → IsAhead text [] state left → IsExtentAhead text state (Err fault) state left
   file-long-ahead text left fault line_not room long ended is a =
@@ -108,7 +108,7 @@ module _ (before after : FeedState) (run : Run) (s : Stops before.unread Open ru
       (omega (arith, s.stands.short, s.stands.bytes)))) (h text a)
 
   module _ (dropped : DroppedLine) (d : DropsLine before run dropped after) where
-    abbrev kept : Taken after.unread run
+    abbrev kept : RunLines after.unread run
     kept = record {
       lines = s.lines;
       behind = drop run.bytes after.unread;
@@ -186,9 +186,9 @@ module _ (before after : FeedState) (run : Run) (s : Stops before.unread Open ru
         let stands : StandInFront text s.lines (d.line ++ newline ∷ (more ++ rest)) = record { text = text-newline text at more rest here whole; lines = s.stands.front.lines } in
         let next : more ≡ drop e.skip after.unread = sym (ap (λ k. drop k after.unread) skip ∙ sym (drop-drop 1 at after.unread) ∙ ap (drop 1) here) in
         same-answer (before.lines + 1) text e left
-        (ahead text rest _ e after left (before.lines + 1) b told ((front-step text s.lines d.line (more ++ rest) stands d.describes.line).text ∙ ap (λ zs. with_newlines (s.lines ++ d.line ∷ []) ++ (zs ++ rest)) next) ended)
+        (ends-ahead text rest _ e after left (before.lines + 1) b told ((front-step text s.lines d.line (more ++ rest) stands d.describes.line).text ∙ ap (λ zs. with_newlines (s.lines ++ d.line ∷ []) ++ (zs ++ rest)) next) ended)
 
     pub dropped-none-ahead : (text : List ℕ) (left : Option (List ℕ)) (e : Extent) → Ends (with_newlines s.lines ++ d.line) e after → e.skip ≡ run.bytes → HasNewline before run d.line None after → TextAfterLine text before run d.line None after left → IsExtentAhead text before (Ok e) after left
     dropped-none-ahead text left e b skip h (whole, told) =
         same-answer (before.lines + 1) text e left
-        (ahead text [] _ e after left (before.lines + 1) b told (whole ∙ ap (λ zs. zs ++ d.line) take-run ∙ at-end _ after.unread e.skip (skip ∙ s.stands.bytes ∙ sym (ap length (h.0 ∙ take-run)))) (λ _. refl))
+        (ends-ahead text [] _ e after left (before.lines + 1) b told (whole ∙ ap (λ zs. zs ++ d.line) take-run ∙ at-end _ after.unread e.skip (skip ∙ s.stands.bytes ∙ sym (ap length (h.0 ∙ take-run)))) (λ _. refl))

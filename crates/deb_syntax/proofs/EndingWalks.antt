@@ -1,6 +1,6 @@
 -- The walk to the end of a paragraph, piece by piece.
 use Rattle.deb_syntax.proofs.Common.{length-take, length-drop, false_from_ne_true, ◌≡◌, ◌≢◌, ℕ, ◌+◌, ◌-◌, ◌<◌, ◌≤◌, inl, inr, false, nat_le, List, [], ◌∷◌, ◌++◌, Option, Result, Ok, Err, length, take, drop, refl, sym, ap, subst, ◌∙◌, append_assoc, arith, length-append, take-append-add, and_from, cases_lt, false≢true, le-leb, append-nil, take-append-drop, take-append-le, take_all, Line, newline, paragraph_limit, is_blank, is_all_blank, ParagraphTooLong, FileTooLong, Fault, Refused, left_answer, room_ahead, IsAhead, IsNear, KeepsLine, EndsInSight, IsNextRun, IsExtentAhead, SameCounts, FeedState, piece_limit, Comes, Sees, room_of, with_newlines, StandInFront, RunStands, CanGoOn, CannotBeBlank, Stops, Begun, Extent, Sight, Run, Stop, Open, Blank, TooLong}
-use Rattle.deb_syntax.proofs.Endings.{Ends, ahead, ends-blank, some-lines, refused-long, refused-beyond}
+use Rattle.deb_syntax.proofs.Endings.{Ends, ends-ahead, ends-blank, some-lines, refused-long, refused-beyond}
 use Rattle.deb_syntax.proofs.EndingSteps.{open-front, open-length, refusal-ahead, some-bytes}
 use Rattle.deb_syntax.proofs.Faults.{readers_fault}
 use Rattle.deb_syntax.proofs.Feeds.{comes_whole, comes_end}
@@ -153,7 +153,7 @@ module _ (state : FeedState) (run : Run) where
         let front = front-step state.unread s.lines s.seen i.more i.front s.stands.describes.line in
         let at : e.skip ≡ length (with_newlines (s.lines ++ s.seen ∷ [])) = omega (arith, skip, s.stands.bytes, s.stands.describes.len, length-with_newlines-step s.lines s.seen) in
         let behind : i.more ≡ drop e.skip state.unread = sym (ap (λ k. drop k state.unread) at ∙ drop-front state.unread (s.lines ++ s.seen ∷ []) i.more front) in
-        ahead text a.rest _ e state left (state.lines + 1) b a.told
+        ends-ahead text a.rest _ e state left (state.lines + 1) b a.told
         (a.whole ∙ ap (λ zs. zs ++ a.rest) (front.text ∙ ap (λ zs. with_newlines (s.lines ++ s.seen ∷ []) ++ zs) behind) ∙ append_assoc (with_newlines (s.lines ++ s.seen ∷ [])) (drop e.skip state.unread) a.rest) a.ended
 
   pub stop-long-ahead : (s : Stops (take (room_ahead state) state.unread) TooLong run) → (text : List ℕ) (left : Option (List ℕ)) (fault : Fault) → fault ≡ Refused (record { code = ParagraphTooLong; line = state.lines + run.lines + 1 }) → IsAhead text [] state left → IsExtentAhead text state (Err fault) state left

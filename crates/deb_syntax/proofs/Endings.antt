@@ -87,7 +87,7 @@ next-run n room text (line ∷ run) rest some is not_blank begins short ends = r
 }
 
 -- Whole lines of a run at the front of a text.
-pub record Taken (text : List ℕ) (run : Run) : Type 0 where
+pub record RunLines (text : List ℕ) (run : Run) : Type 0 where
   pub lines : List Line
   pub behind : List ℕ
   pub front : StandInFront text lines behind
@@ -115,8 +115,8 @@ pub record Ends (passed : List ℕ) (e : Extent) (state : FeedState) : Type 0 wh
   pub counted : e.lines ≡ length lines + length ending
   pub closed : ((0 < length ending) × IsClosed passed) ⊎ (IsTrue state.ended × (e.skip ≡ length state.unread))
 
-pub found : (passed : List ℕ) (e : Extent) (state : FeedState) → Ends passed e state → IsExtentOf e state
-found passed e state b = record {
+pub ends-found : (passed : List ℕ) (e : Extent) (state : FeedState) → Ends passed e state → IsExtentOf e state
+ends-found passed e state b = record {
   lines = b.lines;
   some = b.some;
   pieces = b.pieces;
@@ -135,10 +135,10 @@ begins [] more blank (inl some) = absurd (omega (arith, some))
 begins [] more blank (inr none) = ap begins_blank none
 begins (line ∷ ending) more blank some = blank.0
 
-pub ahead : (text rest passed : List ℕ) (e : Extent) (state : FeedState) (left : Option (List ℕ)) (n : ℕ) → Ends passed e state → left ≡ Some rest → text ≡ passed ++ (drop e.skip state.unread ++ rest) → (IsTrue state.ended → rest ≡ []) → (x : IsExtentOf e state) × PassesParagraph text e state left x.lines × IsNextRun n (room_ahead state) text x.lines
-unfolding found
-ahead text rest passed e state left n b told whole ended = (
-  found passed e state b,
+pub ends-ahead : (text rest passed : List ℕ) (e : Extent) (state : FeedState) (left : Option (List ℕ)) (n : ℕ) → Ends passed e state → left ≡ Some rest → text ≡ passed ++ (drop e.skip state.unread ++ rest) → (IsTrue state.ended → rest ≡ []) → (x : IsExtentOf e state) × PassesParagraph text e state left x.lines × IsNextRun n (room_ahead state) text x.lines
+unfolding ends-found
+ends-ahead text rest passed e state left n b told whole ended = (
+  ends-found passed e state b,
   record {
     passed = passed;
     ahead = more;
@@ -179,7 +179,7 @@ ahead text rest passed e state left n b told whole ended = (
         next-run n (room_ahead state) text b.lines b.ending b.some (ap lines_of (part_within-all (room_ahead state) text within ∙ all) ∙ b.is)
         b.not_blank (ap begins_blank (sym (append-nil b.ending)) ∙ begins b.ending [] b.blank (inr refl)) b.short (inl within)
 
-module _ (state : FeedState) (run : Run) (t : Taken state.unread run) (line : List ℕ) (e : Extent) where
+module _ (state : FeedState) (run : Run) (t : RunLines state.unread run) (line : List ℕ) (e : Extent) where
   module _ (is_line : HasNoNewline line) (blank : is_blank line ≡ true) (some : 0 < run.bytes) (end : e.end ≡ run.bytes - 1) (room : e.bytes ≤ room_ahead state) where
     some-taken : t.lines ≢ []
     some-taken none = absurd (omega (arith, some, t.bytes, ap (λ ls. length (with_newlines ls)) none))

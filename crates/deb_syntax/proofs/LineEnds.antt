@@ -19,7 +19,7 @@ length-ends_from : (start : ℕ) (lines : List Line) → length (ends_from start
 length-ends_from start [] = refl
 length-ends_from start (line ∷ lines) = ap suc (length-ends_from (start + line_length line) lines)
 
--- so there are as many as the file has lines at most
+-- there are as many ends as lines
 pub few_ends : (text ends : List ℕ) (lines : List Line) → ends ≡ piece_ends text → pieces_of text ≡ lines → length ends ≡ length lines
 few_ends text ends lines is pieces = ap length is ∙ length-ends_from 0 (pieces_of text) ∙ ap length pieces
 

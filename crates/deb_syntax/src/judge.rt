@@ -80,14 +80,14 @@ pub(crate) fn judge(
     Ok(())
 }
 
-/// How many bytes of the text one look at it shows to be UTF-8: all, or none.
+/// Checks the whole text at once: returns its length if it is UTF-8, and else 0.
 fn utf8_front(text: &[u8]) -> usize
     ensures { 0 < result → IsUtf8 text.now }
 {
     if is_utf8(text) { text.len() } else { 0 }
 }
 
-/// Whether a line is UTF-8. It isn't looked at if it ends within the bytes that were checked.
+/// Whether a line is UTF-8. A line within the first `checked` bytes isn't checked again.
 fn is_line_utf8(text: &[u8], line: Line, checked: usize) -> bool
     requires after { line.start ≤ line.end }
     requires within { line.end ≤ length text.now }

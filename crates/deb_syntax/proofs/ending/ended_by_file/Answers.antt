@@ -1,7 +1,7 @@
 use Rattle.deb_syntax.proofs.Common.{refl, Extent, ◌∙◌, sym, ap, take, arith, feed_state}
 use Rattle.deb_base.specs.Bodies.{paragraph_limit}
 use Rattle.deb_syntax.proofs.EndingSteps.{open-front, open-length, stops-few, file-some, file-none, file-last, file-ahead, file-long-ahead}
-use Rattle.deb_syntax.proofs.Endings.{found}
+use Rattle.deb_syntax.proofs.Endings.{ends-found}
 use Rattle.deb_syntax.proofs.Feeds.{feed_few}
 use Rattle.deb_syntax.specs.LineEnds.{piece_ends}
 use Rattle.deb_syntax.proofs.LineEnds.{line_ends-closed, line_ends-last}
@@ -19,7 +19,7 @@ ended_by_end-requires-clause-lines c =
 pub returns-then-is_blank-clause-found : goal.returns-then-is_blank-clause-found
 returns-then-is_blank-clause-found c =
     let s = c.requires.stops in
-    found _ _ (feed_state c.args.feed.now) (file-none (feed_state c.args.feed.now) c.args.run s _ (sym (c.is_blank.ensures _ s.stands.describes) ∙ c.if-is_blank.true) c.requires.ended c.requires.room c.ended_by_end.ensures)
+    ends-found _ _ (feed_state c.args.feed.now) (file-none (feed_state c.args.feed.now) c.args.run s _ (sym (c.is_blank.ensures _ s.stands.describes) ∙ c.if-is_blank.true) c.requires.ended c.requires.room c.ended_by_end.ensures)
 
 pub returns-then-is_blank-clause-ahead : goal.returns-then-is_blank-clause-ahead
 returns-then-is_blank-clause-ahead c =
@@ -48,7 +48,7 @@ pub returns-clause-found : goal.returns-clause-found
 unfolding paragraph_limit
 returns-clause-found c =
     let s = c.requires.stops in
-    found _ _ (feed_state c.args.feed.now) (file-last (feed_state c.args.feed.now) c.args.run s (sym (c.is_blank.ensures _ s.stands.describes) ∙ c.if-is_blank.false) c.requires.ended c.requires.room c.if-all-ge-PARAGRAPH_LIMIT.false)
+    ends-found _ _ (feed_state c.args.feed.now) (file-last (feed_state c.args.feed.now) c.args.run s (sym (c.is_blank.ensures _ s.stands.describes) ∙ c.if-is_blank.false) c.requires.ended c.requires.room c.if-all-ge-PARAGRAPH_LIMIT.false)
 
 pub returns-clause-ahead : goal.returns-clause-ahead
 unfolding paragraph_limit

@@ -1,7 +1,7 @@
 use Rattle.deb_syntax.proofs.Common.{Extent, ◌≡◌, ◌∙◌, ◌+◌, ap, sym, subst, arith, err_from_is_err_and, ParagraphTooLong, Refused, HasNewline, TextAfterLine, feed_state}
 use Rattle.deb_base.specs.Bodies.{paragraph_limit}
 use Rattle.deb_syntax.specs.Lines.{file_limit}
-use Rattle.deb_syntax.proofs.Endings.{found}
+use Rattle.deb_syntax.proofs.Endings.{ends-found}
 use Rattle.deb_syntax.proofs.EndingSteps.{stops-few, dropped-refused, dropped-within, dropped-some, dropped-long, dropped-blank, dropped-blank-ahead, dropped-none, dropped-none-ahead}
 use Rattle.deb_syntax.proofs.LineEnds.{dropped-ends}
 use Rattle.deb_syntax.proofs.ending.extent_beyond.Goals as goal
@@ -63,7 +63,7 @@ returns-in-Some-clause-found g c =
     let before = feed_state c.args.feed.now in
     let after = feed_state c.drop_line.new.feed in
     let d = c.in_ok-dropped.ensures.drops.0 in
-    found _ _ after (dropped-blank before after c.args.run c.requires.stops c.in_ok-dropped.dropped d _ c.in-Some.newline c.requires.full
+    ends-found _ _ after (dropped-blank before after c.args.run c.requires.stops c.in_ok-dropped.dropped d _ c.in-Some.newline c.requires.full
     (sym (c.is_blank.ensures _ d.describes) ∙ c.if-not-is_blank.false) (subst (λ at. HasNewline before c.args.run d.line at after) c.in-Some.is c.in_ok-dropped.ensures.drops.1) c.ended_by_blank.ensures)
 
 pub returns-in-Some-clause-ahead : goal.returns-in-Some-clause-ahead
@@ -81,7 +81,7 @@ returns-in-None-clause-found g c =
     let before = feed_state c.args.feed.now in
     let after = feed_state c.drop_line.new.feed in
     let d = c.in_ok-dropped.ensures.drops.0 in
-    found _ _ after (dropped-none before after c.args.run c.requires.stops c.in_ok-dropped.dropped d _ c.requires.full
+    ends-found _ _ after (dropped-none before after c.args.run c.requires.stops c.in_ok-dropped.dropped d _ c.requires.full
     (sym (c.is_blank.ensures _ d.describes) ∙ c.if-not-is_blank.false) (subst (λ at. HasNewline before c.args.run d.line at after) c.in-None.is c.in_ok-dropped.ensures.drops.1) c.ended_by_end.ensures)
 
 pub returns-in-None-clause-ahead : goal.returns-in-None-clause-ahead

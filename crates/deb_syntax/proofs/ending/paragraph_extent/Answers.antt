@@ -1,6 +1,6 @@
 use Rattle.deb_syntax.proofs.Common.{◌∙◌, ◌-◌, ◌≤◌, take, room_ahead, length, Ok, Err, refl, sym, ap, subst, arith, false≢true, feed_state, had, IsTail, Open, Blank, TooLong, Extent}
 use Rattle.deb_base.specs.Bodies.{paragraph_limit}
-use Rattle.deb_syntax.proofs.Endings.{found}
+use Rattle.deb_syntax.proofs.Endings.{ends-found}
 use Rattle.deb_syntax.proofs.EndingWalks.{walks-start, walks-more, same-ahead, sees-ahead, sees-unread, seen-stops, unread-stops, blank-some, stop-blank, stop-blank-ahead, stop-long-ahead, stop-beyond-ahead}
 use Rattle.deb_syntax.proofs.EndingSteps.{open-length, stops-few}
 use Rattle.deb_syntax.proofs.WalkingLines.{length-front}
@@ -36,7 +36,7 @@ pub returns-in-Blank-clause-found : goal.returns-in-Blank-clause-found
 returns-in-Blank-clause-found g c =
     let state = feed_state c.pieces.feed in
     let s = seen-stops state c.sight-sight.result c.in_ok-taken.taken.stop Blank c.in_ok-taken.taken.run c.sight-sight.ensures c.in-Blank.is c.in_ok-taken.ensures.stops in
-    found _ _ state (stop-blank state c.in_ok-taken.taken.run s c.ended_by_blank.result (omega (arith, c.pieces.invariant.walks.near, c.in_ok-taken.ensures.further)) c.ended_by_blank.ensures)
+    ends-found _ _ state (stop-blank state c.in_ok-taken.taken.run s c.ended_by_blank.result (omega (arith, c.pieces.invariant.walks.near, c.in_ok-taken.ensures.further)) c.ended_by_blank.ensures)
 
 pub returns-in-Blank-clause-ahead : goal.returns-in-Blank-clause-ahead
 returns-in-Blank-clause-ahead g c = λ text a.
