@@ -5,7 +5,7 @@ use Rattle.deb_syntax.proofs.EndingWalks.{walks-start, walks-more, same-ahead, s
 use Rattle.deb_syntax.proofs.EndingSteps.{open-length, stops-few}
 use Rattle.deb_syntax.proofs.WalkingLines.{length-front}
 use Rattle.deb_syntax.proofs.Feeds.{feed_small}
-use Rattle.deb_syntax.proofs.Takings.{takes_none, takes_more, takes_then, comes_takes, stays_takes, more-reach, still-less}
+use Rattle.deb_syntax.proofs.Takings.{takes_none, takes_more, takes_then, comes_takes, more-reach, still-less}
 use Rattle.deb_syntax.specs.LineEnds.{line_ends, piece_ends}
 use Rattle.deb_syntax.proofs.LineEnds.{line_ends-closed, take-more, take-seen}
 use Rattle.deb_syntax.proofs.ending.paragraph_extent.Goals as goal
@@ -119,12 +119,6 @@ returns-in-Beyond-clause-ahead g c = λ text a.
     (stop-beyond-ahead state c.in_ok-taken.taken.run
     (seen-stops state c.sight-sight.result c.in_ok-taken.taken.stop Open c.in_ok-taken.taken.run c.sight-sight.ensures c.in-Open.is c.in_ok-taken.ensures.stops)
     (omega (arith, tail)) text (g.R.Source.left c.pieces.reader) c.refused-in-Beyond.result c.refused-in-Beyond.ensures (w.ahead text a))
-
-pub returns-in_err-fill-in-More-2-clause-taken : goal.returns-in_err-fill-in-More-2-clause-taken
-returns-in_err-fill-in-More-2-clause-taken g c = takes_then _ _ _ _ _ _ _ _ c.pieces.invariant.taken (stays_takes _ _ _ _ c.in_err-fill-in-More-2.ensures.failed) (omega arith)
-
-pub returns-in-More-clause-taken : goal.returns-in-More-clause-taken
-returns-in-More-clause-taken g c = takes_then _ _ _ _ _ _ _ _ c.pieces.invariant.takes c.extent_beyond.ensures.taken (omega arith)
 
 pub returns-in-Blank-clause-ends : goal.returns-in-Blank-clause-ends
 returns-in-Blank-clause-ends g c =

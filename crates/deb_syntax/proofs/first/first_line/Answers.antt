@@ -1,7 +1,7 @@
 use Rattle.deb_syntax.proofs.Common.{◌∙◌, ◌+◌, ◌<◌, ◌≤◌, ap, sym, subst, arith, Ok, ℕ, false≢true, Refusal, FileTooLong, file_limit, feed_state, had, IsTail}
 use Rattle.deb_syntax.proofs.Feeds.{feed_small}
 use Rattle.deb_syntax.proofs.FirstLines.{skipped-within, skipped-room, skipped-few, stands, stands-found, stands-kept, stands-beyond, stands-first, walked-more}
-use Rattle.deb_syntax.proofs.Takings.{takes_more, takes_then, comes_takes, stays_takes, more-reach, pass-had, still, still-less, pass-still}
+use Rattle.deb_syntax.proofs.Takings.{takes_more, takes_then, comes_takes, more-reach, pass-had, still, still-less, pass-still}
 use Rattle.deb_syntax.proofs.first.first_line.Goals as goal
 
 pub sight-sight-requires : goal.sight-sight-requires
@@ -61,11 +61,3 @@ returns-in-Beyond-clause-ahead g c =
     let tail = subst (IsTail (feed_state c.pass.new.self) 0) c.in-Beyond.is s.tail in
     let refusal : ℕ → Refusal = λ n. record { code = FileTooLong; line = n + 1 } in
     stands-beyond _ _ _ _ _ _ s (record { code = FileTooLong; line = c.lines.result + 1 }) c.if-skipped.false (feed_small c.pass.new.self) tail (ap refusal c.lines.ensures)
-
-pub returns-in_err-fill-in-More-2-clause-taken : goal.returns-in_err-fill-in-More-2-clause-taken
-returns-in_err-fill-in-More-2-clause-taken g c = takes_then _ _ _ _ _ _ _ _ c.pieces.invariant.taken (stays_takes _ _ _ _ c.in_err-fill-in-More-2.ensures.failed) (omega arith)
-
-pub returns-in-More-clause-taken : goal.returns-in-More-clause-taken
-returns-in-More-clause-taken g c =
-    let within = skipped-within (feed_state c.pieces.feed) c.pieces.begun c.sight-sight.result c.sight-sight.ensures c.skip_blanks-skipped.result c.skip_blanks-skipped.ensures in
-    takes_then _ _ _ _ _ _ _ _ c.pieces.invariant.takes c.drop_first.ensures.taken (omega (arith, pass-had _ _ _ _ c.pass.ensures.passes within))

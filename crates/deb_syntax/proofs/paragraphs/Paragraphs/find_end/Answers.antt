@@ -1,7 +1,6 @@
 use Rattle.deb_syntax.proofs.Common.{length, ap, refl, arith, feed_state}
 use Rattle.deb_syntax.proofs.Advancing.{plain_ahead, tell_next, tell_end_fault, keeps_reach, limit_reach, near_nothing, hides_nothing}
 use Rattle.deb_syntax.proofs.Feeds.{feed_small}
-use Rattle.deb_syntax.proofs.Takings.{takes_more}
 use Rattle.deb_syntax.proofs.paragraphs.Paragraphs.find_end.Goals as goal
 
 pub returns-in-Ok-clause-answers : goal.returns-in-Ok-clause-answers
@@ -30,9 +29,3 @@ invariant_of-self-in-Err g c = record {
   hides = hides_nothing _ (feed_state c.keep.new.self) c.requires.unhidden;
   stands = rw c.requires.none refl;
 }
-
-pub returns-in-Ok-clause-taken : goal.returns-in-Ok-clause-taken
-returns-in-Ok-clause-taken g c = takes_more _ _ _ _ _ _ c.in-Ok.ensures.taken (omega (arith, c.requires.unhidden)) (omega arith)
-
-pub returns-in-Err-clause-taken : goal.returns-in-Err-clause-taken
-returns-in-Err-clause-taken g c = takes_more _ _ _ _ _ _ c.in-Err.ensures.taken (omega (arith, c.requires.unhidden)) (omega arith)

@@ -1,7 +1,7 @@
 use Rattle.deb_syntax.proofs.Common.{◌≡◌, Bool, ◌≤◌, [], length, true, None, refl, sym, ap, subst, arith, option_map, paragraph_limit, feed_state, buffer_of, State, Fits, state_from, standing_of}
 use Rattle.deb_syntax.proofs.Advancing.{plain_ahead, tell_none, tell_begin, stays_none, hidden_begins, near_nothing, hides_nothing, hides_long, tell_fault, long_not_blank, long_some, hides_reach, keeps_reach, limit_reach, reach_limit}
 use Rattle.deb_syntax.proofs.Feeds.{feed_small}
-use Rattle.deb_syntax.proofs.Takings.{takes_none, takes_more}
+use Rattle.deb_syntax.proofs.Takings.{takes_none}
 use Rattle.deb_syntax.proofs.paragraphs.Paragraphs.find_first.Goals as goal
 
 pub returns-then-self-clause-first : goal.returns-then-self-clause-first
@@ -89,15 +89,3 @@ returns-then-self-clause-taken g c = takes_none _ _ _ (reach_limit _ (omega (ari
 
 pub returns-then-self-gt0-clause-taken : goal.returns-then-self-gt0-clause-taken
 returns-then-self-gt0-clause-taken g c = takes_none _ _ _ (reach_limit _ (omega (arith, c.args.self.now.reach)))
-
-pub returns-in-Ok-End-clause-taken : goal.returns-in-Ok-End-clause-taken
-returns-in-Ok-End-clause-taken g c = takes_more _ _ _ _ _ _ c.in-Ok-End.ensures.taken (omega arith) (omega arith)
-
-pub returns-in-Ok-Kept-clause-taken : goal.returns-in-Ok-Kept-clause-taken
-returns-in-Ok-Kept-clause-taken g c = takes_more _ _ _ _ _ _ c.in-Ok-Kept.ensures.taken (omega arith) (omega arith)
-
-pub returns-in-Ok-Dropped-clause-taken : goal.returns-in-Ok-Dropped-clause-taken
-returns-in-Ok-Dropped-clause-taken g c = takes_more _ _ _ _ _ _ c.in-Ok-Dropped.ensures.taken (omega arith) (omega arith)
-
-pub returns-in-Err-clause-taken : goal.returns-in-Err-clause-taken
-returns-in-Err-clause-taken g c = takes_more _ _ _ _ _ _ c.in-Err.ensures.taken (omega arith) (omega arith)
