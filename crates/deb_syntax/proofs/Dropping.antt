@@ -1,5 +1,5 @@
 -- A line that is read to its end, of whose bytes only those that came last are kept.
-use Rattle.deb_syntax.proofs.Common.{◌≡◌, ℕ, ◌+◌, ◌-◌, ◌<◌, ◌≤◌, true, false, List, [], ◌∷◌, ◌++◌, Option, Some, None, Ok, Err, length, take, drop, IsTrue, IsFalse, refl, sym, ap, subst, ◌∙◌, append_assoc, arith, length-append, length-drop, length-take, take-append-add, take-append_seam, drop-append-add, drop-append_seam, take-append-drop, take-append-le, take_all, take_rest, length-take-le, MatchBool, newline, FileTooLong, Refused, Refusal, FeedState, piece_limit, Comes, Stays, KeepsFirst, Sees, room_of, had, Takes, Describes, EndsIn, GoesAlong, room_ahead, IsAhead, DropsLine, HasNewline, IsDropped, SameCounts, Begun, AlongLine, Run, Sight, DroppedLine}
+use Rattle.deb_syntax.proofs.Common.{◌≡◌, ℕ, ◌+◌, ◌-◌, ◌<◌, ◌≤◌, true, false, List, [], ◌∷◌, ◌++◌, Option, Some, None, Ok, Err, length, take, drop, IsTrue, IsFalse, refl, sym, ap, subst, ◌∙◌, append_assoc, arith, length-append, length-drop, length-take, take-append-add, take-append_seam, drop-append-add, drop-append_seam, take-append-drop, take-append-le, take_all, take_rest, length-take-le, MatchBool, newline, FileTooLong, Refused, Refusal, FeedState, piece_limit, Comes, KeepsFirst, Sees, room_of, had, Takes, Describes, EndsIn, GoesAlong, room_ahead, IsAhead, DropsLine, HasNewline, IsDropped, Begun, AlongLine, Run, Sight, DroppedLine}
 use Rattle.std.proofs.Common.{append-nil}
 use Rattle.deb_syntax.specs.Lines.{file_limit}
 use Rattle.deb_syntax.proofs.Feeds.{comes_whole, comes_end}
@@ -98,20 +98,7 @@ came before left_before run feed mid after left left_after begun d keeps come = 
       };
 }
 
--- nothing has passed where nothing came
-pub stays-counts : (before : FeedState) (left_before : Option (List ℕ)) (run : Run) (feed mid after : FeedState) (left left_after : Option (List ℕ)) (begun : Begun) → Dropping before left_before run feed left begun → KeepsFirst feed run.bytes mid → Stays mid left after left_after → SameCounts before after
-stays-counts before left_before run feed mid after left left_after begun d keeps stays = record {
-  bytes = stays.bytes ∙ keeps.bytes ∙ d.bytes;
-  lines = stays.lines ∙ keeps.lines ∙ d.lines;
-}
-
 module _ (before : FeedState) (left_before : Option (List ℕ)) (run : Run) (after : FeedState) (left : Option (List ℕ)) (begun : Begun) (c : Came before left_before run after left begun) where
-  pub came-counts : SameCounts before after
-  came-counts = record { bytes = c.bytes; lines = c.lines }
-
-  pub came-takes : Takes (had before) left_before (file_limit + piece_limit) left
-  came-takes = takes_more _ _ _ _ _ _ c.takes (omega arith) (omega (arith, c.room, c.small, c.short))
-
   pub came-small : after.bytes + begun.len ≤ file_limit
   came-small = omega (arith, c.bytes, c.small, c.room, c.describes.len)
 

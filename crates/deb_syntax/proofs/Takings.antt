@@ -1,5 +1,5 @@
 -- How much is taken of a reader: no more than what may be looked at, and one piece.
-use Rattle.deb_syntax.proofs.Common.{◌≡◌, ℕ, ◌+◌, ◌-◌, ◌<◌, ◌≤◌, Bool, true, false, cond, IsFalse, refl, sym, subst, ◌∙◌, List, Option, Some, None, length, ap, arith, length-append, length-drop, Consumes, file_limit, FeedState, piece_limit, Comes, Stays, PassesOn, room_of, had, Takes}
+use Rattle.deb_syntax.proofs.Common.{◌≡◌, ℕ, ◌+◌, ◌-◌, ◌<◌, ◌≤◌, Bool, true, false, cond, IsFalse, refl, sym, subst, ◌∙◌, List, Option, Some, None, length, ap, arith, length-append, length-drop, Consumes, file_limit, FeedState, piece_limit, Comes, PassesOn, room_of, had, Takes}
 
 pub takes_none : (n m : ℕ) (left : Option (List ℕ)) → n ≤ m → Takes n left m left
 takes_none n m left le = record { shown = λ s. s; few = omega arith }
@@ -21,10 +21,6 @@ pub comes_takes : (feed after : FeedState) (left left_after : Option (List ℕ))
 comes_takes feed after left left_after come =
     takes_then _ _ _ _ _ _ _ _ (takes_none (had feed) (had feed) left (omega arith)) (consumes_takes left left_after come.piece come.consumed)
     (omega (arith, come.bytes, ap length come.unread, length-append feed.unread come.piece))
-
--- nothing came, where a read failed
-pub stays_takes : (feed after : FeedState) (left left_after : Option (List ℕ)) → Stays feed left after left_after → Takes 0 left 0 left_after
-stays_takes feed after left left_after stays = consumes_takes left left_after _ stays.kept
 
 -- one piece came behind bytes that may be looked at
 pub more-reach : (feed after : FeedState) (left left_after : Option (List ℕ)) → feed.bytes ≤ file_limit → length feed.unread ≤ room_of feed 0 → Comes feed left after left_after → had after ≤ file_limit + piece_limit
