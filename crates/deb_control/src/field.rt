@@ -1,6 +1,6 @@
 //! Writes the canonical text of one field.
 
-ghost use Rattle.std.specs.Prelude.{◌≡◌, ◌++◌, ◌∷◌, [], cond, length, OnOk};
+ghost use Rattle.std.specs.Prelude.{◌≡◌, ◌++◌, ◌∷◌, [], cond, length, nat_eq, OnOk};
 ghost use Rattle.deb_base.specs.Bodies.{newline};
 ghost use Rattle.deb_base.specs.FieldNames.{colon};
 ghost use Rattle.deb_field.specs.Values.{value_text};
@@ -29,18 +29,30 @@ fn append_value(value: &Value<'_>, text: &mut Vec<u8>) -> Result<(), AllocError>
         (text.new.items ≡ text.old.items
         ++ behind_colon (value_text (value_meaning value.now))) }
 {
-    if is_spaced(value, value.canon_len()) {
+    if is_spaced(value) {
         text.push(b' ')?;
     }
     value.canon_into(text)
 }
 
-/// Whether a space separates a value's text, of this length, from the colon before it.
-pub(crate) fn is_spaced(value: &Value<'_>, text_len: u64) -> bool
-    requires { text_len ≡ length (value_text (value_meaning value.now)) }
+/// Whether a space separates a value's text from the colon before it.
+pub(crate) fn is_spaced(value: &Value<'_>) -> bool
     ensures { behind_colon (value_text (value_meaning value.now))
         ≡ cond result (32 ∷ value_text (value_meaning value.now))
         (value_text (value_meaning value.now)) }
 {
-    text_len != 0 && !value.begins_with_newline()
+    !is_empty(value) && !value.begins_with_newline()
+}
+
+/// Whether a value's text is empty. Only of some kinds it is measured.
+fn is_empty(value: &Value<'_>) -> bool
+    ensures { result ≡ nat_eq (length (value_text (value_meaning value.now))) 0 }
+{
+    match value {
+        Value::Text(text) => text.bytes().is_empty(),
+        Value::Line(line) => line.bytes().is_empty(),
+        // No version is empty.
+        Value::Version(_) => false,
+        _ => value.canon_len() == 0,
+    }
 }

@@ -136,10 +136,9 @@ fn canonical_len(name: &[u8], value: &Value<'_>) -> u64
     ensures { result ≡ min (length (field_text
         (canonical_name name.now, value_text (value_meaning value.now)))) (2 ^ 64 - 1) }
 {
-    let text_len = value.canon_len();
-    let space = u64::from(is_spaced(value, text_len));
+    let space = u64::from(is_spaced(value));
     let name_and_ends = name.len() as u64 + 2 + space;
-    name_and_ends.saturating_add(text_len)
+    name_and_ends.saturating_add(value.canon_len())
 }
 
 /// Returns the value of one field.

@@ -6,4 +6,4 @@ pub returns : goal.returns
 returns c =
     let name = c.args.name.now in
     c.saturating_add.ensures
-    ∙ ap (λ n. min n most) (length-counted c.is_spaced.result name (value_text (value_meaning c.args.value.now)) _ _ c.is_spaced.ensures c.canon_len-text_len.ensures.is (ap (λ n. length name + 2 + n) c.from-space.ensures))
+    ∙ ap (λ n. min n most) (length-counted c.is_spaced.result name (value_text (value_meaning c.args.value.now)) _ _ c.is_spaced.ensures c.canon_len.ensures.is (ap (λ n. length name + 2 + n) c.from-space.ensures))
