@@ -1,5 +1,5 @@
 -- The fields that were visited so far, and the values that were visited with them.
-use Rattle.deb_control.proofs.Common.{◌≡◌, ℕ, ◌+◌, ◌≤◌, ◌||◌, min, List, [], ◌∷◌, ◌++◌, length, map, slice_get, option_map, Option, None, Some, refl, sym, ap, ◌∙◌, arith, bytes_eq, sum_by-append, sum_by-cons, AllByRecursion, folded, canonical_name, Seen, Field, has_name, AreDistinct, entries_of, field_of, RawField, Doc, rules_of, seen_found, canonical_field, canonical_entries, Visit, IsVisit, fields_visited, canonical_visit, visit_text, VisitsField, VisitsFields, VisitsFound, VisitsValues, texts_length, most}
+use Rattle.deb_control.proofs.Common.{◌≡◌, ℕ, ◌+◌, ◌≤◌, ◌||◌, min, List, [], ◌∷◌, ◌++◌, length, map, slice_get, option_map, Option, None, Some, refl, sym, ap, ◌∙◌, arith, bytes_eq, sum_by-append, sum_by-cons, AllByRecursion, folded, canonical_name, Seen, Field, has_name, AreDistinct, entries_of, field_of, RawField, Doc, kind_of, rules_of, seen_found, canonical_field, canonical_entries, Visit, IsVisit, fields_visited, canonical_visit, visit_text, VisitsField, VisitsFields, VisitsFound, VisitsValues, texts_length, most}
 use Rattle.deb_control.proofs.DocumentRules.{document_rules}
 use Rattle.deb_control.proofs.FieldsRead.{HasRead, HasRead-next, HasRead-end}
 
@@ -18,7 +18,7 @@ both_counted : (n own m : ℕ) → min (min n m + min own m) m ≡ min (n + own)
 both_counted n own m = grind arith
 
 -- one more
-pub HasVisited-next : {V : Type 0} (Visited : V → List Visit → Type 0) (visitor new : V) (doc : Doc) (fields : List Field) (n own now i : ℕ) (raw : RawField) → option_map field_of (Some raw) ≡ slice_get fields i → VisitsField Visited visitor new doc (field_of raw) own → now ≡ min (n + own) most → HasVisited Visited visitor doc fields n i → HasVisited Visited new doc fields now (i + 1)
+pub HasVisited-next : {V : Type 0} (Visited : V → List Visit → Type 0) (visitor new : V) (doc : Doc) (fields : List Field) (n own now i : ℕ) (raw : RawField) → option_map field_of (Some raw) ≡ slice_get fields i → VisitsField Visited visitor new (kind_of doc (canonical_name raw.name.now)) (field_of raw) own → now ≡ min (n + own) most → HasVisited Visited visitor doc fields n i → HasVisited Visited new doc fields now (i + 1)
 HasVisited-next Visited visitor new doc fields n own now i raw is one added before =
     let visit : Visit = (field_of raw, one.value) in
     let total = texts_length before.visited in

@@ -9,7 +9,8 @@ use Rattle.deb_syntax.specs.Fields.{Field, are_fields}
 use Rattle.deb_syntax.specs.Raw.{field_of}
 use Rattle.deb_syntax.specs.declared.raw.RawField.{RawField}
 use Rattle.deb_base.specs.declared.doc.Doc.{Doc}
-use Rattle.deb_field.specs.Values.{ValueMeaning, NameMeans, NumberMeans, SpellsValue, value_text}
+use Rattle.deb_base.specs.declared.kind.Kind.{Kind}
+use Rattle.deb_field.specs.Values.{ValueMeaning, NameMeans, NumberMeans, SpellsKind, SpellsValue, value_text}
 use Rattle.deb_field.specs.ValueMeanings.{value_meaning}
 use Rattle.deb_field.specs.declared.value.Value.{Value}
 use Rattle.deb_control.specs.Canonical.{field_text}
@@ -48,12 +49,12 @@ texts_length visited = sum_by (λ visit. length (visit_text visit)) visited
 abbrev pub most : ℕ
 most = 2 ^ 64 - 1
 
--- One more field was visited, with the value that its body spells, and its canonical text has n
--- bytes, as far as a count reaches.
-pub record VisitsField {V : Type 0} (Visited : V → List Visit → Type 0) (old new : V) (doc : Doc)
+-- One more field of the kind was visited, with the value that its body spells, and its canonical
+-- text has n bytes, as far as a count reaches.
+pub record VisitsField {V : Type 0} (Visited : V → List Visit → Type 0) (old new : V) (kind : Kind)
     (field : Field) (n : ℕ) : Type 0 where
   pub value : ValueMeaning
-  pub spells : IsVisit doc (field, value)
+  pub spells : SpellsKind kind field.body value
   pub measured : n ≡ min (length (visit_text (field, value))) most
   pub visits : (visited : List Visit) → Visited old visited
       → Visited new (visited ++ (field, value) ∷ [])

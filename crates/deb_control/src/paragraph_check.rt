@@ -8,8 +8,9 @@ ghost use Rattle.deb_syntax.specs.Paragraphs.{seen_of};
 ghost use Rattle.deb_syntax.specs.Raw.{field_of, fields_of};
 ghost use Rattle.deb_base.specs.Kinds.{kind_of, required};
 ghost use Rattle.deb_base.specs.KnownFields.{row_of};
+ghost use Rattle.deb_base.specs.declared.kind.Kind.TheVariants as kinds;
 ghost use Rattle.deb_field.specs.Faults.{IsFaultOrMemory};
-ghost use Rattle.deb_field.specs.Values.{SpellsValue, value_refusal, value_text};
+ghost use Rattle.deb_field.specs.Values.{SpellsValue, kind_refusal, value_refusal, value_text};
 ghost use Rattle.deb_field.specs.ValueMeanings.{value_meaning};
 ghost use Rattle.deb_control.specs.Canonical.{field_text};
 ghost use Rattle.deb_control.specs.Checking.{text_built};
@@ -74,42 +75,82 @@ fn visit_fields<V: FieldVisitor>(
     let mut length: u64 = 0;
     for index in 0..paragraph.len() {
         if let Some(raw) = paragraph.field(index) {
-            length = length.saturating_add(visit_field(alloc, doc, &raw, visitor)?);
+            length = length.saturating_add(visit_field(
+                alloc,
+                kind_of_field(doc, &raw),
+                &raw,
+                visitor,
+            )?);
         }
     }
     Ok(length)
 }
 
-/// Visits a field with its value, and returns the length of its canonical text, or `u64::MAX` if it
-/// is greater. The errors are those of reading its value.
+/// Visits a field of this kind with its value, and returns the length of its canonical text, or
+/// `u64::MAX` if it is greater. The errors are those of reading its value.
 fn visit_field<V: FieldVisitor>(
     alloc: Global,
-    doc: Doc,
+    kind: Kind,
     field: &RawField<'_>,
     visitor: &mut V,
 ) -> Result<u64, Fault>
-    requires { IsBody field.now.body.now }
     ensures visits { IfOk result
-        (VisitsField V.Visited visitor.old visitor.new doc (field_of field.now)) }
+        (VisitsField V.Visited visitor.old visitor.new kind (field_of field.now)) }
     ensures fault { IfErr result
         (λ fault. RefusedOrMemory fault
         (λ refusal. (refusal.line ≡ field.now.line)
-        × (value_refusal doc (canonical_name field.now.name.now) field.now.body.now
-        ≡ Some refusal.code))) }
+        × (kind_refusal kind field.now.body.now ≡ Some refusal.code))) }
 {
-    match kind_of_field(doc, field) {
-        Kind::Text => {
-            let text = Value::Text(Text::new(field.body));
-            Ok(visit_value(field, &text, visitor)?)
-        }
-        Kind::Line => match Line::parse(field.body) {
-            Ok(line) => Ok(visit_value(field, &Value::Line(line), visitor)?),
-            Err(code) => Err(refused(code, field.line)),
-        },
-        kind => match Value::of_kind(alloc, kind, field.body) {
-            Ok(value) => Ok(visit_value(field, &value, visitor)?),
-            Err(fault) => Err(fault_at(fault, field.line)),
-        },
+    // Each of the two kinds that most fields have is read without a `Result` of any value.
+    match kind {
+        Kind::Text => Ok(visit_as_text(field, visitor)?),
+        Kind::Line => visit_as_line(field, visitor),
+        _ => visit_as_kind(alloc, kind, field, visitor),
+    }
+}
+
+/// Visits a field whose value is text.
+fn visit_as_text<V: FieldVisitor>(field: &RawField<'_>, visitor: &mut V) -> Result<u64, AllocError>
+    ensures { IfOk result
+        (VisitsField V.Visited visitor.old visitor.new kinds.Text (field_of field.now)) }
+{
+    let value = Value::Text(Text::new(field.body));
+    let length = visit_value(field, &value, visitor)?;
+    Ok(length)
+}
+
+/// Visits a field whose value is text of one line.
+fn visit_as_line<V: FieldVisitor>(field: &RawField<'_>, visitor: &mut V) -> Result<u64, Fault>
+    ensures visits { IfOk result
+        (VisitsField V.Visited visitor.old visitor.new kinds.Line (field_of field.now)) }
+    ensures fault { IfErr result
+        (λ fault. RefusedOrMemory fault
+        (λ refusal. (refusal.line ≡ field.now.line)
+        × (kind_refusal kinds.Line field.now.body.now ≡ Some refusal.code))) }
+{
+    match Line::parse(field.body) {
+        Ok(line) => Ok(visit_value(field, &Value::Line(line), visitor)?),
+        Err(code) => Err(refused(code, field.line)),
+    }
+}
+
+/// Visits a field of any kind.
+fn visit_as_kind<V: FieldVisitor>(
+    alloc: Global,
+    kind: Kind,
+    field: &RawField<'_>,
+    visitor: &mut V,
+) -> Result<u64, Fault>
+    ensures visits { IfOk result
+        (VisitsField V.Visited visitor.old visitor.new kind (field_of field.now)) }
+    ensures fault { IfErr result
+        (λ fault. RefusedOrMemory fault
+        (λ refusal. (refusal.line ≡ field.now.line)
+        × (kind_refusal kind field.now.body.now ≡ Some refusal.code))) }
+{
+    match Value::of_kind(alloc, kind, field.body) {
+        Ok(value) => Ok(visit_value(field, &value, visitor)?),
+        Err(fault) => Err(fault_at(fault, field.line)),
     }
 }
 
