@@ -1,6 +1,6 @@
 //! The canonical spelling of names, and its order.
 
-ghost use Rattle.std.specs.Prelude.{◌≡◌, ◌++◌, ℕ, List, IfSome, if◌then◌else◌, map, OnOk};
+ghost use Rattle.std.specs.Prelude.{◌≡◌, ◌++◌, ℕ, List, IfSome, if◌then◌else◌, ◌==◌, map, OnOk};
 ghost use Rattle.std.specs.Char.{to_ascii_lowercase, to_ascii_uppercase};
 ghost use Rattle.deb_base.specs.Kinds.{known_row};
 ghost use Rattle.deb_base.specs.KnownFields.{row_of};
@@ -77,19 +77,19 @@ pub(crate) fn compare(name: &[u8], other: &[u8]) -> Ordering
 {
     let mut rest = name;
     let mut rest_beside = other;
-    let mut begins_word = true;
+    let mut before = b'-';
     while let [byte, behind @ ..] = rest {
         let [beside, behind_beside @ ..] = rest_beside else {
             return Ordering::Greater;
         };
-        let canonical = canonical_byte(begins_word, *byte);
-        let canonical_beside = canonical_byte(begins_word, *beside);
+        let canonical = canonical_byte(before, *byte);
+        let canonical_beside = canonical_byte(before, *beside);
         if canonical != canonical_beside {
             return canonical.cmp(&canonical_beside);
         }
         rest = behind;
         rest_beside = behind_beside;
-        begins_word = *byte == b'-';
+        before = *byte;
     }
     match rest_beside {
         [] => Ordering::Equal,
@@ -129,20 +129,21 @@ fn known_names() -> &'static [&'static [u8]]
 fn append_spelled(name: &[u8], text: &mut Vec<u8>) -> Result<(), AllocError>
     ensures { OnOk result (text.new.items ≡ text.old.items ++ canonical_name name.now) }
 {
-    let mut begins_word = true;
+    let mut before = b'-';
     for byte in name {
-        text.push(canonical_byte(begins_word, *byte))?;
-        begins_word = *byte == b'-';
+        text.push(canonical_byte(before, *byte))?;
+        before = *byte;
     }
     Ok(())
 }
 
-/// A byte of a name in the canonical spelling: a letter that begins a word in upper case, each
-/// other one in lower case.
-fn canonical_byte(begins_word: bool, byte: u8) -> u8
-    ensures { result ≡ (if begins_word then to_ascii_uppercase byte else to_ascii_lowercase byte) }
+/// A byte of a name in the canonical spelling: a letter after a hyphen in upper case, each other one
+/// in lower case. A name's first byte is taken as one after a hyphen.
+fn canonical_byte(before: u8, byte: u8) -> u8
+    ensures { result
+        ≡ (if before == 45 then to_ascii_uppercase byte else to_ascii_lowercase byte) }
 {
-    if begins_word {
+    if before == b'-' {
         byte.to_ascii_uppercase()
     } else {
         byte.to_ascii_lowercase()

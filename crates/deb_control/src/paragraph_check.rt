@@ -134,7 +134,9 @@ fn visit_as_line<V: FieldVisitor>(field: &RawField<'_>, visitor: &mut V) -> Resu
     }
 }
 
-/// Visits a field of any kind.
+/// Visits a field of any kind. The room for its value is cleared here alone, and not for each field
+/// that needs none.
+#[inline(never)]
 fn visit_as_kind<V: FieldVisitor>(
     alloc: Global,
     kind: Kind,
