@@ -53,7 +53,8 @@ span_of_one = record { row = 1; start = 3; name_end = 4; end = 8 }
 parts_in_spans : (name_in (codes "abcB: 1\nd") span_of_one ≡ codes "B")
     × (text_in (codes "abcB: 1\nd") span_of_one ≡ codes "B: 1\n")
     × (names_ascend (codes "abcB: 1\nd") (record { row = 0; start = 0; name_end = 2; end = 3 })
-    span_of_one ≡ false) × (part_of (codes "abc") 1 9 ≡ codes "bc") × (part_of (codes "abc") 2 1 ≡ [])
+    span_of_one ≡ false)
+    × (part_of (codes "abc") 1 9 ≡ codes "bc") × (part_of (codes "abc") 2 1 ≡ [])
 parts_in_spans = (refl, refl, refl, refl, refl)
 
 -- `MD5sum` is in row 28; the name of a row is spelled canonically

@@ -20,8 +20,8 @@ use Rattle.deb_syntax.specs.declared.paragraphs.Paragraphs.{Paragraphs}
 use Rattle.deb_control.specs.Checking.{CheckedMoment, Passing}
 use Rattle.deb_control.specs.declared.totals.Totals.{Totals}
 
--- A reader of paragraphs and the totals of what it gave, with a source that has these bytes left and
--- failed so often; what was given last, and the error, are told beside them.
+-- A reader of paragraphs and the totals of what it gave, with a source that has these bytes left
+-- and failed so often; what was given last, and the error, are beside them.
 abbrev pub moment_from : Option Seen → Option Fault → Paragraphs → Totals → Option (List ℕ) → ℕ
     → CheckedMoment
 moment_from shown fault paragraphs totals left failures = record {
@@ -54,7 +54,8 @@ pub record AddsPassing (doc : Doc) (seen : Seen) (old new : Totals) : Type 0 whe
 pub record IsTooLong (doc : Doc) (seen : Seen) (totals : Totals) (refusal : Refusal) : Type 0 where
   pub entries : Entries
   pub built : built (rules_of doc) seen ≡ Ok entries
-  pub long : file_limit < bytes_with totals.paragraphs totals.bytes (length (paragraph_text entries))
+  pub long : file_limit
+      < bytes_with totals.paragraphs totals.bytes (length (paragraph_text entries))
   pub is : refusal ≡ record { code = FileTooLong; line = seen.first }
 
 -- The paragraph is refused so, by itself or behind those that were given.

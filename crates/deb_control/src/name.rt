@@ -137,8 +137,8 @@ fn append_spelled(name: &[u8], text: &mut Vec<u8>) -> Result<(), AllocError>
     Ok(())
 }
 
-/// A byte of a name in the canonical spelling: a letter after a hyphen in upper case, each other one
-/// in lower case. A name's first byte is taken as one after a hyphen.
+/// A byte of a name in the canonical spelling: a letter after a hyphen in upper case, each other
+/// one in lower case. A name's first byte is taken as one after a hyphen.
 fn canonical_byte(before: u8, byte: u8) -> u8
     ensures { result
         ≡ (if before == 45 then to_ascii_uppercase byte else to_ascii_lowercase byte) }

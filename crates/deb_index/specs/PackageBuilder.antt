@@ -1,5 +1,5 @@
--- What is kept of a paragraph of an index of packages while it is checked. Debian Policy 5.3, 5.6.1,
--- 5.6.8, 5.6.12 and 7.5; Multi-Arch is that of deb-control(5).
+-- What is kept of a paragraph of an index of packages while it is checked. Debian Policy 5.3,
+-- 5.6.1, 5.6.8, 5.6.12 and 7.5; Multi-Arch is that of deb-control(5).
 use Rattle.std.specs.Prelude.{◌≡◌, List, [], ◌∷◌, ℕ, map, Option, None, Some, Result, OnOk, Vec, cond, codes, refl}
 use Rattle.std.specs.Global.{Global}
 use Rattle.std.specs.List.{fold}

@@ -408,6 +408,14 @@ takes_text text passed state left (Some rest) fits t = record {
   few = omega (arith, t.few, ap left_count fits.told, fits.bytes, fits.hidden_bytes, ap length fits.whole, length-append passed (fits.hidden ++ (state.unread ++ fits.rest)), length-append fits.hidden (state.unread ++ fits.rest), length-append state.unread fits.rest);
 }
 
+-- the same where nothing was read
+pub taken_none : (text passed : List ℕ) (feed : FeedState) (hidden : ℕ) (finished : Bool) (current : Option Seen) (fault : Option Fault) (left : Option (List ℕ)) → Fits text passed (state_from feed hidden finished current fault) left → feed.bytes + hidden + length feed.unread ≤ file_limit + piece_limit → TakesNoMore text file_limit left
+taken_none text passed feed hidden finished current fault left fits reach = record {
+  rest = fits.rest;
+  told = fits.told;
+  few = omega (arith, reach, fits.bytes, fits.hidden_bytes, ap length fits.whole, length-append passed (fits.hidden ++ (feed.unread ++ fits.rest)), length-append fits.hidden (feed.unread ++ fits.rest), length-append feed.unread fits.rest);
+}
+
 -- a line that begins the unread bytes reaches no further than one piece beyond what may be looked at
 pub keeps_reach : (begun : Begun) (feed : FeedState) → feed.bytes ≤ file_limit → KeepsLine begun feed → feed.bytes + length feed.unread ≤ file_limit + piece_limit
 keeps_reach begun feed small k = go k.ends

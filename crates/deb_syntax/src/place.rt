@@ -2,7 +2,7 @@
 
 use deb_base::FieldId;
 
-/// Where a field stands in the bytes of its paragraph, which has fewer bytes than 2^32, as its file.
+/// Where a field is in the bytes of its paragraph. The file has fewer than 2^32 bytes.
 #[derive(Clone, Copy)]
 pub(crate) struct Place {
     /// The number of the field's first line.

@@ -1,8 +1,9 @@
 -- Versions that are kept as a text: what they mean, and what was kept.
-use Rattle.std.specs.Prelude.{ℕ, List}
-use Rattle.std.proofs.Common.{◌≡◌, [], ◌∷◌, codes, ap}
+use Rattle.std.specs.Prelude.{◌≡◌, ℕ, List, [], ◌∷◌, None, codes, refl}
+use Rattle.std.proofs.Common.{ap}
 use Rattle.deb_version.specs.declared.canonical_version.CanonicalVersion.{CanonicalVersion}
 use Rattle.deb_version.specs.declared.version_text.VersionText.{VersionText}
+use Rattle.deb_version.specs.Faults.{first_fault}
 use Rattle.deb_version.specs.Parts.{Meaning, no_revision}
 use Rattle.deb_version.specs.Places.{version_in}
 
@@ -19,6 +20,9 @@ worked-kept : (v : CanonicalVersion) → v.text.items ≡ codes "2:1.0"
 worked-kept v = ap version_in
 
 -- as it is spelled
-worked-text : (v : VersionText) → v.text.now ≡ codes "00:1.00-0"
-    → text_of v ≡ codes "00:1.00-0"
-worked-text v is = is
+worked-text : (faultless : first_fault (codes "00:1.00-0") ≡ None)
+    → text_of (record {
+      text = record { ref_ptr = (0, 0); now = codes "00:1.00-0" };
+      faultless = faultless;
+    }) ≡ codes "00:1.00-0"
+worked-text faultless = refl

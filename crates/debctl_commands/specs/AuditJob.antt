@@ -214,7 +214,12 @@ opened_is_answered left failures doc reader after answer = (refl, refl)
 
 -- files are opened in the order of their paths, each once
 opened_in_order : AreOpened {R = ℕ} (λ log path opened after. after ≡ log ++ path ∷ []) []
-    (record { path = codes "a"; opened = Err NotFound; after = Err NotFound; outcome = Err NotFound }
+    (record {
+      path = codes "a";
+      opened = Err NotFound;
+      after = Err NotFound;
+      outcome = Err NotFound;
+    }
     ∷ record { path = codes "b"; opened = Ok 1; after = Ok 2; outcome = Ok (Ok 0) } ∷ [])
     (codes "a" ∷ codes "b" ∷ [])
 opened_in_order = (codes "a" ∷ [], refl, (codes "a" ∷ codes "b" ∷ [], refl, refl))

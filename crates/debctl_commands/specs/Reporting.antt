@@ -98,5 +98,6 @@ lines_of_faults = (refl, refl, refl)
 
 -- an answer has its own status, and nothing is printed on standard error
 answer_told : {E : Type 0} (held : E → Option (List ℕ)) (failures : E → ℕ) (old new : E)
-    (status : ℕ) → Reports (λ n. n) held failures old new (Ok 1) status ≡ ((status ≡ 1) × (new ≡ old))
+    (status : ℕ) → Reports (λ n. n) held failures old new (Ok 1) status
+    ≡ ((status ≡ 1) × (new ≡ old))
 answer_told held failures old new status = refl

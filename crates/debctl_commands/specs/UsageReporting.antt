@@ -34,8 +34,8 @@ line_of_usage = (refl, refl)
 
 -- a mistake has the status 3 whatever is written, and help that was written has the status 0
 told_of_usage : {W E : Type 0} (held : W → Option (List ℕ)) (writes : W → ℕ) (out new : W)
-    (held_err : E → Option (List ℕ)) (failures_err : E → ℕ) (err err_after : E) (text : String Global)
-    (status : ℕ)
+    (held_err : E → Option (List ℕ)) (failures_err : E → ℕ) (err err_after : E)
+    (text : String Global) (status : ℕ)
     → ReportsUsage held writes out new held_err failures_err err err_after (Usage text) status
     ≡ ((new ≡ out)
     × (ReportsWhole held_err failures_err err err_after (string_bytes text ++ newline ∷ []) 3 status
@@ -43,8 +43,8 @@ told_of_usage : {W E : Type 0} (held : W → Option (List ℕ)) (writes : W → 
 told_of_usage held writes out new held_err failures_err err err_after text status = refl
 
 told_of_help : {W E : Type 0} (held : W → Option (List ℕ)) (writes : W → ℕ) (out new : W)
-    (held_err : E → Option (List ℕ)) (failures_err : E → ℕ) (err err_after : E) (text : String Global)
-    (status : ℕ)
+    (held_err : E → Option (List ℕ)) (failures_err : E → ℕ) (err err_after : E)
+    (text : String Global) (status : ℕ)
     → ReportsUsage held writes out new held_err failures_err err err_after (Help text) status
     ≡ ((ReportsWhole held writes out new (string_bytes text ++ newline ∷ []) 0 status
     × (err_after ≡ err))
