@@ -38,7 +38,7 @@ component_text-first bytes (b ∷ after) cut e =
     ∙ ap (λ v. cut.0 ++ (number_text cut v ++ component_text (parts_of (b ∷ after)))) (sym (ne_eqb (length (b ∷ after)) 0 (λ h. omega arith)))
 
 -- what follows a cut is the text behind it, and so is its canonical text if it is its own
-joined_after : (after : List ℕ) → joined (cuts_after after) ≡ after
+pub joined_after : (after : List ℕ) → joined (cuts_after after) ≡ after
 joined_after [] = refl
 joined_after (b ∷ after) = joined-cuts_of (b ∷ after)
 

@@ -90,7 +90,7 @@ digits_in_base-after n (d ∷ ds) some below =
     digits_in_base-after (n * 10 + d) ds (omega arith) below.1 ∙ ap (λ l. l ++ ds) (digits_in_base_push n d some below.0)
     ∙ append_assoc (digits_in_base 10 n) (d ∷ []) ds
 
-digits_of-positive : (n : ℕ) → 0 < n → digits_of n ≡ written (digits_in_base 10 n)
+pub digits_of-positive : (n : ℕ) → 0 < n → digits_of n ≡ written (digits_in_base 10 n)
 digits_of-positive zero some = absurd (omega arith)
 digits_of-positive (suc n) some = refl
 

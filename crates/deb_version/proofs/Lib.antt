@@ -30,3 +30,7 @@ pub mod Walks
 pub mod CommonFront
 pub mod CanonicalPrefix
 pub mod PrefixRuns
+pub mod BaseOrder
+pub mod KeyOrder
+pub mod KeyWritten
+pub mod KeyLength

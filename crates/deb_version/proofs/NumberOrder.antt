@@ -1,5 +1,6 @@
 -- The order of the values of runs of digits, read off the runs.
 use Rattle.deb_version.proofs.Common.{◌≡◌, ◌≢◌, ℕ, zero, suc, ◌+◌, ◌-◌, ◌*◌, ◌<◌, ◌≤◌, List, [], ◌∷◌, ◌++◌, length, replicate, drop, inl, inr, refl, sym, ap, ◌∙◌, IsTrue, arith, is_ascii_digit, list_all, nat_cmp, ordering_reverse, ordering_then, MatchOrdering, ranks, nat_cmp_is, nat_cmp_total, slice_cmp, Ordering, Less, Equal, Greater, length-append, length-replicate, cases_lt, true≢false, nat_tests, IsDigits, value_after, value_of}
+use Rattle.deb_version.proofs.BaseOrder.{before-Equal, ordering_then_assoc}
 use Rattle.deb_version.proofs.ByteLemmas.{all_pass-fact}
 use Rattle.deb_version.proofs.FirstPlace.{StartsWith}
 use Rattle.deb_version.proofs.LeadingZeros.{is_nonzero, without_zeros, value_of-without_zeros, without_zeros-starts}
@@ -31,20 +32,10 @@ nat_cmp-code a b p q =
 pub digit_range : (b : ℕ) → IsTrue (is_ascii_digit b) → (48 ≤ b) × (b ≤ 57)
 digit_range b d = (grind (arith, nat_tests), grind (arith, nat_tests))
 
-ordering_then_assoc : (r s t : Ordering) → ordering_then (ordering_then r s) t ≡ ordering_then r (ordering_then s t)
-ordering_then_assoc Less s t = refl
-ordering_then_assoc Equal s t = refl
-ordering_then_assoc Greater s t = refl
-
 -- runs of one length behind digits of the values n and m: these decide first, and then the bytes
 value_after_cmp : (n m : ℕ) (r s : List ℕ) → IsDigits r → IsDigits s → length r ≡ length s
     → nat_cmp (value_after n r) (value_after m s) ≡ ordering_then (nat_cmp n m) (slice_cmp nat_cmp r s)
-value_after_cmp n m [] [] p q e = sym (then-Equal-right (nat_cmp n m))
-  where
-    then-Equal-right : (o : Ordering) → ordering_then o Equal ≡ o
-    then-Equal-right Less = refl
-    then-Equal-right Equal = refl
-    then-Equal-right Greater = refl
+value_after_cmp n m [] [] p q e = sym (before-Equal (nat_cmp n m))
 value_after_cmp n m [] (b ∷ s) p q e = absurd (omega arith)
 value_after_cmp n m (a ∷ r) [] p q e = absurd (omega arith)
 value_after_cmp n m (a ∷ r) (b ∷ s) p q e =

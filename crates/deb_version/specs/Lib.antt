@@ -14,6 +14,8 @@ pub mod Cuts
 pub mod Fronts
 pub mod Canonical
 pub mod CanonicalLaws
+pub mod Keys
+pub mod KeyLaws
 pub mod Hashes
 pub mod PartsLemmas
 pub mod ContinuedOrder

@@ -157,7 +157,7 @@ part_same p q e =
     λ i. (texts i, numbers i)
 
 -- the text of each part but the first isn't empty
-abbrev HaveTexts : List Part → Type 0
+abbrev pub HaveTexts : List Part → Type 0
 HaveTexts parts = AllByRecursion (λ p. p.0 ≢ []) parts
 
 rest_same : (ps qs : List Part) → HaveTexts ps → HaveTexts qs → component_cmp ps qs ≡ Equal
@@ -175,7 +175,7 @@ rest_same (p ∷ ps) (q ∷ qs) t u e =
     λ i. first i ∷ rest i
 
 -- parts of a text: a first one, and others with texts
-abbrev IsComponent : List Part → Type 0
+abbrev pub IsComponent : List Part → Type 0
 IsComponent parts = (first : Part) × (rest : List Part) × HaveTexts rest × (parts ≡ first ∷ rest)
 
 HaveTexts-from_cuts : (cut : Cut) (cuts : List Cut) → AreCuts (cut ∷ cuts)
@@ -183,7 +183,7 @@ HaveTexts-from_cuts : (cut : Cut) (cuts : List Cut) → AreCuts (cut ∷ cuts)
 HaveTexts-from_cuts cut [] are = tt
 HaveTexts-from_cuts cut (next ∷ cuts) are = (are.3, HaveTexts-from_cuts next cuts are.4)
 
-component_of_text : (text : List ℕ) (parts : List Part) → HasParts text parts → IsComponent parts
+pub component_of_text : (text : List ℕ) (parts : List Part) → HasParts text parts → IsComponent parts
 component_of_text text parts h = of_cuts h.0 h.1 h.3
   where
     of_cuts : (cuts : List Cut) → AreCuts cuts → parts ≡ map part_of cuts → IsComponent parts

@@ -1,10 +1,12 @@
-//! Laws of the grammar of versions, of Debian's order of versions, and of their canonical text.
+//! Laws of the grammar of versions, of Debian's order of versions, and of their canonical text and
+//! keys.
 //!
 //! Each function here does nothing. Its contract is a law, which holds for all texts, or for the
 //! meanings of all versions.
 
 ghost use Rattle.deb_version.specs.CanonicalLaws.{CanonicalTextSpells, CanonicalTextDecides, CanonicalTextStays, CanonicalTextIsShort, EqualVersionsHaveOneText};
 ghost use Rattle.deb_version.specs.GrammarLaws.{SpellsOneVersion, SpellsWhereFaultless, HasOneListOfParts, ComponentsSpell, AllowedComponentsStand, EpochHasAnySize, VersionSpells};
+ghost use Rattle.deb_version.specs.KeyLaws.{EqualVersionsHaveOneKey, KeyIsShort, KeysMayBeFollowed, KeysSortAsVersions, KeysSortAsVersionsSpelled};
 ghost use Rattle.deb_version.specs.OrderLaws.{EqualCompareAlike, EqualOnlyIfSame, EqualOnlyIfSameSpelled, EqualTransitive, EqualVersionsHashEqually, FirstDifferenceDecides, GreaterOrEqualTransitive, LessOrEqualTransitive, LessTransitive, Reflexive, Reversed, Total, TotalOrder};
 ghost use Rattle.deb_version.specs.PlaceLaws.{RevisionBytesStop, UpstreamBytesStop};
 
@@ -116,4 +118,26 @@ pub fn canonical_text_is_short()
 /// Two versions are equal in Debian's order exactly if they have the same canonical text.
 pub fn equal_versions_have_one_text()
     ensures { EqualVersionsHaveOneText }
+{}
+
+/// The order of the bytes of two keys is Debian's order of the versions.
+pub fn keys_sort_as_versions()
+    ensures parts_of_texts { KeysSortAsVersions }
+    ensures spelled { KeysSortAsVersionsSpelled }
+{}
+
+/// Bytes that follow the keys of two versions decide only if the versions are equal, so a key may
+/// be a part of a longer one.
+pub fn keys_may_be_followed()
+    ensures { KeysMayBeFollowed }
+{}
+
+/// Two versions are equal in Debian's order exactly if they have the same key.
+pub fn equal_versions_have_one_key()
+    ensures { EqualVersionsHaveOneKey }
+{}
+
+/// A key is at most twice as long as each spelling of the version, and eight bytes.
+pub fn key_is_short()
+    ensures { KeyIsShort }
 {}

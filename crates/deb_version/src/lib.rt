@@ -1,4 +1,5 @@
-//! Debian version numbers: which texts are versions, their order, and their canonical text.
+//! Debian version numbers: which texts are versions, their order, their canonical text, and keys
+//! that sort as they do.
 //!
 //! ```
 //! let installed = Version::parse(b"1:2.10-3~deb12u1")?;
@@ -16,7 +17,8 @@
 //! [`Version::parse`] accepts exactly the texts that spell a version (Debian Policy 5.6.12), and
 //! returns the first fault of any other. The order is Debian's (deb-version(7)); it is total, and a
 //! run of digits may have any length. Two versions are equal in it exactly if they have the same
-//! canonical text, which spells them.
+//! canonical text, which spells them, and exactly if they have the same key ([`Version::key_into`]).
+//! The order of the bytes of keys is that of the versions.
 #![tactic(auto)]
 
 mod canonical;
@@ -25,6 +27,7 @@ mod components;
 mod cut;
 mod fault;
 mod hash;
+mod key;
 pub mod laws;
 mod order;
 mod prefix;
