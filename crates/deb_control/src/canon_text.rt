@@ -1,6 +1,6 @@
 //! The canonical text of a paragraph, written while its fields are visited.
 
-ghost use Rattle.std.specs.Prelude.{◌≡◌, ◌++◌, List, length, map, nat_lt, true, OnOk};
+ghost use Rattle.std.specs.Prelude.{◌≡◌, ◌++◌, List, length, map, nat_lt, true, IfOk, OnOk};
 ghost use Rattle.std.specs.List.{flat_map, list_all};
 ghost use Rattle.std.specs.List.Sorted.{IsPermutation, IsSortedBy};
 ghost use Rattle.deb_syntax.specs.Fields.{AreDistinct};
@@ -19,13 +19,13 @@ use std::alloc::{AllocError, Global};
 use std::cmp::Ordering;
 
 /// Where the canonical text of a field is in a buffer, where its name ends, and its row in the
-/// table of fields, or one behind the last.
+/// table of fields, or one behind the last. The buffer has fewer than 2^32 bytes.
 #[derive(Clone, Copy)]
 pub(crate) struct CanonSpan {
-    pub(crate) row: usize,
-    pub(crate) start: usize,
-    pub(crate) name_end: usize,
-    pub(crate) end: usize,
+    pub(crate) row: u32,
+    pub(crate) start: u32,
+    pub(crate) name_end: u32,
+    pub(crate) end: u32,
 }
 
 /// The span of no field, in which there is no text.
@@ -79,19 +79,27 @@ impl FieldVisitor for CanonText {
     }
 
     fn visit(&mut self, field: &RawField<'_>, value: &Value<'_>) -> Result<(), AllocError> {
-        let start = self.buffer.len();
+        let start = offset_behind(&self.buffer)?;
         append_name(field, &mut self.buffer)?;
-        let name_end = self.buffer.len();
+        let name_end = offset_behind(&self.buffer)?;
         append_body(value, &mut self.buffer)?;
-        let end = self.buffer.len();
+        let end = offset_behind(&self.buffer)?;
         self.spans.push(CanonSpan {
-            row: field.id.row(),
+            row: field.id.row() as u32,
             start,
             name_end,
             end,
         })?;
         Ok(())
     }
+}
+
+/// Returns the offset at which a buffer ends, or an error if a span can't hold it. The canonical
+/// texts of one paragraph's fields are far shorter.
+fn offset_behind(buffer: &[u8]) -> Result<u32, AllocError>
+    ensures { IfOk result (λ offset. offset ≡ length buffer.now) }
+{
+    u32::try_from(buffer.len()).map_err(|_| AllocError)
 }
 
 /// Puts each span into the row of its field, and returns whether the table has each field. The
@@ -102,10 +110,11 @@ fn place(spans: &[CanonSpan], rows: &mut [CanonSpan]) -> bool
     ensures placed { result ≡ true → rows.new ≡ placed rows.old spans.now }
 {
     for span in spans {
-        if span.row >= rows.len() {
+        let row = span.row as usize;
+        if row >= rows.len() {
             return false;
         }
-        rows[span.row] = *span;
+        rows[row] = *span;
     }
     true
 }
@@ -140,9 +149,9 @@ fn append_spans(buffer: &[u8], spans: &[CanonSpan], text: &mut Vec<u8>) -> Resul
 }
 
 /// Returns the bytes from one offset up to another, as far as there are any.
-fn part(buffer: &[u8], from: usize, to: usize) -> &[u8]
+fn part(buffer: &[u8], from: u32, to: u32) -> &[u8]
     ensures { result.now ≡ part_of buffer.now from to }
 {
-    let front = &buffer[..to.min(buffer.len())];
-    &front[from.min(front.len())..]
+    let front = &buffer[..buffer.len().min(to as usize)];
+    &front[front.len().min(from as usize)..]
 }
