@@ -1,5 +1,5 @@
 -- What a call of a reader of checked paragraphs says, from what its reader of paragraphs says.
-use Rattle.deb_control.proofs.Common.{◌≡◌, inl, inr, ℕ, ◌+◌, ◌<◌, ◌≤◌, ◌==◌, ◌&&◌, not, Bool, true, false, cond, leb, List, [], ◌∷◌, ◌++◌, length, is_some, option_map, Option, None, Some, Result, Ok, Err, IfOk, IfErr, IfNone, IfSome, MatchResult, IsTrue, IsSome, ◌↔◌, refl, sym, ap, ◌∙◌, subst, arith, length-append, ne_eqb, false≢true, and_parts, leb-true, read_failures_after, IsReadersFault, RefusedOrMemory, NoParagraph, TooManyParagraphs, Fault, Refused, Memory, Read, Write, Refusal, TakesNoMore, Seen, next_answer, next_begin, are_numbered, paragraphs_of, Entries, advance_answer, State, Fits, passed_count, GivesNone, Answers, AnswersBegin, Moment, Advances, Begins, is_single, Doc, paragraph_text, file_text, Passing, CheckedMoment, FitsChecked, AnswersChecked, IsRefusalOfDocument, Checks, ChecksOn, current_answer, seen_last, passing_seen, text_built, rules_of, end_answer, given_answer, seen_found, AddsPassing, RefusesSeen, has_some, answer_of_seen, next_checked, line_behind, Totals}
+use Rattle.deb_control.proofs.Common.{◌≡◌, inl, inr, ℕ, ◌+◌, ◌<◌, ◌≤◌, ◌==◌, ◌&&◌, not, Bool, true, false, cond, leb, List, [], ◌∷◌, ◌++◌, length, is_some, option_map, Option, None, Some, Result, Ok, Err, IfOk, IfErr, IfNone, IfSome, MatchResult, IsTrue, IsSome, ◌↔◌, refl, sym, ap, ◌∙◌, subst, arith, length-append, ne_eqb, false≢true, and_parts, leb-true, read_failures_after, IsReadersFault, RefusedOrMemory, NoParagraph, TooManyParagraphs, Fault, Refused, Memory, Read, Write, Refusal, TakesNoMore, Seen, next_answer, next_begin, are_numbered, paragraphs_of, Entries, advance_answer, State, Fits, passed_count, GivesNone, Answers, AnswersBegin, Moment, Advances, Begins, is_single, Doc, paragraph_text, file_text, Passing, CheckedMoment, FitsChecked, AnswersChecked, IsRefusalOfDocument, IfRefused, Checks, ChecksOn, seen_behind, seen_in, current_answer, seen_last, passing_seen, text_built, rules_of, end_answer, given_answer, seen_found, AddsPassing, RefusesSeen, has_some, answer_of_seen, next_checked, line_behind, Totals}
 use Rattle.deb_syntax.specs.Lines.{file_limit}
 use Rattle.deb_control.proofs.FollowedParagraphs.{follow-push}
 use Rattle.deb_control.proofs.NextChecked.{next_checked-seen, next_checked-second, next_checked-last, next_checked-refused, bytes-with, next_checked-passes, next_checked-unbuilt, next_checked-too_long}
@@ -51,8 +51,8 @@ module _ (doc : Doc) (shown shown_now : Option Seen) (kept kept_now : Option Fau
   there count_now bytes_now = checked_at shown_now kept_now new count_now bytes_now after failures_after
 
   -- an error of the reader of paragraphs
-  checks-err : (A : Type 0) (fault : Fault) → ((text : List ℕ) (before : List Entries) → FitsChecked doc text before here.state left → (refusal : Refusal) → fault ≡ Refused refusal → next_checked (rules_of doc) text before ≡ Err refusal) → ((text passed : List ℕ) → Fits text passed reader left → TakesNoMore text file_limit after) → failures_after ≡ read_failures_after {T = A} failures (Err fault) → IsReadersFault fault IsRefusalOfDocument → Checks doc here (Err fault) (there count bytes)
-  checks-err A fault refused taken counted is = record {
+  checks-err : (A : Type 0) (fault : Fault) → ((text : List ℕ) (before : List Entries) → FitsChecked doc text before here.state left → (refusal : Refusal) → fault ≡ Refused refusal → next_checked (rules_of doc) text before ≡ Err refusal) → ((text passed : List ℕ) → Fits text passed reader left → TakesNoMore text file_limit after) → failures_after ≡ read_failures_after {T = A} failures (Err fault) → IsReadersFault fault IsRefusalOfDocument → ((text : List ℕ) (before : List Entries) → FitsChecked doc text before here.state left → (refusal : Refusal) → fault ≡ Refused refusal → new.current ≡ seen_behind (rules_of doc) text before) → Checks doc here (Err fault) (there count bytes)
+  checks-err A fault refused taken counted is current = record {
     answers = λ text before fits. go fault text before (refused text before fits) is;
     taken = λ text before fits. taken text fits.passed fits.fits;
     counted = counted ∙ counted-err A (Option Passing) failures fault;
@@ -60,8 +60,15 @@ module _ (doc : Doc) (shown shown_now : Option Seen) (kept kept_now : Option Fau
     count = refl;
     few = few;
     finished = tt;
+    refused = λ text before fits. shows fault text before (current text before fits);
   }
     where
+      shows : (f : Fault) (text : List ℕ) (before : List Entries) → ((refusal : Refusal) → f ≡ Refused refusal → new.current ≡ seen_behind (rules_of doc) text before) → IfRefused {T = Option Passing} (Err f) (λ _. new.current ≡ seen_behind (rules_of doc) text before)
+      shows (Refused refusal) text before h = h refusal refl
+      shows Memory text before h = tt
+      shows Read text before h = tt
+      shows Write text before h = tt
+
       go : (f : Fault) (text : List ℕ) (before : List Entries) → ((refusal : Refusal) → f ≡ Refused refusal → next_checked (rules_of doc) text before ≡ Err refusal) → IsReadersFault f IsRefusalOfDocument → AnswersChecked doc text before (Err f) (there count bytes).state after
       go (Refused refusal) text before h ok = h refusal refl
       go Memory text before h ok = tt
@@ -90,12 +97,17 @@ module _ (doc : Doc) (shown shown_now : Option Seen) (kept kept_now : Option Fau
     count = omega arith;
     few = few;
     finished = ends;
+    refused = λ text before fits. tt;
   }
 
   -- what the reader of paragraphs says of the next one, where it may follow
   module _ (may : (is_single doc && not (count == 0)) ≡ false) where
     few_of : (text : List ℕ) (before : List Entries) → FitsChecked doc text before here.state left → ((rules_of doc).single && has_some before) ≡ false
     few_of text before fits = ap (λ t. is_single doc && t) (has_some-is before count fits.counted) ∙ may
+
+    -- what it shows is what is seen of the next one
+    shows_seen : (text : List ℕ) (before : List Entries) → FitsChecked doc text before here.state left → (answer : Result (Option Seen) Refusal) → next_answer text (length before) ≡ answer → new.current ≡ seen_in answer → new.current ≡ seen_behind (rules_of doc) text before
+    shows_seen text before fits answer at current = current ∙ ap seen_in (sym at) ∙ ap (λ t. cond t None (seen_in (next_answer text (length before)))) (sym (few_of text before fits))
 
     pub checks-advance_err : (fault : Fault) → Advances (reader_at reader left failures) (Err fault) (reader_at new after failures_after) → Checks doc here (Err fault) (there count bytes)
     checks-advance_err fault advances = checks-err (Option Seen) fault
@@ -104,6 +116,9 @@ module _ (doc : Doc) (shown shown_now : Option Seen) (kept kept_now : Option Fau
         let at : next_answer text (length before) ≡ Err refusal = ap (next_answer text) (sym fits.paragraphs) ∙ answers in
         next_checked-seen (rules_of doc) text before (few_of text before fits) ∙ ap (answer_of_seen (rules_of doc) (line_behind text) before) at)
         advances.taken advances.counted (readers_fault fault advances.fault)
+        (λ text before fits refusal is.
+        let answers : Answers text fits.passed (Err (Refused refusal)) new after = subst (λ f. Answers text fits.passed (Err f) new after) is (advances.answers text fits.passed fits.fits) in
+        shows_seen text before fits (Err refusal) (ap (next_answer text) (sym fits.paragraphs) ∙ answers) advances.current)
 
     -- none follows: one is missing, or none is
     pub checks-end : (totals : Totals) (lines : ℕ) (given : Passing) (answer : Result (Option Seen) Fault) (result : Result Bool Fault) → totals.paragraphs ≡ count → answer ≡ Ok None → Advances (reader_at reader left failures) answer (reader_at new after failures_after) → (new.finished ≡ true → lines ≡ new.lines) → result ≡ end_answer doc totals lines → Checks doc here (given_answer given result) (there count bytes)
@@ -135,11 +150,12 @@ module _ (doc : Doc) (shown shown_now : Option Seen) (kept kept_now : Option Fau
           count = refl;
           few = few;
           finished = tt;
+          refused = λ text before fits. let all = advances.answers text fits.passed fits.fits in shows_seen text before fits (Ok None) (ap (next_answer text) (sym fits.paragraphs) ∙ all.answer) advances.current;
         }
 
     -- the next one is refused
     pub checks-unpassed : (totals : Totals) (seen : Seen) (fault : Fault) → are_numbered seen.first seen.fields ≡ true → totals.paragraphs ≡ count → totals.bytes ≡ bytes → Advances (reader_at reader left failures) (Ok (Some seen)) (reader_at new after failures_after) → RefusedOrMemory fault (RefusesSeen doc seen totals) → Checks doc here (Err fault) (there count bytes)
-    checks-unpassed totals seen Memory numbered counted is advances refused = record { answers = λ text before fits. tt; taken = λ text before fits. advances.taken text fits.passed fits.fits; counted = advances.counted; fault = tt; count = refl; few = few; finished = tt }
+    checks-unpassed totals seen Memory numbered counted is advances refused = record { answers = λ text before fits. tt; taken = λ text before fits. advances.taken text fits.passed fits.fits; counted = advances.counted; fault = tt; count = refl; few = few; finished = tt; refused = λ text before fits. tt }
     checks-unpassed totals seen Read numbered counted is advances refused = absurd refused
     checks-unpassed totals seen Write numbered counted is advances refused = absurd refused
     checks-unpassed totals seen (Refused refusal) numbered counted is advances refused = record {
@@ -161,6 +177,7 @@ module _ (doc : Doc) (shown shown_now : Option Seen) (kept kept_now : Option Fau
       count = refl;
       few = few;
       finished = tt;
+      refused = λ text before fits. let next = advances.answers text fits.passed fits.fits in shows_seen text before fits (Ok (Some seen)) (ap (next_answer text) (sym fits.paragraphs) ∙ next.answer) advances.current;
     }
 
     -- the next one passes
@@ -192,6 +209,7 @@ module _ (doc : Doc) (shown shown_now : Option Seen) (kept kept_now : Option Fau
       count = adds.paragraphs ∙ ap (λ n. n + 1) counted;
       few = few_now;
       finished = tt;
+      refused = λ text before fits. tt;
     }
 
     -- the next one is checked
@@ -217,12 +235,17 @@ module _ (doc : Doc) (shown shown_now : Option Seen) (kept kept_now : Option Fau
     second : (text : List ℕ) (before : List Entries) → FitsChecked doc text before here.state left → has_some before ≡ true
     second text before fits = has_some-is before count fits.counted ∙ (and_parts (is_single doc) (not (count == 0)) complete).1
 
+    -- nothing is seen of it
+    shows_none : (text : List ℕ) (before : List Entries) → FitsChecked doc text before here.state left → new.current ≡ None → new.current ≡ seen_behind (rules_of doc) text before
+    shows_none text before fits none = none ∙ rw (single, second text before fits) refl
+
     pub checks-begins_err : (fault : Fault) → Begins (reader_at reader left failures) (Err fault) (reader_at new after failures_after) → Checks doc here (Err fault) (there count bytes)
     checks-begins_err fault begins = checks-err (Option ℕ) fault
         (λ text before fits refusal is.
         let answers : AnswersBegin text fits.passed (Err (Refused refusal)) new after = subst (λ f. AnswersBegin text fits.passed (Err f) new after) is (begins.answers text fits.passed fits.fits) in
         next_checked-refused (rules_of doc) text before single (second text before fits) refusal (ap (next_begin text) (sym fits.paragraphs) ∙ answers))
         begins.taken begins.counted (readers_fault fault begins.fault)
+        (λ text before fits refusal is. shows_none text before fits begins.current)
 
     pub checks-begins_none : Begins (reader_at reader left failures) (Ok None) (reader_at new after failures_after) → Checks doc here (Ok None) (there count bytes)
     checks-begins_none begins = checks-none
@@ -240,6 +263,7 @@ module _ (doc : Doc) (shown shown_now : Option Seen) (kept kept_now : Option Fau
       count = refl;
       few = few;
       finished = tt;
+      refused = λ text before fits. shows_none text before fits begins.current;
     }
 
 -- where a paragraph was found, it is the one that is given
@@ -288,6 +312,7 @@ checks-memory doc before found after given goes few source count failed =
       count = count;
       few = subst (λ n. n ≤ file_limit + 1) (sym count) few;
       finished = tt;
+      refused = λ text front fits. tt;
     }) failed
 
 -- and of one with an error, which repeats it

@@ -80,6 +80,7 @@ pub use Rattle.deb_syntax.specs.Reading.{Advances, Answers, AnswersBegin, Begins
 pub use Rattle.deb_syntax.specs.declared.raw.RawField.{RawField}
 pub use Rattle.deb_control.specs.Acceptance.{IsAccepted, has_values}
 pub use Rattle.deb_control.specs.AcceptanceLaws.{AcceptedIsWritten, AcceptedMeansOneThing, CanonicalTextIsAccepted, CanonicalTextIsItsOwn, CanonicalTextTellsAccepted, RefusedOrAccepted}
+pub use Rattle.deb_control.specs.Refused.{seen_behind, seen_in}
 pub use Rattle.deb_control.specs.Calls.{HasParagraphs, IfCutOff, IfRefused, WritesCanonical, WritesRead, WritesRefused}
 pub use Rattle.deb_control.specs.Canonical.{behind_colon, field_text, file_text, paragraph_text}
 pub use Rattle.deb_control.specs.CheckedStates.{checked_moment, checked_state, passing_of}

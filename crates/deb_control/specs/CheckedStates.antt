@@ -2,11 +2,13 @@
 use Rattle.std.specs.Prelude.{◌≡◌, ℕ, List, Option, Some, None, Result, Ok, Err, refl}
 use Rattle.std.specs.Option.{option_map}
 use Rattle.deb_base.specs.declared.fault.Fault.{Fault}
+use Rattle.deb_syntax.specs.Answers.{Seen}
 use Rattle.deb_syntax.specs.Paragraphs.{state_of, seen_of}
 use Rattle.deb_base.specs.declared.doc.Doc.{Doc}
 use Rattle.deb_control.specs.Checking.{CheckedMoment, CheckedState, Passing, passing_seen, seen_last, text_built}
 use Rattle.deb_control.specs.Documents.{rules_of}
 use Rattle.deb_control.specs.Refusals.{built}
+use Rattle.deb_control.specs.Refused.{seen_refused}
 use Rattle.deb_control.specs.declared.accepted.Accepted.{Accepted}
 use Rattle.deb_control.specs.declared.checked.Checked.{Checked}
 use Rattle.deb_control.specs.declared.judged.Judged.{Judged}
@@ -19,6 +21,10 @@ checked_state c = record {
   current = seen_last c.fault (state_of c.paragraphs).current;
   fault = c.fault;
 }
+
+-- the paragraph that is refused, where its lines aren't
+abbrev pub refused_last : CheckedState → Option Seen
+refused_last state = seen_refused state.fault state.reader.current
 
 -- the kind of document that it reads
 abbrev pub doc_read : Checked → Doc
@@ -63,6 +69,10 @@ reader_shown : (c : Checked) (left : Option (List ℕ)) (failures : ℕ)
     × ((checked_moment c left failures).source.bytes ≡ left)
     × ((checked_moment c left failures).source.failures ≡ failures)
 reader_shown c left failures = (refl, refl, refl, refl, refl)
+
+refused_shown : (c : Checked)
+    → refused_last (checked_state c) ≡ seen_refused c.fault (state_of c.paragraphs).current
+refused_shown c = refl
 
 view_shown : (judged : Judged) → ((passing_judged judged).seen ≡ seen_of judged.raw)
     × ((passing_judged judged).text ≡ text_built (built (rules_of judged.doc) (seen_of judged.raw)))

@@ -19,8 +19,10 @@ use Rattle.deb_syntax.specs.Paragraphs.{IsQuiet}
 use Rattle.deb_syntax.specs.Reading.{State, Fits, passed_count}
 use Rattle.deb_base.specs.declared.doc.Doc.{Doc}
 use Rattle.deb_base.specs.declared.doc.Doc.TheVariants.{Any, Packages}
+use Rattle.deb_control.specs.Calls.{IfRefused}
 use Rattle.deb_control.specs.Canonical.{paragraph_text, file_text}
 use Rattle.deb_control.specs.Documents.{rules_of}
+use Rattle.deb_control.specs.Refused.{seen_behind}
 use Rattle.deb_control.specs.Refusals.{built, next_checked}
 use Rattle.deb_control.specs.Rules.{Rules}
 
@@ -113,7 +115,8 @@ pub record CheckedMoment : Type 0 where
 
 -- A call without error: what it answers of each file that fits, how much of it was taken by then,
 -- how often its source failed, which errors there are, and how many paragraphs were given, which
--- are few for every source. After the answer that no paragraph follows nothing is read.
+-- are few for every source. After the answer that no paragraph follows nothing is read; after a
+-- refusal the reader of paragraphs shows the paragraph that is refused, where its lines aren't.
 pub record Checks (doc : Doc) (before : CheckedMoment) (answer : Result (Option Passing) Fault)
     (after : CheckedMoment) : Type 0 where
   pub answers : (text : List ℕ) (given : List Entries)
@@ -129,6 +132,10 @@ pub record Checks (doc : Doc) (before : CheckedMoment) (answer : Result (Option 
       (λ fault. after.state.count ≡ before.state.count)
   pub few : after.state.count ≤ file_limit + 1
   pub finished : IfOk answer (λ given. IfNone given (IsTrue after.state.reader.finished))
+  pub refused : (text : List ℕ) (given : List Entries)
+      → FitsChecked doc text given before.state before.source.bytes
+      → IfRefused answer
+      (λ _. after.state.reader.current ≡ seen_behind (rules_of doc) text given)
 
 -- A call: without an error it goes on, and keeps the error that it then answers; with one it
 -- answers that error, and neither reads nor changes.

@@ -7,6 +7,7 @@ pub mod Acceptance
 pub mod ValueFileLaws
 pub mod AcceptanceLaws
 pub mod Documents
+pub mod Refused
 pub mod AcceptedCases
 pub mod Laws
 pub mod Checking

@@ -1,7 +1,7 @@
 //! Reads the paragraphs of a document, and checks them one after another.
 
 ghost use Rattle.std.specs.Prelude.{◌≡◌, ℕ, List, [], Some, None, Ok, true, IfOk, IfSome, IsTrue};
-ghost use Rattle.deb_syntax.specs.Paragraphs.{state_of};
+ghost use Rattle.deb_syntax.specs.Paragraphs.{seen_of, state_of};
 ghost use Rattle.deb_control.specs.Checking.{current_answer, is_found, is_sound, passing_seen, text_built};
 ghost use Rattle.deb_control.specs.Documents.{rules_of};
 ghost use Rattle.deb_control.specs.Refusals.{built};
@@ -15,7 +15,7 @@ use crate::totals::Totals;
 use crate::visitor::FieldVisitor;
 use deb_base::{Fault, Source};
 use deb_field::Doc;
-use deb_syntax::Paragraphs;
+use deb_syntax::{Paragraphs, Raw};
 use std::alloc::{AllocError, Global};
 use std::mem;
 
@@ -47,7 +47,7 @@ impl Checked {
     ghost use Rattle.deb_control.specs.Checking.{FitsChecked, ChecksOn, IsQuietChecked};
     ghost use Rattle.deb_control.specs.CheckedStates.{checked_state, checked_moment};
     ghost use Rattle.deb_control.specs.CheckedStates.{checked_answer, doc_judged, doc_of, doc_read};
-    ghost use Rattle.deb_control.specs.CheckedStates.{passing_judged, passing_of};
+    ghost use Rattle.deb_control.specs.CheckedStates.{passing_judged, passing_of, refused_last};
 
     /// Returns a reader of checked paragraphs that has read nothing: the file is what its source
     /// has left. Takes no memory.
@@ -154,6 +154,18 @@ impl Checked {
         }
         let raw = self.paragraphs.current()?;
         Some(Judged::new(self.doc, raw))
+    }
+
+    /// Returns the paragraph at which the file is refused, after a refusal: the one whose value, lack
+    /// of a field, or canonical text is refused. `None` if the refusal isn't of a paragraph, or is
+    /// of its lines, or of a second paragraph whatever it contains.
+    pub fn refused(&self) -> Option<Raw<'_>>
+        ensures { option_map seen_of result ≡ refused_last (checked_state self.now) }
+    {
+        match self.fault {
+            Some(Fault::Refused(_)) => self.paragraphs.current(),
+            _ => None,
+        }
     }
 
     /// Goes on to the next paragraph, which `accepted` then returns with its canonical text, and

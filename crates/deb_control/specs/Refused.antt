@@ -1,0 +1,67 @@
+-- The paragraph at which a document is refused. Debian Policy 5.1 and 5.3 to 5.6; the order of the
+-- refusals is this project's own.
+use Rattle.std.specs.Prelude.{◌≡◌, ℕ, ◌&&◌, Bool, true, false, cond, List, [], ◌∷◌, length, Option, Some, None, Result, Ok, Err, codes, refl}
+use Rattle.std.specs.Str.{is_utf8, chars}
+use lib.Utf8.{encode}
+use Rattle.deb_base.specs.Bodies.{paragraph_limit}
+use Rattle.deb_base.specs.declared.fault.Fault.{Fault}
+use Rattle.deb_base.specs.declared.fault.Fault.TheVariants.{Refused, Memory, Read, Write}
+use Rattle.deb_base.specs.declared.refusal.Refusal.{Refusal}
+use Rattle.deb_syntax.specs.Answers.{Seen, next_answer}
+use Rattle.deb_syntax.specs.Lines.{file_limit}
+use Rattle.deb_syntax.specs.Meaning.{Entries}
+use Rattle.deb_control.specs.Refusals.{has_some}
+use Rattle.deb_control.specs.Rules.{Rules}
+
+-- what is seen of a paragraph, where its lines aren't refused
+abbrev pub seen_in : Result (Option Seen) Refusal → Option Seen
+seen_in (Ok seen) = seen
+seen_in (Err refusal) = None
+
+-- What is seen of the paragraph behind those that pass. Nothing is of one that is one too many, and
+-- of one whose lines are refused.
+abbrev pub seen_behind : Rules → List ℕ → List Entries → Option Seen
+seen_behind rules text before =
+    cond (rules.single && has_some before) None (seen_in (next_answer text (length before)))
+
+-- the paragraph that was found last, where the error is a refusal
+abbrev pub seen_refused : Option Fault → Option Seen → Option Seen
+seen_refused (Some (Refused refusal)) found = found
+seen_refused (Some Memory) found = None
+seen_refused (Some Read) found = None
+seen_refused (Some Write) found = None
+seen_refused None found = None
+
+-- for the worked cases: all bodies are good, and no name is asked
+abbrev sample : Bool → Rules
+sample single = record {
+  refusal = λ name body. None;
+  canonical = λ name body. body;
+  required = [];
+  single = single;
+}
+
+abbrev second : Seen
+second =
+    record { first = 3; fields = record { name = codes "b"; line = 3; body = codes "2" } ∷ [] }
+
+-- the second paragraph, where there may be one, and where it is one too many
+paragraphs_behind : (seen_behind (sample false) (codes "a:1\n\nb:2\n") ([] ∷ []) ≡ Some second)
+    × (seen_behind (sample true) (codes "a:1\n\nb:2\n") ([] ∷ []) ≡ None)
+    × (seen_behind (sample true) (codes "\n\nb:2\n") [] ≡ Some second)
+unfolding file_limit paragraph_limit is_utf8 chars encode
+paragraphs_behind = (refl, refl, refl)
+
+-- its lines are refused, and there is none
+nothing_behind : (seen_behind (sample false) (codes "a:1\n\n# b") ([] ∷ []) ≡ None)
+    × (seen_behind (sample false) (codes "a:1\n") ([] ∷ []) ≡ None)
+unfolding file_limit paragraph_limit is_utf8 chars encode
+nothing_behind = (refl, refl)
+
+errors_shown : (refusal : Refusal)
+    → (seen_refused (Some (Refused refusal)) (Some second) ≡ Some second)
+    × (seen_refused (Some (Refused refusal)) None ≡ None)
+    × (seen_refused (Some Memory) (Some second) ≡ None)
+    × (seen_refused (Some Read) (Some second) ≡ None)
+    × (seen_refused (Some Write) (Some second) ≡ None) × (seen_refused None (Some second) ≡ None)
+errors_shown refusal = (refl, refl, refl, refl, refl, refl)
