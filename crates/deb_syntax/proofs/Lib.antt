@@ -14,6 +14,7 @@ pub mod FieldBytes
 pub mod FieldLines
 pub mod FieldTests
 pub mod FirstLines
+pub mod JudgedLines
 pub mod Judgements
 pub mod JudgingLaws
 pub mod JudgingLawsMeaning

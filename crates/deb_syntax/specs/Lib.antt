@@ -3,6 +3,7 @@ pub mod Answers
 pub mod Extents
 pub mod Feeding
 pub mod Fields
+pub mod Judged
 pub mod Judging
 pub mod Laws
 pub mod LineEnds

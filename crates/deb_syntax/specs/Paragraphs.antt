@@ -9,6 +9,8 @@ use Rattle.deb_syntax.specs.declared.first.First.{First}
 use Rattle.deb_syntax.specs.declared.first.First.TheVariants.{End, Kept, Dropped}
 use Rattle.deb_syntax.specs.Ahead.{KeepsLine}
 use Rattle.deb_syntax.specs.Feeding.{FeedState, feed_state, buffer_of, unread_of}
+use Rattle.deb_syntax.specs.Judged.{lines_standing}
+use Rattle.deb_syntax.specs.Lines.{Paragraph}
 use Rattle.deb_syntax.specs.Places.{fields_at}
 use Rattle.deb_syntax.specs.Raw.{first_line_of, fields_of}
 use Rattle.deb_syntax.specs.Reading.{State, state_from}
@@ -25,6 +27,10 @@ abbrev pub state_of : Paragraphs → State
 state_of p =
     state_from (feed_state p.feed) p.hidden p.finished
     (option_map (standing_of (buffer_of p.feed) p.places.items) p.current) p.fault
+
+-- the paragraph whose lines were judged last
+abbrev pub judged_last : Paragraphs → Option Paragraph
+judged_last p = option_map (lines_standing (buffer_of p.feed)) p.judged
 
 -- what an answer shows that says whether there is a paragraph, by the paragraph that was found last
 abbrev pub advance_answer : State → Result Bool Fault → Result (Option Seen) Fault
@@ -71,6 +77,10 @@ reader_shown : (p : Paragraphs) → state_of p ≡ record {
   fault = p.fault;
 }
 reader_shown p = refl
+
+judged_shown : (p : Paragraphs)
+    → judged_last p ≡ option_map (lines_standing p.feed.window.buffer.items) p.judged
+judged_shown p = refl
 
 calls_shown : (new : State) (fault : Fault) → (advance_answer new (Ok true) ≡ Ok new.current)
     × (advance_answer new (Ok false) ≡ Ok None) × (advance_answer new (Err fault) ≡ Err fault)

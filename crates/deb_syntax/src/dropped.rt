@@ -6,7 +6,7 @@ ghost use Rattle.deb_base.specs.Devices.{read_failures_after};
 ghost use Rattle.deb_base.specs.Faults.{IsReadersFault};
 ghost use Rattle.deb_base.specs.Reading.{piece_limit};
 ghost use Rattle.deb_syntax.specs.Ahead.{room_ahead, IsDropped, SameCounts};
-ghost use Rattle.deb_syntax.specs.Reading.{IsRefusalOfText};
+ghost use Rattle.deb_syntax.specs.Judged.{IsRefusalOfLength};
 ghost use Rattle.deb_syntax.specs.Lines.{file_limit};
 ghost use Rattle.deb_syntax.specs.Feeding.{feed_state, had, Takes};
 ghost use Rattle.deb_syntax.specs.Walking.{Describes};
@@ -44,7 +44,7 @@ pub(crate) fn drop_line<R: Source>(
     ensures same { SameCounts (feed_state feed.old) (feed_state feed.new) }
     ensures taken { Takes (had (feed_state feed.old)) (R.left reader.old)
         (file_limit + piece_limit) (R.left reader.new) }
-    ensures fault { IfErr result (λ fault. IsReadersFault fault IsRefusalOfText) }
+    ensures fault { IfErr result (λ fault. IsReadersFault fault IsRefusalOfLength) }
     ensures counted { R.failures reader.new ≡ read_failures_after (R.failures reader.old) result }
 {
     let mut begun = run.begun;

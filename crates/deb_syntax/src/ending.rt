@@ -7,7 +7,7 @@ ghost use Rattle.deb_base.specs.Faults.{IsReadersFault};
 ghost use Rattle.deb_base.specs.declared.fault.Fault.TheVariants.{Refused};
 ghost use Rattle.deb_base.specs.Reading.{piece_limit};
 ghost use Rattle.deb_syntax.specs.Ahead.{room_ahead, IsAhead, KeepsLine, HasExtent, IsExtentAhead, SameCounts};
-ghost use Rattle.deb_syntax.specs.Reading.{IsRefusalOfText};
+ghost use Rattle.deb_syntax.specs.Judged.{IsRefusalOfLength};
 ghost use Rattle.deb_syntax.specs.LineEnds.{line_ends, piece_ends};
 ghost use Rattle.deb_syntax.specs.Lines.{file_limit};
 ghost use Rattle.deb_syntax.specs.Feeding.{feed_state, had, Takes};
@@ -57,7 +57,7 @@ pub(crate) fn paragraph_extent<R: Source>(
     ensures same { SameCounts (feed_state feed.old) (feed_state feed.new) }
     ensures taken { Takes (had (feed_state feed.old)) (R.left reader.old)
         (file_limit + piece_limit) (R.left reader.new) }
-    ensures fault { IfErr result (λ fault. IsReadersFault fault IsRefusalOfText) }
+    ensures fault { IfErr result (λ fault. IsReadersFault fault IsRefusalOfLength) }
     ensures counted { R.failures reader.new ≡ read_failures_after (R.failures reader.old) result }
     ensures source_untouched { IsTrue (feed_state feed.old).ended → reader.new ≡ reader.old }
 {
@@ -115,7 +115,7 @@ fn extent_beyond<R: Source>(feed: &mut Feed, run: Run, reader: &mut R) -> Result
     ensures same { SameCounts (feed_state feed.old) (feed_state feed.new) }
     ensures taken { Takes (had (feed_state feed.old)) (R.left reader.old)
         (file_limit + piece_limit) (R.left reader.new) }
-    ensures fault { IfErr result (λ fault. IsReadersFault fault IsRefusalOfText) }
+    ensures fault { IfErr result (λ fault. IsReadersFault fault IsRefusalOfLength) }
     ensures counted { R.failures reader.new ≡ read_failures_after (R.failures reader.old) result }
 {
     let dropped = drop_line(feed, run, reader)?;
@@ -146,7 +146,7 @@ fn ended_by_file(feed: &Feed, run: Run, ends: &mut Vec<u32>) -> Result<Extent, F
         → IsExtentAhead text (feed_state feed.now) result (feed_state feed.now) left }
     ensures ends { IfOk result (λ extent.
         ends.new.items ≡ piece_ends (take extent.end (feed_state feed.now).unread)) }
-    ensures fault { IfErr result (λ fault. IsReadersFault fault IsRefusalOfText) }
+    ensures fault { IfErr result (λ fault. IsReadersFault fault IsRefusalOfLength) }
     ensures counted { (failures : ℕ) → failures ≡ read_failures_after failures result }
 {
     let all = run.bytes + run.begun.len;

@@ -5,7 +5,7 @@ ghost use Rattle.deb_base.specs.Devices.{read_failures_after};
 ghost use Rattle.deb_base.specs.Faults.{IsReadersFault};
 ghost use Rattle.deb_base.specs.Reading.{piece_limit};
 ghost use Rattle.deb_syntax.specs.Ahead.{room_ahead, IsAhead, IsNear, IsFirst, HasFirst};
-ghost use Rattle.deb_syntax.specs.Reading.{IsRefusalOfText};
+ghost use Rattle.deb_syntax.specs.Judged.{IsRefusalOfLength};
 ghost use Rattle.deb_syntax.specs.Lines.{file_limit};
 ghost use Rattle.deb_syntax.specs.Feeding.{feed_state, had, Takes};
 ghost use Rattle.deb_syntax.specs.Walking.{Describes};
@@ -42,7 +42,7 @@ pub(crate) fn first_line<R: Source>(feed: &mut Feed, reader: &mut R) -> Result<F
         → IsFirst text (feed_state feed.old) result (feed_state feed.new) (R.left reader.new) }
     ensures taken { Takes (had (feed_state feed.old)) (R.left reader.old)
         (file_limit + piece_limit) (R.left reader.new) }
-    ensures fault { IfErr result (λ fault. IsReadersFault fault IsRefusalOfText) }
+    ensures fault { IfErr result (λ fault. IsReadersFault fault IsRefusalOfLength) }
     ensures counted { R.failures reader.new ≡ read_failures_after (R.failures reader.old) result }
     ensures stays { IsTrue (feed_state feed.old).ended → IsTrue (feed_state feed.new).ended }
     ensures source_untouched { IsTrue (feed_state feed.old).ended → reader.new ≡ reader.old }
@@ -100,7 +100,7 @@ fn drop_first<R: Source>(feed: &mut Feed, begun: Begun, reader: &mut R) -> Resul
         → IsFirst text (feed_state feed.old) result (feed_state feed.new) (R.left reader.new) }
     ensures taken { Takes (had (feed_state feed.old)) (R.left reader.old)
         (file_limit + piece_limit) (R.left reader.new) }
-    ensures fault { IfErr result (λ fault. IsReadersFault fault IsRefusalOfText) }
+    ensures fault { IfErr result (λ fault. IsReadersFault fault IsRefusalOfLength) }
     ensures counted { R.failures reader.new ≡ read_failures_after (R.failures reader.old) result }
 {
     let run = Run {

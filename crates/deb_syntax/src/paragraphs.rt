@@ -1,9 +1,10 @@
 //! The reader of paragraphs (Debian Policy 5.1; deb822(5)).
 
-ghost use Rattle.std.specs.Prelude.{◌≡◌, ◌+◌, ◌≤◌, ◌⊎◌, ℕ, List, [], Some, None, true, false, length, IsTrue, IfErr, IfOk, OnOk};
+ghost use Rattle.std.specs.Prelude.{◌≡◌, ◌+◌, ◌≤◌, ◌⊎◌, ℕ, List, [], Some, None, true, false, length, option_map, IsTrue, IfErr, IfOk, OnOk};
 ghost use Rattle.deb_base.specs.Reading.{piece_limit};
 ghost use Rattle.deb_syntax.specs.Ahead.{IsAhead, IsNear, KeepsLine};
 ghost use Rattle.deb_syntax.specs.Feeding.{feed_state, buffer_of, had, Takes};
+ghost use Rattle.deb_syntax.specs.Judged.{lines_standing, IsRefusalOfLength, JudgesAhead, JudgesLines};
 ghost use Rattle.deb_syntax.specs.Lines.{file_limit};
 ghost use Rattle.deb_syntax.specs.Standing.{HidesLong, stands_within, standing_answer, IsPassed};
 ghost use Rattle.deb_base.specs.Devices.{read_failures_after};
@@ -45,27 +46,32 @@ pub struct Paragraphs {
     /// Returns the paragraph that the last `advance` or `next` found, or `None` if it found none or
     /// failed, or if `begins` was called since.
     current: Option<Standing>,
+    /// Where the lines are of the paragraph that the last `advance` or `next` judged, or `None` if
+    /// it judged none, or if `begins` was called since.
+    judged: Option<Standing>,
     places: Vec<Place>,
     /// Where each line of the paragraph ends, while it is judged.
     ends: Vec<u32>,
     fault: Option<Fault>,
-    alloc: Global,
     ghost near: { IsNear (feed_state feed).unread },
     ghost reach: { (feed_state feed).bytes + hidden + length (feed_state feed).unread
         ≤ 4295032831 },
     ghost hides: { HidesLong hidden (feed_state feed) },
     ghost stands: { IsTrue (stands_within (buffer_of feed) places.items current) },
+    ghost judges: { IsTrue (stands_within (buffer_of feed) [] judged) },
 }
 
 impl Paragraphs {
-    ghost use Rattle.std.specs.Prelude.{IsSome, option_map, ◌↔◌};
+    ghost use Rattle.std.specs.Prelude.{IfNone, IsSome, ◌↔◌};
     ghost use Rattle.std.specs.Borrow.{sem};
     ghost use Rattle.std.specs.Io.BufRead.{Rests};
     ghost use Rattle.deb_syntax.specs.contracts.paragraphs.Paragraphs.{the_row};
     ghost use Rattle.deb_syntax.specs.Reading.{moment_of, Fits, Answers, FindsFirst, KeepsErrors};
-    ghost use Rattle.deb_syntax.specs.Reading.{Advances, Begins};
+    ghost use Rattle.deb_syntax.specs.Reading.{Advances, Begins, passed_count};
     ghost use Rattle.deb_syntax.specs.Paragraphs.{state_of, seen_of, answer_of, advance_answer};
     ghost use Rattle.deb_syntax.specs.Paragraphs.{end_answer, ShowsFirst, IsQuiet};
+    ghost use Rattle.deb_syntax.specs.Judged.{line_judged, ShowsJudged};
+    ghost use Rattle.deb_syntax.specs.Paragraphs.{judged_last};
 
     /// Returns a reader of paragraphs that has read nothing: the file is what its source has left.
     /// Takes no memory.
@@ -89,10 +95,10 @@ impl Paragraphs {
             hidden: 0,
             finished: false,
             current: None,
+            judged: None,
             places: Vec::new(alloc),
             ends: Vec::new(alloc),
             fault: None,
-            alloc,
         }
     }
 
@@ -130,6 +136,22 @@ impl Paragraphs {
         ))
     }
 
+    /// Returns the line of a number, counted from 1, without its newline, of the paragraph that the
+    /// last `advance` or `next` found, or of which it refused a line. `None` if that has no such
+    /// line, or if there is no such paragraph.
+    pub fn line(&self, number: u64) -> Option<&[u8]>
+        ensures { option_map (λ line. line.now) result ≡ line_judged number (judged_last self.now) }
+    {
+        let at = self.judged?;
+        if number < at.first_line {
+            return None;
+        }
+        self.feed
+            .slice(at.from, at.to)
+            .split(|byte| *byte == b'\n')
+            .nth((number - at.first_line) as usize)
+    }
+
     /// Returns the line at which the next paragraph begins, counted from 1, or `None` if there is
     /// no further one. Blank lines before it are passed; `next` afterwards returns what it would
     /// have returned before. After `None`, every later call returns `None`.
@@ -146,6 +168,7 @@ impl Paragraphs {
         ensures passes { KeepsErrors Begins (moment_of (state_of self.old) (R.left reader.old)
             (R.failures reader.old)) result (moment_of (state_of self.new) (R.left reader.new)
             (R.failures reader.new)) }
+        ensures judged { IfNone (state_of self.old).fault (judged_last self.new ≡ None) }
         ensures source_untouched { IsQuiet (state_of self.old) → reader.new ≡ reader.old }
     {
         if let Some(fault) = self.fault {
@@ -199,6 +222,10 @@ impl Paragraphs {
             (R.failures reader.old)) (advance_answer (state_of self.new) result)
             (moment_of (state_of self.new) (R.left reader.new) (R.failures reader.new)) }
         ensures found { IfOk result (λ found. IsTrue found ↔ IsSome (state_of self.new).current) }
+        ensures judged { IfNone (state_of self.old).fault ((text passed : List ℕ)
+            → Fits text passed (state_of self.old) (R.left reader.old) → ShowsJudged text (passed_count passed)
+            (advance_answer (state_of self.new) result) (judged_last self.new)) }
+        ensures repeats { IsSome (state_of self.old).fault → self.new ≡ self.old }
         ensures source_untouched { IsQuiet (state_of self.old) → reader.new ≡ reader.old }
     {
         if let Some(fault) = self.fault {
@@ -216,6 +243,7 @@ impl Paragraphs {
         ensures begins { Begins (moment_of (state_of self.old) (R.left reader.old)
             (R.failures reader.old)) result (moment_of (state_of self.new) (R.left reader.new)
             (R.failures reader.new)) }
+        ensures judged { self.new.judged ≡ None }
         ensures source_untouched { IsTrue (state_of self.old).ended ⊎ IsTrue
             (state_of self.old).finished
             → reader.new ≡ reader.old }
@@ -235,6 +263,9 @@ impl Paragraphs {
             (R.failures reader.old)) (advance_answer (state_of self.new) result)
             (moment_of (state_of self.new) (R.left reader.new) (R.failures reader.new)) }
         ensures found { IfOk result (λ found. IsTrue found ↔ IsSome (state_of self.new).current) }
+        ensures judged { (text passed : List ℕ)
+            → Fits text passed (state_of self.old) (R.left reader.old) → ShowsJudged text (passed_count passed)
+            (advance_answer (state_of self.new) result) (judged_last self.new) }
         ensures source_untouched { IsTrue (state_of self.old).ended ⊎ IsTrue
             (state_of self.old).finished
             → reader.new ≡ reader.old }
@@ -262,10 +293,11 @@ impl Paragraphs {
         ensures shows { ShowsFirst result self.new.hidden self.new.finished
             (feed_state self.new.feed) }
         ensures none { (state_of self.new).current ≡ None }
+        ensures judged { self.new.judged ≡ None }
         ensures ended { IsTrue (state_of self.old).finished → result ≡ Ok First.End }
         ensures taken { Takes (had (feed_state self.old.feed) + self.old.hidden)
             (R.left reader.old) (file_limit + piece_limit) (R.left reader.new) }
-        ensures fault { IfErr result (λ fault. IsReadersFault fault IsRefusalOfText) }
+        ensures fault { IfErr result (λ fault. IsReadersFault fault IsRefusalOfLength) }
         ensures counted { R.failures reader.new
             ≡ read_failures_after (R.failures reader.old) result }
         ensures source_untouched { IsTrue (state_of self.old).ended ⊎ IsTrue
@@ -275,6 +307,7 @@ impl Paragraphs {
         ensures kept { self.new.fault ≡ self.old.fault }
     {
         self.current = None;
+        self.judged = None;
         if self.finished {
             return Ok(First::End);
         }
@@ -307,11 +340,15 @@ impl Paragraphs {
         requires unhidden { self.old.hidden ≡ 0 }
         requires unfinished { self.old.finished ≡ false }
         requires none { self.old.current ≡ None }
+        requires unjudged { self.old.judged ≡ None }
         requires line { KeepsLine begun (feed_state self.old.feed) }
         ensures answers { (text passed : List ℕ)
             → Fits text passed (state_of self.old) (R.left reader.old)
             → Answers text passed (end_answer (state_of self.new) result) (state_of self.new)
             (R.left reader.new) }
+        ensures judged { (text passed : List ℕ)
+            → Fits text passed (state_of self.old) (R.left reader.old) → ShowsJudged text (passed_count passed)
+            (end_answer (state_of self.new) result) (judged_last self.new) }
         ensures found { OnOk result (IsSome (state_of self.new).current) }
         ensures unfinished { self.new.finished ≡ false }
         ensures unhidden { self.new.hidden ≡ 0 }
@@ -325,7 +362,14 @@ impl Paragraphs {
         ensures kept { self.new.fault ≡ self.old.fault }
     {
         let (places, ends) = (&mut self.places, &mut self.ends);
-        match pass_paragraph(self.alloc, &mut self.feed, begun, reader, places, ends) {
+        match pass_paragraph(
+            &mut self.feed,
+            begun,
+            reader,
+            places,
+            ends,
+            &mut self.judged,
+        ) {
             Ok(standing) => {
                 self.current = Some(standing);
                 Ok(())
@@ -339,20 +383,28 @@ impl Paragraphs {
     }
 }
 
-/// Finds the end of the paragraph that begins the unread bytes, judges it and passes it.
+/// Finds the end of the paragraph that begins the unread bytes, judges it and passes it. Where its
+/// end was found, `judged` is where its lines are, also if one of them is refused.
 fn pass_paragraph<R: Source>(
-    alloc: Global,
     feed: &mut Feed,
     begun: Begun,
     reader: &mut R,
     places: &mut Vec<Place>,
     ends: &mut Vec<u32>,
+    judged: &mut Option<Standing>,
 ) -> Result<Standing, Fault>
+    requires unjudged { judged.old ≡ None }
     requires line { KeepsLine begun (feed_state feed.old) }
     requires reach { (feed_state feed.old).bytes + length (feed_state feed.old).unread
         ≤ file_limit + piece_limit }
     ensures stands { IfOk result (λ at. IsTrue (stands_within (buffer_of feed.new) places.new.items
         (Some at))) }
+    ensures judges { IsTrue (stands_within (buffer_of feed.new) [] judged.new) }
+    ensures lines { JudgesLines result (option_map (lines_standing (buffer_of feed.new))
+        judged.new) }
+    ensures judged { (text : List ℕ) → IsAhead text [] (feed_state feed.old) (R.left reader.old)
+        → JudgesAhead text (feed_state feed.old)
+        (option_map (lines_standing (buffer_of feed.new)) judged.new) }
     ensures near { OnOk result (length (feed_state feed.new).unread ≤ piece_limit) }
     ensures ahead { (text : List ℕ) → IsAhead text [] (feed_state feed.old) (R.left reader.old)
         → IsPassed text (feed_state feed.old) (standing_answer (buffer_of feed.new) places.new.items
@@ -364,17 +416,19 @@ fn pass_paragraph<R: Source>(
     ensures source_untouched { IsTrue (feed_state feed.old).ended → reader.new ≡ reader.old }
 {
     let extent = paragraph_extent(feed, begun, reader, ends)?;
-    let first_line = feed.lines() + 1;
+    let (from, first_line) = (feed.start(), feed.lines() + 1);
+    let standing = Standing {
+        from,
+        to: from + extent.end,
+        first_line,
+    };
+    *judged = Some(standing);
     let paragraph = &feed.unread()[..extent.end];
+    let alloc = *places.allocator();
     match judge(alloc, paragraph, ends.as_slice(), first_line, places) {
         Ok(()) => {
-            let from = feed.start();
             feed.pass(extent.skip, extent.bytes, extent.lines);
-            Ok(Standing {
-                from,
-                to: from + extent.end,
-                first_line,
-            })
+            Ok(standing)
         }
         Err(fault) => Err(fault),
     }

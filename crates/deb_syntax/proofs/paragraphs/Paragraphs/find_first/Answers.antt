@@ -19,16 +19,16 @@ returns-then-self-gt0-clause-first g c = λ text passed fits.
 pub invariant_of-self-in-Ok-End : goal.invariant_of-self-in-Ok-End
 invariant_of-self-in-Ok-End g c =
     let shows = rw c.in-Ok-End.field-0-is at c.in-Ok-End.ensures.found in
-    record { near = near_nothing _ shows; reach = limit_reach _ (omega (arith, feed_small c.first_line.new.feed, ap length shows)); hides = hides_nothing _ (feed_state c.first_line.new.feed) (omega arith); stands = refl }
+    record { near = near_nothing _ shows; reach = limit_reach _ (omega (arith, feed_small c.first_line.new.feed, ap length shows)); hides = hides_nothing _ (feed_state c.first_line.new.feed) (omega arith); stands = refl; judges = refl }
 
 pub invariant_of-self-in-Ok-Dropped : goal.invariant_of-self-in-Ok-Dropped
 invariant_of-self-in-Ok-Dropped g c =
     let shows = rw c.in-Ok-Dropped.field-0-is at c.in-Ok-Dropped.ensures.found in
-    record { near = shows.1.near; reach = limit_reach _ (hides_reach _ _ _ _ shows.1.describes.len (feed_small c.first_line.new.feed) shows.1); hides = hides_long shows.0 _ _ _ shows.1.describes.len shows.1 (feed_small c.first_line.new.feed); stands = refl }
+    record { near = shows.1.near; reach = limit_reach _ (hides_reach _ _ _ _ shows.1.describes.len (feed_small c.first_line.new.feed) shows.1); hides = hides_long shows.0 _ _ _ shows.1.describes.len shows.1 (feed_small c.first_line.new.feed); stands = refl; judges = refl }
 
 pub invariant_of-self-in-Err : goal.invariant_of-self-in-Err
 invariant_of-self-in-Err g c =
-    record { near = near_nothing _ c.keep.ensures.keeps.unread; reach = limit_reach _ (omega (arith, feed_small c.keep.new.self, ap length c.keep.ensures.keeps.unread)); hides = hides_nothing _ (feed_state c.keep.new.self) (omega arith); stands = refl }
+    record { near = near_nothing _ c.keep.ensures.keeps.unread; reach = limit_reach _ (omega (arith, feed_small c.keep.new.self, ap length c.keep.ensures.keeps.unread)); hides = hides_nothing _ (feed_state c.keep.new.self) (omega arith); stands = refl; judges = refl }
 
 pub returns-in-Ok-End-clause-first : goal.returns-in-Ok-End-clause-first
 returns-in-Ok-End-clause-first g c = λ text passed fits.
@@ -82,6 +82,7 @@ invariant_of-self-in-Kept-1 g c =
       reach = limit_reach _ (omega (arith, keeps_reach _ (feed_state c.first_line.new.feed) (feed_small c.first_line.new.feed) line));
       hides = hides_nothing _ (feed_state c.first_line.new.feed) (omega arith);
       stands = refl;
+      judges = refl;
     }
 
 pub returns-then-self-clause-taken : goal.returns-then-self-clause-taken

@@ -1,6 +1,7 @@
 use Rattle.deb_syntax.proofs.Common.{◌+◌, ap, refl, arith}
 use Rattle.deb_syntax.proofs.Advancing.{begins_line, takes_text}
 use Rattle.deb_syntax.proofs.Faults.{readers_fault}
+use Rattle.deb_syntax.proofs.JudgedLines.{length_is_text}
 use Rattle.deb_syntax.proofs.paragraphs.Paragraphs.find_line.Goals as goal
 
 pub returns-in-Ok-End-clause-begins : goal.returns-in-Ok-End-clause-begins
@@ -44,7 +45,7 @@ returns-in-Err-clause-begins g c = record {
   answers = λ text passed fits. readers_fault c.in-Err.fault (λ refusal is. is.1) (c.in-Err.ensures.first text passed fits);
   taken = λ text passed fits. takes_text text passed _ _ _ fits c.in-Err.ensures.taken;
   counted = c.in-Err.ensures.counted;
-  fault = c.in-Err.ensures.fault;
+  fault = length_is_text c.in-Err.fault c.in-Err.ensures.fault;
   current = c.in-Err.ensures.none;
   finished = c.in-Err.ensures.shows;
   ended = λ finished. let e = c.in-Err.ensures.ended finished in absurd cc;

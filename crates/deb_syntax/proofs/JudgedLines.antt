@@ -1,0 +1,86 @@
+-- The paragraph that was judged last is the next one of a text, where its lines are judged.
+use Rattle.deb_syntax.proofs.Common.{◌≡◌, ℕ, ◌+◌, ◌≤◌, cond-true, cond-false, List, [], ◌∷◌, ◌++◌, Option, Some, None, Result, Ok, Err, length, refl, sym, ap, ◌∙◌, subst, arith, IsTrue, IsSome, leb, le-leb, lt-leb, pieces_of, ParagraphTooLong, Fault, Refused, Memory, Read, Write, Refusal, Extent, IsExtentOf, IsNextRun, room_ahead, Seen, next_answer, paragraphs_within, FeedState, feed_state, buffer_of, start_of, Feed, judged, Paragraph, paragraphs_of, State, passed_count, Answers, IsReadersFault, IsFaultOf, IsRefusalOfText, stands_within}
+use Rattle.std.specs.Prelude.{slice_get}
+use Rattle.deb_base.specs.Codes.{number_of}
+use Rattle.deb_syntax.specs.Lines.{file_limit}
+use Rattle.deb_syntax.specs.Judged.{is_of_line, judged_by, judged_behind, lines_standing, ShowsJudged, IsRefusalOfLength, IsFirstAhead, JudgesAhead, JudgesLines}
+use Rattle.deb_syntax.specs.declared.paragraphs.Standing.{Standing}
+use Rattle.deb_syntax.proofs.Advancing.{paragraphs_ahead, standing_bytes}
+use Rattle.deb_syntax.proofs.Faults.{readers_fault}
+use Rattle.deb_syntax.proofs.Feeds.{unread_within}
+use Rattle.deb_syntax.proofs.JudgingLawsRefusals.{judged-refusal}
+use Rattle.deb_syntax.proofs.Passing.{IsCut}
+use Rattle.deb_syntax.proofs.PlacesWithin.{within_test}
+
+slice_get-seam : {X : Type 0} (xs : List X) (x : X) (ys : List X) → slice_get (xs ++ x ∷ ys) (length xs) ≡ Some x
+slice_get-seam [] x ys = refl
+slice_get-seam (y ∷ xs) x ys = slice_get-seam xs x ys
+
+-- a refusal of a length is one of a text
+pub length_is_text : (fault : Fault) → IsReadersFault fault IsRefusalOfLength → IsReadersFault fault IsRefusalOfText
+length_is_text fault is = readers_fault fault (λ refusal r. record { least = omega (arith, r.least); most = r.most; line = r.line }) is
+
+pub is_length_refusal : (n : ℕ) → IsRefusalOfLength (record { code = ParagraphTooLong; line = n + 1 })
+is_length_refusal n = record { least = omega arith; most = omega arith; line = omega arith }
+
+-- a fault of judged lines is of a line
+pub judged_code : (n : ℕ) (lines : List (List ℕ)) (fault : Fault) → IsFaultOf (judged n lines) fault → IsReadersFault fault (λ refusal. number_of refusal.code ≤ 7)
+judged_code n lines (Refused refusal) is = (judged-refusal n lines refusal is).most
+judged_code n lines Memory is = tt
+judged_code n lines Read is = absurd is
+judged_code n lines Write is = absurd is
+
+-- where a paragraph's lines stand in the buffer
+module _ (mid : Feed) (buffer : List ℕ) (e : Extent) (from n : ℕ) (same : buffer ≡ buffer_of mid) (at : from ≡ start_of mid) (x : IsExtentOf e (feed_state mid)) where
+  abbrev pub standing : Standing
+  standing = record { from = from; to = from + e.end; first_line = n }
+
+  pub lines_stand : 1 ≤ n → IsTrue (stands_within buffer [] (Some standing))
+  lines_stand some =
+      let room : from + e.end ≤ length buffer = omega (arith, at, x.end_within, unread_within mid, ap length same) in
+      rw (le-leb from (from + e.end) (omega arith), le-leb (from + e.end) (length buffer) room, le-leb 1 n some) refl
+
+  -- it is the first of the text ahead
+  pub first_ahead : (text : List ℕ) (before : FeedState) → n ≡ before.lines + 1 → IsNextRun (before.lines + 1) (room_ahead before) text x.lines → IsFirstAhead text before (lines_standing buffer standing)
+  first_ahead text before is next =
+      let lines : x.lines ≡ (lines_standing buffer standing).lines = sym x.pieces ∙ ap pieces_of (sym (standing_bytes mid buffer e from [] same at x)) in
+      let one : record { first = before.lines + 1; lines = x.lines } ≡ lines_standing buffer standing
+      = ap (λ k. record { first = k; lines = x.lines }) (sym is) ∙ ap (λ ls. record { first = n; lines = ls }) lines in
+      record { more = next.more; next = next.next ∙ ap (λ p. p ∷ next.more) one }
+
+-- behind what has passed, what was judged is the next paragraph
+module _ (text passed ahead : List ℕ) (feed : FeedState) (cut : IsCut text passed ahead feed.bytes feed.lines) (small : feed.bytes ≤ file_limit) where
+  next_found : (p : Paragraph) → IsFirstAhead ahead feed p → slice_get (paragraphs_within text) (passed_count passed) ≡ Some p
+  next_found p first =
+      ap (λ ps. slice_get ps (passed_count passed)) (paragraphs_ahead text passed ahead feed.bytes feed.lines cut small p first.more first.next)
+      ∙ slice_get-seam (paragraphs_of passed) p first.more
+
+  pub shows_found : (T : Type 0) (a : T) (current : Option Seen) (last : Option Paragraph) (new : State) (left : Option (List ℕ)) → IsSome current → Answers text passed (Ok current) new left → JudgesLines (Ok a) last → JudgesAhead ahead feed last → ShowsJudged text (passed_count passed) (Ok current) last
+  shows_found T a None last new left some answers lines first = absurd cc
+  shows_found T a (Some seen) None new left some answers lines first = absurd lines
+  shows_found T a (Some seen) (Some p) new left some answers lines first =
+      sym (ap (λ answer. judged_by answer (slice_get (paragraphs_within text) (passed_count passed))) answers.answer ∙ next_found p first)
+
+  pub shows_refused : (T : Type 0) (fault : Fault) (last : Option Paragraph) (new : State) (left : Option (List ℕ)) → Answers text passed (Err fault) new left → JudgesLines {T = T} (Err fault) last → JudgesAhead ahead feed last → ShowsJudged text (passed_count passed) (Err fault) last
+  shows_refused T Memory last new left answers lines first = tt
+  shows_refused T Read last new left answers lines first = tt
+  shows_refused T Write last new left answers lines first = absurd answers
+  shows_refused T (Refused refusal) None new left answers lines first =
+      sym (ap (λ answer. judged_by answer (slice_get (paragraphs_within text) (passed_count passed))) answers ∙ cond-false (leb (number_of refusal.code) 7) _ _ (lt-leb (number_of refusal.code) 7 (omega (arith, lines.least))))
+  shows_refused T (Refused refusal) (Some p) new left answers lines first =
+      sym (ap (λ answer. judged_by answer (slice_get (paragraphs_within text) (passed_count passed))) answers ∙ cond-true (leb (number_of refusal.code) 7) _ _ (le-leb (number_of refusal.code) 7 lines) ∙ next_found p first)
+
+-- where nothing was judged
+pub shows_none : (text passed : List ℕ) (fault : Fault) (last : Option Paragraph) → last ≡ None → IsReadersFault fault (λ refusal. next_answer text (passed_count passed) ≡ Err refusal) → IsReadersFault fault IsRefusalOfLength → ShowsJudged text (passed_count passed) (Err fault) last
+shows_none text passed (Refused refusal) last none answer is =
+    none ∙ sym (ap (λ a. judged_by a (slice_get (paragraphs_within text) (passed_count passed))) answer ∙ cond-false (leb (number_of refusal.code) 7) _ _ (lt-leb (number_of refusal.code) 7 (omega (arith, is.least))))
+shows_none text passed Memory last none answer is = tt
+shows_none text passed Read last none answer is = tt
+shows_none text passed Write last none answer is = absurd is
+
+pub shows_end : (text passed : List ℕ) (last : Option Paragraph) → last ≡ None → next_answer text (passed_count passed) ≡ Ok None → ShowsJudged text (passed_count passed) (Ok None) last
+shows_end text passed last none answer = none ∙ sym (ap (λ a. judged_by a (slice_get (paragraphs_within text) (passed_count passed))) answer)
+
+-- the same behind blank lines that have passed
+pub shows_behind : (text passed passed_now : List ℕ) (answer : Result (Option Seen) Fault) (last : Option Paragraph) → paragraphs_of passed_now ≡ paragraphs_of passed → ShowsJudged text (passed_count passed_now) answer last → ShowsJudged text (passed_count passed) answer last
+shows_behind text passed passed_now answer last same shows = subst (λ n. ShowsJudged text n answer last) (ap length same) shows

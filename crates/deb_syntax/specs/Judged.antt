@@ -1,0 +1,119 @@
+-- The paragraph whose lines were judged last, and its lines by their numbers. Debian Policy 5.1;
+-- the limits and the order of the refusals are this project's own.
+use Rattle.std.specs.Prelude.{◌≡◌, ℕ, ◌+◌, ◌-◌, ◌≤◌, Bool, true, false, cond, List, [], ◌∷◌, nat_le, slice_get, slice_range, Option, Some, None, Result, Ok, Err, IfErr, codes, refl}
+use Rattle.std.specs.Str.{is_utf8, chars}
+use lib.Utf8.{encode}
+use Rattle.std.proofs.Common.{arith}
+use Rattle.deb_base.specs.Bodies.{Line, paragraph_limit, pieces_of}
+use Rattle.deb_base.specs.Codes.{number_of}
+use Rattle.deb_base.specs.Faults.{IsReadersFault}
+use Rattle.deb_base.specs.declared.code.Code.{Code}
+use Rattle.deb_base.specs.declared.code.Code.TheVariants.{NoColon, DuplicateField, ParagraphTooLong, FileTooLong}
+use Rattle.deb_base.specs.declared.fault.Fault.{Fault}
+use Rattle.deb_base.specs.declared.refusal.Refusal.{Refusal}
+use Rattle.deb_syntax.specs.Answers.{Seen, next_answer, part_within, paragraphs_within}
+use Rattle.deb_syntax.specs.Ahead.{room_ahead}
+use Rattle.deb_syntax.specs.Feeding.{FeedState}
+use Rattle.deb_syntax.specs.Lines.{Paragraph, lines_of, paragraphs_from, file_limit}
+use Rattle.deb_syntax.specs.declared.paragraphs.Standing.{Standing}
+
+-- whether a refusal with the code is one of a line: its number is from 1 to 7
+abbrev pub is_of_line : Code → Bool
+is_of_line code = nat_le (number_of code) 7
+
+-- the next paragraph, where this answer tells what is judged of its lines: not that it, or the
+-- file, is too long
+abbrev pub judged_by : Result (Option Seen) Refusal → Option Paragraph → Option Paragraph
+judged_by (Ok None) next = None
+judged_by (Ok (Some seen)) next = next
+judged_by (Err refusal) next = cond (is_of_line refusal.code) next None
+
+-- the paragraph behind the first `count` ones of a text, where its lines are judged
+abbrev pub judged_behind : List ℕ → ℕ → Option Paragraph
+judged_behind text count =
+    judged_by (next_answer text count) (slice_get (paragraphs_within text) count)
+
+-- the lines that stand in a buffer
+abbrev pub lines_standing : List ℕ → Standing → Paragraph
+lines_standing buffer at =
+    record { first = at.first_line; lines = pieces_of (slice_range buffer at.from at.to) }
+
+-- the line of a number, if the paragraph has it
+abbrev pub line_among : ℕ → Paragraph → Option Line
+line_among number p = cond (nat_le p.first number) (slice_get p.lines (number - p.first)) None
+
+abbrev pub line_judged : ℕ → Option Paragraph → Option Line
+line_judged number None = None
+line_judged number (Some p) = line_among number p
+
+-- behind the first `count` paragraphs of a text, an answer that tells of the text shows what was
+-- judged
+abbrev pub ShowsJudged : List ℕ → ℕ → Result (Option Seen) Fault → Option Paragraph → Type 0
+ShowsJudged text count (Ok seen) last = last ≡ judged_behind text count
+ShowsJudged text count (Err fault) last =
+    IsReadersFault fault (λ _. last ≡ judged_behind text count)
+
+-- a refusal of a length has the code of a paragraph, or of a file, that is too long
+pub record IsRefusalOfLength (refusal : Refusal) : Type 0 where
+  pub least : 8 ≤ number_of refusal.code
+  pub most : number_of refusal.code ≤ 9
+  pub line : 1 ≤ refusal.line
+
+-- the paragraph is the first of the text ahead
+pub record IsFirstAhead (text : List ℕ) (before : FeedState) (p : Paragraph) : Type 0 where
+  pub more : List Paragraph
+  pub next : paragraphs_from (before.lines + 1) (lines_of (part_within (room_ahead before) text))
+      ≡ p ∷ more
+
+-- What was judged of the text ahead, if anything was.
+abbrev pub JudgesAhead : List ℕ → FeedState → Option Paragraph → Type 0
+JudgesAhead text before None = Unit {0}
+JudgesAhead text before (Some p) = IsFirstAhead text before p
+
+abbrev pub IsErrOfLength : {T : Type 0} → Result T Fault → Type 0
+IsErrOfLength (Ok answer) = ⊥
+IsErrOfLength (Err fault) = IsReadersFault fault IsRefusalOfLength
+
+-- where lines were judged, an error is of a line, and else it is of a length
+abbrev pub JudgesLines : {T : Type 0} → Result T Fault → Option Paragraph → Type 0
+JudgesLines result None = IsErrOfLength result
+JudgesLines result (Some p) =
+    IfErr result (λ fault. IsReadersFault fault (λ refusal. number_of refusal.code ≤ 7))
+
+codes_of_lines : (is_of_line DuplicateField ≡ true) × (is_of_line NoColon ≡ true)
+    × (is_of_line ParagraphTooLong ≡ false) × (is_of_line FileTooLong ≡ false)
+codes_of_lines = (refl, refl, refl, refl)
+
+-- for the worked cases: two paragraphs, of which the second has a line without colon
+abbrev sample : List ℕ
+sample = codes "a:1\n\nb:2\nc\n"
+
+abbrev second : Paragraph
+second = record { first = 3; lines = codes "b:2" ∷ codes "c" ∷ [] }
+
+-- one that passes, one whose lines are refused, and none
+paragraphs_judged : (judged_behind sample 0
+    ≡ Some (record { first = 1; lines = codes "a:1" ∷ [] })) × (judged_behind sample 1 ≡ Some second)
+    × (judged_behind sample 2 ≡ None)
+unfolding paragraph_limit file_limit is_utf8 chars encode
+paragraphs_judged = (refl, refl, refl)
+
+-- nothing is judged of one that is too long
+long_unjudged : (seen : Seen) (line : ℕ)
+    → (judged_by (Err (record { code = ParagraphTooLong; line = line })) (Some second) ≡ None)
+    × (judged_by (Ok (Some seen)) (Some second) ≡ Some second)
+    × (judged_by (Ok None) (Some second) ≡ None)
+long_unjudged seen line = (refl, refl, refl)
+
+-- its lines, and such as it hasn't
+lines_among : (line_judged 3 (Some second) ≡ Some (codes "b:2"))
+    × (line_judged 4 (Some second) ≡ Some (codes "c")) × (line_judged 5 (Some second) ≡ None)
+    × (line_judged 2 (Some second) ≡ None) × (line_judged 3 None ≡ None)
+lines_among = (refl, refl, refl, refl, refl)
+
+lines_in_buffer : lines_standing (codes "\n\nb:2\nc\nd")
+    (record { from = 2; to = 7; first_line = 3 }) ≡ second
+lines_in_buffer = refl
+
+lengths_refused : IsRefusalOfLength (record { code = FileTooLong; line = 1 })
+lengths_refused = record { least = omega arith; most = omega arith; line = omega arith }
