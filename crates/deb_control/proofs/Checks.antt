@@ -22,7 +22,7 @@ one_found state true seen some found = ap Ok some
 one_found state false seen some found = absurd (false≢true (found.1 (subst IsSome (sym some) refl)))
 
 -- a paragraph was given, and none was
-has_some-is : (before : List Entries) (count : ℕ) → count ≡ length before → has_some before ≡ not (count == 0)
+pub has_some-is : (before : List Entries) (count : ℕ) → count ≡ length before → has_some before ≡ not (count == 0)
 has_some-is [] count is = rw is refl
 has_some-is (entries ∷ before) count is = rw (ne_eqb count 0 (λ e. omega (arith, is, e))) refl
 

@@ -32,5 +32,6 @@ pub mod ComparedSoFar
 pub mod PartsWithin
 pub mod ReadAlone
 pub mod RefusalLines
+pub mod RefusedLines
 pub mod RefusalsOfAny
 mod RequiredFields

@@ -3,7 +3,8 @@ use Rattle.std.specs.Prelude.{◌≡◌, ℕ, List, Option, Some, None, Result, 
 use Rattle.std.specs.Option.{option_map}
 use Rattle.deb_base.specs.declared.fault.Fault.{Fault}
 use Rattle.deb_syntax.specs.Answers.{Seen}
-use Rattle.deb_syntax.specs.Paragraphs.{state_of, seen_of}
+use Rattle.deb_syntax.specs.Lines.{Paragraph}
+use Rattle.deb_syntax.specs.Paragraphs.{judged_last, state_of, seen_of}
 use Rattle.deb_base.specs.declared.doc.Doc.{Doc}
 use Rattle.deb_control.specs.Checking.{CheckedMoment, CheckedState, Passing, passing_seen, seen_last, text_built}
 use Rattle.deb_control.specs.Documents.{rules_of}
@@ -25,6 +26,10 @@ checked_state c = record {
 -- the paragraph that is refused, where its lines aren't
 abbrev pub refused_last : CheckedState → Option Seen
 refused_last state = seen_refused state.fault state.reader.current
+
+-- the paragraph whose lines were judged last
+abbrev pub lines_checked : Checked → Option Paragraph
+lines_checked c = judged_last c.paragraphs
 
 -- the kind of document that it reads
 abbrev pub doc_read : Checked → Doc
@@ -71,8 +76,9 @@ reader_shown : (c : Checked) (left : Option (List ℕ)) (failures : ℕ)
 reader_shown c left failures = (refl, refl, refl, refl, refl)
 
 refused_shown : (c : Checked)
-    → refused_last (checked_state c) ≡ seen_refused c.fault (state_of c.paragraphs).current
-refused_shown c = refl
+    → (refused_last (checked_state c) ≡ seen_refused c.fault (state_of c.paragraphs).current)
+    × (lines_checked c ≡ judged_last c.paragraphs)
+refused_shown c = (refl, refl)
 
 view_shown : (judged : Judged) → ((passing_judged judged).seen ≡ seen_of judged.raw)
     × ((passing_judged judged).text ≡ text_built (built (rules_of judged.doc) (seen_of judged.raw)))

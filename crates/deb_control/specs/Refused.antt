@@ -8,7 +8,8 @@ use Rattle.deb_base.specs.declared.fault.Fault.{Fault}
 use Rattle.deb_base.specs.declared.fault.Fault.TheVariants.{Refused, Memory, Read, Write}
 use Rattle.deb_base.specs.declared.refusal.Refusal.{Refusal}
 use Rattle.deb_syntax.specs.Answers.{Seen, next_answer}
-use Rattle.deb_syntax.specs.Lines.{file_limit}
+use Rattle.deb_syntax.specs.Judged.{judged_behind}
+use Rattle.deb_syntax.specs.Lines.{Paragraph, file_limit}
 use Rattle.deb_syntax.specs.Meaning.{Entries}
 use Rattle.deb_control.specs.Refusals.{has_some}
 use Rattle.deb_control.specs.Rules.{Rules}
@@ -23,6 +24,12 @@ seen_in (Err refusal) = None
 abbrev pub seen_behind : Rules → List ℕ → List Entries → Option Seen
 seen_behind rules text before =
     cond (rules.single && has_some before) None (seen_in (next_answer text (length before)))
+
+-- The paragraph behind those that pass, where its lines are judged. None is of one that is one too
+-- many.
+abbrev pub lines_behind : Rules → List ℕ → List Entries → Option Paragraph
+lines_behind rules text before =
+    cond (rules.single && has_some before) None (judged_behind text (length before))
 
 -- the paragraph that was found last, where the error is a refusal
 abbrev pub seen_refused : Option Fault → Option Seen → Option Seen
@@ -57,6 +64,14 @@ nothing_behind : (seen_behind (sample false) (codes "a:1\n\n# b") ([] ∷ []) �
     × (seen_behind (sample false) (codes "a:1\n") ([] ∷ []) ≡ None)
 unfolding file_limit paragraph_limit is_utf8 chars encode
 nothing_behind = (refl, refl)
+
+-- the lines of the second paragraph, of which one is refused, and where it is one too many
+lines_shown : (lines_behind (sample false) (codes "a:1\n\nb:2\nc") ([] ∷ [])
+    ≡ Some (record { first = 3; lines = codes "b:2" ∷ codes "c" ∷ [] }))
+    × (lines_behind (sample true) (codes "a:1\n\nb:2\nc") ([] ∷ []) ≡ None)
+    × (lines_behind (sample false) (codes "a:1\n") ([] ∷ []) ≡ None)
+unfolding file_limit paragraph_limit is_utf8 chars encode
+lines_shown = (refl, refl, refl)
 
 errors_shown : (refusal : Refusal)
     → (seen_refused (Some (Refused refusal)) (Some second) ≡ Some second)

@@ -1,6 +1,6 @@
 //! Reads the paragraphs of a document, and checks them one after another.
 
-ghost use Rattle.std.specs.Prelude.{◌≡◌, ℕ, List, [], Some, None, Ok, true, IfOk, IfSome, IsTrue};
+ghost use Rattle.std.specs.Prelude.{◌≡◌, ℕ, List, [], Some, None, Ok, true, IfNone, IfOk, IfSome, IsSome, IsTrue};
 ghost use Rattle.deb_syntax.specs.Paragraphs.{seen_of, state_of};
 ghost use Rattle.deb_control.specs.Checking.{current_answer, is_found, is_sound, passing_seen, text_built};
 ghost use Rattle.deb_control.specs.Documents.{rules_of};
@@ -47,7 +47,12 @@ impl Checked {
     ghost use Rattle.deb_control.specs.Checking.{FitsChecked, ChecksOn, IsQuietChecked};
     ghost use Rattle.deb_control.specs.CheckedStates.{checked_state, checked_moment};
     ghost use Rattle.deb_control.specs.CheckedStates.{checked_answer, doc_judged, doc_of, doc_read};
-    ghost use Rattle.deb_control.specs.CheckedStates.{passing_judged, passing_of, refused_last};
+    ghost use Rattle.deb_control.specs.CheckedStates.{lines_checked, passing_judged, passing_of};
+    ghost use Rattle.deb_control.specs.CheckedStates.{refused_last};
+    ghost use Rattle.deb_control.specs.Calls.{IfRefused};
+    ghost use Rattle.deb_control.specs.Refused.{lines_behind};
+    ghost use Rattle.deb_syntax.specs.Judged.{line_judged};
+    ghost use Rattle.deb_syntax.specs.Meaning.{Entries};
 
     /// Returns a reader of checked paragraphs that has read nothing: the file is what its source
     /// has left. Takes no memory.
@@ -120,6 +125,12 @@ impl Checked {
             (checked_moment self.old (R.left reader.old) (R.failures reader.old)) result
             (checked_moment self.new (R.left reader.new) (R.failures reader.new)) }
         ensures doc { doc_read self.new ≡ doc_read self.old }
+        ensures lines { IfNone (checked_state self.old).fault
+            ((text : List ℕ) (before : List Entries) → FitsChecked (doc_read self.old) text before
+            (checked_state self.old) (R.left reader.old) → IfRefused result
+            (λ _. lines_checked self.new ≡ lines_behind (rules_of (doc_read self.old)) text
+            before)) }
+        ensures repeats { IsSome (checked_state self.old).fault → self.new ≡ self.old }
         ensures source_untouched { IsQuietChecked (checked_state self.old) → reader.new ≡
             reader.old }
     {
@@ -166,6 +177,16 @@ impl Checked {
             Some(Fault::Refused(_)) => self.paragraphs.current(),
             _ => None,
         }
+    }
+
+    /// Returns the line of a number, counted from 1, without its newline, of the paragraph that the
+    /// last `advance` found, or at which it refused the file. `None` if that has no such line, or if
+    /// there is no such paragraph.
+    pub fn line(&self, number: u64) -> Option<&[u8]>
+        ensures { option_map (λ line. line.now) result
+            ≡ line_judged number (lines_checked self.now) }
+    {
+        self.paragraphs.line(number)
     }
 
     /// Goes on to the next paragraph, which `accepted` then returns with its canonical text, and

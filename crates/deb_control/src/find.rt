@@ -1,12 +1,16 @@
 //! Finds the next paragraph of a document, and checks it.
 
-ghost use Rattle.std.specs.Prelude.{◌≡◌, ◌≤◌, ◌==◌, ◌&&◌, not, Option, None, Some, Ok, Err, false, true, is_some, length, IfOk, IfErr, IsTrue};
+ghost use Rattle.std.specs.Prelude.{◌≡◌, ◌≤◌, ◌==◌, ◌&&◌, ℕ, List, not, Option, None, Some, Ok, Err, false, true, is_some, length, IfOk, IfErr, IsTrue};
 ghost use Rattle.deb_base.specs.Faults.{RefusedOrMemory};
 ghost use Rattle.deb_syntax.specs.Answers.{Seen};
-ghost use Rattle.deb_syntax.specs.Paragraphs.{state_of, seen_of, IsQuiet};
+ghost use Rattle.deb_syntax.specs.Meaning.{Entries};
+ghost use Rattle.deb_syntax.specs.Paragraphs.{judged_last, state_of, seen_of, IsQuiet};
 ghost use Rattle.deb_base.specs.Docs.{is_single as is_one};
-ghost use Rattle.deb_control.specs.Checking.{is_found, Checks, Passing, passing_seen};
+ghost use Rattle.deb_control.specs.Calls.{IfRefused};
+ghost use Rattle.deb_control.specs.Checking.{is_found, Checks, FitsChecked, Passing, passing_seen};
+ghost use Rattle.deb_control.specs.Documents.{rules_of};
 ghost use Rattle.deb_control.specs.Finding.{moment_from, AddsPassing, RefusesSeen, end_answer, given_answer, seen_found};
+ghost use Rattle.deb_control.specs.Refused.{lines_behind};
 ghost use Rattle.deb_control.specs.Visiting.{VisitsFound, VisitsValues};
 
 use crate::paragraph_check::{check_paragraph, refused};
@@ -39,6 +43,11 @@ pub(crate) fn find<R: Source, V: FieldVisitor>(
     ensures gives { IfOk result (λ gives. gives ≡ is_some (state_of paragraphs.new).current) }
     ensures visits { result ≡ Ok true
         → VisitsFound V.Visited visitor.new doc (state_of paragraphs.new).current }
+    ensures lines { (shown : Option Seen) (kept : Option Fault) (text : List ℕ)
+        (before : List Entries) → FitsChecked doc text before
+        (moment_from shown kept paragraphs.old totals.old (R.left reader.old)
+        (R.failures reader.old)).state (R.left reader.old) → IfRefused result
+        (λ _. judged_last paragraphs.new ≡ lines_behind (rules_of doc) text before) }
     ensures source_untouched { IsQuiet (state_of paragraphs.old) → reader.new ≡ reader.old }
 {
     if is_complete(doc, totals) {
@@ -71,6 +80,7 @@ fn none_follows<R: Source>(paragraphs: &mut Paragraphs, reader: &mut R) -> Resul
     ensures sound { IfOk result (λ _. (state_of paragraphs.new).fault ≡ None) }
     ensures none { IfOk result
         (λ gives. (gives ≡ false) × ((state_of paragraphs.new).current ≡ None)) }
+    ensures unjudged { judged_last paragraphs.new ≡ None }
     ensures source_untouched { IsQuiet (state_of paragraphs.old) → reader.new ≡ reader.old }
 {
     match paragraphs.begins(reader)? {

@@ -1,5 +1,7 @@
-use Rattle.deb_control.proofs.Common.{◌≡◌, None, Some, refl, sym, ◌∙◌, err_from_is_err_and, goes-from_passes, state_of, seen_of, Advances}
+use Rattle.deb_control.proofs.Common.{◌≡◌, Bool, None, Some, refl, sym, ◌∙◌, err_from_is_err_and, goes-from_passes, state_of, seen_of, Advances}
+use Rattle.deb_syntax.specs.Paragraphs.{judged_last}
 use Rattle.deb_control.proofs.Checks.{few-totals, checks-advance_err, checks-end, says-found, none_found, one_found}
+use Rattle.deb_control.proofs.RefusedLines.{lines_are, lines_none, lines_refused, of_refusal, shown_by_answer, without_error}
 use Rattle.deb_control.proofs.find.find.Goals as goal
 
 pub returns-then-is_complete-clause-checks : goal.returns-then-is_complete-clause-checks
@@ -31,3 +33,25 @@ returns-in-Some-clause-checks g c = λ shown shown_now kept kept_now.
     let advances = goes-from_passes Advances _ _ _ c.requires.sound c.in_ok-advance.ensures.passes in
     says-found c.args.doc shown shown_now kept kept_now _ state totals.paragraphs totals.bytes _ _ _ _ (few-totals totals) (sym c.is_complete.ensures ∙ c.if-is_complete.false) totals c.pass.new.totals seen state.current _ c.pass.result
     c.in-Some.raw.numbered refl refl some (one_found state c.in_ok-advance.field-0 seen some c.in_ok-advance.ensures.found) advances c.pass.ensures.ok c.pass.ensures.fault c.pass.ensures.unchanged
+
+pub returns-then-is_complete-clause-lines : goal.returns-then-is_complete-clause-lines
+returns-then-is_complete-clause-lines g c = λ shown kept text before fits.
+    of_refusal c.none_follows.result _ (lines_none c.args.doc text before c.args.totals.now.paragraphs fits.counted (sym c.is_complete.ensures ∙ c.if-is_complete.true) (judged_last c.none_follows.new.paragraphs) c.none_follows.ensures.unjudged)
+
+pub returns-in_err-advance-clause-lines : goal.returns-in_err-advance-clause-lines
+returns-in_err-advance-clause-lines g c = λ shown kept text before fits.
+    let p = err_from_is_err_and c.from_residual.result c.from_residual.ensures.1 in
+    let judged = without_error _ _ c.requires.sound c.in_err-advance.ensures.judged in
+    rw (p.1, p.2) (lines_refused c.args.doc text before c.args.totals.now.paragraphs fits.counted (sym c.is_complete.ensures ∙ c.if-is_complete.false) fits.passed fits.paragraphs Bool c.in_err-advance.field-0.0 (judged_last c.advance.new.self) (judged text fits.passed fits.fits))
+
+pub returns-in-None-clause-lines : goal.returns-in-None-clause-lines
+returns-in-None-clause-lines g c = λ shown kept text before fits.
+    let judged = without_error _ _ c.requires.sound c.in_ok-advance.ensures.judged in
+    let last = judged_last c.advance.new.self in
+    of_refusal c.end.result _ (lines_are c.args.doc text before c.args.totals.now.paragraphs fits.counted (sym c.is_complete.ensures ∙ c.if-is_complete.false) fits.passed fits.paragraphs last (shown_by_answer text _ (state_of c.advance.new.self) c.in_ok-advance.field-0 last (judged text fits.passed fits.fits)))
+
+pub returns-in-Some-clause-lines : goal.returns-in-Some-clause-lines
+returns-in-Some-clause-lines g c = λ shown kept text before fits.
+    let judged = without_error _ _ c.requires.sound c.in_ok-advance.ensures.judged in
+    let last = judged_last c.advance.new.self in
+    of_refusal c.pass.result _ (lines_are c.args.doc text before c.args.totals.now.paragraphs fits.counted (sym c.is_complete.ensures ∙ c.if-is_complete.false) fits.passed fits.paragraphs last (shown_by_answer text _ (state_of c.advance.new.self) c.in_ok-advance.field-0 last (judged text fits.passed fits.fits)))

@@ -26,3 +26,6 @@ returns-in-Err-clause-passes g c =
       current = tt;
       visits = λ gives. absurd (cc);
     }
+
+pub returns-in-Err-clause-lines : goal.returns-in-Err-clause-lines
+returns-in-Err-clause-lines g c = rw c.in_default.is (λ text before fits. c.in-Err.ensures.lines _ _ text before fits)
