@@ -1,4 +1,4 @@
--- A key is at most twice as long as each text that spells the version, and eight bytes.
+-- The key of a version that a text of n bytes spells has at most 2n + 8 bytes.
 use Rattle.deb_version.proofs.Common.{◌≡◌, ◌≢◌, ℕ, zero, suc, ◌+◌, ◌*◌, ◌^◌, ◌<◌, ◌≤◌, ◌==◌, List, [], ◌∷◌, ◌++◌, map, length, Option, Some, None, inl, inr, refl, sym, ap, subst, arith, nat_lt, cases_Bool, length-append, length-map, length-drop, prefix_len, IfSome, Cut, IsDigits, AreCuts, part_of, parts_of, parts_of_cuts, cuts_of, joined, joined-cuts_of, AreCuts-cuts_of, value_of, Components, spelling, epoch_text, epoch_value, revision_text, revision_parts, meaning_of_components}
 use Rattle.std.proofs.Common.{pow-suc}
 use Rattle.std.specs.Int.Digits.{digits_of as digits_in_base}

@@ -1,17 +1,15 @@
 -- The key of a component, cut by cut, and of a number, as the code writes them.
-use Rattle.deb_version.proofs.Common.{◌≡◌, ◌≢◌, ℕ, ◌+◌, ◌^◌, ◌<◌, ◌≤◌, ◌==◌, Bool, true, false, List, [], ◌∷◌, ◌++◌, length, Option, Some, None, option_copied, unwrap_or, Bor, is_some, IfSome, IsTrue, refl, sym, ap, ◌∙◌, subst, arith, nat_tests, eqb-false, true≢false, cons_not_nil, nat_lt, append_assoc, is_revision_byte, is_upstream_byte, Cut, part_of, parts_of, parts_of_cuts, cuts_of, cuts_after, joined, joined-cuts_of, value_of, IsDigits, Version, components_of}
+use Rattle.deb_version.proofs.Common.{◌≡◌, ◌≢◌, ℕ, ◌^◌, ◌<◌, ◌≤◌, ◌==◌, Bool, true, false, List, [], ◌∷◌, ◌++◌, length, Option, Some, None, option_copied, unwrap_or, Bor, is_some, IfSome, IsTrue, refl, sym, ap, ◌∙◌, subst, arith, nat_tests, eqb-false, true≢false, cons_not_nil, append_assoc, is_revision_byte, is_upstream_byte, Cut, part_of, parts_of, parts_of_cuts, cuts_of, cuts_after, joined, joined-cuts_of, value_of, IsDigits, Version, components_of}
 use Rattle.std.specs.Prelude.{if◌then◌else◌, is_ok, OnOk}
 use Rattle.std.specs.declared.result.Result.{Result}
 use Rattle.std.specs.declared.result.Result.TheVariants.{Ok, Err}
 use Rattle.std.specs.Int.Digits.{digits_of as digits_in_base}
 use Rattle.std.proofs.lemmas.Int.Digits.{length-digits_of-le}
-use Rattle.deb_version.specs.Keys.{AreAscii, component_key, count_key, key_digits, key_end, part_key}
+use Rattle.deb_version.specs.Keys.{AreAscii, component_key, key_digits, key_end, part_key}
 use Rattle.deb_version.proofs.AllowedLemmas.{IsRevision, are_components-fact}
 use Rattle.deb_version.proofs.CanonicalComponent.{All-append_front, All-append_back, All-weaker}
 use Rattle.deb_version.proofs.CanonicalCuts.{joined_after, positive_of_digits, without_zeros-none, without_zeros-some}
 use Rattle.deb_version.proofs.CanonicalDigits.{digits_of-positive}
-use Rattle.deb_version.proofs.Emptiness.{nil_of_length}
-use Rattle.deb_version.proofs.KeyOrder.{count_key-long, count_key-short}
 use Rattle.deb_version.proofs.LeadingZeros.{without_zeros}
 
 -- the key of what follows a cut
@@ -19,8 +17,8 @@ abbrev pub rest_key : List ℕ → List ℕ
 rest_key [] = key_end ∷ []
 rest_key (b ∷ rest) = component_key (parts_of (b ∷ rest))
 
--- The key of a component begins with that of its first part.
-pub component_key-first : (bytes after : List ℕ) (cut : Cut) → cuts_of bytes ≡ cut ∷ cuts_after after
+-- the key of a component begins with that of its first part
+component_key-first : (bytes after : List ℕ) (cut : Cut) → cuts_of bytes ≡ cut ∷ cuts_after after
     → component_key (parts_of bytes) ≡ part_key (part_of cut) ++ rest_key after
 component_key-first bytes [] cut e = ap (λ cuts. component_key (parts_of_cuts cuts)) e
 component_key-first bytes (b ∷ after) cut e = ap (λ cuts. component_key (parts_of_cuts cuts)) e
@@ -35,9 +33,6 @@ one_part_written out new bytes after whole cut e written more =
 pub rest_key-some : (after : List ℕ) → (length after == 0) ≡ false → rest_key after ≡ component_key (parts_of after)
 rest_key-some [] some = absurd (true≢false some)
 rest_key-some (b ∷ after) some = refl
-
-pub rest_key-none : (after : List ℕ) → (length after == 0) ≡ true → rest_key after ≡ key_end ∷ []
-rest_key-none after none = ap rest_key (nil_of_length after none)
 
 -- the bytes of a component are those of its first cut and what follows it
 cut_apart : (bytes after : List ℕ) (cut : Cut) → cuts_of bytes ≡ cut ∷ cuts_after after → bytes ≡ cut.0 ++ (cut.1 ++ after)
@@ -85,22 +80,6 @@ key_digits-value_of run digits = by_left (without_zeros run) refl
         let some : without_zeros run ≢ [] = λ none. cons_not_nil b left (sym is ∙ none) in
         let positive = eqb-false (value_of run) 0 (positive_of_digits run digits some) in
         without_zeros-some run digits some ∙ digits_of-positive (value_of run) (omega (arith, positive))
-
--- a count in one byte, and in more
-pub count_written : (n : ℕ) → n < 240 → count_key n ≡ n ∷ []
-count_written n short = count_key-short n (test n short)
-  where
-    test : (k : ℕ) → k < 240 → nat_lt k 240 ≡ true
-    test k below = grind (arith, nat_tests)
-
-pub long_count_written : (out new after : List ℕ) (n k : ℕ) → 240 ≤ n → k ≡ length (digits_in_base 256 n) → new ≡ out ++ (239 + k) ∷ [] → after ≡ new ++ digits_in_base 256 n
-    → after ≡ out ++ count_key n
-long_count_written out new after n k long bytes first rest =
-    rest ∙ ap (λ l. l ++ digits_in_base 256 n) first ∙ append_assoc out ((239 + k) ∷ []) (digits_in_base 256 n)
-    ∙ ap (λ i. out ++ (239 + i) ∷ digits_in_base 256 n) bytes ∙ ap (λ l. out ++ l) (sym (count_key-long n (test n long)))
-  where
-    test : (i : ℕ) → 240 ≤ i → nat_lt i 240 ≡ false
-    test i above = grind (arith, nat_tests)
 
 -- the bytes of a count fit eight
 pub length-bytes : (n : ℕ) → n < 2 ^ 64 → length (digits_in_base 256 n) ≤ 8

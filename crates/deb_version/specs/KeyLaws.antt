@@ -46,7 +46,7 @@ EqualVersionsHaveOneKey =
     (s t : List ℕ) (a b : Meaning) → SpellsVersion s a → SpellsVersion t b
     → (version_key a ≡ version_key b) ↔ (version_cmp a b ≡ Equal)
 
--- A key is at most twice as long as each text that spells the version, and eight bytes.
+-- The key of a version that a text of n bytes spells has at most 2n + 8 bytes.
 abbrev pub KeyIsShort : Type 0
 KeyIsShort =
     (text : List ℕ) (m : Meaning) → SpellsVersion text m

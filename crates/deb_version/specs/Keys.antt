@@ -92,56 +92,6 @@ abbrev key_of : Option (List ℕ) → List ℕ → Option (List ℕ) → List �
 key_of epoch upstream revision =
     version_key (meaning_of_components (components_with epoch upstream revision))
 
--- 0: 01 00 02 00 02 02 00 02
-worked-key_zero : key_of None (codes "0") None
-    ≡ 1 ∷ 0 ∷ 2 ∷ 0 ∷ 2 ∷ 2 ∷ 0 ∷ 2 ∷ []
-worked-key_zero = refl
-
--- 1: 01 00 02 01 31 02 02 00 02
-worked-key_one : key_of None (codes "1") None
-    ≡ 1 ∷ 0 ∷ 2 ∷ 1 ∷ 49 ∷ 2 ∷ 2 ∷ 0 ∷ 2 ∷ []
-worked-key_one = refl
-
--- 1~: 01 00 02 01 31 01 02 00 02 02 00 02
-worked-key_tilde : key_of None (codes "1~") None
-    ≡ 1 ∷ 0 ∷ 2 ∷ 1 ∷ 49 ∷ 1 ∷ 2 ∷ 0 ∷ 2 ∷ 2 ∷ 0 ∷ 2 ∷ []
-worked-key_tilde = refl
-
--- 1a: 01 00 02 01 31 61 02 00 02 02 00 02
-worked-key_letter : key_of None (codes "1a") None
-    ≡ 1 ∷ 0 ∷ 2 ∷ 1 ∷ 49 ∷ 97 ∷ 2 ∷ 0 ∷ 2 ∷ 2 ∷ 0 ∷ 2 ∷ []
-worked-key_letter = refl
-
--- 1+: 01 00 02 01 31 ab 02 00 02 02 00 02
-worked-key_other : key_of None (codes "1+") None
-    ≡ 1 ∷ 0 ∷ 2 ∷ 1 ∷ 49 ∷ 171 ∷ 2 ∷ 0 ∷ 2 ∷ 2 ∷ 0 ∷ 2 ∷ []
-worked-key_other = refl
-
--- 1.0: 01 00 02 01 31 ae 02 00 02 02 00 02
-worked-key_dot : key_of None (codes "1.0") None
-    ≡ 1 ∷ 0 ∷ 2 ∷ 1 ∷ 49 ∷ 174 ∷ 2 ∷ 0 ∷ 2 ∷ 2 ∷ 0 ∷ 2 ∷ []
-worked-key_dot = refl
-
--- 0:1.00-0: 01 00 02 01 31 ae 02 00 02 02 00 02
-worked-key_zeros : key_of (Some (codes "0")) (codes "1.00") (Some (codes "0"))
-    ≡ 1 ∷ 0 ∷ 2 ∷ 1 ∷ 49 ∷ 174 ∷ 2 ∷ 0 ∷ 2 ∷ 2 ∷ 0 ∷ 2 ∷ []
-worked-key_zeros = refl
-
--- 1.0~rc1: 01 00 02 01 31 ae 02 00 01 72 63 02 01 31 02 02 00 02
-worked-key_rc : key_of None (codes "1.0~rc1") None
-    ≡ 1 ∷ 0 ∷ 2 ∷ 1 ∷ 49 ∷ 174 ∷ 2 ∷ 0 ∷ 1 ∷ 114 ∷ 99 ∷ 2 ∷ 1 ∷ 49 ∷ 2 ∷ 2 ∷ 0 ∷ 2 ∷ []
-worked-key_rc = refl
-
--- 1.0-1: 01 00 02 01 31 ae 02 00 02 02 01 31 02
-worked-key_revision : key_of None (codes "1.0") (Some (codes "1"))
-    ≡ 1 ∷ 0 ∷ 2 ∷ 1 ∷ 49 ∷ 174 ∷ 2 ∷ 0 ∷ 2 ∷ 2 ∷ 1 ∷ 49 ∷ 2 ∷ []
-worked-key_revision = refl
-
--- 2:1.0-3: 01 01 32 02 01 31 ae 02 00 02 02 01 33 02
-worked-key_long : key_of (Some (codes "2")) (codes "1.0") (Some (codes "3"))
-    ≡ 1 ∷ 1 ∷ 50 ∷ 2 ∷ 1 ∷ 49 ∷ 174 ∷ 2 ∷ 0 ∷ 2 ∷ 2 ∷ 1 ∷ 51 ∷ 2 ∷ []
-worked-key_long = refl
-
 -- the order of two keys
 abbrev key_order : List ℕ → List ℕ → Ordering
 key_order a b = slice_cmp nat_cmp a b
@@ -169,3 +119,64 @@ worked-revisions_and_epochs : (key_order (key_of None (codes "1.0~rc1") (Some (c
     × (key_order (upstream_key (codes "1.0"))
     (key_of (Some (codes "0")) (codes "1.00") (Some (codes "0"))) ≡ Equal)
 worked-revisions_and_epochs = (refl, refl, refl, refl)
+
+-- a table of keys, ascending, but for the first two, which are one version
+-- 0: 01 00 02 00 02 02 00 02
+worked-key_of_zero : key_of None (codes "0") None
+    ≡ 1 ∷ 0 ∷ 2 ∷ 0 ∷ 2 ∷ 2 ∷ 0 ∷ 2 ∷ []
+worked-key_of_zero = refl
+
+-- 00-0: 01 00 02 00 02 02 00 02
+worked-key_of_zeros : key_of None (codes "00") (Some (codes "0"))
+    ≡ 1 ∷ 0 ∷ 2 ∷ 0 ∷ 2 ∷ 2 ∷ 0 ∷ 2 ∷ []
+worked-key_of_zeros = refl
+
+-- 1~: 01 00 02 01 31 01 02 00 02 02 00 02
+worked-key_of_tilde : key_of None (codes "1~") None
+    ≡ 1 ∷ 0 ∷ 2 ∷ 1 ∷ 49 ∷ 1 ∷ 2 ∷ 0 ∷ 2 ∷ 2 ∷ 0 ∷ 2 ∷ []
+worked-key_of_tilde = refl
+
+-- 1: 01 00 02 01 31 02 02 00 02
+worked-key_of_one : key_of None (codes "1") None
+    ≡ 1 ∷ 0 ∷ 2 ∷ 1 ∷ 49 ∷ 2 ∷ 2 ∷ 0 ∷ 2 ∷ []
+worked-key_of_one = refl
+
+-- 1a: 01 00 02 01 31 61 02 00 02 02 00 02
+worked-key_of_letter : key_of None (codes "1a") None
+    ≡ 1 ∷ 0 ∷ 2 ∷ 1 ∷ 49 ∷ 97 ∷ 2 ∷ 0 ∷ 2 ∷ 2 ∷ 0 ∷ 2 ∷ []
+worked-key_of_letter = refl
+
+-- 1+: 01 00 02 01 31 ab 02 00 02 02 00 02
+worked-key_of_other : key_of None (codes "1+") None
+    ≡ 1 ∷ 0 ∷ 2 ∷ 1 ∷ 49 ∷ 171 ∷ 2 ∷ 0 ∷ 2 ∷ 2 ∷ 0 ∷ 2 ∷ []
+worked-key_of_other = refl
+
+-- 1.0~rc1: 01 00 02 01 31 ae 02 00 01 72 63 02 01 31 02 02 00 02
+worked-key_of_candidate : key_of None (codes "1.0~rc1") None
+    ≡ 1 ∷ 0 ∷ 2 ∷ 1 ∷ 49 ∷ 174 ∷ 2 ∷ 0 ∷ 1 ∷ 114 ∷ 99 ∷ 2 ∷ 1 ∷ 49 ∷ 2 ∷ 2 ∷ 0 ∷ 2 ∷ []
+worked-key_of_candidate = refl
+
+-- 1.0: 01 00 02 01 31 ae 02 00 02 02 00 02
+worked-key_of_dot : key_of None (codes "1.0") None
+    ≡ 1 ∷ 0 ∷ 2 ∷ 1 ∷ 49 ∷ 174 ∷ 2 ∷ 0 ∷ 2 ∷ 2 ∷ 0 ∷ 2 ∷ []
+worked-key_of_dot = refl
+
+-- 1.0-1: 01 00 02 01 31 ae 02 00 02 02 01 31 02
+worked-key_of_revision : key_of None (codes "1.0") (Some (codes "1"))
+    ≡ 1 ∷ 0 ∷ 2 ∷ 1 ∷ 49 ∷ 174 ∷ 2 ∷ 0 ∷ 2 ∷ 2 ∷ 1 ∷ 49 ∷ 2 ∷ []
+worked-key_of_revision = refl
+
+-- 1.9: 01 00 02 01 31 ae 02 01 39 02 02 00 02
+worked-key_of_nine : key_of None (codes "1.9") None
+    ≡ 1 ∷ 0 ∷ 2 ∷ 1 ∷ 49 ∷ 174 ∷ 2 ∷ 1 ∷ 57 ∷ 2 ∷ 2 ∷ 0 ∷ 2 ∷ []
+worked-key_of_nine = refl
+
+-- 1.10: 01 00 02 01 31 ae 02 02 31 30 02 02 00 02
+worked-key_of_ten : key_of None (codes "1.10") None
+    ≡ 1 ∷ 0 ∷ 2 ∷ 1 ∷ 49 ∷ 174 ∷ 2 ∷ 2 ∷ 49 ∷ 48 ∷ 2 ∷ 2 ∷ 0 ∷ 2 ∷ []
+worked-key_of_ten = refl
+
+-- 2:1.0-3: 01 01 32 02 01 31 ae 02 00 02 02 01 33 02
+worked-key_of_epoch : key_of (Some (codes "2")) (codes "1.0") (Some (codes "3"))
+    ≡ 1 ∷ 1 ∷ 50 ∷ 2 ∷ 1 ∷ 49 ∷ 174 ∷ 2 ∷ 0 ∷ 2 ∷ 2 ∷ 1 ∷ 51 ∷ 2 ∷ []
+worked-key_of_epoch = refl

@@ -137,7 +137,7 @@ pub fn equal_versions_have_one_key()
     ensures { EqualVersionsHaveOneKey }
 {}
 
-/// A key is at most twice as long as each spelling of the version, and eight bytes.
+/// The key of a version that a text of n bytes spells has at most 2n + 8 bytes.
 pub fn key_is_short()
     ensures { KeyIsShort }
 {}
