@@ -56,7 +56,7 @@ pub use Rattle.deb_base.specs.declared.fault.Fault.TheVariants.{Memory, Read, Re
 pub use Rattle.deb_base.specs.declared.refusal.Refusal.{Refusal}
 pub use Rattle.memchr.specs.Find.{IsFirstByte, is_byte}
 pub use Rattle.deb_base.specs.Reading.{TakesNoMore, piece_limit}
-pub use Rattle.deb_syntax.specs.Ahead.{DropsLine, EndsInSight, HasFirst, HasNewline, HidesLine, IsAhead, IsDropped, IsExtentAhead, IsExtentOf, IsFirst, IsNear, IsNextRun, KeepsLine, PassesAll, PassesBlanks, PassesParagraph, SameCounts, TextAfterLine, left_answer, left_begin, room_ahead}
+pub use Rattle.deb_syntax.specs.Ahead.{DropsLine, EndsAt, EndsInSight, HasFirst, HidesLine, IsAhead, IsDropped, IsExtentAhead, IsExtentOf, IsFirst, IsNear, IsNextRun, KeepsLine, PassesAll, PassesBlanks, PassesParagraph, SameCounts, TextAfterLine, left_answer, left_begin, room_ahead}
 pub use Rattle.deb_syntax.specs.Answers.{Seen, answer_of_first, begin_of_first, is_line, line_beyond, line_too_long, next_answer, next_begin, paragraph_answer, paragraphs_within, part_within, seen_from, whole_lines, with_whole}
 pub use Rattle.deb_syntax.specs.Extents.{AreBlank, AreNotBlank}
 pub use Rattle.deb_syntax.specs.Feeding.{Comes, FeedState, IsTail, KeepsFirst, PassesOn, Sees, Stays, Takes, buffer_of, feed_state, had, left_count, room_of, start_of}

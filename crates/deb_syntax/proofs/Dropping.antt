@@ -1,5 +1,5 @@
 -- A line that is read to its end, of whose bytes only those that came last are kept.
-use Rattle.deb_syntax.proofs.Common.{◌≡◌, ℕ, ◌+◌, ◌-◌, ◌<◌, ◌≤◌, true, false, List, [], ◌∷◌, ◌++◌, Option, Some, None, Ok, Err, length, take, drop, IsTrue, IsFalse, refl, sym, ap, subst, ◌∙◌, append_assoc, arith, length-append, length-drop, length-take, take-append-add, take-append_seam, drop-append-add, drop-append_seam, take-append-drop, take-append-le, take_all, take_rest, length-take-le, MatchBool, newline, FileTooLong, Refused, Refusal, FeedState, piece_limit, Comes, KeepsFirst, Sees, room_of, had, Takes, Describes, EndsIn, GoesAlong, room_ahead, IsAhead, DropsLine, HasNewline, IsDropped, Begun, AlongLine, Run, Sight, DroppedLine}
+use Rattle.deb_syntax.proofs.Common.{◌≡◌, ℕ, ◌+◌, ◌-◌, ◌<◌, ◌≤◌, inl, inr, true, false, List, [], ◌∷◌, ◌++◌, Option, Some, Ok, Err, length, take, drop, drop_all, IsTrue, IsFalse, refl, sym, ap, subst, ◌∙◌, append_assoc, arith, length-append, length-drop, length-take, take-append-add, take-append_seam, drop-append-add, drop-append_seam, take-append-drop, take-append-le, take_all, take_rest, length-take-le, MatchBool, newline, FileTooLong, Refused, Refusal, FeedState, piece_limit, Comes, KeepsFirst, Sees, room_of, had, Takes, Describes, EndsIn, GoesAlong, room_ahead, IsAhead, DropsLine, EndsAt, IsDropped, Begun, AlongLine, Run, Sight, DroppedLine}
 use Rattle.std.proofs.Common.{append-nil}
 use Rattle.deb_syntax.specs.Lines.{file_limit}
 use Rattle.deb_syntax.proofs.Feeds.{comes_whole, comes_end}
@@ -174,14 +174,8 @@ module _ (before : FeedState) (left_before : Option (List ℕ)) (run : Run) (aft
 
   -- the line's newline is among these bytes
   module _ (next : Begun) (e : EndsIn c.seen (take fresh_room c.piece) next) where
-    pub ended-longer : begun.len ≤ next.len
-    ended-longer = omega (arith, e.describes.len, c.describes.len, length-append c.seen e.more)
-
     fresh-length : length (take fresh_room c.piece) ≡ length e.more + (length e.rest + 1)
     fresh-length = omega (arith, ap length e.whole, length-append e.more (newline ∷ e.rest))
-
-    pub ended-fits : run.bytes + (next.len - begun.len) ≤ run.bytes + piece_limit
-    ended-fits = omega (arith, e.describes.len, c.describes.len, length-append c.seen e.more, fresh-length, fresh-short, c.short)
 
     abbrev behind : List ℕ
     behind = e.rest ++ drop fresh_room c.piece
@@ -202,19 +196,14 @@ module _ (before : FeedState) (left_before : Option (List ℕ)) (run : Run) (aft
     ended-room : run.bytes + length (c.seen ++ e.more) + 1 ≤ room_ahead before
     ended-room = omega (arith, length-append c.seen e.more, fresh-length, length-take fresh_room c.piece, c.room)
 
-    has-newline : HasNewline before run (c.seen ++ e.more) (Some (run.bytes + (next.len - begun.len))) after
-    has-newline = (
-      behind,
-      omega arith,
-      drop-at,
-      omega (arith, c.short, ap length piece-is, length-append e.more (newline ∷ behind)),
-      ended-room,
-    )
-
-    pub ended-drops : IsDropped before left_before run (Ok (record { line = next; newline = Some (run.bytes + (next.len - begun.len)) })) after left
+    pub ended-drops : IsDropped before left_before run (Ok (record { line = next; end = run.bytes + (next.len - begun.len) })) after left
     ended-drops = (
       drops _ e.more e.describes,
-      has-newline,
+      record {
+        within = omega (arith, ap length drop-at, length-drop (run.bytes + (next.len - begun.len)) after.unread);
+        near = omega (arith, ap length drop-at, c.short, ap length piece-is, length-append e.more (newline ∷ behind));
+        ends = inl (behind, drop-at, ended-room);
+      },
       λ text a.
           let p = c.ahead text a in (
             p.rest,
@@ -260,21 +249,22 @@ module _ (before : FeedState) (left_before : Option (List ℕ)) (run : Run) (aft
     more-smaller le more = omega (arith, (whole-line le).len, length-append c.seen c.piece, whole-room le, c.more more, c.describes.len, c.small)
 
     -- and the file ends
-    none-has : IsTrue after.ended → after.unread ≡ take run.bytes before.unread
-    none-has ended = c.unread ∙ ap (λ zs. take run.bytes before.unread ++ zs) (c.ended ended) ∙ append-nil (take run.bytes before.unread)
-
-    pub none-drops : length after.unread ≤ room_of after begun.len → IsTrue after.ended → IsDropped before left_before run (Ok (record { line = next; newline = None })) after left
-    none-drops le ended = (
-      drops _ c.piece (whole-line le),
-      (none-has ended, ended, whole-room le),
-      λ text a.
-          let p = c.ahead text a in (
-            p.whole
-                ∙ ap (λ zs. take run.bytes before.unread ++ (c.seen ++ (c.piece ++ zs))) (p.ended ended)
-                ∙ ap (λ zs. take run.bytes before.unread ++ (c.seen ++ zs)) (append-nil c.piece),
-            p.told ∙ ap (λ zs. Some zs) (p.ended ended),
-          ),
-    )
+    pub none-drops : length after.unread ≤ room_of after begun.len → IsTrue after.ended → IsDropped before left_before run (Ok (record { line = next; end = run.bytes + (next.len - begun.len) })) after left
+    none-drops le ended =
+        let at = run.bytes + (next.len - begun.len) in
+        let none = c.ended ended in
+        let over : length after.unread ≡ at = omega (arith, came-length, ap length none, (whole-line le).len, c.describes.len, length-append c.seen c.piece) in
+        let behind : drop at after.unread ≡ [] = drop_all at after.unread (omega (arith, over)) in (
+          drops _ c.piece (whole-line le),
+          record { within = omega (arith, over); near = omega (arith, over, length-drop at after.unread); ends = inr (behind, ended, whole-room le) },
+          λ text a.
+              let p = c.ahead text a in (
+                p.rest,
+                p.told,
+                p.whole ∙ ap (λ zs. take run.bytes before.unread ++ zs) (sym (append_assoc c.seen c.piece p.rest)) ∙ ap (λ zs. take run.bytes before.unread ++ ((c.seen ++ c.piece) ++ (zs ++ p.rest))) (sym behind),
+                p.ended,
+              ),
+        )
 
     -- and beyond what may be looked at
     pub beyond-drops : (refusal : Refusal) → room_of after begun.len < length after.unread → refusal ≡ record { code = FileTooLong; line = before.lines + run.lines + 1 } → IsDropped before left_before run (Err (Refused refusal)) after left

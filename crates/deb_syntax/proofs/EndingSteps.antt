@@ -1,6 +1,6 @@
 -- Where a paragraph ends, by why no line more was taken: at the file's end, or behind a line that was dropped.
-use Rattle.deb_syntax.proofs.Common.{cond, nat_lt, drop-length, ◌≡◌, ◌≢◌, ℕ, ◌+◌, ◌-◌, ◌<◌, ◌≤◌, true, false, List, [], ◌∷◌, ◌++◌, Option, Some, None, Result, Ok, Err, length, take, drop, IsTrue, refl, sym, ap, subst, ◌∙◌, arith, length-append, length-drop, append-nil, take-append-drop, drop-drop, Line, newline, paragraph_limit, is_blank, Code, ParagraphTooLong, FileTooLong, Fault, Refused, Refusal, left_answer, room_ahead, IsAhead, IsExtentOf, PassesParagraph, IsNextRun, IsExtentAhead, DropsLine, HasNewline, TextAfterLine, IsDropped, Seen, FeedState, with_newlines, StandInFront, Stops, DroppedLine, Extent, Run, Stop, Open}
-use Rattle.deb_syntax.proofs.Endings.{RunLines, Ends, ends-ahead, ends-blank, ends-none, ends-last, some-lines, some-full, refused-long, refused-end, refused-beyond}
+use Rattle.deb_syntax.proofs.Common.{inl, inr, min, append_assoc, length-take, drop-length, ◌≡◌, ◌≢◌, ℕ, ◌+◌, ◌-◌, ◌<◌, ◌≤◌, true, false, List, [], ◌∷◌, ◌++◌, Option, Some, None, Result, Ok, Err, length, take, drop, IsTrue, refl, sym, ap, subst, ◌∙◌, arith, length-append, length-drop, append-nil, take-append-drop, drop-drop, Line, newline, paragraph_limit, is_blank, Code, ParagraphTooLong, FileTooLong, Fault, Refused, Refusal, left_answer, room_ahead, IsAhead, IsExtentOf, PassesParagraph, IsNextRun, IsExtentAhead, DropsLine, EndsAt, TextAfterLine, IsDropped, Seen, FeedState, with_newlines, StandInFront, Stops, DroppedLine, Extent, Run, Stop, Open}
+use Rattle.deb_syntax.proofs.Endings.{RunLines, Ends, extent_behind, ends-ahead, ends-behind, ends-last, some-lines, some-full, refused-long, refused-end, refused-beyond}
 use Rattle.deb_syntax.proofs.Faults.{readers_fault}
 use Rattle.deb_syntax.proofs.WalkingLines.{front-step, take-front, drop-front, length-front, few_lines-with_newlines}
 
@@ -62,13 +62,14 @@ module _ (state : FeedState) (run : Run) (s : Stops state.unread Open run) where
   file-some blank = let some = some-bytes s.lines (file-lines blank) in omega (arith, s.stands.bytes)
 
   -- a blank line without newline is behind the run, or nothing
-  pub file-none : (e : Extent) → is_blank s.seen ≡ true → IsTrue state.ended → length state.unread ≤ room_ahead state → e ≡ record { end = run.bytes - 1; skip = run.bytes + run.begun.len; bytes = run.bytes + run.begun.len; lines = run.lines + cond (nat_lt 0 run.begun.len) 1 0 } → Ends (with_newlines s.lines ++ s.seen) e state
+  pub file-none : (e : Extent) → is_blank s.seen ≡ true → IsTrue state.ended → length state.unread ≤ room_ahead state → e ≡ extent_behind run (run.bytes + run.begun.len) 0 → Ends (with_newlines s.lines ++ s.seen) e state
   file-none e blank ended room is =
       let size = open-length state.unread run s in
       let len = s.stands.describes.len in
       let bytes = ap (λ (x : Extent). x.bytes) is in
-      ends-none state run (run_lines-open state.unread run s) s.seen e s.stands.describes.line blank (file-some blank) (ap (λ (x : Extent). x.end) is) (omega (arith, bytes, size, room))
-      ended (ap (λ (x : Extent). x.skip) is ∙ sym size) (omega (arith, bytes, len)) (ap (λ (x : Extent). x.lines) is ∙ ap (λ n. run.lines + cond (nat_lt 0 n) 1 0) len)
+      let skip = ap (λ (x : Extent). x.skip) is in
+      ends-behind state run (run_lines-open state.unread run s) s.seen e s.stands.describes.line blank (file-some blank) (ap (λ (x : Extent). x.end) is) (omega (arith, bytes, size, room)) s.seen
+      (inr (refl, ended, omega (arith, skip, size))) (omega (arith, skip, size)) (omega (arith, skip, size, length-drop e.skip state.unread)) (omega (arith, bytes, len)) (omega (arith, ap (λ (x : Extent). x.lines) is, len))
 
   -- a line that isn't blank, without newline
   pub file-last : is_blank s.seen ≡ false → IsTrue state.ended → length state.unread ≤ room_ahead state → run.bytes + run.begun.len < paragraph_limit → Ends state.unread (record { end = run.bytes + run.begun.len; skip = run.bytes + run.begun.len; bytes = run.bytes + run.begun.len; lines = run.lines + 1 }) state
@@ -136,59 +137,55 @@ module _ (before after : FeedState) (run : Run) (s : Stops before.unread Open ru
     pub dropped-some : paragraph_limit ≤ length before.unread → is_blank d.line ≡ true → 0 < run.bytes
     dropped-some full blank = let some = some-bytes s.lines (full-lines full blank) in omega (arith, s.stands.bytes)
 
-    pub dropped-within : (at : Option ℕ) → HasNewline before run d.line at after → run.bytes + length d.line ≤ room_ahead before
-    dropped-within (Some at) (more, ordered, here, near, within) = omega arith
-    dropped-within None (none, ended, within) = within
+    pub dropped-within : (at newline_len : ℕ) → EndsAt before run d.line at after → newline_len ≡ min (length after.unread - at) 1 → run.bytes + (length d.line + newline_len) ≤ room_ahead before
+    dropped-within at n h is = elim h.ends [
+      | inl x ↦ omega (arith, x.2, is)
+      | inr x ↦ omega (arith, x.2, is, length-drop at after.unread, ap length x.0)
+    ]
 
-    -- the text, where the dropped line has its newline
-    text-newline : (text : List ℕ) (at : ℕ) (more rest : List ℕ) → drop at after.unread ≡ newline ∷ more → text ≡ take run.bytes before.unread ++ (d.line ++ (drop at after.unread ++ rest)) → text ≡ with_newlines s.lines ++ (d.line ++ newline ∷ (more ++ rest))
-    text-newline text at more rest here whole =
-        whole ∙ ap (λ zs. zs ++ (d.line ++ (drop at after.unread ++ rest))) take-run
-        ∙ ap (λ zs. with_newlines s.lines ++ (d.line ++ (zs ++ rest))) here
-
-    pub dropped-long : (text : List ℕ) (left : Option (List ℕ)) (fault : Fault) (at : Option ℕ) → paragraph_limit ≤ length before.unread → is_blank d.line ≡ false → HasNewline before run d.line at after → TextAfterLine text before run d.line at after left → fault ≡ Refused (record { code = ParagraphTooLong; line = before.lines + run.lines + 1 }) → IsExtentAhead text before (Err fault) after left
-    dropped-long text left fault (Some at) full line_not (more, ordered, here, near, within) (rest, told, whole, ended) is =
+    pub dropped-long : (text : List ℕ) (left : Option (List ℕ)) (fault : Fault) (at : ℕ) → paragraph_limit ≤ length before.unread → is_blank d.line ≡ false → EndsAt before run d.line at after → TextAfterLine text before run d.line at after left → fault ≡ Refused (record { code = ParagraphTooLong; line = before.lines + run.lines + 1 }) → IsExtentAhead text before (Err fault) after left
+    dropped-long text left fault at full line_not h (rest, told, whole, ended) is =
         let size = length-front before.unread s.lines s.seen (open-front before.unread run s) in
         let l = longer in
+        let text_is : text ≡ with_newlines s.lines ++ (d.line ++ (drop at after.unread ++ rest)) = whole ∙ ap (λ zs. zs ++ (d.line ++ (drop at after.unread ++ rest))) take-run in
         refusal-ahead text before after left fault ParagraphTooLong run.lines s.lines is s.stands.counted
-        (refused-long (before.lines + 1) (room_ahead before) text s.lines d.line (more ++ rest)
-        (record { text = text-newline text at more rest here whole; lines = s.stands.front.lines }) d.describes.line
-        (omega (arith, within, s.stands.bytes)) s.stands.not_blank line_not (omega (arith, s.stands.short, s.stands.bytes)) (omega arith))
-    dropped-long text left fault None full line_not (none, ended, within) (whole, told) is =
-        let size = length-front before.unread s.lines s.seen (open-front before.unread run s) in
-        let l = longer in
-        refusal-ahead text before after left fault ParagraphTooLong run.lines s.lines is s.stands.counted
-        (refused-end (before.lines + 1) (room_ahead before) text s.lines d.line
-        (record { text = whole ∙ ap (λ zs. zs ++ d.line) take-run; lines = s.stands.front.lines }) d.describes.line
-        (omega (arith, within, s.stands.bytes)) s.stands.not_blank line_not (omega (arith, s.stands.short, s.stands.bytes)) (omega arith))
+        (elim h.ends [
+          | inl x ↦
+              refused-long (before.lines + 1) (room_ahead before) text s.lines d.line (x.0 ++ rest)
+              (record { text = text_is ∙ ap (λ zs. with_newlines s.lines ++ (d.line ++ (zs ++ rest))) x.1; lines = s.stands.front.lines }) d.describes.line
+              (omega (arith, x.2, s.stands.bytes)) s.stands.not_blank line_not (omega (arith, s.stands.short, s.stands.bytes)) (omega arith)
+          | inr x ↦
+              refused-end (before.lines + 1) (room_ahead before) text s.lines d.line
+              (record { text = text_is ∙ ap (λ zs. with_newlines s.lines ++ (d.line ++ zs)) (ap (λ zs. zs ++ rest) x.0 ∙ ended x.1) ∙ ap (λ zs. with_newlines s.lines ++ zs) (append-nil d.line); lines = s.stands.front.lines }) d.describes.line
+              (omega (arith, x.2, s.stands.bytes)) s.stands.not_blank line_not (omega (arith, s.stands.short, s.stands.bytes)) (omega arith)
+        ])
 
-    -- a blank line with its newline is behind the run
-    pub dropped-blank : (e : Extent) (at : ℕ) → paragraph_limit ≤ length before.unread → is_blank d.line ≡ true → HasNewline before run d.line (Some at) after → e ≡ record { end = run.bytes - 1; skip = at + 1; bytes = run.bytes + dropped.line.len + 1; lines = run.lines + 1 } → Ends (with_newlines (s.lines ++ d.line ∷ [])) e after
-    dropped-blank e at full blank (more, ordered, here, near, within) is =
+    -- a blank line is behind the run, with its newline or without
+    pub dropped-behind : (e : Extent) (at newline_len : ℕ) → paragraph_limit ≤ length before.unread → is_blank d.line ≡ true → EndsAt before run d.line at after → newline_len ≡ min (length after.unread - at) 1 → e ≡ extent_behind (record run { begun = dropped.line }) at newline_len → Ends (with_newlines s.lines ++ (d.line ++ take newline_len (drop at after.unread))) e after
+    dropped-behind e at n full blank h n_is is =
         let bytes = ap (λ (x : Extent). x.bytes) is in
         let skip = ap (λ (x : Extent). x.skip) is in
-        ends-blank after run kept d.line e d.describes.line blank (dropped-some full blank) (ap (λ (x : Extent). x.end) is) (omega (arith, bytes, d.describes.len, within, same-room))
-        (omega (arith, skip, length-drop at after.unread, ap length here)) (omega (arith, skip, near, length-drop at after.unread, length-drop e.skip after.unread, ap length here)) (omega (arith, bytes, d.describes.len)) (ap (λ (x : Extent). x.lines) is)
-
-    -- or one without, or nothing
-    pub dropped-none : (e : Extent) → paragraph_limit ≤ length before.unread → is_blank d.line ≡ true → HasNewline before run d.line None after → e ≡ record { end = run.bytes - 1; skip = run.bytes; bytes = run.bytes + dropped.line.len; lines = run.lines + cond (nat_lt 0 dropped.line.len) 1 0 } → Ends (with_newlines s.lines ++ d.line) e after
-    dropped-none e full blank (gone, ended, within) is =
-        let bytes = ap (λ (x : Extent). x.bytes) is in
-        ends-none after run kept d.line e d.describes.line blank (dropped-some full blank) (ap (λ (x : Extent). x.end) is) (omega (arith, bytes, d.describes.len, within, same-room))
-        ended (ap (λ (x : Extent). x.skip) is ∙ s.stands.bytes ∙ sym (ap length (gone ∙ take-run))) (omega (arith, bytes, d.describes.len))
-        (ap (λ (x : Extent). x.lines) is ∙ ap (λ n. run.lines + cond (nat_lt 0 n) 1 0) d.describes.len)
+        let more = length-drop at after.unread in
+        let size : length (d.line ++ take n (drop at after.unread)) ≡ length d.line + n = omega (arith, length-append d.line (take n (drop at after.unread)), length-take n (drop at after.unread), more, n_is) in
+        ends-behind after run kept d.line e d.describes.line blank (dropped-some full blank) (ap (λ (x : Extent). x.end) is) (omega (arith, bytes, d.describes.len, dropped-within at n h n_is, same-room)) _
+        (elim h.ends [
+          | inl x ↦ let one : n ≡ 1 = omega (arith, n_is, more, ap length x.1) in inl (ap (λ zs. d.line ++ zs) (ap (λ k. take k (drop at after.unread)) one ∙ ap (take 1) x.1))
+          | inr x ↦ let none : n ≡ 0 = omega (arith, n_is, more, ap length x.0) in inr (ap (λ k. d.line ++ take k (drop at after.unread)) none ∙ append-nil d.line, x.1, omega (arith, skip, none, more, ap length x.0, h.within))
+        ])
+        (omega (arith, skip, n_is, h.within)) (omega (arith, skip, n_is, h.near, more, length-drop e.skip after.unread)) (omega (arith, bytes, d.describes.len, size)) (omega (arith, ap (λ (x : Extent). x.lines) is, d.describes.len, size))
 
     same-answer : (n : ℕ) (text : List ℕ) (e : Extent) (left : Option (List ℕ)) → ((x : IsExtentOf e after) × PassesParagraph text e after left x.lines × IsNextRun n (room_ahead after) text x.lines) → ((x : IsExtentOf e after) × PassesParagraph text e after left x.lines × IsNextRun n (room_ahead before) text x.lines)
     same-answer n text e left (x, passes, next) = (x, passes, subst (λ r. IsNextRun n r text x.lines) same-room next)
 
-    pub dropped-blank-ahead : (text : List ℕ) (left : Option (List ℕ)) (e : Extent) (at : ℕ) → Ends (with_newlines (s.lines ++ d.line ∷ [])) e after → e.skip ≡ at + 1 → HasNewline before run d.line (Some at) after → TextAfterLine text before run d.line (Some at) after left → IsExtentAhead text before (Ok e) after left
-    dropped-blank-ahead text left e at b skip (more, ordered, here, near, within) (rest, told, whole, ended) =
-        let stands : StandInFront text s.lines (d.line ++ newline ∷ (more ++ rest)) = record { text = text-newline text at more rest here whole; lines = s.stands.front.lines } in
-        let next : more ≡ drop e.skip after.unread = sym (ap (λ k. drop k after.unread) skip ∙ sym (drop-drop 1 at after.unread) ∙ ap (drop 1) here) in
+    pub dropped-ahead : (text : List ℕ) (left : Option (List ℕ)) (e : Extent) (at newline_len : ℕ) → Ends (with_newlines s.lines ++ (d.line ++ take newline_len (drop at after.unread))) e after → e.skip ≡ at + newline_len → TextAfterLine text before run d.line at after left → IsExtentAhead text before (Ok e) after left
+    dropped-ahead text left e at n b skip (rest, told, whole, ended) =
+        let lines = with_newlines s.lines in
+        let newlines = take n (drop at after.unread) in
+        let behind = drop e.skip after.unread in
+        let split : drop at after.unread ≡ newlines ++ behind = sym (take-append-drop n (drop at after.unread)) ∙ ap (λ zs. newlines ++ zs) (drop-drop n at after.unread ∙ ap (λ k. drop k after.unread) (sym skip)) in
         same-answer (before.lines + 1) text e left
-        (ends-ahead text rest _ e after left (before.lines + 1) b told ((front-step text s.lines d.line (more ++ rest) stands d.describes.line).text ∙ ap (λ zs. with_newlines (s.lines ++ d.line ∷ []) ++ (zs ++ rest)) next) ended)
-
-    pub dropped-none-ahead : (text : List ℕ) (left : Option (List ℕ)) (e : Extent) → Ends (with_newlines s.lines ++ d.line) e after → e.skip ≡ run.bytes → HasNewline before run d.line None after → TextAfterLine text before run d.line None after left → IsExtentAhead text before (Ok e) after left
-    dropped-none-ahead text left e b skip h (whole, told) =
-        same-answer (before.lines + 1) text e left
-        (ends-ahead text [] _ e after left (before.lines + 1) b told (whole ∙ ap (λ zs. zs ++ d.line) take-run ∙ at-end _ after.unread e.skip (skip ∙ s.stands.bytes ∙ sym (ap length (h.0 ∙ take-run)))) (λ _. refl))
+        (ends-ahead text rest _ e after left (before.lines + 1) b told
+        (whole ∙ ap (λ zs. zs ++ (d.line ++ (drop at after.unread ++ rest))) take-run ∙ ap (λ zs. lines ++ (d.line ++ (zs ++ rest))) split
+        ∙ ap (λ zs. lines ++ (d.line ++ zs)) (append_assoc newlines behind rest) ∙ ap (λ zs. lines ++ zs) (sym (append_assoc d.line newlines (behind ++ rest)))
+        ∙ sym (append_assoc lines (d.line ++ newlines) (behind ++ rest)))
+        ended)

@@ -1,10 +1,10 @@
 -- The walk to the end of a paragraph, piece by piece.
 use Rattle.deb_syntax.proofs.Common.{length-take, length-drop, false_from_ne_true, ◌≡◌, ◌≢◌, ℕ, ◌+◌, ◌-◌, ◌<◌, ◌≤◌, inl, inr, false, nat_le, List, [], ◌∷◌, ◌++◌, Option, Result, Ok, Err, length, take, drop, refl, sym, ap, subst, ◌∙◌, append_assoc, arith, length-append, take-append-add, and_from, cases_lt, false≢true, le-leb, append-nil, take-append-drop, take-append-le, take_all, Line, newline, paragraph_limit, is_blank, is_all_blank, ParagraphTooLong, FileTooLong, Fault, Refused, left_answer, room_ahead, IsAhead, IsNear, KeepsLine, EndsInSight, IsNextRun, IsExtentAhead, SameCounts, FeedState, piece_limit, Comes, Sees, room_of, with_newlines, StandInFront, RunStands, CanGoOn, CannotBeBlank, Stops, Begun, Extent, Sight, Run, Stop, Open, Blank, TooLong}
-use Rattle.deb_syntax.proofs.Endings.{Ends, ends-ahead, ends-blank, some-lines, refused-long, refused-beyond}
+use Rattle.deb_syntax.proofs.Endings.{Ends, extent_behind, ends-ahead, ends-behind, some-lines, refused-long, refused-beyond}
 use Rattle.deb_syntax.proofs.EndingSteps.{open-front, open-length, refusal-ahead, some-bytes}
 use Rattle.deb_syntax.proofs.Faults.{readers_fault}
 use Rattle.deb_syntax.proofs.Feeds.{comes_whole, comes_end}
-use Rattle.deb_syntax.proofs.WalkingLines.{drop-front, front-step, length-with_newlines-step, length-front}
+use Rattle.deb_syntax.proofs.WalkingLines.{drop-front, front-step, with_newlines-append, length-with_newlines-step, length-front}
 
 pub record Walks (before : FeedState) (left_before : Option (List ℕ)) (run : Run) (state : FeedState) (left : Option (List ℕ)) : Type 0 where
   pub counts : SameCounts before state
@@ -135,26 +135,28 @@ module _ (state : FeedState) (run : Run) where
     blank-sight : InSight s.lines s.seen
     blank-sight = in-sight s.lines s.seen s.fresh s.stopped.0.0 s.stands s.stopped.0.1
 
-    pub stop-blank : (e : Extent) → length state.unread ≤ run.bytes + run.begun.len + (piece_limit + 1) → e ≡ record { end = run.bytes - 1; skip = run.bytes + run.begun.len + 1; bytes = run.bytes + run.begun.len + 1; lines = run.lines + 1 } → Ends (with_newlines (s.lines ++ s.seen ∷ [])) e state
+    pub stop-blank : (e : Extent) → length state.unread ≤ run.bytes + run.begun.len + (piece_limit + 1) → e ≡ extent_behind run (run.bytes + run.begun.len) 1 → Ends (with_newlines s.lines ++ (s.seen ++ newline ∷ [])) e state
     stop-blank e near is =
         let i = blank-sight in
         let h = s.stands in
         let size = length-front state.unread s.lines (s.seen ++ newline ∷ i.more) i.front in
         let both = length-append s.seen (newline ∷ i.more) in
+        let one = length-append s.seen (newline ∷ []) in
         let bytes = ap (λ (x : Extent). x.bytes) is in
         let skip = ap (λ (x : Extent). x.skip) is in
-        ends-blank state run (record { lines = s.lines; behind = _; front = i.front; not_blank = h.not_blank; bytes = h.bytes; short = h.short; counted = h.counted }) s.seen e h.describes.line s.stopped.1 blank-some
-        (ap (λ (x : Extent). x.end) is) (omega (arith, bytes, h.bytes, h.describes.len, i.within)) (omega (arith, skip, size, both, h.bytes, h.describes.len)) (omega (arith, skip, near, length-drop e.skip state.unread))
-        (omega (arith, bytes, h.describes.len)) (ap (λ (x : Extent). x.lines) is)
+        ends-behind state run (record { lines = s.lines; behind = _; front = i.front; not_blank = h.not_blank; bytes = h.bytes; short = h.short; counted = h.counted }) s.seen e h.describes.line s.stopped.1 blank-some
+        (ap (λ (x : Extent). x.end) is) (omega (arith, bytes, h.bytes, h.describes.len, i.within)) _ (inl refl) (omega (arith, skip, size, both, h.bytes, h.describes.len)) (omega (arith, skip, near, length-drop e.skip state.unread))
+        (omega (arith, bytes, h.describes.len, one)) (omega (arith, ap (λ (x : Extent). x.lines) is, h.describes.len, one))
 
-    pub stop-blank-ahead : (text : List ℕ) (left : Option (List ℕ)) (e : Extent) → Ends (with_newlines (s.lines ++ s.seen ∷ [])) e state → e.skip ≡ run.bytes + run.begun.len + 1 → IsAhead text [] state left → IsExtentAhead text state (Ok e) state left
+    pub stop-blank-ahead : (text : List ℕ) (left : Option (List ℕ)) (e : Extent) → Ends (with_newlines s.lines ++ (s.seen ++ newline ∷ [])) e state → e.skip ≡ run.bytes + run.begun.len + 1 → IsAhead text [] state left → IsExtentAhead text state (Ok e) state left
     stop-blank-ahead text left e b skip a =
         let i = blank-sight in
         let front = front-step state.unread s.lines s.seen i.more i.front s.stands.describes.line in
         let at : e.skip ≡ length (with_newlines (s.lines ++ s.seen ∷ [])) = omega (arith, skip, s.stands.bytes, s.stands.describes.len, length-with_newlines-step s.lines s.seen) in
         let behind : i.more ≡ drop e.skip state.unread = sym (ap (λ k. drop k state.unread) at ∙ drop-front state.unread (s.lines ++ s.seen ∷ []) i.more front) in
+        let passed = with_newlines s.lines ++ (s.seen ++ newline ∷ []) in
         ends-ahead text a.rest _ e state left (state.lines + 1) b a.told
-        (a.whole ∙ ap (λ zs. zs ++ a.rest) (front.text ∙ ap (λ zs. with_newlines (s.lines ++ s.seen ∷ []) ++ zs) behind) ∙ append_assoc (with_newlines (s.lines ++ s.seen ∷ [])) (drop e.skip state.unread) a.rest) a.ended
+        (a.whole ∙ ap (λ zs. zs ++ a.rest) (front.text ∙ ap (λ zs. zs ++ i.more) (with_newlines-append s.lines (s.seen ∷ [])) ∙ ap (λ zs. passed ++ zs) behind) ∙ append_assoc passed (drop e.skip state.unread) a.rest) a.ended
 
   pub stop-long-ahead : (s : Stops (take (room_ahead state) state.unread) TooLong run) → (text : List ℕ) (left : Option (List ℕ)) (fault : Fault) → fault ≡ Refused (record { code = ParagraphTooLong; line = state.lines + run.lines + 1 }) → IsAhead text [] state left → IsExtentAhead text state (Err fault) state left
   stop-long-ahead s text left fault is a =

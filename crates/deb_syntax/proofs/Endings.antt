@@ -1,5 +1,5 @@
 -- Where a paragraph ends: lines that aren't blank at the front of a text, and a blank line or the end behind them.
-use Rattle.deb_syntax.proofs.Common.{cond, nat_lt, IsClosed, Run, ◌≡◌, ◌≢◌, ℕ, ◌+◌, ◌-◌, ◌<◌, ◌≤◌, ◌⊎◌, inl, inr, true, false, nat_le, List, [], ◌∷◌, ◌++◌, Option, Some, Err, length, take, drop, IsTrue, refl, sym, ap, subst, ◌∙◌, append_assoc, arith, length-append, length-drop, drop-length, and_parts, leb-true, false≢true, append-nil, take_all, AllByRecursion, All-append, ParagraphTooLong, FileTooLong, Line, newline, is_blank, is_all_blank, pieces_of, HasNoNewline, left_answer, room_ahead, IsExtentOf, PassesParagraph, IsNextRun, part_within, whole_lines, AreBlank, AreNotBlank, FeedState, piece_limit, lines_of, with_newlines, total_length, begins_blank, paragraphs_from, StandInFront, CannotBeBlank, Extent}
+use Rattle.deb_syntax.proofs.Common.{min, IsClosed, Run, ◌≡◌, ◌≢◌, ℕ, ◌+◌, ◌-◌, ◌<◌, ◌≤◌, ◌⊎◌, inl, inr, true, false, nat_le, List, [], ◌∷◌, ◌++◌, Option, Some, Err, length, take, drop, IsTrue, refl, sym, ap, subst, ◌∙◌, append_assoc, arith, length-append, length-drop, drop-length, and_parts, leb-true, false≢true, append-nil, take_all, AllByRecursion, All-append, ParagraphTooLong, FileTooLong, Line, newline, is_blank, is_all_blank, pieces_of, HasNoNewline, left_answer, room_ahead, IsExtentOf, PassesParagraph, IsNextRun, part_within, whole_lines, AreBlank, AreNotBlank, FeedState, piece_limit, lines_of, with_newlines, total_length, begins_blank, paragraphs_from, StandInFront, CannotBeBlank, Extent}
 use Rattle.deb_base.specs.Bodies.{paragraph_limit}
 use Rattle.deb_syntax.proofs.Boundaries.{lines_of-append}
 use Rattle.deb_syntax.proofs.LeftAnswers.{left-run, left-long, left-beyond}
@@ -7,8 +7,8 @@ use Rattle.deb_syntax.proofs.NextParagraph.{ends_blank-append}
 use Rattle.deb_syntax.proofs.LinesLawsTexts.{lines_of-with_newlines}
 use Rattle.deb_syntax.proofs.Passing.{ends_line-with_newlines}
 use Rattle.deb_syntax.proofs.Parts.{part_within-all, part_within-some, part_within-append, whole_lines-append, whole_lines-none}
-use Rattle.deb_syntax.proofs.Runs.{paragraphs_from-run}
-use Rattle.deb_syntax.proofs.WalkingLines.{some_more, blank-last, count-last, few_lines, one-last, lines_of-with_newlines_and, lines_of-front, length-with_newlines, lines_of-unended, pieces_of-with_newlines_and, length-front, front-step, length-with_newlines-step, pieces_of-front}
+use Rattle.deb_syntax.proofs.Runs.{lines_of-line, paragraphs_from-run}
+use Rattle.deb_syntax.proofs.WalkingLines.{some_more, blank-last, count-last, few_lines, with_newlines-append, lines_of-with_newlines_and, lines_of-front, length-with_newlines, lines_of-unended, pieces_of-with_newlines_and, length-front, front-step, length-with_newlines-step, pieces_of-front}
 
 -- what can't be blank isn't
 not_both : (seen : List ℕ) → CannotBeBlank seen → is_blank seen ≡ true → ⊥
@@ -95,6 +95,10 @@ pub record RunLines (text : List ℕ) (run : Run) : Type 0 where
   pub bytes : run.bytes ≡ length (with_newlines lines)
   pub short : run.bytes ≤ paragraph_limit
   pub counted : run.lines ≡ length lines
+
+-- where a run ends that a blank line ends, or the file
+abbrev pub extent_behind : Run → (at newline : ℕ) → Extent
+extent_behind run at newline = record { end = run.bytes - 1; skip = at + newline; bytes = run.bytes + (run.begun.len + newline); lines = run.lines + min (run.begun.len + newline) 1 }
 
 -- A paragraph ends here, and passes with the blank line behind it, or with all that is left: which bytes and lines of the file those are.
 pub record Ends (passed : List ℕ) (e : Extent) (state : FeedState) : Type 0 where
@@ -193,15 +197,28 @@ module _ (state : FeedState) (run : Run) (t : RunLines state.unread run) (line :
     short-taken : total_length t.lines ≤ paragraph_limit
     short-taken = omega (arith, t.short, t.bytes, length-with_newlines t.lines)
 
-    -- a blank line with its newline is behind the lines
-    pub ends-blank : e.skip ≤ length state.unread → length (drop e.skip state.unread) ≤ piece_limit → e.bytes ≡ run.bytes + length line + 1 → e.lines ≡ run.lines + 1 → Ends (with_newlines (t.lines ++ line ∷ [])) e state
-    ends-blank skip near bytes count =
+    -- a blank line with its newline, or without, or nothing is a blank line at most
+    tail-lines : (tail : List ℕ) → (tail ≡ line ++ newline ∷ []) ⊎ (tail ≡ line) → AreBlank (lines_of tail) × (length (lines_of tail) ≡ min (length tail) 1)
+    tail-lines tail (inl e) =
+        let is : lines_of tail ≡ line ∷ [] = ap lines_of e ∙ lines_of-line line [] is_line in
+        (subst AreBlank (sym is) (blank, tt), omega (arith, ap length is, ap length e, length-append line (newline ∷ [])))
+    tail-lines tail (inr e) = (subst (λ zs. AreBlank (lines_of zs)) (sym e) (blank-last line is_line blank), rw e (count-last line is_line))
+
+    closed-tail : (tail : List ℕ) → tail ≡ line ++ newline ∷ [] → IsClosed (with_newlines t.lines ++ tail)
+    closed-tail tail e =
         let all = t.lines ++ line ∷ [] in
-        let step = length-with_newlines-step t.lines line in
         let is : lines_of (with_newlines all) ≡ all = lines_of-with_newlines all (All-append HasNoNewline t.lines (line ∷ []) t.front.lines (is_line, tt)) in
+        subst IsClosed (with_newlines-append t.lines (line ∷ []) ∙ ap (λ zs. with_newlines t.lines ++ zs) (sym e))
+        (ends_line-with_newlines all, subst (λ ls. Rattle.deb_syntax.specs.Lines.ends_blank ls ≡ true) (sym is) (ends_blank-append t.lines (line ∷ []) (some_more [] line) blank))
+
+    -- it is behind the lines
+    pub ends-behind : (tail : List ℕ) → (tail ≡ line ++ newline ∷ []) ⊎ ((tail ≡ line) × IsTrue state.ended × (e.skip ≡ length state.unread)) → e.skip ≤ length state.unread → length (drop e.skip state.unread) ≤ piece_limit → e.bytes ≡ run.bytes + length tail → e.lines ≡ run.lines + min (length tail) 1 → Ends (with_newlines t.lines ++ tail) e state
+    ends-behind tail ends skip near bytes count =
+        let size = length-append (with_newlines t.lines) tail in
+        let last = tail-lines tail (elim ends [ inl is ↦ inl is | inr is ↦ inr is.0 ]) in
         record {
           lines = t.lines;
-          ending = line ∷ [];
+          ending = lines_of tail;
           some = some-taken;
           pieces = pieces-taken;
           not_blank = t.not_blank;
@@ -209,39 +226,13 @@ module _ (state : FeedState) (run : Run) (t : RunLines state.unread run) (line :
           end_within = end-taken;
           skip_within = skip;
           near = near;
-          is = is;
-          blank = (blank, tt);
-          one = omega arith;
-          bytes = omega (arith, bytes, t.bytes, step);
-          within = omega (arith, bytes, room, t.bytes, step);
-          counted = omega (arith, count, t.counted);
-          closed = inl (
-            omega arith,
-            (ends_line-with_newlines all, subst (λ ls. Rattle.deb_syntax.specs.Lines.ends_blank ls ≡ true) (sym is) (ends_blank-append t.lines (line ∷ []) (some_more [] line) blank)),
-          );
-        }
-
-    -- a blank line without newline, or nothing
-    pub ends-none : IsTrue state.ended → e.skip ≡ length state.unread → e.bytes ≡ run.bytes + length line → e.lines ≡ run.lines + cond (nat_lt 0 (length line)) 1 0 → Ends (with_newlines t.lines ++ line) e state
-    ends-none ended skip bytes count =
-        let size = length-append (with_newlines t.lines) line in
-        record {
-          lines = t.lines;
-          ending = lines_of line;
-          some = some-taken;
-          pieces = pieces-taken;
-          not_blank = t.not_blank;
-          short = short-taken;
-          end_within = end-taken;
-          skip_within = omega (arith, skip);
-          near = omega (arith, skip, length-drop e.skip state.unread);
-          is = lines_of-with_newlines_and t.lines line t.front.lines;
-          blank = blank-last line is_line blank;
-          one = one-last line is_line;
+          is = lines_of-with_newlines_and t.lines tail t.front.lines;
+          blank = last.0;
+          one = omega (arith, last.1);
           bytes = omega (arith, bytes, t.bytes, size);
           within = omega (arith, bytes, room, t.bytes, size);
-          counted = omega (arith, count, t.counted, count-last line is_line);
-          closed = inr (ended, skip);
+          counted = omega (arith, count, t.counted, last.1);
+          closed = elim ends [ inl is ↦ inl (omega (arith, last.1, ap length is, length-append line (newline ∷ [])), closed-tail tail is) | inr is ↦ inr (is.1, is.2) ];
         }
 
   -- a last line that isn't blank belongs to them, and the file ends with it

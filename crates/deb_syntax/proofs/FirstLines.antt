@@ -1,5 +1,5 @@
 -- The first line ahead that isn't blank: blank lines that pass by pieces, and the line behind them.
-use Rattle.deb_syntax.proofs.Common.{◌≡◌, ℕ, ◌+◌, ◌-◌, ◌<◌, ◌≤◌, ◌==◌, inl, inr, Bool, true, false, cond, List, [], ◌∷◌, ◌++◌, Option, Some, None, Result, Ok, Err, length, take, drop, IsTrue, IsFalse, refl, sym, ap, subst, ◌∙◌, append_assoc, arith, length-append, length-drop, length-take, nat_lt, min, take-append_seam, drop-append_seam, drop-length, false≢true, take-append-drop, drop_all, MatchBool, unwrap_or, All-append, Line, newline, HasNoNewline, is_blank, paragraph_limit, FileTooLong, Fault, Refused, Refusal, part_within, line_beyond, answer_of_first, begin_of_first, AreBlank, Paragraph, lines_of, with_newlines, paragraphs_from, file_limit, FeedState, Comes, PassesOn, Sees, IsTail, room_of, StandInFront, Describes, EndsNotBlank, SkipsBlanks, left_answer, left_begin, room_ahead, IsAhead, IsNear, PassesBlanks, PassesAll, KeepsLine, HidesLine, HasFirst, IsFirst, HasNewline, TextAfterLine, IsDropped, Begun, First, Sight, Tail, More, Nothing, Beyond, Skipped, Run, DroppedLine, End, Kept, Dropped}
+use Rattle.deb_syntax.proofs.Common.{◌≡◌, ℕ, ◌+◌, ◌-◌, ◌<◌, ◌≤◌, ◌==◌, inl, inr, Bool, true, false, cond, List, [], ◌∷◌, ◌++◌, Option, Some, None, Result, Ok, Err, length, take, drop, IsTrue, IsFalse, refl, sym, ap, subst, ◌∙◌, append_assoc, arith, length-append, length-drop, length-take, nat_lt, min, take-append_seam, drop-append_seam, drop-length, false≢true, take-append-drop, drop_all, MatchBool, unwrap_or, All-append, Line, newline, HasNoNewline, is_blank, paragraph_limit, FileTooLong, Fault, Refused, Refusal, part_within, line_beyond, answer_of_first, begin_of_first, AreBlank, Paragraph, lines_of, with_newlines, paragraphs_from, file_limit, FeedState, Comes, PassesOn, Sees, IsTail, room_of, StandInFront, Describes, EndsNotBlank, SkipsBlanks, left_answer, left_begin, room_ahead, IsAhead, IsNear, PassesBlanks, PassesAll, KeepsLine, HidesLine, HasFirst, IsFirst, EndsAt, TextAfterLine, IsDropped, Begun, First, Sight, Tail, More, Nothing, Beyond, Skipped, Run, DroppedLine, End, Kept, Dropped}
 use Rattle.std.proofs.Common.{append-nil}
 use mir.Val.{bool_byte}
 use Rattle.deb_syntax.proofs.Faults.{readers_fault}
@@ -118,11 +118,6 @@ near-line line h front more e =
     let none : length more ≤ length {A = ℕ} [] = near-piece line [] front more h (append-nil line ∙ e) in
     omega (arith, none)
 
--- a truth as a number
-pub byte-of : (b : Bool) → bool_byte b ≡ cond b 1 0
-byte-of false = refl
-byte-of true = refl
-
 -- the rest of the file is one line, and isn't blank
 pub last-kept : (feed : FeedState) (begun : Begun) → IsTrue feed.ended → Describes begun feed.unread → length feed.unread ≤ room_ahead feed → is_blank feed.unread ≡ false → KeepsLine begun feed
 last-kept feed begun ended seen room not_blank = record {
@@ -137,11 +132,11 @@ pub last-kept-ahead : (feed : FeedState) (begun : Begun) (text : List ℕ) (left
 last-kept-ahead feed begun text left a = (text, passes-none text feed, a)
 
 -- it is blank, or nothing
-pub last-end : (feed after : FeedState) (begun : Begun) (n : ℕ) → IsTrue feed.ended → Describes begun feed.unread → length feed.unread ≤ room_ahead feed → is_blank feed.unread ≡ true → PassesOn feed begun.len begun.len n after → n ≡ cond (nat_lt 0 begun.len) 1 0 → (text : List ℕ) (left : Option (List ℕ)) → IsAhead text [] feed left → IsFirst text feed (Ok End) after left
+pub last-end : (feed after : FeedState) (begun : Begun) (n : ℕ) → IsTrue feed.ended → Describes begun feed.unread → length feed.unread ≤ room_ahead feed → is_blank feed.unread ≡ true → PassesOn feed begun.len begun.len n after → n ≡ min begun.len 1 → (text : List ℕ) (left : Option (List ℕ)) → IsAhead text [] feed left → IsFirst text feed (Ok End) after left
 last-end feed after begun n ended seen room blank passes count text left a =
     let whole : text ≡ feed.unread = a.whole ∙ ap (λ zs. feed.unread ++ zs) (a.ended ended) ∙ append-nil feed.unread in
     let none : after.unread ≡ [] = passes.unread ∙ ap (λ k. drop k feed.unread) seen.len ∙ drop-length feed.unread in
-    let lines : n ≡ length (lines_of text) = count ∙ ap (λ k. cond (nat_lt 0 k) 1 0) seen.len ∙ sym (count-last feed.unread seen.line) ∙ ap (λ t. length (lines_of t)) (sym whole) in (
+    let lines : n ≡ length (lines_of text) = count ∙ ap (λ k. min k 1) seen.len ∙ sym (count-last feed.unread seen.line) ∙ ap (λ t. length (lines_of t)) (sym whole) in (
       record {
         blank = subst (λ t. AreBlank (lines_of t)) (sym whole) (blank-last feed.unread seen.line blank);
         within = omega (arith, ap length whole, room);
@@ -157,52 +152,24 @@ last-end feed after begun n ended seen room blank passes count text left a =
       },
     )
 
--- where the unread bytes go on behind a dropped line
-abbrev pub at_of : Option ℕ → ℕ
-at_of None = 0
-at_of (Some at) = at
-
-pub unwrap-at : (newline_at : Option ℕ) → unwrap_or newline_at 0 ≡ at_of newline_at
-unwrap-at None = refl
-unwrap-at (Some at) = refl
-
 module _ (feed mid : FeedState) (run : Run) (no_bytes : run.bytes ≡ 0) (line : List ℕ) where
-  pub dropped-within : (newline_at : Option ℕ) → HasNewline feed run line newline_at mid → at_of newline_at ≤ length mid.unread
-  dropped-within None h = omega arith
-  dropped-within (Some at) h = omega (arith, ap length h.2, length-drop at mid.unread)
-
   module _ (after : FeedState) (begun : Begun) (more : List ℕ) (same : mid.bytes ≡ feed.bytes) (described : Describes begun line) (long : paragraph_limit ≤ length feed.unread) (begins : line ≡ drop run.bytes feed.unread ++ more) where
     line-long : paragraph_limit ≤ length line
     line-long = omega (arith, ap length begins, length-append (drop run.bytes feed.unread) more, length-drop run.bytes feed.unread, no_bytes, long)
 
-    pub dropped-hides : (newline_at : Option ℕ) → HasNewline feed run line newline_at mid → PassesOn mid (at_of newline_at) 0 0 after → HidesLine begun after line
-    dropped-hides None h passes =
-        let none : after.unread ≡ [] = passes.unread ∙ h.0 ∙ ap (λ n. take n feed.unread) no_bytes in
-        record {
-          describes = described;
-          long = line-long;
-          ends = inr (ap (λ zs. line ++ zs) none ∙ append-nil line, subst IsTrue (sym passes.ended) h.1, omega (arith, h.2, passes.bytes, same));
-          near = λ front rest e. absurd (let l : length {A = ℕ} [] ≡ length (front ++ newline ∷ rest) = ap length (sym none ∙ e) in omega (arith, l, length-append front (newline ∷ rest)));
-        }
-    dropped-hides (Some at) h passes =
-        let behind : after.unread ≡ newline ∷ h.0 = passes.unread ∙ h.2 in
-        record {
-          describes = described;
-          long = line-long;
-          ends = inl (h.0, ap (λ zs. line ++ zs) behind, omega (arith, h.4, passes.bytes, same));
-          near = λ front rest e. let l : length (newline ∷ h.0) ≡ length (front ++ newline ∷ rest) = ap length (sym behind ∙ e) in omega (arith, l, length-append front (newline ∷ rest), h.3);
-        }
+    pub dropped-hides : (at : ℕ) → EndsAt feed run line at mid → PassesOn mid at 0 0 after → HidesLine begun after line
+    dropped-hides at h passes = record {
+      describes = described;
+      long = line-long;
+      ends = elim h.ends [
+        | inl x ↦ inl (x.0, ap (λ zs. line ++ zs) (passes.unread ∙ x.1), omega (arith, x.2, passes.bytes, same, no_bytes))
+        | inr x ↦ inr (ap (λ zs. line ++ zs) (passes.unread ∙ x.0) ∙ append-nil line, subst IsTrue (sym passes.ended) x.1, omega (arith, x.2, passes.bytes, same, no_bytes))
+      ];
+      near = λ front rest e. omega (arith, ap length (sym passes.unread ∙ e), length-append front (newline ∷ rest), h.near);
+    }
 
-  pub dropped-ahead : (after : FeedState) (text : List ℕ) (left : Option (List ℕ)) (newline_at : Option ℕ) → TextAfterLine text feed run line newline_at mid left → HasNewline feed run line newline_at mid → PassesOn mid (at_of newline_at) 0 0 after → IsAhead text line after left
-  dropped-ahead after text left None t h passes =
-      let none : after.unread ≡ [] = passes.unread ∙ h.0 ∙ ap (λ n. take n feed.unread) no_bytes in
-      record {
-        rest = [];
-        told = t.1;
-        whole = t.0 ∙ ap (λ n. take n feed.unread ++ line) no_bytes ∙ sym (append-nil line) ∙ ap (λ zs. line ++ zs) (sym (append-nil after.unread ∙ none));
-        ended = λ e. refl;
-      }
-  dropped-ahead after text left (Some at) t h passes = record {
+  pub dropped-ahead : (after : FeedState) (text : List ℕ) (left : Option (List ℕ)) (at : ℕ) → TextAfterLine text feed run line at mid left → PassesOn mid at 0 0 after → IsAhead text line after left
+  dropped-ahead after text left at t passes = record {
     rest = t.0;
     told = t.1;
     whole = t.2 ∙ ap (λ n. take n feed.unread ++ (line ++ (drop at mid.unread ++ t.0))) no_bytes ∙ ap (λ zs. line ++ (zs ++ t.0)) (sym passes.unread);
@@ -210,12 +177,12 @@ module _ (feed mid : FeedState) (run : Run) (no_bytes : run.bytes ≡ 0) (line :
   }
 
 -- a line that was dropped is the first one
-pub dropped-found : (feed mid after : FeedState) (run : Run) (dropped : DroppedLine) (left_before left : Option (List ℕ)) → run.bytes ≡ 0 → paragraph_limit ≤ length feed.unread → IsDropped feed left_before run (Ok dropped) mid left → PassesOn mid (at_of dropped.newline) 0 0 after → HasFirst (Ok (Dropped dropped.line)) after
+pub dropped-found : (feed mid after : FeedState) (run : Run) (dropped : DroppedLine) (left_before left : Option (List ℕ)) → run.bytes ≡ 0 → paragraph_limit ≤ length feed.unread → IsDropped feed left_before run (Ok dropped) mid left → PassesOn mid dropped.end 0 0 after → HasFirst (Ok (Dropped dropped.line)) after
 dropped-found feed mid after run dropped left_before left no_bytes long found passes =
     let d = found.0 in
-    (d.line, dropped-hides feed mid run no_bytes d.line after dropped.line d.more d.bytes d.describes long d.begins dropped.newline found.1 passes)
+    (d.line, dropped-hides feed mid run no_bytes d.line after dropped.line d.more d.bytes d.describes long d.begins dropped.end found.1 passes)
 
-pub dropped-first : (feed mid after : FeedState) (run : Run) (dropped : DroppedLine) (left_before left : Option (List ℕ)) → run.bytes ≡ 0 → paragraph_limit ≤ length feed.unread → IsDropped feed left_before run (Ok dropped) mid left → PassesOn mid (at_of dropped.newline) 0 0 after → (text : List ℕ) → IsAhead text [] feed left_before → IsFirst text feed (Ok (Dropped dropped.line)) after left
+pub dropped-first : (feed mid after : FeedState) (run : Run) (dropped : DroppedLine) (left_before left : Option (List ℕ)) → run.bytes ≡ 0 → paragraph_limit ≤ length feed.unread → IsDropped feed left_before run (Ok dropped) mid left → PassesOn mid dropped.end 0 0 after → (text : List ℕ) → IsAhead text [] feed left_before → IsFirst text feed (Ok (Dropped dropped.line)) after left
 dropped-first feed mid after run dropped left_before left no_bytes long found passes text a =
     let d = found.0 in (
       text,
@@ -227,8 +194,8 @@ dropped-first feed mid after run dropped left_before left no_bytes long found pa
         bytes = omega (arith, passes.bytes, d.bytes);
         lines = omega (arith, passes.lines, d.lines);
       },
-      dropped-ahead feed mid run no_bytes d.line after text left dropped.newline (found.2 text a) found.1 passes,
-      dropped-hides feed mid run no_bytes d.line after dropped.line d.more d.bytes d.describes long d.begins dropped.newline found.1 passes,
+      dropped-ahead feed mid run no_bytes d.line after text left dropped.end (found.2 text a) passes,
+      dropped-hides feed mid run no_bytes d.line after dropped.line d.more d.bytes d.describes long d.begins dropped.end found.1 passes,
     )
 
 pub dropped-fault : (feed after : FeedState) (run : Run) (fault : Fault) (left_before left : Option (List ℕ)) → run.bytes ≡ 0 → run.lines ≡ 0 → IsDropped feed left_before run (Err fault) after left → (text : List ℕ) → IsAhead text [] feed left_before → IsFirst text feed (Err fault) after left

@@ -16,3 +16,5 @@ drop-slice_range xs a b n = same_lists _ _ (search (rules, places)) (λ k d h. g
 pub list_any-map : {X Y : Type 0} (p : X → Bool) (h : Y → X) (ys : List Y) → list_any p (map h ys) ≡ list_any (λ y. p (h y)) ys
 list_any-map p h [] = refl
 list_any-map p h (y ∷ ys) = ap (λ t. p (h y) || t) (list_any-map p h ys)
+
+pub ruleset passing = (drop-slice_range)

@@ -1,5 +1,5 @@
 -- Lines at the front of a text, each with its newline, and what stands behind them.
-use Rattle.deb_syntax.proofs.Common.{◌==◌, true, false, cond, nat_lt, lt-ltb, subst, is_blank, with_byte, AreBlank, ◌≡◌, ◌≢◌, ℕ, ◌+◌, ◌-◌, ◌≤◌, List, [], ◌∷◌, ◌++◌, length, take, drop, refl, sym, ap, ◌∙◌, append_assoc, arith, length-append, take-append_seam, drop-append_seam, sum_by-append, AllByRecursion, Line, newline, pieces_of, HasNoNewline, line_length, lines_of, with_newlines, total_length, StandInFront}
+use Rattle.deb_syntax.proofs.Common.{◌==◌, true, false, cond, min, subst, is_blank, with_byte, AreBlank, ◌≡◌, ◌≢◌, ℕ, ◌+◌, ◌-◌, ◌≤◌, List, [], ◌∷◌, ◌++◌, length, take, drop, refl, sym, ap, ◌∙◌, append_assoc, arith, length-append, take-append_seam, drop-append_seam, sum_by-append, AllByRecursion, Line, newline, pieces_of, HasNoNewline, line_length, lines_of, with_newlines, total_length, StandInFront}
 use Rattle.deb_syntax.proofs.Runs.{lines_of-line, lines_of-last, pieces_of-line, pieces_of-last}
 
 -- the lines of a text that begins with whole lines are these and the lines of the rest
@@ -118,13 +118,9 @@ pieces_of-front text (line ∷ lines) rest some h =
     ∙ c.pieces
 
 -- how many lines a last line is
-pub count-last : (line : List ℕ) → HasNoNewline line → length (lines_of line) ≡ cond (nat_lt 0 (length line)) 1 0
+pub count-last : (line : List ℕ) → HasNoNewline line → length (lines_of line) ≡ min (length line) 1
 count-last [] h = refl
-count-last (b ∷ line) h = ap length (lines_of-last b line h) ∙ sym (ap (λ t. cond t 1 0) (lt-ltb 0 (length (b ∷ line)) (omega arith)))
-
-pub one-last : (line : List ℕ) → HasNoNewline line → length (lines_of line) ≤ 1
-one-last [] h = omega arith
-one-last (b ∷ line) h = omega (arith, ap length (lines_of-last b line h))
+count-last (b ∷ line) h = omega (arith, ap length (lines_of-last b line h))
 
 pub blank-last : (line : List ℕ) → HasNoNewline line → is_blank line ≡ true → AreBlank (lines_of line)
 blank-last [] h t = tt

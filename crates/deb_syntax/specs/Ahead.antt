@@ -119,21 +119,20 @@ pub record DropsLine (before : FeedState) (run : Run) (dropped : DroppedLine)
   pub kept : take run.bytes after.unread ≡ take run.bytes before.unread
   pub within : run.bytes ≤ length after.unread
 
--- where its newline stands among the unread bytes
-abbrev pub HasNewline : FeedState → Run → List ℕ → Option ℕ → FeedState → Type 0
-HasNewline before run line None after =
-    (after.unread ≡ take run.bytes before.unread) × IsTrue after.ended
-    × (run.bytes + length line ≤ room_ahead before)
-HasNewline before run line (Some at) after =
-    (more : List ℕ) × (run.bytes ≤ at) × (drop at after.unread ≡ newline ∷ more)
-    × (length more ≤ piece_limit) × (run.bytes + length line + 1 ≤ room_ahead before)
+-- The line ends at an offset of the unread bytes: with its newline, or with the file.
+pub record EndsAt (before : FeedState) (run : Run) (line : List ℕ) (at : ℕ) (after : FeedState)
+    : Type 0 where
+  pub within : at ≤ length after.unread
+  pub near : length (drop at after.unread) ≤ piece_limit + 1
+  pub ends : ((more : List ℕ) × (drop at after.unread ≡ newline ∷ more)
+      × (run.bytes + length line + 1 ≤ room_ahead before))
+      ⊎ ((drop at after.unread ≡ []) × IsTrue after.ended
+      × (run.bytes + length line ≤ room_ahead before))
 
--- what of the text ahead is the line, by where its newline stands
-abbrev pub TextAfterLine : List ℕ → FeedState → Run → List ℕ → Option ℕ → FeedState
-    → Option (List ℕ) → Type 0
-TextAfterLine text before run line None after left =
-    (text ≡ take run.bytes before.unread ++ line) × (left ≡ Some [])
-TextAfterLine text before run line (Some at) after left =
+-- what of the text ahead is the line, which ends at this offset
+abbrev pub TextAfterLine : List ℕ → FeedState → Run → List ℕ → ℕ → FeedState → Option (List ℕ)
+    → Type 0
+TextAfterLine text before run line at after left =
     (rest : List ℕ) × (left ≡ Some rest)
     × (text ≡ take run.bytes before.unread ++ (line ++ (drop at after.unread ++ rest)))
     × (IsTrue after.ended → rest ≡ [])
@@ -143,9 +142,9 @@ TextAfterLine text before run line (Some at) after left =
 abbrev pub IsDropped : FeedState → Option (List ℕ) → Run → Result DroppedLine Fault → FeedState
     → Option (List ℕ) → Type 0
 IsDropped before left_before run (Ok dropped) after left =
-    (d : DropsLine before run dropped after) × HasNewline before run d.line dropped.newline after
+    (d : DropsLine before run dropped after) × EndsAt before run d.line dropped.end after
     × ((text : List ℕ) → IsAhead text [] before left_before
-    → TextAfterLine text before run d.line dropped.newline after left)
+    → TextAfterLine text before run d.line dropped.end after left)
 IsDropped before left_before run (Err fault) after left =
     (text : List ℕ) → IsAhead text [] before left_before
     → IsReadersFault fault (λ refusal.

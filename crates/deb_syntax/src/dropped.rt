@@ -20,8 +20,8 @@ use deb_base::{Code, Fault, PARAGRAPH_LIMIT, Refusal, Source};
 #[derive(Clone, Copy, Debug)]
 pub(crate) struct DroppedLine {
     pub(crate) line: Begun,
-    /// Where its newline stands among the unread bytes, or `None` where the file ends with it.
-    pub(crate) newline: Option<usize>,
+    /// Where it ends in the unread bytes: at its newline, or with the file.
+    pub(crate) end: usize,
 }
 
 /// Goes to the end of the line behind a run of lines, and keeps none of its bytes but those that
@@ -54,20 +54,16 @@ pub(crate) fn drop_line<R: Source>(
         let sight = feed.sight(begun.len as u64);
         let tail = sight.tail;
         let next = along(&sight.seen[run.bytes..], begun);
+        let dropped = DroppedLine {
+            line: next.begun,
+            end: run.bytes + (next.begun.len - begun.len),
+        };
         if next.ended {
-            return Ok(DroppedLine {
-                line: next.begun,
-                newline: Some(run.bytes + (next.begun.len - begun.len)),
-            });
+            return Ok(dropped);
         }
         match tail {
             Tail::More => begun = next.begun,
-            Tail::Nothing => {
-                return Ok(DroppedLine {
-                    line: next.begun,
-                    newline: None,
-                });
-            }
+            Tail::Nothing => return Ok(dropped),
             Tail::Beyond => {
                 return Err(Fault::Refused(Refusal {
                     code: Code::FileTooLong,

@@ -1,6 +1,6 @@
 //! Finds the end of the next paragraph (Debian Policy 5.1).
 
-ghost use Rattle.std.specs.Prelude.{◌≡◌, ◌+◌, ◌-◌, ◌<◌, ◌≤◌, ◌^◌, ℕ, List, [], Option, length, take, IfOk, IfErr, IsTrue, IsFalse, nat_lt, if◌then◌else◌};
+ghost use Rattle.std.specs.Prelude.{◌≡◌, ◌+◌, ◌-◌, ◌<◌, ◌≤◌, ◌^◌, ℕ, List, [], Option, length, min, take, IfOk, IfErr, IsTrue, IsFalse};
 ghost use Rattle.deb_base.specs.Bodies.{paragraph_limit};
 ghost use Rattle.deb_base.specs.Devices.{read_failures_after};
 ghost use Rattle.deb_base.specs.Faults.{IsReadersFault};
@@ -74,7 +74,7 @@ pub(crate) fn paragraph_extent<R: Source>(
         let taken = take_lines(sight.seen, run, ends)?;
         run = taken.run;
         match taken.stop {
-            Stop::Blank => return Ok(ended_by_blank(run, run.bytes + run.begun.len)),
+            Stop::Blank => return Ok(ended_behind(run, run.bytes + run.begun.len, 1)),
             Stop::TooLong => return Err(refused(feed, Code::ParagraphTooLong, run)),
             Stop::Open => {}
         }
@@ -127,10 +127,8 @@ fn extent_beyond<R: Source>(feed: &mut Feed, run: Run, reader: &mut R) -> Result
         lines: run.lines,
         begun: dropped.line,
     };
-    Ok(match dropped.newline {
-        Some(newline) => ended_by_blank(ended, newline),
-        None => ended_by_end(ended, run.bytes),
-    })
+    let newline = (feed.unread().len() - dropped.end).min(1);
+    Ok(ended_behind(ended, dropped.end, newline))
 }
 
 /// As `paragraph_extent`, where the file ends with the line behind the run, whose newline is
@@ -151,7 +149,7 @@ fn ended_by_file(feed: &Feed, run: Run, ends: &mut Vec<u32>) -> Result<Extent, F
 {
     let all = run.bytes + run.begun.len;
     if run.begun.is_blank() {
-        return Ok(ended_by_end(run, all));
+        return Ok(ended_behind(run, all, 0));
     }
     if all >= PARAGRAPH_LIMIT {
         return Err(refused(feed, Code::ParagraphTooLong, run));
@@ -165,47 +163,26 @@ fn ended_by_file(feed: &Feed, run: Run, ends: &mut Vec<u32>) -> Result<Extent, F
     })
 }
 
-/// A run that is ended by the blank line behind it, whose newline stands at `newline` of the unread
-/// bytes.
-fn ended_by_blank(run: Run, newline: usize) -> Extent
+/// A run that is ended by the blank line behind it, or by the file's end. The line ends at `at` of
+/// the unread bytes, and has a newline of so many bytes: 1, or 0 if the file ends with it.
+fn ended_behind(run: Run, at: usize, newline: usize) -> Extent
     requires some { 0 < run.bytes }
+    requires one { newline ≤ 1 }
     requires bytes { run.bytes + run.begun.len + 1 < 2 ^ 64 }
     requires lines { run.lines + 1 < 2 ^ 64 }
-    requires newline { newline + 1 < 2 ^ 64 }
-    ensures { result
-        ≡ record {
-          end = run.bytes - 1;
-          skip = newline + 1;
-          bytes = run.bytes + run.begun.len + 1;
-          lines = run.lines + 1;
-        } }
+    requires at { at + 1 < 2 ^ 64 }
+    ensures { result ≡ record {
+      end = run.bytes - 1;
+      skip = at + newline;
+      bytes = run.bytes + (run.begun.len + newline);
+      lines = run.lines + min (run.begun.len + newline) 1;
+    } }
 {
+    let line = run.begun.len + newline;
     Extent {
         end: run.bytes - 1,
-        skip: newline + 1,
-        bytes: (run.bytes + run.begun.len) as u64 + 1,
-        lines: run.lines + 1,
-    }
-}
-
-/// A run that is ended by the file's end, behind a blank line without newline or behind nothing;
-/// `skip` bytes are unread.
-fn ended_by_end(run: Run, skip: usize) -> Extent
-    requires some { 0 < run.bytes }
-    requires bytes { run.bytes + run.begun.len < 2 ^ 64 }
-    requires lines { run.lines + 1 < 2 ^ 64 }
-    ensures { result
-        ≡ record {
-          end = run.bytes - 1;
-          skip = skip;
-          bytes = run.bytes + run.begun.len;
-          lines = run.lines + (if nat_lt 0 run.begun.len then 1 else 0);
-        } }
-{
-    Extent {
-        end: run.bytes - 1,
-        skip,
-        bytes: (run.bytes + run.begun.len) as u64,
-        lines: run.lines + u64::from(run.begun.len > 0),
+        skip: at + newline,
+        bytes: (run.bytes + line) as u64,
+        lines: run.lines + line.min(1) as u64,
     }
 }

@@ -85,7 +85,7 @@ fn last_line(feed: &mut Feed, begun: Begun) -> First
     if !begun.is_blank() {
         return First::Kept(begun);
     }
-    feed.pass(begun.len, begun.len as u64, u64::from(begun.len > 0));
+    feed.pass(begun.len, begun.len as u64, begun.len.min(1) as u64);
     First::End
 }
 
@@ -109,6 +109,6 @@ fn drop_first<R: Source>(feed: &mut Feed, begun: Begun, reader: &mut R) -> Resul
         begun,
     };
     let dropped = drop_line(feed, run, reader)?;
-    feed.pass(dropped.newline.unwrap_or(0), 0, 0);
+    feed.pass(dropped.end, 0, 0);
     Ok(First::Dropped(dropped.line))
 }

@@ -164,6 +164,7 @@ impl Paragraphs {
     ///   limit (`FileTooLong`, at the line that is cut off).
     /// - `Fault::Memory`: a growth of memory was refused.
     /// - `Fault::Read`: a read of `reader` failed in this call.
+    #[tactic(auto, using(crate::proofs::Advancing::begins_err))]
     pub fn begins<R: Source>(&mut self, reader: &mut R) -> Result<Option<u64>, Fault>
         ensures passes { KeepsErrors Begins (moment_of (state_of self.old) (R.left reader.old)
             (R.failures reader.old)) result (moment_of (state_of self.new) (R.left reader.new)
@@ -217,6 +218,7 @@ impl Paragraphs {
     /// # Errors
     ///
     /// Those of `next`.
+    #[tactic(auto, using(crate::proofs::Advancing::advance_err))]
     pub fn advance<R: Source>(&mut self, reader: &mut R) -> Result<bool, Fault>
         ensures passes { KeepsErrors Advances (moment_of (state_of self.old) (R.left reader.old)
             (R.failures reader.old)) (advance_answer (state_of self.new) result)

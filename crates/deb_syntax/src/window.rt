@@ -73,6 +73,7 @@ impl Window {
     }
 
     /// Passes the first `count` unread bytes.
+    #[tactic(auto, using(crate::proofs::Slices::passing))]
     pub(crate) fn pass(&mut self, count: usize)
         requires { count ≤ length (unread_of self.old) }
         ensures unread { unread_of self.new ≡ drop count (unread_of self.old) }

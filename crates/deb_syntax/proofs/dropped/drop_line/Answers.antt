@@ -1,6 +1,6 @@
 use Rattle.deb_syntax.proofs.Common.{◌∙◌, ◌+◌, ◌-◌, ◌≤◌, refl, subst, arith, feed_state, IsTail}
 use Rattle.deb_syntax.proofs.Feeds.{feed_small}
-use Rattle.deb_syntax.proofs.Dropping.{dropping-start, came, came-bound, came-fits, came-lines, ended-fits, went, went-ended, went-on, ended-longer, ended-drops, more-dropping, more-smaller, none-drops, beyond-drops}
+use Rattle.deb_syntax.proofs.Dropping.{dropping-start, came, came-bound, came-fits, came-lines, went, went-ended, went-on, ended-drops, more-dropping, more-smaller, none-drops, beyond-drops}
 use Rattle.deb_syntax.proofs.dropped.drop_line.Goals as goal
 
 pub pieces-init : goal.pieces-init
@@ -13,11 +13,6 @@ pub slice_bounds-along-count : goal.slice_bounds-along-count
 slice_bounds-along-count g c =
     let here = came _ _ _ _ _ _ _ _ _ c.pieces.invariant.dropping c.keep.ensures.keeps c.in_ok-fill.ensures.taken in
     came-bound _ _ _ _ _ _ here _ c.sight-sight.ensures
-
-pub overflow_sub-result : goal.overflow_sub-result
-overflow_sub-result g c =
-    let here = came _ _ _ _ _ _ _ _ _ c.pieces.invariant.dropping c.keep.ensures.keeps c.in_ok-fill.ensures.taken in
-    ended-longer _ _ _ _ _ _ here _ (went-ended _ _ _ _ _ _ here _ (went _ _ _ _ _ _ here _ _ c.sight-sight.ensures c.along-next.ensures.goes) c.if-next.true)
 
 pub returns-then-next-clause-drops : goal.returns-then-next-clause-drops
 returns-then-next-clause-drops g c =
@@ -55,10 +50,3 @@ pub along-next-requires : goal.along-next-requires
 along-next-requires g c =
     let here = came _ _ _ _ _ _ _ _ _ c.pieces.invariant.dropping c.keep.ensures.keeps c.in_ok-fill.ensures.taken in
     came-fits _ _ _ _ _ _ here _ c.sight-sight.ensures
-
-pub overflow_add-result : goal.overflow_add-result
-overflow_add-result g c =
-    let here = came _ _ _ _ _ _ _ _ _ c.pieces.invariant.dropping c.keep.ensures.keeps c.in_ok-fill.ensures.taken in
-    let fits : c.args.run.bytes + (c.along-next.result.begun.len - c.pieces.begun.len) ≤ c.args.run.bytes + 65536 = ended-fits _ _ _ _ _ _ here _ (went-ended _ _ _ _ _ _ here _ (went _ _ _ _ _ _ here _ _ c.sight-sight.ensures c.along-next.ensures.goes) c.if-next.true) in
-    let short : c.args.run.bytes ≤ 16777216 = c.requires.short in
-    omega (arith, fits, short)

@@ -7,26 +7,26 @@ use Rattle.deb_syntax.specs.LineEnds.{piece_ends}
 use Rattle.deb_syntax.proofs.LineEnds.{line_ends-closed, line_ends-last}
 use Rattle.deb_syntax.proofs.ending.ended_by_file.Goals as goal
 
-pub ended_by_end-requires-clause-some : goal.ended_by_end-requires-clause-some
-ended_by_end-requires-clause-some c =
+pub ended_behind-requires-clause-some : goal.ended_behind-requires-clause-some
+ended_behind-requires-clause-some c =
     file-some (feed_state c.args.feed.now) c.args.run c.requires.stops (sym (c.is_blank.ensures _ c.requires.stops.stands.describes) ∙ c.if-is_blank.true)
 
-pub ended_by_end-requires-clause-lines : goal.ended_by_end-requires-clause-lines
+pub ended_behind-requires-clause-lines : goal.ended_behind-requires-clause-lines
 unfolding paragraph_limit
-ended_by_end-requires-clause-lines c =
+ended_behind-requires-clause-lines c =
     omega (arith, stops-few _ _ c.args.run c.requires.stops, c.requires.stops.stands.short)
 
 pub returns-then-is_blank-clause-found : goal.returns-then-is_blank-clause-found
 returns-then-is_blank-clause-found c =
     let s = c.requires.stops in
-    ends-found _ _ (feed_state c.args.feed.now) (file-none (feed_state c.args.feed.now) c.args.run s _ (sym (c.is_blank.ensures _ s.stands.describes) ∙ c.if-is_blank.true) c.requires.ended c.requires.room c.ended_by_end.ensures)
+    ends-found _ _ (feed_state c.args.feed.now) (file-none (feed_state c.args.feed.now) c.args.run s _ (sym (c.is_blank.ensures _ s.stands.describes) ∙ c.if-is_blank.true) c.requires.ended c.requires.room c.ended_behind.ensures)
 
 pub returns-then-is_blank-clause-ahead : goal.returns-then-is_blank-clause-ahead
 returns-then-is_blank-clause-ahead c =
     let state = feed_state c.args.feed.now in
     let s = c.requires.stops in
-    file-ahead state c.args.run s _ _ (file-none state c.args.run s _ (sym (c.is_blank.ensures _ s.stands.describes) ∙ c.if-is_blank.true) c.requires.ended c.requires.room c.ended_by_end.ensures)
-    (open-front state.unread c.args.run s).text (ap (λ (e : Extent). e.skip) c.ended_by_end.ensures ∙ sym (open-length state.unread c.args.run s)) c.requires.ended
+    file-ahead state c.args.run s _ _ (file-none state c.args.run s _ (sym (c.is_blank.ensures _ s.stands.describes) ∙ c.if-is_blank.true) c.requires.ended c.requires.room c.ended_behind.ensures)
+    (open-front state.unread c.args.run s).text (omega (arith, ap (λ (e : Extent). e.skip) c.ended_behind.ensures, open-length state.unread c.args.run s)) c.requires.ended
 
 pub refused-requires : goal.refused-requires
 unfolding paragraph_limit
@@ -64,7 +64,7 @@ returns-then-is_blank-clause-ends c =
     let s = c.requires.stops in
     c.requires.ends
     ∙ line_ends-closed state.unread c.args.run s.lines s.seen s.fresh s.stands (file-some state c.args.run s (sym (c.is_blank.ensures _ s.stands.describes) ∙ c.if-is_blank.true))
-    ∙ ap (λ n. piece_ends (take n state.unread)) (sym (ap (λ (e : Extent). e.end) c.ended_by_end.ensures))
+    ∙ ap (λ n. piece_ends (take n state.unread)) (sym (ap (λ (e : Extent). e.end) c.ended_behind.ensures))
 
 pub returns-clause-ends : goal.returns-clause-ends
 returns-clause-ends c = c.in_ok-push.ensures.items ∙ line_ends-last (feed_state c.args.feed.now).unread c.args.run _ c.requires.stops c.requires.ends

@@ -23,28 +23,28 @@ pieces-init g c = record {
 pub sight-sight-requires : goal.sight-sight-requires
 sight-sight-requires g c = omega (arith, feed_small c.pieces.feed)
 
-pub ended_by_blank-requires-clause-some : goal.ended_by_blank-requires-clause-some
-ended_by_blank-requires-clause-some g c =
+pub ended_behind-requires-clause-some : goal.ended_behind-requires-clause-some
+ended_behind-requires-clause-some g c =
     blank-some (feed_state c.pieces.feed) c.in_ok-taken.taken.run
     (seen-stops (feed_state c.pieces.feed) c.sight-sight.result c.in_ok-taken.taken.stop Blank c.in_ok-taken.taken.run c.sight-sight.ensures c.in-Blank.is c.in_ok-taken.ensures.stops)
 
-pub ended_by_blank-requires-clause-lines : goal.ended_by_blank-requires-clause-lines
+pub ended_behind-requires-clause-lines : goal.ended_behind-requires-clause-lines
 unfolding paragraph_limit
-ended_by_blank-requires-clause-lines g c = omega (arith, stops-few _ _ _ c.in_ok-taken.ensures.stops, c.in_ok-taken.ensures.stops.stands.short)
+ended_behind-requires-clause-lines g c = omega (arith, stops-few _ _ _ c.in_ok-taken.ensures.stops, c.in_ok-taken.ensures.stops.stands.short)
 
 pub returns-in-Blank-clause-found : goal.returns-in-Blank-clause-found
 returns-in-Blank-clause-found g c =
     let state = feed_state c.pieces.feed in
     let s = seen-stops state c.sight-sight.result c.in_ok-taken.taken.stop Blank c.in_ok-taken.taken.run c.sight-sight.ensures c.in-Blank.is c.in_ok-taken.ensures.stops in
-    ends-found _ _ state (stop-blank state c.in_ok-taken.taken.run s c.ended_by_blank.result (omega (arith, c.pieces.invariant.walks.near, c.in_ok-taken.ensures.further)) c.ended_by_blank.ensures)
+    ends-found _ _ state (stop-blank state c.in_ok-taken.taken.run s c.ended_behind.result (omega (arith, c.pieces.invariant.walks.near, c.in_ok-taken.ensures.further)) c.ended_behind.ensures)
 
 pub returns-in-Blank-clause-ahead : goal.returns-in-Blank-clause-ahead
 returns-in-Blank-clause-ahead g c = λ text a.
     let state = feed_state c.pieces.feed in
     let w = c.pieces.invariant.walks in
     let s = seen-stops state c.sight-sight.result c.in_ok-taken.taken.stop Blank c.in_ok-taken.taken.run c.sight-sight.ensures c.in-Blank.is c.in_ok-taken.ensures.stops in
-    same-ahead text (feed_state c.args.feed.now) state state (g.R.Source.left c.pieces.reader) (Ok c.ended_by_blank.result) w.counts
-    (stop-blank-ahead state c.in_ok-taken.taken.run s text (g.R.Source.left c.pieces.reader) c.ended_by_blank.result (stop-blank state c.in_ok-taken.taken.run s c.ended_by_blank.result (omega (arith, c.pieces.invariant.walks.near, c.in_ok-taken.ensures.further)) c.ended_by_blank.ensures) (ap (λ (e : Extent). e.skip) c.ended_by_blank.ensures) (w.ahead text a))
+    same-ahead text (feed_state c.args.feed.now) state state (g.R.Source.left c.pieces.reader) (Ok c.ended_behind.result) w.counts
+    (stop-blank-ahead state c.in_ok-taken.taken.run s text (g.R.Source.left c.pieces.reader) c.ended_behind.result (stop-blank state c.in_ok-taken.taken.run s c.ended_behind.result (omega (arith, c.pieces.invariant.walks.near, c.in_ok-taken.ensures.further)) c.ended_behind.ensures) (ap (λ (e : Extent). e.skip) c.ended_behind.ensures) (w.ahead text a))
 
 pub refused-requires : goal.refused-requires
 unfolding paragraph_limit
@@ -132,4 +132,4 @@ returns-in-Blank-clause-ends g c =
     ∙ ap (λ zs. line_ends (take run.bytes zs)) (sees-ahead state c.sight-sight.result c.sight-sight.ensures)
     ∙ line_ends-closed (take room state.unread) run s.lines s.seen s.fresh s.stands (blank-some state run s)
     ∙ ap piece_ends (sym (take-seen (run.bytes - 1) room state.unread short))
-    ∙ ap (λ (e : Extent). piece_ends (take e.end state.unread)) (sym c.ended_by_blank.ensures)
+    ∙ ap (λ (e : Extent). piece_ends (take e.end state.unread)) (sym c.ended_behind.ensures)

@@ -1,21 +1,19 @@
 use Rattle.deb_syntax.proofs.Common.{◌∙◌, ◌≤◌, length, refl, subst, arith, err_from_is_err_and, feed_state, PassesOn}
 use Rattle.deb_base.specs.Bodies.{paragraph_limit}
-use Rattle.deb_syntax.proofs.FirstLines.{unwrap-at, dropped-found, dropped-first, dropped-fault}
+use Rattle.deb_syntax.proofs.FirstLines.{dropped-found, dropped-first, dropped-fault}
 use Rattle.deb_syntax.proofs.first.drop_first.Goals as goal
 
 pub returns-clause-found : goal.returns-clause-found
 unfolding paragraph_limit
 returns-clause-found g c =
     let long : paragraph_limit ≤ length (feed_state c.args.feed.now).unread = omega (arith, c.requires.long, c.requires.seen.len) in
-    let passes = subst (λ n. PassesOn (feed_state c.drop_line.new.feed) n 0 0 (feed_state c.pass.new.self)) (c.unwrap_or.ensures ∙ unwrap-at c.in_ok-dropped.dropped.newline) c.pass.ensures.passes in
-    dropped-found _ (feed_state c.drop_line.new.feed) _ _ c.in_ok-dropped.dropped _ _ refl long c.in_ok-dropped.ensures.drops passes
+    dropped-found _ (feed_state c.drop_line.new.feed) _ _ c.in_ok-dropped.dropped _ _ refl long c.in_ok-dropped.ensures.drops c.pass.ensures.passes
 
 pub returns-clause-ahead : goal.returns-clause-ahead
 unfolding paragraph_limit
 returns-clause-ahead g c =
     let long : paragraph_limit ≤ length (feed_state c.args.feed.now).unread = omega (arith, c.requires.long, c.requires.seen.len) in
-    let passes = subst (λ n. PassesOn (feed_state c.drop_line.new.feed) n 0 0 (feed_state c.pass.new.self)) (c.unwrap_or.ensures ∙ unwrap-at c.in_ok-dropped.dropped.newline) c.pass.ensures.passes in
-    dropped-first _ (feed_state c.drop_line.new.feed) _ _ c.in_ok-dropped.dropped _ _ refl long c.in_ok-dropped.ensures.drops passes
+    dropped-first _ (feed_state c.drop_line.new.feed) _ _ c.in_ok-dropped.dropped _ _ refl long c.in_ok-dropped.ensures.drops c.pass.ensures.passes
 
 pub returns-in_err-dropped-clause-ahead : goal.returns-in_err-dropped-clause-ahead
 returns-in_err-dropped-clause-ahead g c =

@@ -1,5 +1,5 @@
 use Rattle.deb_syntax.proofs.Common.{◌∙◌, sym, arith, feed_state}
-use Rattle.deb_syntax.proofs.FirstLines.{byte-of, last-kept, last-kept-ahead, last-end}
+use Rattle.deb_syntax.proofs.FirstLines.{last-kept, last-kept-ahead, last-end}
 use Rattle.deb_syntax.proofs.Feeds.{feed_small}
 use Rattle.deb_syntax.proofs.first.last_line.Goals as goal
 
@@ -14,4 +14,4 @@ pass-requires-clause-bytes c = omega (arith, c.requires.seen.len, c.requires.roo
 
 pub returns-clause-ahead : goal.returns-clause-ahead
 returns-clause-ahead c =
-    last-end (feed_state c.args.feed.now) (feed_state c.pass.new.self) c.args.begun c.from.result c.requires.ended c.requires.seen c.requires.room (sym (c.is_blank.ensures _ c.requires.seen) ∙ c.if-not-is_blank.false) c.pass.ensures.passes (c.from.ensures ∙ byte-of _)
+    last-end (feed_state c.args.feed.now) (feed_state c.pass.new.self) c.args.begun c.min.result c.requires.ended c.requires.seen c.requires.room (sym (c.is_blank.ensures _ c.requires.seen) ∙ c.if-not-is_blank.false) c.pass.ensures.passes c.min.ensures
