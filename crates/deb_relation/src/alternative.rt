@@ -94,6 +94,15 @@ impl<'a> Alternative<'a> {
             && formula_applies(&self.formula, environment)
     }
 
+    /// Returns whether the restriction formula applies, whatever the architecture list says: all
+    /// items of one of its lists hold, or there is no formula.
+    pub fn formula_applies(&self, environment: &Env) -> bool
+        ensures { result ≡ formula_applies (alternative_of self.now).formula
+            (environment_of environment.now).profiles }
+    {
+        formula_applies(&self.formula, environment)
+    }
+
     /// Whether the architecture list contains a wildcard.
     pub(crate) fn has_wildcard(&self) -> bool
         ensures { result ≡ has_wildcard (alternative_of self.now) }

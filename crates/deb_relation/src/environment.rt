@@ -78,6 +78,31 @@ impl Env {
         Ok(Env { target, profiles })
     }
 
+    /// Copies the environment with another target.
+    ///
+    /// # Errors
+    ///
+    /// - `BadEnvironment`, exactly if the target isn't an architecture name, or is a wildcard or
+    ///   `all`.
+    /// - `Memory`, if a growth of memory was refused.
+    pub fn for_target(&self, alloc: Global, target: &[u8]) -> Result<Env, EnvFault>
+        ensures ok { IfOk result
+            (λ environment. environment_of environment
+            ≡ environment_with target.now (environment_of self.now).profiles) }
+        ensures accepted { IfOk result (λ _. IsTrue (is_target target.now)) }
+        ensures refused { IfErr result
+            (λ fault. fault ≡ EnvFault.BadEnvironment → IsFalse (is_target target.now)) }
+        ensures bad_is_refused { IsFalse (is_target target.now)
+            → result ≡ Err EnvFault.BadEnvironment }
+    {
+        if !is_target(target) {
+            return Err(EnvFault::BadEnvironment);
+        }
+        let target = Vec::from_slice(alloc, target)?;
+        let profiles = copies_again(alloc, &self.profiles)?;
+        Ok(Env { target, profiles })
+    }
+
     /// Returns the target architecture.
     pub fn target(&self) -> &[u8]
         ensures { result.now ≡ (environment_of self.now).target }
@@ -115,6 +140,17 @@ fn is_target(name: &[u8]) -> bool
 /// Copies of names.
 fn copies_of(alloc: Global, names: &[&[u8]]) -> Result<Vec<Vec<u8>>, AllocError>
     ensures { IfOk result (λ copies. map bytes_of copies.items ≡ names_of names.now) }
+{
+    let mut copies = Vec::new(alloc);
+    for name in names {
+        copies.push(Vec::from_slice(alloc, name)?)?;
+    }
+    Ok(copies)
+}
+
+/// Copies of names that are copies themselves.
+fn copies_again(alloc: Global, names: &[Vec<u8>]) -> Result<Vec<Vec<u8>>, AllocError>
+    ensures { IfOk result (λ copies. map bytes_of copies.items ≡ map bytes_of names.now) }
 {
     let mut copies = Vec::new(alloc);
     for name in names {
