@@ -1,3 +1,3 @@
-pub mod Following
+pub mod Refusing
 mod NamedFields
 pub mod Sources

@@ -1,20 +1,20 @@
 -- Why a file is refused, in full. Debian Policy 5.1, 5.3 to 5.6 and 7; which of it is told is this
 -- project's own.
-use Rattle.std.specs.Prelude.{◌≡◌, ℕ, List, [], length, Option, Some, None, Result, Ok, Err, codes}
+use Rattle.std.specs.Prelude.{◌≡◌, ℕ, List, [], Option, Some, None, codes}
 use Rattle.std.specs.Prelude.{refl}
 use Rattle.std.specs.Option.{option_map}
 use Rattle.std.specs.Str.{is_utf8, chars}
 use lib.Utf8.{encode}
-use Rattle.deb_base.specs.Bodies.{paragraph_limit}
+use Rattle.deb_base.specs.Bodies.{Line, paragraph_limit}
 use Rattle.deb_base.specs.declared.code.Code.{Code}
 use Rattle.deb_base.specs.declared.code.Code.TheVariants as code
 use Rattle.deb_base.specs.declared.refusal.Refusal.{Refusal}
 use Rattle.deb_version.specs.Faults.{first_fault}
 use Rattle.deb_version.specs.declared.fault.BadVersion.TheVariants.{UpstreamByte}
 use Rattle.deb_relation.specs.declared.fault.Reason.TheVariants.{Trailing}
-use Rattle.deb_syntax.specs.Answers.{Seen, next_answer}
+use Rattle.deb_syntax.specs.Answers.{Seen}
+use Rattle.deb_syntax.specs.Judged.{line_judged}
 use Rattle.deb_syntax.specs.Lines.{file_limit}
-use Rattle.deb_syntax.specs.Meaning.{Entries}
 use Rattle.deb_base.specs.Docs.{is_single}
 use Rattle.deb_base.specs.Kinds.{kind_at, known_row, kind_of, required}
 use Rattle.deb_field.specs.RelationFieldCases.{told}
@@ -23,6 +23,7 @@ use Rattle.deb_base.specs.declared.doc.Doc.{Doc}
 use Rattle.deb_base.specs.declared.doc.Doc.TheVariants.{Binary, Packages}
 use Rattle.deb_control.specs.Documents.{rules_of}
 use Rattle.deb_control.specs.Refusals.{Outcome, outcome}
+use Rattle.deb_control.specs.Refused.{lines_behind, seen_behind}
 use Rattle.deb_control.specs.Rules.{Rules}
 use Rattle.deb_explain.specs.Subjects.{About, AboutWhole, AboutLine, AboutName, AboutMissing}
 use Rattle.deb_explain.specs.Subjects.{AboutField, about_topic, topic_of}
@@ -33,35 +34,30 @@ pub record WhyRefused : Type 0 where
   pub refusal : Refusal
   pub about : About
 
-abbrev pub explain_refusal : Doc → List ℕ → Refusal → Option Seen → WhyRefused
-explain_refusal doc text refusal paragraph =
+abbrev pub explain_refusal : Doc → Refusal → Option Line → Option Seen → WhyRefused
+explain_refusal doc refusal line paragraph =
     record {
       refusal = refusal;
-      about = about_topic (topic_of refusal.code) doc text refusal paragraph;
+      about = about_topic (topic_of refusal.code) doc line refusal paragraph;
     }
 
--- what is seen of a paragraph, where its lines are not refused
-abbrev pub seen_in : Result (Option Seen) Refusal → Option Seen
-seen_in (Ok seen) = seen
-seen_in (Err refusal) = None
+-- What is told where this comes of a file, by the paragraph behind those that pass: by the line of
+-- it that has the refusal's number, and by its fields.
+abbrev pub explanation_in : Rules → (Refusal → Option Line → Option Seen → WhyRefused) → List ℕ
+    → Outcome → Option WhyRefused
+explanation_in rules why text come =
+    option_map
+    (λ refusal. why refusal (line_judged refusal.line (lines_behind rules text come.passed))
+    (seen_behind rules text come.passed))
+    come.refusal
 
--- the paragraph behind those of a file that pass
-abbrev pub paragraph_behind : List ℕ → List Entries → Option Seen
-paragraph_behind text passed = seen_in (next_answer text (length passed))
-
--- what is told where this comes of a file
-abbrev pub explanation_in : (Refusal → Option Seen → WhyRefused) → List ℕ → Outcome
+abbrev pub explanation_by : Rules → (Refusal → Option Line → Option Seen → WhyRefused) → List ℕ
     → Option WhyRefused
-explanation_in why text come =
-    option_map (λ refusal. why refusal (paragraph_behind text come.passed)) come.refusal
-
-abbrev pub explanation_by : Rules → (Refusal → Option Seen → WhyRefused) → List ℕ
-    → Option WhyRefused
-explanation_by rules why text = explanation_in why text (outcome rules text)
+explanation_by rules why text = explanation_in rules why text (outcome rules text)
 
 -- Why a file is refused, if it is.
 abbrev pub explanation_of : Doc → List ℕ → Option WhyRefused
-explanation_of doc text = explanation_by (rules_of doc) (explain_refusal doc text) text
+explanation_of doc text = explanation_by (rules_of doc) (explain_refusal doc) text
 
 -- for the worked cases: the rules of a kind where bodies count as canonical text, which then
 -- computes; the refusals are those of the kind
@@ -74,7 +70,7 @@ plain doc = record {
 }
 
 abbrev explained : Doc → List ℕ → Option WhyRefused
-explained doc text = explanation_by (plain doc) (explain_refusal doc text) text
+explained doc text = explanation_by (plain doc) (explain_refusal doc) text
 
 -- a refusal, and what it is about
 abbrev why : Code → ℕ → About → Option WhyRefused

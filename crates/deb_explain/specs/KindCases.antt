@@ -39,7 +39,7 @@ writing canonical = record {
 }
 
 abbrev explained : (List ℕ → List ℕ → List ℕ) → Option WhyRefused
-explained canonical = explanation_by (writing canonical) (explain_refusal Packages index) index
+explained canonical = explanation_by (writing canonical) (explain_refusal Packages) index
 
 -- texts by the name of a field
 abbrev by_name : List ℕ → List ℕ → List ℕ → List ℕ → List ℕ → List ℕ

@@ -5,5 +5,4 @@ pub mod Paths
 pub mod Texts
 pub mod Explanations
 pub mod KindCases
-pub mod Reading
 pub mod Shown

@@ -1,9 +1,9 @@
 -- What a refusal is about, and what is wrong there. Debian Policy 5.1 (fields), 5.3 and 5.4
 -- (required fields), 5.6 and 7 (values); which of it is told is this project's own.
-use Rattle.std.specs.Prelude.{◌≡◌, ℕ, ◌+◌, ◌-◌, ◌==◌, not, List, [], ◌∷◌, find, map, slice_get}
+use Rattle.std.specs.Prelude.{◌≡◌, ℕ, ◌+◌, ◌==◌, not, List, [], ◌∷◌, find, map}
 use Rattle.std.specs.Prelude.{Option, Some, None, codes, refl}
 use Rattle.std.specs.List.{after_first, before_first, position_or_len, prefix_len}
-use Rattle.deb_base.specs.Bodies.{Line, is_blank_byte, pieces_of}
+use Rattle.deb_base.specs.Bodies.{Line, is_blank_byte}
 use Rattle.deb_base.specs.FieldNames.{colon}
 use Rattle.deb_base.specs.declared.code.Code.{Code}
 use Rattle.deb_base.specs.declared.code.Code.TheVariants as code
@@ -53,10 +53,6 @@ topic_of code.ProvidesBound = topics.Value
 topic_of code.Wildcard = topics.Whole
 topic_of code.BadEnvironment = topics.Whole
 
--- the line of a number, which is counted from 1
-abbrev pub line_numbered : ℕ → List ℕ → Option Line
-line_numbered number text = slice_get (pieces_of text) (number - 1)
-
 -- the column, counted from 1, at which the body of a line's field begins: after the colon, and
 -- after the spaces and tabs there
 abbrev pub body_column : Line → ℕ
@@ -81,35 +77,33 @@ abbrev pub about_found : {A : Type 0} → (A → About) → Option A → About
 about_found about None = AboutWhole
 about_found about (Some a) = about a
 
-abbrev pub about_line : ℕ → List ℕ → About
-about_line number text = about_found AboutLine (line_numbered number text)
+abbrev pub about_line : Option Line → About
+about_line line = about_found AboutLine line
 
-abbrev pub about_name : ℕ → List ℕ → About
-about_name number text =
-    about_found (λ line. AboutName (before_first (λ b. b == colon) line))
-    (line_numbered number text)
+abbrev pub about_name : Option Line → About
+about_name line = about_found (λ line. AboutName (before_first (λ b. b == colon) line)) line
 
 abbrev pub about_missing : Doc → Seen → About
 about_missing doc seen = about_found AboutMissing (missing_among (required doc) seen.fields)
 
-abbrev pub about_field : Doc → List ℕ → Refusal → Field → About
-about_field doc text refusal field =
-    AboutField field.name (column_in (line_numbered refusal.line text)) field.body
+abbrev pub about_field : Doc → Option Line → Refusal → Field → About
+about_field doc line refusal field =
+    AboutField field.name (column_in line) field.body
     (cause_of doc refusal.code field.name field.body)
 
-abbrev pub about_value : Doc → List ℕ → Refusal → Seen → About
-about_value doc text refusal seen =
-    about_found (about_field doc text refusal) (field_at refusal.line seen.fields)
+abbrev pub about_value : Doc → Option Line → Refusal → Seen → About
+about_value doc line refusal seen =
+    about_found (about_field doc line refusal) (field_at refusal.line seen.fields)
 
--- of a refusal by what its code is about, of which this paragraph was refused, where its lines are
--- no reason to
-abbrev pub about_topic : Topic → Doc → List ℕ → Refusal → Option Seen → About
-about_topic topics.Whole doc text refusal paragraph = AboutWhole
-about_topic topics.Line doc text refusal paragraph = about_line refusal.line text
-about_topic topics.Name doc text refusal paragraph = about_name refusal.line text
-about_topic topics.Missing doc text refusal paragraph = about_found (about_missing doc) paragraph
-about_topic topics.Value doc text refusal paragraph =
-    about_found (about_value doc text refusal) paragraph
+-- of a refusal by what its code is about, at this line; of which this paragraph was refused, where
+-- its lines are no reason to
+abbrev pub about_topic : Topic → Doc → Option Line → Refusal → Option Seen → About
+about_topic topics.Whole doc line refusal paragraph = AboutWhole
+about_topic topics.Line doc line refusal paragraph = about_line line
+about_topic topics.Name doc line refusal paragraph = about_name line
+about_topic topics.Missing doc line refusal paragraph = about_found (about_missing doc) paragraph
+about_topic topics.Value doc line refusal paragraph =
+    about_found (about_value doc line refusal) paragraph
 
 columns : (body_column (codes "Version: 1") ≡ 10) × (body_column (codes "Version:1") ≡ 9)
     × (body_column (codes "Depends: \t aa : b") ≡ 12) × (body_column (codes "Depends:") ≡ 9)

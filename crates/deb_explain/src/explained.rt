@@ -1,18 +1,18 @@
-//! The types of an explanation: whether a text is accepted, or what its refusal is about.
+//! The types of an explanation: whether a file is accepted, or what its refusal is about.
 
 use crate::cause::Cause;
 use deb_base::Refusal;
 
-/// The answer for a text.
+/// The answer for a file.
 #[derive(Debug, Drop)]
 pub enum Explained {
-    /// The text is accepted, with this number of paragraphs.
+    /// The file is accepted, with this number of paragraphs.
     Accepted(u64),
-    /// The text is refused, for this reason.
+    /// The file is refused, for this reason.
     Refused(Explanation),
 }
 
-/// Why a text is refused.
+/// Why a file is refused.
 #[derive(Debug, Drop)]
 pub struct Explanation {
     /// The code and the line, counted from 1, that `deb_control::check` returns.

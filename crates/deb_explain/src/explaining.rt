@@ -1,74 +1,63 @@
-//! Explains why a text is refused.
+//! Explains why a file is refused.
 
-ghost use Rattle.std.specs.Prelude.{◌≡◌, ℕ, List, Some, None, IfOk};
-ghost use Rattle.deb_syntax.specs.Paragraphs.{state_of};
-ghost use Rattle.deb_syntax.specs.Reading.{Fits};
+ghost use Rattle.std.specs.Prelude.{◌≡◌, ℕ, List, Some, IfErr, IfOk};
+ghost use Rattle.deb_base.specs.Devices.{read_failures_after, ReadFaultIffFailed};
+ghost use Rattle.deb_base.specs.Reading.{IsMemoryOrRead, TakesNoMore};
+ghost use Rattle.deb_syntax.specs.Lines.{file_limit};
 ghost use Rattle.deb_control.specs.Calls.{HasParagraphs};
 ghost use Rattle.deb_explain.specs.Explanations.{explanation_of};
-ghost use Rattle.deb_explain.specs.Reading.{ShowsNext};
 ghost use Rattle.deb_explain.specs.Shown.{IfAccepted, IfRefused, shown_by};
 
 use crate::explained::{Explained, Explanation};
 use crate::subject::subject_of;
-use deb_base::{Fault, SliceSource, Source};
+use deb_base::{Fault, Source};
 use deb_control::{Checked, NoVisitor};
 use deb_field::Doc;
-use deb_syntax::Paragraphs;
-use std::alloc::{AllocError, Global};
+use std::alloc::Global;
 
-/// Checks a text as a document of a kind, and returns what its refusal is about (Debian Policy 5.1
+/// Checks a file as a document of a kind, and returns what its refusal is about (Debian Policy 5.1
 /// and 5.3 to 5.6).
 ///
-/// The text is read twice in parallel, so that the refused paragraph is available. Two of its
-/// paragraphs are held in memory, and a copy of what the refusal is about.
+/// The file is read once, no further than `deb_control::check` reads it: at most 4,295,032,831
+/// bytes, a file of the most bytes and one piece. One paragraph is held in memory, and a copy of
+/// what the refusal is about. Promises about the text of the file hold for a reader whose bytes are
+/// known.
 ///
 /// # Errors
 ///
-/// Out of memory only.
-pub fn explain(alloc: Global, doc: Doc, text: &[u8]) -> Result<Explained, AllocError>
-    ensures accepted { IfOk result
-        (λ explained. IfAccepted explained (HasParagraphs doc text.now)) }
-    ensures refused { IfOk result
+/// - `Fault::Memory`: a growth of memory was refused.
+/// - `Fault::Read`: a read failed in this call.
+pub fn explain<R: Source>(alloc: Global, doc: Doc, reader: &mut R) -> Result<Explained, Fault>
+    ensures accepted { (text : List ℕ) → R.left reader.old ≡ Some text → IfOk result
+        (λ explained. IfAccepted explained (HasParagraphs doc text)) }
+    ensures refused { (text : List ℕ) → R.left reader.old ≡ Some text → IfOk result
         (λ explained. IfRefused explained
-        (λ explanation. explanation_of doc text.now ≡ Some (shown_by explanation))) }
+        (λ explanation. explanation_of doc text ≡ Some (shown_by explanation))) }
+    ensures reads_at_most { (text : List ℕ) → R.left reader.old ≡ Some text
+        → TakesNoMore text file_limit (R.left reader.new) }
+
+    // Whether or not the reader's bytes are known.
+    ensures fault { IfErr result IsMemoryOrRead }
+    ensures counts_read_failure { R.failures reader.new ≡ read_failures_after
+        (R.failures reader.old) result }
+    ensures fault_iff_read_failed { ReadFaultIffFailed (R.failures reader.old)
+        (R.failures reader.new) result }
 {
     let mut checked = Checked::new(alloc, doc);
-    let mut source = SliceSource::new(text);
-    let mut paragraphs = Paragraphs::new(alloc);
-    let mut again = SliceSource::new(text);
     for count in 0..u64::MAX {
-        show_next(&mut paragraphs, &mut again)?;
-        match checked.advance(&mut NoVisitor, &mut source) {
+        match checked.advance(&mut NoVisitor, reader) {
             Ok(true) => {}
             Ok(false) => return Ok(Explained::Accepted(count)),
             Err(Fault::Refused(refusal)) => {
-                let subject = subject_of(alloc, doc, text, refusal, paragraphs.current())?;
+                let line = checked.line(refusal.line);
+                let subject = subject_of(alloc, doc, refusal, line, checked.refused())?;
                 return Ok(Explained::Refused(Explanation { refusal, subject }));
             }
-            Err(Fault::Memory) => return Err(AllocError),
-            Err(Fault::Read | Fault::Write) => unreachable!(),
+            Err(Fault::Memory) => return Err(Fault::Memory),
+            Err(Fault::Read) => return Err(Fault::Read),
+            Err(Fault::Write) => unreachable!(),
         }
     }
-    // No text has so many paragraphs.
+    // No file has so many paragraphs.
     unreachable!()
-}
-
-/// Goes on to the next paragraph of a text, which `current` then gives where its lines are not
-/// refused.
-fn show_next<'a>(
-    paragraphs: &mut Paragraphs,
-    source: &mut SliceSource<'a>,
-) -> Result<(), AllocError>
-    requires sound { (state_of paragraphs.old).fault ≡ None }
-    ensures { (text passed : List ℕ)
-        → Fits text passed (state_of paragraphs.old) (⟦<SliceSource<'a> as Source>⟧.left source.old)
-        → IfOk result (λ _. ShowsNext text passed (state_of paragraphs.new)
-        (⟦<SliceSource<'a> as Source>⟧.left source.new)) }
-{
-    match paragraphs.advance(source) {
-        Ok(_) => Ok(()),
-        Err(Fault::Refused(_)) => Ok(()),
-        Err(Fault::Memory) => Err(AllocError),
-        Err(Fault::Read | Fault::Write) => unreachable!(),
-    }
 }

@@ -1,8 +1,8 @@
 //! Explains why a file of Debian control data is refused: which field is wrong or missing, and what
 //! is wrong in a value and where (Debian Policy 5.1, 5.3 to 5.6 and 7.1).
 //!
-//! - [`explain`] checks a text in memory as `deb_control::check` checks a file, and returns more
-//!   about the same refusal than its code and line.
+//! - [`explain`] checks a file as `deb_control::check` does, and returns more about the same refusal
+//!   than its code and line.
 //! - [`Explanation::write`] writes that in lines `key: value`.
 //! - [`explain_word`] finds what is wrong in a relation or a version from the command line, and
 //!   [`write_refused_word`] writes that in such lines.
@@ -10,7 +10,8 @@
 //!   [`write_path`] writes a path so that it can be shown in a line.
 //!
 //! ```text
-//! let told = explain(alloc, Doc::Packages, b"Package: aa\nVersion: 1_2\n")?;
+//! let mut file = SliceSource::new(b"Package: aa\nVersion: 1_2\n");
+//! let told = explain(alloc, Doc::Packages, &mut file)?;
 //! // line 2, 18 BadVersion: the field Version, `1_2`, in which the byte at 1 isn't allowed
 //! ```
 #![tactic(auto)]

@@ -8,7 +8,7 @@ ghost use Rattle.deb_syntax.specs.Paragraphs.{seen_of};
 ghost use Rattle.deb_syntax.specs.Raw.{field_of, fields_of};
 ghost use Rattle.deb_explain.specs.Subjects.{about_field, about_line, about_missing, about_name};
 ghost use Rattle.deb_explain.specs.Subjects.{about_topic, about_value, body_column, column_in};
-ghost use Rattle.deb_explain.specs.Subjects.{field_at, line_numbered, missing_among, topic_of};
+ghost use Rattle.deb_explain.specs.Subjects.{field_at, missing_among, topic_of};
 ghost use Rattle.deb_explain.specs.Shown.{about_of};
 
 use crate::cause::{cause_of, leading_blanks};
@@ -19,53 +19,48 @@ use deb_field::{Doc, required};
 use deb_syntax::{Raw, RawField};
 use std::alloc::{AllocError, Global};
 
-/// What the refusal of a text is about, by the paragraph that is refused, where its lines are not.
+/// What the refusal of a file is about, by the line that has its number and by the paragraph that is
+/// refused, where its lines are not.
 pub(crate) fn subject_of(
     alloc: Global,
     doc: Doc,
-    text: &[u8],
     refusal: Refusal,
+    line: Option<&[u8]>,
     paragraph: Option<Raw<'_>>,
 ) -> Result<Subject, AllocError>
     ensures { IfOk result (λ subject. about_of subject
-        ≡ about_topic (topic_of refusal.code) doc text.now refusal
+        ≡ about_topic (topic_of refusal.code) doc (option_map (λ line. line.now) line.entry) refusal
         (option_map seen_of paragraph.entry)) }
 {
     match (topic_of(refusal.code), paragraph) {
-        (Topic::Line, _) => line_subject(alloc, text, refusal.line),
-        (Topic::Name, _) => name_subject(alloc, text, refusal.line),
+        (Topic::Line, _) => line_subject(alloc, line),
+        (Topic::Name, _) => name_subject(alloc, line),
         (Topic::Missing, Some(paragraph)) => Ok(missing_subject(doc, &paragraph)),
-        (Topic::Value, Some(paragraph)) => value_subject(alloc, doc, text, refusal, &paragraph),
+        (Topic::Value, Some(paragraph)) => value_subject(alloc, doc, line, refusal, &paragraph),
         (Topic::Whole, _) | (Topic::Missing | Topic::Value, None) => Ok(Subject::Whole),
     }
 }
 
-/// The line of a number.
-fn line_subject(alloc: Global, text: &[u8], number: u64) -> Result<Subject, AllocError>
-    ensures { IfOk result (λ subject. about_of subject ≡ about_line number text.now) }
+/// The line that is refused.
+fn line_subject(alloc: Global, line: Option<&[u8]>) -> Result<Subject, AllocError>
+    ensures { IfOk result (λ subject. about_of subject
+        ≡ about_line (option_map (λ line. line.now) line.entry)) }
 {
-    match line_numbered(text, number) {
+    match line {
         Some(line) => Ok(Subject::Line(line.to_vec(alloc)?)),
         None => Ok(Subject::Whole),
     }
 }
 
-/// Returns the text before the first colon of the line with a number.
-fn name_subject(alloc: Global, text: &[u8], number: u64) -> Result<Subject, AllocError>
-    ensures { IfOk result (λ subject. about_of subject ≡ about_name number text.now) }
+/// Returns the text before the first colon of the line that is refused.
+fn name_subject(alloc: Global, line: Option<&[u8]>) -> Result<Subject, AllocError>
+    ensures { IfOk result (λ subject. about_of subject
+        ≡ about_name (option_map (λ line. line.now) line.entry)) }
 {
-    match line_numbered(text, number) {
+    match line {
         Some(line) => Ok(Subject::Name(before_colon(line).to_vec(alloc)?)),
         None => Ok(Subject::Whole),
     }
-}
-
-/// The line of a number, which is counted from 1, without its newline.
-fn line_numbered(text: &[u8], number: u64) -> Option<&[u8]>
-    ensures { option_map (λ line. line.now) result ≡ line_numbered number text.now }
-{
-    text.split(|byte| *byte == b'\n')
-        .nth(number.saturating_sub(1) as usize)
 }
 
 /// Returns the text before the first colon, or all if there is none.
@@ -114,15 +109,16 @@ fn lacks_field(paragraph: &Raw<'_>, name: &[u8]) -> bool
 fn value_subject(
     alloc: Global,
     doc: Doc,
-    text: &[u8],
+    line: Option<&[u8]>,
     refusal: Refusal,
     paragraph: &Raw<'_>,
 ) -> Result<Subject, AllocError>
-    ensures { IfOk result
-        (λ subject. about_of subject ≡ about_value doc text.now refusal (seen_of paragraph.now)) }
+    ensures { IfOk result (λ subject. about_of subject
+        ≡ about_value doc (option_map (λ line. line.now) line.entry) refusal
+        (seen_of paragraph.now)) }
 {
     match field_at(paragraph, refusal.line) {
-        Some(field) => Ok(Subject::Field(refused_field(alloc, doc, text, refusal, &field)?)),
+        Some(field) => Ok(Subject::Field(refused_field(alloc, doc, line, refusal, &field)?)),
         None => Ok(Subject::Whole),
     }
 }
@@ -138,16 +134,17 @@ fn field_at<'a>(paragraph: &Raw<'a>, line: u64) -> Option<RawField<'a>>
 fn refused_field(
     alloc: Global,
     doc: Doc,
-    text: &[u8],
+    line: Option<&[u8]>,
     refusal: Refusal,
     field: &RawField<'_>,
 ) -> Result<RefusedField, AllocError>
     ensures { IfOk result (λ refused. about_of (Subject.Field refused)
-        ≡ about_field doc text.now refusal (field_of field.now)) }
+        ≡ about_field doc (option_map (λ line. line.now) line.entry) refusal
+        (field_of field.now)) }
 {
     Ok(RefusedField {
         name: field.name.to_vec(alloc)?,
-        column: column_in(line_numbered(text, refusal.line)),
+        column: column_in(line),
         body: field.body.to_vec(alloc)?,
         cause: cause_of(alloc, doc, refusal.code, field.name, field.body)?,
     })

@@ -1,6 +1,6 @@
 pub mod AuditReports
-pub mod CutOffReports
 pub mod DocumentReports
+pub mod ExplainReports
 pub mod JobRefusals
 pub mod LastPaths
 pub mod QueryReports

@@ -6,7 +6,7 @@ use Rattle.std.specs.Fmt.{digits}
 use Rattle.std.specs.Str.{is_utf8, chars}
 use lib.Utf8.{encode}
 use Rattle.deb_base.specs.Bodies.{newline}
-use Rattle.deb_base.specs.Devices.{AppendsFront, Puts, write_failures_after}
+use Rattle.deb_base.specs.Devices.{AppendsFront, Puts, read_failures_after, write_failures_after}
 use Rattle.deb_base.specs.Faults.{MatchFault}
 use Rattle.deb_base.specs.declared.code.Code.{Code}
 use Rattle.deb_base.specs.declared.code.Code.TheVariants.{BadVersion}
@@ -26,7 +26,8 @@ use Rattle.deb_explain.specs.declared.cause.Cause.TheVariants as cause
 use Rattle.deb_explain.specs.declared.cause.Word.{Word}
 use Rattle.deb_explain.specs.declared.cause.Word.TheVariants as words
 use Rattle.deb_base.specs.declared.doc.Doc.{Doc}
-use Rattle.debctl_commands.specs.DocumentJobs.{WritesOk, WritesFrontOfOk}
+use Rattle.deb_control.specs.Calls.{IfRefused, IfWriteFailed}
+use Rattle.debctl_commands.specs.DocumentJobs.{IfNotWritten, WritesOk, WritesFrontOfOk}
 use Rattle.debctl_commands.specs.Unopened.{unopened_words}
 use Rattle.debctl_commands.specs.declared.unopened.Unopened.{Unopened}
 use Rattle.debctl_commands.specs.declared.unopened.Unopened.TheVariants.{NotFound}
@@ -43,7 +44,7 @@ pub record WritesExplanation (doc : Doc) (path text : List ℕ) (old new : Optio
   pub explained : explanation_of doc text ≡ Some reported
   pub written : Appends old new (explanation_text path reported)
 
--- A text was judged and reported: that it is accepted, or its explanation.
+-- A file was judged and reported: that it is accepted, or its explanation.
 abbrev pub WritesAnswer : Doc → List ℕ → List ℕ → Option (List ℕ) → Option (List ℕ) → Bool → Type 0
 WritesAnswer doc path text old new true = WritesOk doc text old new
 WritesAnswer doc path text old new false = WritesExplanation doc path text old new
@@ -64,12 +65,18 @@ WritesFront doc path text old new =
 abbrev pub IsMemoryOrWrite : Type 0 → Type 0 → Fault → Type 0
 IsMemoryOrWrite memory write fault = MatchFault fault (λ _. ⊥) memory ⊥ write
 
--- The answer to a text, and what it wrote.
-pub record Explains {W : Type 0} (doc : Doc) (path text : List ℕ) (held : W → Option (List ℕ))
-    (failures : W → ℕ) (old new : W) (answer : Result Bool Fault) : Type 0 where
-  pub ok : IfOk answer (WritesAnswer doc path text (held old) (held new))
-  pub fault : IfErr answer
-      (IsMemoryOrWrite (new ≡ old) (WritesFront doc path text (held old) (held new)))
+-- The answer to a file, and what it wrote: by the reader's text, its count of failed calls before
+-- and after, and the writer before and after.
+pub record Explains {W : Type 0} (doc : Doc) (path : List ℕ) (left : Option (List ℕ))
+    (count count_after : ℕ) (held : W → Option (List ℕ)) (failures : W → ℕ) (old new : W)
+    (answer : Result Bool Fault) : Type 0 where
+  pub ok : (text : List ℕ) → left ≡ Some text →
+      IfOk answer (WritesAnswer doc path text (held old) (held new))
+  pub write : (text : List ℕ) → left ≡ Some text →
+      IfWriteFailed answer (WritesFront doc path text (held old) (held new))
+  pub unrefused : IfRefused answer (λ _. ⊥)
+  pub unwritten : IfNotWritten answer (new ≡ old)
+  pub reads : count_after ≡ read_failures_after count answer
   pub writes : failures new ≡ write_failures_after (failures old) answer
 
 -- The answer to a code, and what it wrote.

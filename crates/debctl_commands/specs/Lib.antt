@@ -1,5 +1,4 @@
 pub mod AuditJob
-pub mod CutOff
 pub mod DocumentJobs
 pub mod ExplainJob
 pub mod ListedPaths

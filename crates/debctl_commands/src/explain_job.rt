@@ -1,72 +1,80 @@
 //! The jobs of `explain`.
 
-ghost use Rattle.std.specs.Prelude.{◌≡◌, ◌<◌, Bool, ⊤, IfErr, Result};
+ghost use Rattle.std.specs.Prelude.{◌≡◌, ◌<◌, ℕ, Bool, List, Some, ⊤, IfErr, Result};
 ghost use Rattle.deb_base.specs.Devices.{write_failures_after, Puts};
 ghost use Rattle.deb_base.specs.declared.fault.Fault.{Fault};
 ghost use Rattle.debctl_commands.specs.DocumentJobs.{WritesOk};
 ghost use Rattle.debctl_commands.specs.ExplainJob.{explain_status, unopened_text, Explains};
 ghost use Rattle.debctl_commands.specs.ExplainJob.{ExplainsWord, WritesExplanation, WritesRule};
 ghost use Rattle.debctl_commands.specs.Reporting.{done_status, Reports, ReportsUnopened};
+ghost use Rattle.debctl_commands.specs.Taking.{TakesFile};
 
 use crate::document_jobs::put_ok_line;
 use crate::reporting::{report_fault, report_unopened};
 use crate::unopened::Unopened;
-use deb_base::{Code, Fault, Sink, put_all};
+use deb_base::{Code, Fault, Sink, Source, put_all};
 use deb_explain::{
     Explained, Word, explain, explain_word, write_file_line, write_refused_word, write_rule_of,
 };
 use deb_field::Doc;
 use std::alloc::Global;
 
-/// Writes to `out` that a text is accepted as a document of a kind, or why it is refused, under the
-/// path of its file, and returns the status.
+/// Writes to `out` that a file is accepted as a document of a kind, or why it is refused, under its
+/// path, and returns the status.
 ///
-/// - 0: the text is accepted. `ok N` with a newline was written, for its N paragraphs.
-/// - 2: the text is refused. Its explanation was written, in lines `key: value`.
-/// - 3: out of memory, or a write failed. `err` has the fault's line; if a write to `err` failed, a
-///   prefix of it.
+/// - 0: the file is accepted. `ok N` with a newline was written, for its N paragraphs.
+/// - 2: the file is refused. Its explanation was written, in lines `key: value`.
+/// - 3: out of memory, a read failed, or a write failed. `err` has the fault's line; if a write to
+///   `err` failed, a prefix of it.
 ///
 /// Except for status 3, nothing was written to `err`.
-pub fn run_explain<W: Sink, E: Sink>(
+pub fn run_explain<R: Source, W: Sink, E: Sink>(
     alloc: Global,
     doc: Doc,
     path: &[u8],
-    text: &[u8],
+    first: &mut R,
     out: &mut W,
     err: &mut E,
 ) -> u8
     ensures done { result ≡ 0 → (err.new ≡ err.old)
-        × WritesOk doc text.now (W.held out.old) (W.held out.new) }
+        × ((text : List ℕ) → R.left first.old ≡ Some text
+        → WritesOk doc text (W.held out.old) (W.held out.new)) }
     ensures refused { result ≡ 2 → (err.new ≡ err.old)
-        × WritesExplanation doc path.now text.now (W.held out.old) (W.held out.new) }
+        × ((text : List ℕ) → R.left first.old ≡ Some text
+        → WritesExplanation doc path.now text (W.held out.old) (W.held out.new)) }
+    ensures reads_at_most { TakesFile (R.left first.old) (R.left first.new) }
 
     // Where a call of a device failed, the status is 3.
+    ensures status_3_if_read_failed { R.failures first.old < R.failures first.new → result ≡ 3 }
     ensures status_3_if_write_failed { W.failures out.old < W.failures out.new → result ≡ 3 }
     ensures status_3_if_err_failed { E.failures err.old < E.failures err.new → result ≡ 3 }
 
     // Whatever the status: there is an answer, and that is reported.
     ensures reports_answer { (answer : Result Bool Fault)
-        × Explains doc path.now text.now W.held W.failures out.old out.new answer
+        × Explains doc path.now (R.left first.old) (R.failures first.old)
+        (R.failures first.new) W.held W.failures out.old out.new answer
         × Reports explain_status E.held E.failures err.old err.new answer result }
 {
-    match write_explanation(alloc, doc, path, text, out) {
+    match write_explanation(alloc, doc, path, first, out) {
         Ok(true) => 0,
         Ok(false) => 2,
         Err(fault) => report_fault(&fault, err),
     }
 }
 
-/// Writes that a text is accepted, or why it is refused, and returns which of these.
-fn write_explanation<W: Sink>(
+/// Writes that a file is accepted, or why it is refused, and returns which of these.
+fn write_explanation<R: Source, W: Sink>(
     alloc: Global,
     doc: Doc,
     path: &[u8],
-    text: &[u8],
+    first: &mut R,
     out: &mut W,
 ) -> Result<bool, Fault>
-    ensures { Explains doc path.now text.now W.held W.failures out.old out.new result }
+    ensures explains { Explains doc path.now (R.left first.old) (R.failures first.old)
+        (R.failures first.new) W.held W.failures out.old out.new result }
+    ensures reads_at_most { TakesFile (R.left first.old) (R.left first.new) }
 {
-    match explain(alloc, doc, text)? {
+    match explain(alloc, doc, first)? {
         Explained::Accepted(paragraphs) => {
             put_ok_line(paragraphs, out)?;
             Ok(true)

@@ -3,7 +3,7 @@
 //!
 //! - [`run`] runs a job over readers and writers, reports on one of them why it failed, and returns
 //!   the status. It opens no path and uses no stream of the system.
-//! - [`run_explain`] writes why a text is refused, [`run_unopened`] why a file can't be opened,
+//! - [`run_explain`] writes why a file is refused, [`run_unopened`] why one can't be opened,
 //!   [`run_word`] why a text isn't a relation or a version, [`run_rule`] what an error code means,
 //!   and [`run_audit`] whether each of many files is accepted.
 //! - [`run_program`] runs the task that the program's arguments ask for: it opens the paths, passes
@@ -12,10 +12,8 @@
 
 mod audit_job;
 mod command;
-mod cut_off;
 mod document_jobs;
 mod explain_job;
-mod explained_text;
 mod file_or_nothing;
 mod listed;
 mod opening;

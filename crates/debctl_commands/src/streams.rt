@@ -1,9 +1,7 @@
 //! Runs the program with the arguments, files and standard streams of the system.
 
 use crate::audit_job::{AuditOptions, record_end, run_audit, run_without_list};
-use crate::cut_off::run_cut_off;
 use crate::explain_job::{run_explain, run_rule, run_unopened, run_word};
-use crate::explained_text::{DecidingText, read_to_refusal};
 use crate::listed::listed_paths;
 use crate::opening::run_call;
 use crate::reader::{SystemFiles, opened};
@@ -15,7 +13,6 @@ use deb_explain::Word;
 use deb_field::Doc;
 use deb_syntax::FILE_LIMIT;
 use debctl_args::{Audit, Call, Explain, Files, LineEnd, Task, UsageFault, job_of};
-use std::alloc::Global;
 use std::env;
 use std::fs::File;
 use std::io::{self, ErrorKind};
@@ -140,26 +137,10 @@ fn explain_file<W: Sink, E: Sink>(
 ) -> Result<u8, Fault> {
     match opened(rt, path) {
         Ok(reader) => {
-            let text = read_to_refusal(rt.alloc(), &mut Input::new(reader))?;
-            Ok(explain_text(rt.alloc(), doc, path.as_bytes(), &text, out, err))
+            let mut first = Input::new(reader);
+            Ok(run_explain(rt.alloc(), doc, path.as_bytes(), &mut first, out, err))
         }
         Err(why) => Ok(run_unopened(path.as_bytes(), why, out, err)),
-    }
-}
-
-/// Reports why a file is refused, by the bytes that decide it.
-fn explain_text<W: Sink, E: Sink>(
-    alloc: Global,
-    doc: Doc,
-    path: &[u8],
-    text: &DecidingText,
-    out: &mut W,
-    err: &mut E,
-) -> u8 {
-    if text.is_cut_off {
-        run_cut_off(alloc, doc, path, text.bytes.as_slice(), out, err)
-    } else {
-        run_explain(alloc, doc, path, text.bytes.as_slice(), out, err)
     }
 }
 

@@ -1,12 +1,14 @@
 //! The text of an explanation of a file in memory.
 
-ghost use Rattle.std.specs.Prelude.{◌≡◌, [], IfOk};
-ghost use Rattle.deb_explain.specs.Shown.{shown_by};
+ghost use Rattle.std.specs.Prelude.{◌≡◌, [], IfOk, Some};
+ghost use Rattle.deb_control.specs.Calls.{HasParagraphs};
+ghost use Rattle.deb_explain.specs.Explanations.{explanation_of};
+ghost use Rattle.deb_explain.specs.Shown.{IfAccepted, IfRefused, shown_by};
 ghost use Rattle.deb_explain.specs.Texts.{explanation_text};
 ghost use Rattle.debctl_ffi.specs.Explaining.{ExplainedText, explanation_lines, ok_line};
 
 use crate::answer::{Answer, refused, yes};
-use deb_base::VecSink;
+use deb_base::{Fault, SliceSource, VecSink};
 use deb_explain::{Explained, Explanation, explain};
 use deb_field::Doc;
 use std::alloc::{AllocError, Global};
@@ -21,12 +23,27 @@ pub(crate) fn explain_text(
 ) -> Result<(Answer, Vec<u8>), AllocError>
     ensures { IfOk result (λ answer. ExplainedText doc text.now answer.0 answer.1.items) }
 {
-    match explain(alloc, doc, text)? {
+    match explained(alloc, doc, text)? {
         Explained::Accepted(count) => Ok((yes(count), ok_line(alloc, count)?)),
         Explained::Refused(explanation) => Ok((
             refused(&explanation.refusal),
             lines_of(alloc, &explanation)?,
         )),
+    }
+}
+
+/// That a file in memory is accepted, or why it is refused.
+fn explained(alloc: Global, doc: Doc, text: &[u8]) -> Result<Explained, AllocError>
+    ensures accepted { IfOk result
+        (λ explained. IfAccepted explained (HasParagraphs doc text.now)) }
+    ensures refused { IfOk result
+        (λ explained. IfRefused explained
+        (λ explanation. explanation_of doc text.now ≡ Some (shown_by explanation))) }
+{
+    match explain(alloc, doc, &mut SliceSource::new(text)) {
+        Ok(explained) => Ok(explained),
+        Err(Fault::Memory) => Err(AllocError),
+        Err(Fault::Refused(_) | Fault::Read | Fault::Write) => unreachable!(),
     }
 }
 

@@ -1,14 +1,13 @@
-use Rattle.std.proofs.Common.{◌≡◌, None, Some}
-use Rattle.deb_syntax.specs.Paragraphs.{state_of}
+use Rattle.std.proofs.Common.{◌≡◌, ℕ, List, None, Some}
+use Rattle.deb_control.specs.Checking.{HasChecked}
 use Rattle.deb_control.specs.CheckedStates.{checked_state, doc_read}
-use Rattle.deb_explain.proofs.Following.{Together}
 use Rattle.deb_explain.proofs.explaining.explain.Given as goal
 
 abbrev pub invariant-loop-count : goal.invariant-loop-count
-invariant-loop-count l = record {
+invariant-loop-count g l = record {
   doc : doc_read l.checked ≡ l.doc;
   fault : (checked_state l.checked).fault ≡ None;
-  sound : (state_of l.paragraphs).fault ≡ None;
+  reads : g.R.Source.failures l.reader ≡ g.R.Source.failures l.initial.reader;
   count : (checked_state l.checked).count ≡ l.count;
-  together : Together l.doc l.text (checked_state l.checked) (Some l.source.rest.now) (state_of l.paragraphs) (Some l.again.rest.now);
+  text : (text : List ℕ) → g.R.Source.left l.initial.reader ≡ Some text → HasChecked l.doc text (checked_state l.checked) (g.R.Source.left l.reader);
 }
