@@ -19,8 +19,8 @@ _debctl() {
         case ${words[i]} in
             --) ended=yes ;;
             -k | --kind | --files0-from | --arch | --profiles) ((i++)) ;;
-            # The value is in place of a path, as it is if it is a word of its own.
-            --code=* | --relation=* | --version-text=*) ((given++)) ;;
+            # The value is in place of a word, as it is if it is a word of its own.
+            --code=* | --relation=* | --version-text=* | --relation-from=*) ((given++)) ;;
         esac
     done
     case $ended$prev in
@@ -32,7 +32,7 @@ _debctl() {
             mapfile -t COMPREPLY < <(compgen -W "$(dpkg-architecture -L 2>/dev/null)" -- "$cur")
             return
             ;;
-        --files0-from)
+        --files0-from | --relation-from)
             _debctl_files
             return
             ;;
@@ -45,7 +45,7 @@ _debctl() {
         explain) options='--kind --code --relation --version-text --help' ;;
         audit) options='--kind --files0-from --null --help' ;;
         sort) options='--reverse --help' ;;
-        query) options='--arch --profiles --help' ;;
+        query) options='--arch --profiles --relation-from --help' ;;
     esac
     if [[ -z $ended && $cur == -* ]]; then
         mapfile -t COMPREPLY < <(compgen -W "$options" -- "$cur")

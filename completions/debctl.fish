@@ -1,7 +1,7 @@
 # fish completion for debctl(1)
 
 # Prints the command and its arguments before the cursor, without options and their values. The
-# values of --code, --relation and --version-text are in place of a path.
+# values of --code, --relation, --version-text and --relation-from are in place of a word.
 function __debctl_arguments
     set -l is_value false
     set -l is_ended false
@@ -16,7 +16,7 @@ function __debctl_arguments
                     set is_ended true
                 case -k --kind --files0-from --arch --profiles
                     set is_value true
-                case - '--code=*' '--relation=*' '--version-text=*'
+                case - '--code=*' '--relation=*' '--version-text=*' '--relation-from=*'
                     printf '%s\n' $word
                 case '-*'
                 case '*'
@@ -69,3 +69,4 @@ complete -c debctl -n '__debctl_command sort' -l reverse -d 'Sort the latest ver
 complete -c debctl -n '__debctl_at 1 compare' -a 'lt le eq ne ge gt'
 complete -c debctl -n '__debctl_command query' -l arch -x -a '(dpkg-architecture -L 2>/dev/null)' -d 'Target architecture'
 complete -c debctl -n '__debctl_command query' -l profiles -x -d 'Active build profiles'
+complete -c debctl -n '__debctl_command query' -l relation-from -r -F -d 'File that contains the relation'

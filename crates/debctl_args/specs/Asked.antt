@@ -116,6 +116,7 @@ pub data Wanted : Type 0 where
   canonicalises : Text → Wanted
   sorts : Bool → Wanted
   queries : Text → List Text → Text → Wanted
+  queries_from : Text → List Text → Wanted
   explains : Doc → Wanted
   explains_rule : Code → Wanted
   explains_relation : Text → Wanted
@@ -138,6 +139,8 @@ wanted_of (job.CanonVersion version) = canonicalises (string_bytes version)
 wanted_of (job.Sort reverse) = sorts reverse
 wanted_of (job.Query arch profiles relation) =
     queries (string_bytes arch) (map string_bytes profiles.items) (string_bytes relation)
+wanted_of (job.QueryFrom arch profiles) =
+    queries_from (string_bytes arch) (map string_bytes profiles.items)
 
 abbrev pub audited_of : Files → Audited
 audited_of (files.Paths given) = paths (map string_bytes given.items)
@@ -179,6 +182,7 @@ pub data Asked : Type 0 where
   standard_input_twice : Asked
   explain_takes_one : Asked
   paths_or_list : Asked
+  relation_or_file : Asked
 
 -- a word that a command has to have; `clap` refuses words without it
 abbrev pub word_in : Text → List Row → Text
@@ -296,15 +300,39 @@ sort_asked rows =
       second = None;
     })
 
--- `query`, by its architecture, its profiles and its relation
-abbrev pub query_asked : List Row → Asked
-query_asked rows =
+-- `query` with a relation, by its architecture and its profiles
+abbrev pub query_of_word : List Row → Text → Asked
+query_of_word rows relation =
     asks (record {
       wanted = queries (word_in (codes "arch") rows)
-          (profiles_asked (first_of (codes "profiles") rows)) (word_in (codes "relation") rows);
+          (profiles_asked (first_of (codes "profiles") rows)) relation;
       first = first_of (codes "path") rows;
       second = None;
     })
+
+-- the index of a query with a relation from a file: its one word, or standard input
+abbrev pub index_asked : List Row → Text
+index_asked rows = unwrap_or (first_of (codes "relation") rows) (codes "-")
+
+-- `query --relation-from`, with the path of the relation: it takes one word at most, and not both
+-- files are standard input
+abbrev pub query_of_file : List Row → Text → Asked
+query_of_file rows path =
+    if is_some (first_of (codes "path") rows) then relation_or_file
+    else if is_standard_input path && is_standard_input (index_asked rows)
+    then standard_input_twice
+    else asks (record {
+      wanted = queries_from (word_in (codes "arch") rows)
+          (profiles_asked (first_of (codes "profiles") rows));
+      first = Some path;
+      second = Some (index_asked rows);
+    })
+
+-- `query`, with a relation from a file or among its words
+abbrev pub query_asked : List Row → Asked
+query_asked rows =
+    option_map_or (query_of_file rows) (first_of (codes "relation-from") rows)
+    (option_map_or (query_of_word rows) (first_of (codes "relation") rows) relation_or_file)
 
 abbrev pub help_asked : Option Text → Asked
 help_asked None = asks_help
@@ -344,6 +372,7 @@ IsUsage standard_input_twice text = text ≡ codes "usage: standard input twice"
 IsUsage explain_takes_one text =
     text ≡ codes "usage: explain takes one file, code, relation or version"
 IsUsage paths_or_list text = text ≡ codes "usage: audit takes paths, or --files0-from"
+IsUsage relation_or_file text = text ≡ codes "usage: query takes a relation, or --relation-from"
 IsUsage (asks _) text = ⊥
 IsUsage asks_help text = ⊥
 

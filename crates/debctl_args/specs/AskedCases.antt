@@ -6,7 +6,7 @@ use Rattle.clap.specs.Faults.{fault_of}
 use Rattle.clap.specs.Takes.{takes}
 use Rattle.clap.specs.Walk.{Text}
 use Rattle.clap.specs.declared.error.kind.ErrorKind.TheVariants as kind
-use Rattle.debctl_args.specs.Asked.{asked_of, asks, asks_help, audits, code_named, explain_takes_one, explains, explains_relation, explains_version, listed, paths, paths_or_list, explains_rule, unknown_code, canonicalises, checks, comma_pieces, compares, kind_asked, normalises, profiles_asked, queries, sorts, compares_files, unknown_command, unknown_kind, unknown_operator, standard_input_twice, operator_named, Asked}
+use Rattle.debctl_args.specs.Asked.{asked_of, asks, asks_help, audits, code_named, explain_takes_one, explains, explains_relation, explains_version, listed, paths, paths_or_list, explains_rule, unknown_code, canonicalises, checks, comma_pieces, compares, kind_asked, normalises, profiles_asked, queries, queries_from, relation_or_file, sorts, compares_files, unknown_command, unknown_kind, unknown_operator, standard_input_twice, operator_named, Asked}
 use Rattle.debctl_args.specs.Commands.{debctl_app}
 use Rattle.deb_base.specs.declared.code.Code.TheVariants as code
 use Rattle.deb_base.specs.declared.doc.Doc.TheVariants.{Any, Binary, Packages, Source, Sources}
@@ -181,6 +181,51 @@ query_without_path : asked_of (query_line (codes "--profiles=a,,x" ∷ codes "aa
     ≡ asks_of_aa (codes "a" ∷ [] ∷ codes "x" ∷ []) None
 unfolding clap_on_literals
 query_without_path = refl
+
+-- ---- a relation from a file
+
+-- what is asked of the relation of a file, for amd64
+abbrev asks_of_file : List Text → Text → Text → Option Asked
+asks_of_file profiles path index =
+    Some (asks (record {
+      wanted = queries_from (codes "amd64") profiles;
+      first = Some path;
+      second = Some index;
+    }))
+
+query_of_a_file : asked_of (query_line (codes "--relation-from" ∷ codes "f" ∷ codes "x" ∷ []))
+    ≡ asks_of_file [] (codes "f") (codes "x")
+unfolding clap_on_literals
+query_of_a_file = refl
+
+query_of_a_file_without_index : asked_of
+    (query_line (codes "--profiles=a,b" ∷ codes "--relation-from=f" ∷ []))
+    ≡ asks_of_file (codes "a" ∷ codes "b" ∷ []) (codes "f") (codes "-")
+unfolding clap_on_literals
+query_of_a_file_without_index = refl
+
+query_of_standard_input : asked_of
+    (query_line (codes "x" ∷ codes "--relation-from" ∷ codes "-" ∷ []))
+    ≡ asks_of_file [] (codes "-") (codes "x")
+unfolding clap_on_literals
+query_of_standard_input = refl
+
+relation_beside_its_file : asked_of
+    (query_line (codes "--relation-from" ∷ codes "-" ∷ codes "aa" ∷ codes "-" ∷ []))
+    ≡ Some relation_or_file
+unfolding clap_on_literals
+relation_beside_its_file = refl
+
+standard_input_for_relation_and_index : map (λ words. asked_of (query_line words))
+    ((codes "--relation-from" ∷ codes "-" ∷ [])
+    ∷ (codes "--relation-from" ∷ codes "-" ∷ codes "-" ∷ []) ∷ [])
+    ≡ Some standard_input_twice ∷ Some standard_input_twice ∷ []
+unfolding clap_on_literals
+standard_input_for_relation_and_index = refl
+
+query_of_nothing : asked_of (query_line []) ≡ Some relation_or_file
+unfolding clap_on_literals
+query_of_nothing = refl
 
 -- ---- `explain`
 
@@ -432,9 +477,11 @@ missing_architecture : fault_of debctl_app (line (codes "query" ∷ codes "aa" �
 unfolding clap_on_literals
 missing_architecture = refl
 
-missing_relation : fault_of debctl_app (query_line []) ≡ kind.MissingRequiredArgument ∷ []
+relation_file_twice : fault_of debctl_app
+    (query_line (codes "--relation-from=x" ∷ codes "--relation-from=x" ∷ []))
+    ≡ kind.ArgumentConflict ∷ []
 unfolding clap_on_literals
-missing_relation = refl
+relation_file_twice = refl
 
 architecture_twice : fault_of debctl_app
     (query_line (codes "--arch" ∷ codes "i386" ∷ codes "aa" ∷ []))

@@ -25,6 +25,12 @@ abbrev pub profiles_rule : Rule
 profiles_rule =
     record (new_rule (codes "profiles")) { long = Some (codes "profiles"); value_names = 1 }
 
+-- `--relation-from PATH`
+abbrev pub relation_file_rule : Rule
+relation_file_rule =
+    record (new_rule (codes "relation-from"))
+    { long = Some (codes "relation-from"); value_names = 1 }
+
 -- `--code N`
 abbrev pub code_rule : Rule
 code_rule = record (new_rule (codes "code")) { long = Some (codes "code"); value_names = 1 }
@@ -137,11 +143,13 @@ canon_version_app = with_rule (new_app canon_version_word) (required_rule (codes
 abbrev pub sort_app : App
 sort_app = with_rule (with_rule (new_app sort_word) reverse_rule) (optional_rule (codes "path"))
 
--- `query --arch A [--profiles P,P] RELATION [PATH]`
+-- `query --arch A [--profiles P,P] RELATION [PATH]` and
+-- `query --arch A [--profiles P,P] --relation-from PATH [PATH]`
 abbrev pub query_app : App
 query_app =
-    with_rule (with_rule (with_rule (with_rule (new_app query_word) arch_rule) profiles_rule)
-    (required_rule (codes "relation"))) (optional_rule (codes "path"))
+    with_rule (with_rule (with_rule (with_rule (with_rule (new_app query_word) arch_rule)
+    profiles_rule) relation_file_rule) (optional_rule (codes "relation")))
+    (optional_rule (codes "path"))
 
 -- `help [COMMAND]`
 abbrev pub help_app : App

@@ -7,7 +7,7 @@ use Rattle.clap.specs.declared.error.kind.ErrorKind.TheVariants as kind
 use Rattle.clap.specs.Walk.{Text}
 use Rattle.deb_base.specs.declared.code.Code.TheVariants as code
 use Rattle.deb_base.specs.declared.doc.Doc.{Doc}
-use Rattle.debctl_args.specs.Asked.{asks, asks_help, audited_of, audits, canonicalises, checks, compares, explain_takes_one, explains, explains_relation, explains_version, has_mistake, has_request, is_request_kind, listed, normalises, paths, paths_or_list, queries, request_of, sorts, standard_input_twice, explains_rule, compares_files, unknown_code, unknown_command, unknown_kind, unknown_operator, wanted_of, IsHelp, IsUsage, MeansKind, Request, FitsKind, UsesText}
+use Rattle.debctl_args.specs.Asked.{asks, asks_help, audited_of, audits, canonicalises, checks, compares, explain_takes_one, explains, explains_relation, explains_version, has_mistake, has_request, is_request_kind, listed, normalises, paths, paths_or_list, queries, queries_from, relation_or_file, request_of, sorts, standard_input_twice, explains_rule, compares_files, unknown_code, unknown_command, unknown_kind, unknown_operator, wanted_of, IsHelp, IsUsage, MeansKind, Request, FitsKind, UsesText}
 use Rattle.debctl_args.specs.declared.jobs.Cmp.{Cmp}
 use Rattle.debctl_args.specs.declared.jobs.Explain.TheVariants as explain
 use Rattle.debctl_args.specs.declared.jobs.Files.{Files}
@@ -45,6 +45,13 @@ queries_with_profiles : (arch relation one other : String Global)
     (string_bytes relation)
 queries_with_profiles arch relation one other profiles are =
     ap (λ named. queries (string_bytes arch) (map string_bytes named) (string_bytes relation)) are
+
+queries_from_a_file : (arch one other : String Global)
+    (profiles : Vec (String Global) Global) → profiles.items ≡ one ∷ other ∷ []
+    → wanted_of (job.QueryFrom arch profiles)
+    ≡ queries_from (string_bytes arch) (string_bytes one ∷ string_bytes other ∷ [])
+queries_from_a_file arch one other profiles are =
+    ap (λ named. queries_from (string_bytes arch) (map string_bytes named)) are
 
 -- ---- the files of an audit
 
@@ -157,7 +164,8 @@ texts_of_mistakes : IsUsage unknown_kind (codes "usage: unknown kind")
     × IsUsage explain_takes_one
     (codes "usage: explain takes one file, code, relation or version")
     × IsUsage paths_or_list (codes "usage: audit takes paths, or --files0-from")
-texts_of_mistakes = (refl, refl, refl, refl, refl, refl, refl)
+    × IsUsage relation_or_file (codes "usage: query takes a relation, or --relation-from")
+texts_of_mistakes = (refl, refl, refl, refl, refl, refl, refl, refl)
 
 no_mistakes : (request : Request) (text : Text)
     → (IsUsage (asks request) text ≡ ⊥) × (IsUsage asks_help text ≡ ⊥)

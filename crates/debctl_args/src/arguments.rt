@@ -2,7 +2,7 @@
 
 ghost use Rattle.std.specs.Prelude.{◌≡◌, [], Some, None, map, true, string_bytes, IfOk, IfErr, option_copied};
 ghost use Rattle.clap.specs.Words.{fault_of, found_of, has_subcommand, kind_of, rows_of, subcommand_rows_of, takes};
-ghost use Rattle.debctl_args.specs.Asked.{asked_by, asked_in, asked_of, asks, audit_asked, canon_version_asked, checks, compare_asked, document_asked, explain_asked, help_asked, normalises, query_asked, relation_asked, request_of, rule_asked, same_asked, sort_asked, text_asked, version_asked, word_in, Answers, AnswersError, AnswersMet, IsHelp, MeansError, Request, FitsKind, UsesText};
+ghost use Rattle.debctl_args.specs.Asked.{asked_by, asked_in, asked_of, asks, audit_asked, canon_version_asked, checks, compare_asked, document_asked, explain_asked, help_asked, normalises, query_asked, query_of_file, query_of_word, relation_asked, request_of, rule_asked, same_asked, sort_asked, text_asked, version_asked, word_in, Answers, AnswersError, AnswersMet, IsHelp, MeansError, Request, FitsKind, UsesText};
 ghost use Rattle.debctl_args.specs.Commands.{debctl_app};
 
 use crate::code_argument::code_named;
@@ -12,8 +12,8 @@ use crate::commands::{
     sort_command,
 };
 use crate::found_arguments::{
-    end_in, flag_in, given, is_standard_input_twice, kind_in, names_file, owned_paths, path_in,
-    paths_in, profiles_in, word_in,
+    end_in, flag_in, given, index_in, is_standard_input_twice, kind_in, names_file, owned_paths,
+    path_in, paths_in, profiles_in, word_in,
 };
 use crate::jobs::{Audit, Call, Explain, Files, Job, Task};
 use crate::operator_argument::operator_named;
@@ -26,6 +26,9 @@ const EXPLAIN_ONE: &str = "usage: explain takes one file, code, relation or vers
 
 /// The text for an audit of neither paths nor a list, and for one of both.
 const PATHS_OR_LIST: &str = "usage: audit takes paths, or --files0-from";
+
+/// The text for a query with neither a relation nor its file, and for one with both.
+const RELATION_OR_FILE: &str = "usage: query takes a relation, or --relation-from";
 
 /// Why there is no task. A text has no newline at its end.
 #[derive(Debug, PartialEq, Eq, Drop, thiserror::Error)]
@@ -56,9 +59,9 @@ impl From<AllocError> for UsageFault {
 /// `check [--kind K] [PATH]`, `explain [--kind K] [PATH]`, `explain --code N`, `explain --relation
 /// TEXT`, `explain --version-text TEXT`, `normalise [--kind K] [PATH]`, `same [--kind K] PATH
 /// PATH`, `compare V OP V`, `canon-version V`, `sort [--reverse] [PATH]`, `query --arch A
-/// [--profiles P,P] RELATION [PATH]`, `audit [--kind K] [--null] PATH ..` and `audit [--kind K]
-/// [--null] --files0-from PATH` ask for a task. `help [COMMAND]`, `--help` and `--version` ask for
-/// help.
+/// [--profiles P,P] RELATION [PATH]`, `query --arch A [--profiles P,P] --relation-from PATH
+/// [PATH]`, `audit [--kind K] [--null] PATH ..` and `audit [--kind K] [--null] --files0-from PATH`
+/// ask for a task. `help [COMMAND]`, `--help` and `--version` ask for help.
 ///
 /// The profiles of `query` are the texts between the commas of its P,P; without the option there
 /// are none. A version, an architecture, a profile or a relation may be any text here: the job
@@ -70,10 +73,11 @@ impl From<AllocError> for UsageFault {
 ///
 /// - `UsageFault::Usage`: an argument is wrong or missing. The text is `usage: unknown kind`,
 ///   `usage: unknown operator`, `usage: unknown command` or `usage: unknown code` for a K, an OP, a
-///   COMMAND or an N that isn't known; `usage: standard input twice` for `same - -`, and for an
-///   audit with two paths `-`; `usage: explain takes one file, code, relation or version` for an
+///   COMMAND or an N that isn't known; `usage: standard input twice` for `same - -`, for an audit
+///   with two paths `-`, and for a query whose relation and index are both standard input; `usage: explain takes one file, code, relation or version` for an
 ///   `explain` with two of these, where a kind or a path names a file; `usage: audit takes paths,
-///   or --files0-from` for an audit with neither paths nor a list, or with both; otherwise that of
+///   or --files0-from` for an audit with neither paths nor a list, or with both; `usage: query takes
+///   a relation, or --relation-from` for a query with neither or with both; otherwise that of
 ///   `clap`.
 /// - `UsageFault::Help`: the arguments ask for help or for the version.
 /// - `UsageFault::Memory`: a growth of memory was refused.
@@ -313,9 +317,22 @@ fn sort_task(alloc: Global, found: &ArgMatches<'_>) -> Result<Task, UsageFault>
 fn query_task(alloc: Global, found: &ArgMatches<'_>) -> Result<Task, UsageFault>
     ensures { Answers (query_asked (rows_of (found_of found.now))) result }
 {
+    if let Some(path) = given(found, "relation-from") {
+        return query_of_file(alloc, found, path);
+    }
+    match given(found, "relation") {
+        Some(relation) => query_of_word(alloc, found, relation),
+        None => Err(usage(alloc, RELATION_OR_FILE)),
+    }
+}
+
+/// `query` with a relation.
+fn query_of_word(alloc: Global, found: &ArgMatches<'_>, relation: &str) -> Result<Task, UsageFault>
+    ensures { Answers (query_of_word (rows_of (found_of found.now)) relation.now) result }
+{
     let arch = String::from_str(alloc, word_in(found, "arch"))?;
     let profiles = profiles_in(alloc, found)?;
-    let relation = String::from_str(alloc, word_in(found, "relation"))?;
+    let relation = String::from_str(alloc, relation)?;
     Ok(Task::Run(Call {
         job: Job::Query {
             arch,
@@ -324,6 +341,28 @@ fn query_task(alloc: Global, found: &ArgMatches<'_>) -> Result<Task, UsageFault>
         },
         first: path_in(alloc, found)?,
         second: None,
+    }))
+}
+
+/// `query --relation-from`, with the path of the relation.
+fn query_of_file(alloc: Global, found: &ArgMatches<'_>, path: &str) -> Result<Task, UsageFault>
+    ensures { Answers (query_of_file (rows_of (found_of found.now)) path.now) result }
+{
+    let index = index_in(found);
+    if given(found, "path").is_some() {
+        return Err(usage(alloc, RELATION_OR_FILE));
+    }
+    if path == "-" && index == "-" {
+        return Err(usage(alloc, "usage: standard input twice"));
+    }
+    let arch = String::from_str(alloc, word_in(found, "arch"))?;
+    let profiles = profiles_in(alloc, found)?;
+    let first = String::from_str(alloc, path)?;
+    let second = String::from_str(alloc, index)?;
+    Ok(Task::Run(Call {
+        job: Job::QueryFrom { arch, profiles },
+        first: Some(first),
+        second: Some(second),
     }))
 }
 

@@ -3,12 +3,12 @@
 ghost use Rattle.std.specs.Prelude.{◌≡◌, IfOk, false};
 ghost use Rattle.clap.specs.Simple.{App, with_subcommand};
 ghost use Rattle.clap.specs.Words.{rule_of};
-ghost use Rattle.debctl_args.specs.Commands.{arch_rule, audit_app, bare_app, code_rule, explain_app, list_rule, paths_rule, canon_version_app, check_word, normalise_word, compare_app, debctl_app, document_app, help_app, kind_rule, null_rule, optional_rule, profiles_rule, query_app, relation_rule, required_rule, reverse_rule, same_app, sort_app, version_rule, IsShaped};
+ghost use Rattle.debctl_args.specs.Commands.{arch_rule, audit_app, bare_app, code_rule, explain_app, list_rule, paths_rule, canon_version_app, check_word, normalise_word, compare_app, debctl_app, document_app, help_app, kind_rule, null_rule, optional_rule, profiles_rule, query_app, relation_file_rule, relation_rule, required_rule, reverse_rule, same_app, sort_app, version_rule, IsShaped};
 
 use crate::helps::{
     ARCH_HELP, AUDIT_HELP, CANON_VERSION_HELP, CHECK_HELP, CODE_HELP, COMPARE_HELP, DEBCTL_HELP,
-    EXPLAIN_HELP, FILES_HELP, NORMALISE_HELP, OPERATORS_HELP, PROFILES_HELP, QUERY_HELP, SAME_HELP,
-    SORT_HELP,
+    EXPLAIN_HELP, FILES_HELP, NORMALISE_HELP, OPERATORS_HELP, PROFILES_HELP, QUERY_HELP,
+    RELATION_FILE_HELP, RELATION_HELP, SAME_HELP, SORT_HELP,
 };
 use clap::{Arg, ArgAction, Command};
 use deb_base::{Doc, is_single};
@@ -216,7 +216,8 @@ pub(crate) fn sort_command<'a>(alloc: Global) -> Result<Command<'a>, AllocError>
         ))
 }
 
-/// `query --arch A [--profiles P,P] RELATION [PATH]`
+/// `query --arch A [--profiles P,P] RELATION [PATH]` and
+/// `query --arch A [--profiles P,P] --relation-from PATH [PATH]`
 pub(crate) fn query_command<'a>(alloc: Global) -> Result<Command<'a>, AllocError>
     ensures { IfOk result (IsShaped query_app) }
 {
@@ -225,12 +226,8 @@ pub(crate) fn query_command<'a>(alloc: Global) -> Result<Command<'a>, AllocError
         .after_help(QUERY_HELP)
         .arg(arch_option(alloc))?
         .arg(profiles_option(alloc))?
-        .arg(required_word(
-            alloc,
-            "relation",
-            "RELATION",
-            "The relation, such as the value of Depends or Build-Depends",
-        ))?
+        .arg(relation_file_option(alloc))?
+        .arg(optional_word(alloc, "relation", "RELATION", RELATION_HELP))?
         .arg(optional_word(
             alloc,
             "path",
@@ -364,6 +361,17 @@ fn profiles_option<'a>(alloc: Global) -> Arg<'a>
         .long("profiles")
         .value_name("P,P")
         .help(PROFILES_HELP)
+}
+
+/// `--relation-from PATH`
+fn relation_file_option<'a>(alloc: Global) -> Arg<'a>
+    ensures rule { rule_of result ≡ relation_file_rule }
+    ensures local { result.global ≡ false }
+{
+    Arg::new(alloc, "relation-from")
+        .long("relation-from")
+        .value_name("PATH")
+        .help(RELATION_FILE_HELP)
 }
 
 fn optional_word<'a>(alloc: Global, id: &'a str, shown: &'a str, help: &'a str) -> Arg<'a>

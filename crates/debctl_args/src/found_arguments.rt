@@ -2,7 +2,7 @@
 
 ghost use Rattle.std.specs.Prelude.{◌≡◌, nat_lt, count_by, map, codes, string_bytes, option_map, IfOk, option_copied};
 ghost use Rattle.clap.specs.Words.{all_of, first_of, found_of, rows_of};
-ghost use Rattle.debctl_args.specs.Asked.{comma_pieces, end_asked, flag_asked, is_standard_input, kind_asked, names_file, profiles_asked, word_in, MeansKind};
+ghost use Rattle.debctl_args.specs.Asked.{comma_pieces, end_asked, flag_asked, index_asked, is_standard_input, kind_asked, names_file, profiles_asked, word_in, MeansKind};
 
 use crate::arguments::{UsageFault, usage};
 use crate::jobs::LineEnd;
@@ -86,6 +86,17 @@ pub(crate) fn path_in(alloc: Global, found: &ArgMatches<'_>) -> Result<Option<St
     match given(found, "path") {
         Some(path) => Ok(Some(String::from_str(alloc, path)?)),
         None => Ok(None),
+    }
+}
+
+/// Returns the path of the index of a query with a relation from a file: the one word that it has,
+/// or standard input without one.
+pub(crate) fn index_in<'a>(found: &ArgMatches<'a>) -> &'a str
+    ensures { result.now ≡ index_asked (rows_of (found_of found.now)) }
+{
+    match given(found, "relation") {
+        Some(path) => path,
+        None => "-",
     }
 }
 

@@ -204,6 +204,10 @@ After each `met` line there is a line ` NUMBER PACKAGE VERSION ARCHITECTURE` for
 each package that meets the group; NUMBER is its position in the index, from 1.
 In a relation, the former operators `<` and `>` mean `<=` and `>=`.
 
+`--relation-from PATH` reads the relation from a file of at most 16,777,216 bytes;
+the system takes no argument of more than 131,071. The only other argument is then
+the index.
+
 Debian's architectures are amd64, arm64, armel, armhf, i386, loong64, mips64el,
 ppc64el, riscv64, s390x and others, which `dpkg-architecture -L` lists. Any other
 name is accepted too. Names are compared exactly: the list `[linux-amd64]` doesn't
@@ -242,6 +246,12 @@ pub(crate) const ARCH_HELP: &str = "The target architecture, such as amd64";
 
 pub(crate) const PROFILES_HELP: &str =
     "The active build profiles, separated by commas; none if the option is missing";
+
+pub(crate) const RELATION_HELP: &str =
+    "The relation, such as the value of Depends or Build-Depends; with `--relation-from` the index";
+
+pub(crate) const RELATION_FILE_HELP: &str =
+    "A file that contains the relation; `-` is standard input";
 
 pub(crate) const FILES_HELP: &str =
     "A file that lists the paths, each followed by a byte 0; `-` is standard input";

@@ -54,12 +54,18 @@ pub enum Job {
         profiles: Vec<String>,
         relation: String,
     },
+    /// `query --relation-from`: the same, for the relation that the first file contains. The index
+    /// is the second file.
+    QueryFrom {
+        arch: String,
+        profiles: Vec<String>,
+    },
 }
 
 /// A command and the paths of the files that it reads.
 ///
-/// If `check`, `normalise`, `sort` or `query` has no path, the file is standard input. `same` has
-/// both paths, and no other job has a second one.
+/// If `check`, `normalise`, `sort` or `query` has no path, the file is standard input. `same` and
+/// `query --relation-from` have both paths, and no other job has a second one.
 #[derive(Debug, PartialEq, Eq, Drop)]
 pub struct Call {
     pub job: Job,

@@ -2,13 +2,15 @@
 use Rattle.std.proofs.Common.{◌≡◌, ◌⊎◌, ℕ, List, map, Option, String, Vec, Global, refl, subst, sym, string_bytes}
 use Rattle.std.specs.Io.KnownBytes.{Appends}
 use Rattle.deb_base.specs.Lines.{refusal_line}
-use Rattle.deb_index.specs.Questions.{question}
+use Rattle.deb_index.specs.Questions.{Question, question}
+use Rattle.debctl_commands.specs.JobDevices.{ReaderOfJob, WriterOfJob}
+use Rattle.debctl_commands.specs.QueryFrom.{AreRefusedFrom, ReportsFrom, ReportsRefusalFrom}
 use Rattle.debctl_commands.specs.QueryJob.{AreRefused}
-use Rattle.debctl_commands.specs.Running.{IfRefusedWords, IsRefused}
+use Rattle.debctl_commands.specs.Running.{IfRefusedRelation, IfRefusedWords, IsRefused, Reported, asked_of_file}
 use Rattle.debctl_commands.specs.VersionJobs.{bad_version, IsNoVersion}
 use Rattle.debctl_args.specs.declared.jobs.Cmp.{Cmp}
 use Rattle.debctl_args.specs.declared.jobs.Job.{Job}
-use Rattle.debctl_args.specs.declared.jobs.Job.TheVariants.{Compare, CanonVersion, Query}
+use Rattle.debctl_args.specs.declared.jobs.Job.TheVariants.{Compare, CanonVersion, Query, QueryFrom}
 
 pub compare_refused : {W : Type 0} (job : Job) (former latter : String Global) (operator : Cmp) → job ≡ Compare former operator latter
     → (left other : Option (List ℕ)) (held : W → Option (List ℕ)) (out : W) (err err_after : Option (List ℕ)) (first second : List ℕ) → first ≡ string_bytes former → second ≡ string_bytes latter
@@ -29,3 +31,29 @@ pub refused_words : (job : Job) (arch : String Global) (profiles : Vec (String G
     → (P : Type 0) → (AreRefused (question target (map string_bytes items) word) → P) → IfRefusedWords job P
 refused_words job arch profiles relation is target items word target_is items_is word_is P words =
     subst (λ (asked : Job). IfRefusedWords asked P) (sym is) (λ bad. words (rw (target_is, items_is, word_is) bad))
+
+-- what is said of the question that words ask about the relation of a file is said of that of the job
+of_words : (P : (List ℕ → Question) → Type 0) (arch : String Global) (profiles : Vec (String Global) Global) (target : List ℕ) (items : List (String Global)) → target ≡ string_bytes arch → items ≡ profiles.items
+    → P (λ relation. question target (map string_bytes items) relation) → P (asked_of_file arch profiles)
+of_words P arch profiles target items target_is items_is p =
+    subst (λ w. P (λ relation. question w (map string_bytes profiles.items) relation)) target_is (subst (λ l. P (λ relation. question target (map string_bytes l) relation)) items_is p)
+
+module _ (job : Job) (arch : String Global) (profiles : Vec (String Global) Global) (is : job ≡ QueryFrom arch profiles) (target : List ℕ) (items : List (String Global)) (target_is : target ≡ string_bytes arch) (items_is : items ≡ profiles.items) where
+  -- status 2 of a query with a relation from a file
+  pub refused_from : {W : Type 0} (left other : Option (List ℕ)) (held : W → Option (List ℕ)) (out out_after : W) (err err_after : Option (List ℕ))
+      → (out_after ≡ out) × ReportsRefusalFrom (λ relation. question target (map string_bytes items) relation) left other err err_after → IsRefused job left other held out out_after err err_after
+  refused_from left other held out out_after err err_after refused =
+      subst (λ (asked : Job). IsRefused asked left other held out out_after err err_after) (sym is)
+      (of_words (λ ask. (out_after ≡ out) × ReportsRefusalFrom ask left other err err_after) arch profiles target items target_is items_is refused)
+
+  -- what a refused relation leaves
+  pub unread_index : (left : Option (List ℕ)) (P : Type 0) → (AreRefusedFrom (λ relation. question target (map string_bytes items) relation) left → P) → IfRefusedRelation job left P
+  unread_index left P then =
+      subst (λ (asked : Job). IfRefusedRelation asked left P) (sym is) (of_words (λ ask. AreRefusedFrom ask left → P) arch profiles target items target_is items_is then)
+
+  -- the answer, and its report
+  pub reported_from : {W E : Type 0} (first second : ReaderOfJob) (out : WriterOfJob W) (err : WriterOfJob E) (status : ℕ)
+      → ReportsFrom (λ relation. question target (map string_bytes items) relation) first second out err status → Reported job first second out err status
+  reported_from first second out err status reports =
+      subst (λ (asked : Job). Reported asked first second out err status) (sym is)
+      (of_words (λ ask. ReportsFrom ask first second out err status) arch profiles target items target_is items_is reports)

@@ -4,6 +4,7 @@ pub mod ExplainReports
 pub mod JobRefusals
 pub mod LastPaths
 pub mod QueryReports
+pub mod RelationFiles
 pub mod SameReports
 pub mod SortReports
 pub mod FaultReports

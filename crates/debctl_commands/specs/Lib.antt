@@ -1,8 +1,10 @@
 pub mod AuditJob
 pub mod DocumentJobs
 pub mod ExplainJob
+pub mod JobDevices
 pub mod ListedPaths
 pub mod Opening
+pub mod QueryFrom
 pub mod QueryJob
 pub mod Running
 pub mod SameJob

@@ -7,7 +7,8 @@ use Rattle.std.specs.Prelude.{refl}
 use Rattle.std.specs.declared.alloc.Global.{Global}
 use Rattle.deb_base.specs.declared.doc.Doc.TheVariants.{Source}
 use Rattle.deb_base.specs.declared.fault.Fault.TheVariants.{Read}
-use Rattle.debctl_commands.specs.Running.{ReaderOfJob, WriterOfJob, Reported, reader_of}
+use Rattle.debctl_commands.specs.JobDevices.{ReaderOfJob, WriterOfJob, reader_of}
+use Rattle.debctl_commands.specs.Running.{Reported}
 use Rattle.debctl_commands.specs.Reporting.{ReportsFault}
 use Rattle.debctl_commands.specs.declared.file_or_nothing.FileOrNothing.{FileOrNothing}
 use Rattle.debctl_commands.specs.declared.file_or_nothing.FileOrNothing.TheVariants.{File, Nothing}
@@ -18,7 +19,7 @@ use Rattle.debctl_args.specs.declared.jobs.Call.{Call}
 use Rattle.debctl_args.specs.declared.jobs.Cmp.TheVariants.{Less}
 use Rattle.debctl_args.specs.declared.jobs.Job.{Job}
 use Rattle.debctl_args.specs.declared.jobs.Job.TheVariants.{Check, Normalise, Same, Compare}
-use Rattle.debctl_args.specs.declared.jobs.Job.TheVariants.{CanonVersion, Sort, Query}
+use Rattle.debctl_args.specs.declared.jobs.Job.TheVariants.{CanonVersion, Sort, Query, QueryFrom}
 
 -- ---- paths
 
@@ -36,6 +37,7 @@ first_of_job (Compare left operator right) path = None
 first_of_job (CanonVersion version) path = None
 first_of_job (Sort reverse) path = Some (unwrap_or path standard_input)
 first_of_job (Query arch profiles relation) path = Some (unwrap_or path standard_input)
+first_of_job (QueryFrom arch profiles) path = path
 
 -- the path of the first file of a call, and that of the second one, where it has one
 abbrev pub first_path : Call → Option (List ℕ)
@@ -125,6 +127,11 @@ first_of_query : (arch relation : String Global) (profiles : Vec (String Global)
     → (first_of_job (Query arch profiles relation) None ≡ Some (codes "-"))
     × (first_of_job (Query arch profiles relation) (Some (codes "a")) ≡ Some (codes "a"))
 first_of_query arch relation profiles = (refl, refl)
+
+-- the first file of a query with a relation from a file is that file
+first_of_query_from : (arch : String Global) (profiles : Vec (String Global) Global)
+    → first_of_job (QueryFrom arch profiles) (Some (codes "a")) ≡ Some (codes "a")
+first_of_query_from arch profiles = refl
 
 -- the paths of a call are those of its words, in their order
 paths_of_same : (path path_too : String Global)

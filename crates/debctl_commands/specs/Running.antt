@@ -13,23 +13,31 @@ use Rattle.deb_sort.specs.Files.{SortsFile, WritesSorted}
 use Rattle.debctl_commands.specs.DocumentJobs.{ChecksFile, NormalisesFile, ReportsRefusal}
 use Rattle.debctl_commands.specs.DocumentJobs.{ReportsRefusalBehind, WritesOk}
 use Rattle.deb_index.specs.Questions.{Question, question}
+use Rattle.debctl_commands.specs.QueryFrom.{AreRefusedFrom, ReportsFrom, ReportsRefusalFrom}
+use Rattle.debctl_commands.specs.QueryFrom.{WritesReportFrom}
 use Rattle.debctl_commands.specs.QueryJob.{AreRefused, QueriesFile, ReportsQueryRefusal}
 use Rattle.debctl_commands.specs.QueryJob.{WritesReport}
 use Rattle.debctl_commands.specs.SameJob.{ComparesFiles, ReportsComparison, ReportsRefusedSide}
 use Rattle.debctl_commands.specs.SameJob.{WritesSame}
 use Rattle.debctl_commands.specs.SortJob.{ReportsLineRefusal}
-use Rattle.debctl_commands.specs.Reporting.{done_status, Reports}
+use Rattle.debctl_commands.specs.JobDevices.{ReaderOfJob, WriterOfJob, ReportsOn}
+use Rattle.debctl_commands.specs.Reporting.{done_status}
 use Rattle.debctl_commands.specs.VersionJobs.{bad_version, verdict_status, Canonicalises, Compared}
 use Rattle.debctl_commands.specs.VersionJobs.{Compares, IsNoVersion, WritesLine}
 use Rattle.debctl_args.specs.declared.jobs.Cmp.{Cmp}
 use Rattle.debctl_args.specs.declared.jobs.Job.{Job}
 use Rattle.debctl_args.specs.declared.jobs.Job.TheVariants.{Check, Normalise, Same, Compare}
-use Rattle.debctl_args.specs.declared.jobs.Job.TheVariants.{CanonVersion, Sort, Query}
+use Rattle.debctl_args.specs.declared.jobs.Job.TheVariants.{CanonVersion, Sort, Query, QueryFrom}
 
 -- the question that a query's words are
 abbrev pub asked : String Global → Vec (String Global) Global → String Global → Question
 asked arch profiles relation =
     question (string_bytes arch) (map string_bytes profiles.items) (string_bytes relation)
+
+-- the question that they are about the relation of a file
+abbrev pub asked_of_file : String Global → Vec (String Global) Global → List ℕ → Question
+asked_of_file arch profiles relation =
+    question (string_bytes arch) (map string_bytes profiles.items) relation
 
 -- Of the readers of the first file and of the second, `left` and `other` are the texts, where
 -- they are known.
@@ -53,6 +61,8 @@ Done (Sort reverse) left other held failures out new =
 Done (Query arch profiles relation) left other held failures out new =
     (text : List ℕ) → left ≡ Some text
     → WritesReport (asked arch profiles relation) text (held out) (held new) true
+Done (QueryFrom arch profiles) left other held failures out new =
+    WritesReportFrom (asked_of_file arch profiles) left other (held out) (held new) true
 
 -- Status 1: `different`, no, for which nothing was written, and a report with an unmet group.
 abbrev pub SaysNo : {W : Type 0} → Job → Option (List ℕ) → Option (List ℕ) →
@@ -67,6 +77,8 @@ SaysNo (Sort reverse) left other held out new = ⊥
 SaysNo (Query arch profiles relation) left other held out new =
     (text : List ℕ) → left ≡ Some text
     → WritesReport (asked arch profiles relation) text (held out) (held new) false
+SaysNo (QueryFrom arch profiles) left other held out new =
+    WritesReportFrom (asked_of_file arch profiles) left other (held out) (held new) false
 
 -- Status 2: a file or a version is refused, exactly the refusal's line was written on `err`, by
 -- `same` behind the side of the file, and nothing on `out` but the canonical text of the paragraphs
@@ -89,32 +101,8 @@ IsRefused (Sort reverse) left other held out new err err_after =
     (new ≡ out) × ReportsLineRefusal left err err_after
 IsRefused (Query arch profiles relation) left other held out new err err_after =
     (new ≡ out) × ReportsQueryRefusal (asked arch profiles relation) left err err_after
-
--- a reader before and after a job: its text before, if it is known, and its counts of failed calls
-pub record ReaderOfJob : Type 0 where
-  pub text : Option (List ℕ)
-  pub failures : ℕ
-  pub failures_after : ℕ
-
-abbrev pub reader_of : Option (List ℕ) → ℕ → ℕ → ReaderOfJob
-reader_of text failures failures_after =
-    record { text = text; failures = failures; failures_after = failures_after }
-
--- a writer before and after a job
-pub record WriterOfJob (W : Type 0) : Type 0 where
-  pub held : W → Option (List ℕ)
-  pub failures : W → ℕ
-  pub old : W
-  pub new : W
-
-abbrev pub writer_of : {W : Type 0} → (W → Option (List ℕ)) → (W → ℕ) → W → W → WriterOfJob W
-writer_of held failures old new =
-    record { held = held; failures = failures; old = old; new = new }
-
--- an answer is reported on a writer
-abbrev pub ReportsOn : {T E : Type 0} → WriterOfJob E → (T → ℕ) → Result T Fault → ℕ → Type 0
-ReportsOn err wanted answer status =
-    Reports wanted err.held err.failures err.old err.new answer status
+IsRefused (QueryFrom arch profiles) left other held out new err err_after =
+    (new ≡ out) × ReportsRefusalFrom (asked_of_file arch profiles) left other err err_after
 
 -- Whatever the status: there is an answer to the job, and it is reported.
 abbrev pub Reported : {W E : Type 0} → Job → ReaderOfJob → ReaderOfJob → WriterOfJob W
@@ -153,6 +141,8 @@ Reported (Query arch profiles relation) first second out err status =
     × QueriesFile (asked arch profiles relation) first.text first.failures first.failures_after
     out.held out.failures out.old out.new answer
     × ReportsOn err verdict_status answer status
+Reported (QueryFrom arch profiles) first second out err status =
+    ReportsFrom (asked_of_file arch profiles) first second out err status
 
 -- A job that reads no file leaves the first reader as it was.
 abbrev pub IfUnread : Job → Type 0 → Type 0
@@ -163,6 +153,7 @@ IfUnread (Compare former operator latter) P = P
 IfUnread (CanonVersion version) P = P
 IfUnread (Sort reverse) P = Unit {0}
 IfUnread (Query arch profiles relation) P = Unit {0}
+IfUnread (QueryFrom arch profiles) P = Unit {0}
 
 -- Comparing two versions takes no memory.
 abbrev pub IfCompare : Job → Type 0 → Type 0
@@ -173,8 +164,9 @@ IfCompare (Compare former operator latter) P = P
 IfCompare (CanonVersion version) P = Unit {0}
 IfCompare (Sort reverse) P = Unit {0}
 IfCompare (Query arch profiles relation) P = Unit {0}
+IfCompare (QueryFrom arch profiles) P = Unit {0}
 
--- Every job but `same` leaves the second reader as it was.
+-- Every job but `same` and `query --relation-from` leaves the second reader as it was.
 abbrev pub IfSecondUnread : Job → Type 0 → Type 0
 IfSecondUnread (Check doc) P = P
 IfSecondUnread (Normalise doc) P = P
@@ -183,6 +175,7 @@ IfSecondUnread (Compare former operator latter) P = P
 IfSecondUnread (CanonVersion version) P = P
 IfSecondUnread (Sort reverse) P = P
 IfSecondUnread (Query arch profiles relation) P = P
+IfSecondUnread (QueryFrom arch profiles) P = Unit {0}
 
 -- A query whose words are refused leaves the first reader as it was.
 abbrev pub IfRefusedWords : Job → Type 0 → Type 0
@@ -193,6 +186,14 @@ IfRefusedWords (Compare former operator latter) P = Unit {0}
 IfRefusedWords (CanonVersion version) P = Unit {0}
 IfRefusedWords (Sort reverse) P = Unit {0}
 IfRefusedWords (Query arch profiles relation) P = AreRefused (asked arch profiles relation) → P
+IfRefusedWords (QueryFrom arch profiles) P = Unit {0}
+
+-- A query whose relation is that of a file leaves the second reader, which is that of the index, as
+-- it was, if the words with that relation are refused.
+abbrev pub IfRefusedRelation : Job → Option (List ℕ) → Type 0 → Type 0
+IfRefusedRelation (QueryFrom arch profiles) left P =
+    AreRefusedFrom (asked_of_file arch profiles) left → P
+IfRefusedRelation _ left P = Unit {0}
 
 -- the words of a query are asked in their places
 words_asked : (arch relation : String Global) (profiles : Vec (String Global) Global)
@@ -202,15 +203,6 @@ words_asked : (arch relation : String Global) (profiles : Vec (String Global) Gl
       relation = string_bytes relation;
     }
 words_asked arch relation profiles = refl
-
--- a reader that has failed once before a job, and once more in it, and a writer that holds its
--- bytes
-devices_of_job : (reader_of (Some (codes "a")) 1 2
-    ≡ record { text = Some (codes "a"); failures = 1; failures_after = 2 })
-    × (reader_of None 0 0 ≡ record { text = None; failures = 0; failures_after = 0 })
-    × ((writer_of Some (λ held. 3) (codes "a") (codes "ab")).old ≡ codes "a")
-    × ((writer_of Some (λ held. 3) (codes "a") (codes "ab")).new ≡ codes "ab")
-devices_of_job = (refl, refl, refl, refl)
 
 -- status 0 of `sort`, in the order that is asked
 done_of_sort : {W : Type 0} (text : List ℕ) (other : Option (List ℕ))
@@ -272,6 +264,28 @@ said_of_query : (arch relation : String Global) (profiles : Vec (String Global) 
     × (IfRefusedWords (Query arch profiles relation) P
     ≡ (AreRefused (asked arch profiles relation) → P))
 said_of_query arch relation profiles P = (refl, refl, refl, refl)
+
+answers_of_query_from : {W : Type 0} (arch : String Global)
+    (profiles : Vec (String Global) Global) (left other : Option (List ℕ))
+    (held : W → Option (List ℕ)) (failures : W → ℕ) (out new : W)
+    → (Done (QueryFrom arch profiles) left other held failures out new
+    ≡ WritesReportFrom (λ relation. question (string_bytes arch)
+    (map string_bytes profiles.items) relation) left other (held out) (held new) true)
+    × (SaysNo (QueryFrom arch profiles) left other held out new
+    ≡ WritesReportFrom (λ relation. question (string_bytes arch)
+    (map string_bytes profiles.items) relation) left other (held out) (held new) false)
+answers_of_query_from arch profiles left other held failures out new = (refl, refl)
+
+said_of_query_from : (doc : Doc) (arch : String Global) (profiles : Vec (String Global) Global)
+    (left : Option (List ℕ)) (P : Type 0)
+    → (IfUnread (QueryFrom arch profiles) P ≡ Unit {0})
+    × (IfSecondUnread (QueryFrom arch profiles) P ≡ Unit {0})
+    × (IfCompare (QueryFrom arch profiles) P ≡ Unit {0})
+    × (IfRefusedWords (QueryFrom arch profiles) P ≡ Unit {0})
+    × (IfRefusedRelation (QueryFrom arch profiles) left P
+    ≡ (AreRefusedFrom (asked_of_file arch profiles) left → P))
+    × (IfRefusedRelation (Same doc) left P ≡ Unit {0})
+said_of_query_from doc arch profiles left P = (refl, refl, refl, refl, refl, refl)
 
 said_of_compare : (one another : String Global) (operator : Cmp) (P : Type 0)
     → (IfCompare (Compare one operator another) P ≡ P)

@@ -3,11 +3,13 @@
 ghost use Rattle.std.specs.Prelude.{◌≡◌, ◌<◌};
 ghost use Rattle.deb_base.specs.Devices.{one_more};
 ghost use Rattle.debctl_commands.specs.Running.{Done, IfCompare, IfRefusedWords, IfSecondUnread};
-ghost use Rattle.debctl_commands.specs.Running.{IfUnread, IsRefused, SaysNo, Reported, reader_of};
-ghost use Rattle.debctl_commands.specs.Running.{writer_of};
+ghost use Rattle.debctl_commands.specs.Running.{IfRefusedRelation, IfUnread, IsRefused, SaysNo};
+ghost use Rattle.debctl_commands.specs.Running.{Reported};
+ghost use Rattle.debctl_commands.specs.JobDevices.{reader_of, writer_of};
 ghost use Rattle.debctl_commands.specs.Taking.{TakesFile};
 
 use crate::document_jobs::{run_check, run_normalise};
+use crate::query_from::run_query_from;
 use crate::query_job::run_query;
 use crate::same_job::run_same;
 use crate::sort_job::run_sort;
@@ -18,9 +20,11 @@ use std::alloc::Global;
 
 /// Runs a job over readers and writers, reports on `err` why it failed, and returns the status.
 ///
-/// `check`, `normalise`, `sort` and `query` read `first`, and `same` reads both. A reader that a
-/// job doesn't use is unchanged, and so is that of a `query` whose arguments are refused. At most
-/// 4,295,032,831 bytes are read from a reader: a file of the most bytes, and one piece.
+/// `check`, `normalise`, `sort` and `query` read `first`, and `same` reads both. `query` with a
+/// relation from a file reads the relation from `first`, and then the index from `second`. A reader
+/// that a job doesn't use is unchanged, and so is that of the index if the arguments of a `query`,
+/// or the relation that it has read, are refused. At most 4,295,032,831 bytes are read from a
+/// reader: a file of the most bytes, and one piece.
 ///
 /// - 0: done, or the answer is yes. `out` has `ok N` and a newline, the canonical text of the file,
 ///   `same` and a newline, nothing, the canonical version and a newline, the sorted lines, or the
@@ -60,6 +64,8 @@ pub fn run<R: Source, S: Source, W: Sink, E: Sink>(
     ensures first_untouched_if_unused { IfUnread job.now (first.new ≡ first.old) }
     ensures second_untouched_if_unused { IfSecondUnread job.now (second.new ≡ second.old) }
     ensures first_untouched_if_refused { IfRefusedWords job.now (first.new ≡ first.old) }
+    ensures second_untouched_if_refused { IfRefusedRelation job.now (R.left first.old)
+        (second.new ≡ second.old) }
 
     // How much is taken of the readers, whatever the status.
     ensures reads_at_most { TakesFile (R.left first.old) (R.left first.new) }
@@ -93,10 +99,13 @@ pub fn run<R: Source, S: Source, W: Sink, E: Sink>(
             alloc,
             arch.as_str(),
             profiles,
-            relation.as_str(),
+            relation.as_bytes(),
             first,
             out,
             err,
         ),
+        Job::QueryFrom { arch, profiles } => {
+            run_query_from(alloc, arch.as_str(), profiles, first, second, out, err)
+        }
     }
 }

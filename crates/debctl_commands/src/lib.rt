@@ -18,6 +18,7 @@ mod file_or_nothing;
 mod listed;
 mod opening;
 mod opens;
+mod query_from;
 mod query_job;
 mod reader;
 mod reporting;

@@ -3,7 +3,8 @@
 ghost use Rattle.std.specs.Prelude.{◌≡◌, ◌<◌, IfOk, Result, option_map, string_bytes};
 ghost use Rattle.debctl_commands.specs.Opening.{first_path, left_of, second_path, text_at};
 ghost use Rattle.debctl_commands.specs.Opening.{EndsCall, OpensBoth, OpensPath};
-ghost use Rattle.debctl_commands.specs.Running.{Done, IsRefused, SaysNo, writer_of};
+ghost use Rattle.debctl_commands.specs.JobDevices.{writer_of};
+ghost use Rattle.debctl_commands.specs.Running.{Done, IsRefused, SaysNo};
 ghost use Rattle.debctl_commands.specs.declared.opening.Both.{Both};
 ghost use Rattle.debctl_commands.specs.declared.unopened.Unopened.{Unopened};
 
@@ -115,7 +116,7 @@ fn first_path(call: &Call) -> Option<&[u8]>
         Job::Check(_) | Job::Normalise(_) | Job::Sort { .. } | Job::Query { .. } => {
             Some(path.unwrap_or(b"-"))
         }
-        Job::Same(_) => path,
+        Job::Same(_) | Job::QueryFrom { .. } => path,
         Job::Compare(..) | Job::CanonVersion(_) => None,
     }
 }

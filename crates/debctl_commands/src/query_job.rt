@@ -31,7 +31,7 @@ pub(crate) fn run_query<R: Source, W: Sink, E: Sink>(
     alloc: Global,
     target: &str,
     profiles: &[String],
-    relation: &str,
+    relation: &[u8],
     first: &mut R,
     out: &mut W,
     err: &mut E,
@@ -76,7 +76,7 @@ fn write_report<R: Source, W: Sink>(
     alloc: Global,
     target: &str,
     profiles: &[String],
-    relation: &str,
+    relation: &[u8],
     first: &mut R,
     out: &mut W,
 ) -> Result<bool, Fault>
@@ -98,7 +98,7 @@ fn parse_question<'a>(
     alloc: Global,
     target: &str,
     profiles: &[String],
-    relation: &'a str,
+    relation: &'a [u8],
 ) -> Result<Question<'a>, Fault>
     ensures ok { IfOk result
         (Asks (question target.now (map string_bytes profiles.now) relation.now)) }
@@ -107,7 +107,7 @@ fn parse_question<'a>(
         (RefusesWords (question target.now (map string_bytes profiles.now) relation.now))) }
 {
     let names = names_of(alloc, profiles)?;
-    Question::parse(alloc, target.as_bytes(), &names, relation.as_bytes())
+    Question::parse(alloc, target.as_bytes(), &names, relation)
 }
 
 fn names_of<'a>(alloc: Global, words: &'a [String]) -> Result<Vec<&'a [u8]>, AllocError>
