@@ -74,11 +74,11 @@ impl From<AllocError> for UsageFault {
 /// - `UsageFault::Usage`: an argument is wrong or missing. The text is `usage: unknown kind`,
 ///   `usage: unknown operator`, `usage: unknown command` or `usage: unknown code` for a K, an OP, a
 ///   COMMAND or an N that isn't known; `usage: standard input twice` for `same - -`, for an audit
-///   with two paths `-`, and for a query whose relation and index are both standard input; `usage: explain takes one file, code, relation or version` for an
-///   `explain` with two of these, where a kind or a path names a file; `usage: audit takes paths,
-///   or --files0-from` for an audit with neither paths nor a list, or with both; `usage: query takes
-///   a relation, or --relation-from` for a query with neither or with both; otherwise that of
-///   `clap`.
+///   with two paths `-`, and for a query whose relation and index are both standard input; `usage:
+///   explain takes one file, code, relation or version` for an `explain` with two of these, where a
+///   kind or a path names a file; `usage: audit takes paths, or --files0-from` for an audit with
+///   neither paths nor a list, or with both; `usage: query takes a relation, or --relation-from`
+///   for a query with neither or with both; otherwise that of `clap`.
 /// - `UsageFault::Help`: the arguments ask for help or for the version.
 /// - `UsageFault::Memory`: a growth of memory was refused.
 pub fn job_of(alloc: Global, words: &[String]) -> Result<Task, UsageFault>
