@@ -1,7 +1,7 @@
 -- The order of numbers, read off their digits in a base, and of what follows them.
 use Rattle.deb_version.proofs.Common.{◌≡◌, ℕ, ◌+◌, ◌*◌, ◌^◌, ◌<◌, ◌≤◌, List, [], ◌∷◌, ◌++◌, length, inl, inr, refl, sym, ap, ◌∙◌, arith, nat_cmp, ordering_then, MatchOrdering, ranks, nat_cmp_is, Ordering, Less, Equal, Greater, cases_lt}
 use Rattle.std.proofs.Common.{mul-le-mul_right}
-use Rattle.deb_version.specs.KeyLaws.{byte_order}
+use Rattle.deb_version.specs.Keys.{byte_order}
 use Rattle.std.specs.FinMap.{nat_cmp-IsAntisymmetric}
 use Rattle.std.specs.Int.Digits.{digits_of, number_from_digits, number_from_digits_after, AllBelowBase}
 use Rattle.std.proofs.lemmas.Int.Digits.{number_lt, length-digits_of-le, all_below_base_digits_of, number_digits_of}

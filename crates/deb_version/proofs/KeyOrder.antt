@@ -4,8 +4,8 @@ use Rattle.std.specs.FinMap.{nat_cmp-IsAntisymmetric, slice_cmp-IsAntisymmetric}
 use Rattle.std.specs.Cmp.Lexicographic.{nat_list_cmp_total}
 use Rattle.std.specs.Int.Digits.{digits_of as digits_in_base}
 use Rattle.std.proofs.lemmas.Int.Digits.{length-digits_of_step}
-use Rattle.deb_version.specs.Keys.{key_end, byte_key, count_key, key_digits, number_key, part_key, component_key, version_key}
-use Rattle.deb_version.specs.KeyLaws.{byte_order, SortsAsItsVersion, KeysSortAsVersions, KeysSortAsVersionsSpelled, KeysMayBeFollowed, EqualVersionsHaveOneKey}
+use Rattle.deb_version.specs.Keys.{byte_order, key_end, byte_key, count_key, key_digits, number_key, part_key, component_key, version_key}
+use Rattle.deb_version.specs.KeyLaws.{SortsAsItsVersion, KeysSortAsVersions, KeysSortAsVersionsSpelled, KeysMayBeFollowed, EqualVersionsHaveOneKey}
 use Rattle.deb_version.specs.OrderLaws.{HasTexts}
 use Rattle.deb_version.specs.OrderLemmas.{HaveTexts, IsComponent, component_of_text, has_texts}
 use Rattle.deb_version.proofs.BaseOrder.{ordering_then_assoc, before-Equal, digits_cmp, counted}

@@ -1,20 +1,13 @@
 -- What keys promise: they can be compared, sorted and indexed in place of the versions.
 -- deb-version(7), "Sorting algorithm".
 use Rattle.std.specs.Prelude.{◌≡◌, ℕ, ◌+◌, ◌*◌, ◌≤◌, ◌↔◌, List, ◌++◌, length}
-use Rattle.std.specs.Cmp.Lexicographic.{slice_cmp}
-use Rattle.std.specs.Ordering.{nat_cmp, ordering_then}
-use Rattle.std.specs.declared.cmp.Ordering.{Ordering}
+use Rattle.std.specs.Ordering.{ordering_then}
 use Rattle.std.specs.declared.cmp.Ordering.TheVariants.{Equal}
 use Rattle.deb_version.specs.Grammar.{SpellsVersion}
-use Rattle.deb_version.specs.Keys.{version_key}
+use Rattle.deb_version.specs.Keys.{byte_order, version_key}
 use Rattle.deb_version.specs.Order.{version_cmp}
 use Rattle.deb_version.specs.OrderLaws.{HasTexts}
 use Rattle.deb_version.specs.Parts.{Meaning}
-
--- the order of bytes, as `memcmp` and databases have it: the first byte that differs decides, and a
--- list that ends there comes first
-abbrev pub byte_order : List ℕ → List ℕ → Ordering
-byte_order = slice_cmp nat_cmp
 
 -- The order of the keys' bytes is Debian's order of the versions.
 abbrev pub KeysSortAsVersions : Type 0

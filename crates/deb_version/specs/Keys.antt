@@ -7,7 +7,7 @@ use Rattle.std.specs.List.{AllByRecursion, range_with_len}
 use Rattle.std.specs.Cmp.Lexicographic.{slice_cmp}
 use Rattle.std.specs.Ordering.{nat_cmp}
 use Rattle.std.specs.declared.cmp.Ordering.{Ordering}
-use Rattle.std.specs.declared.cmp.Ordering.TheVariants.{Less, Equal}
+use Rattle.std.specs.declared.cmp.Ordering.TheVariants.{Less, Equal, Greater}
 use Rattle.deb_version.specs.Parts.{Part, Meaning, no_revision}
 use Rattle.deb_version.specs.Grammar.{components_with, meaning_of_components}
 
@@ -51,6 +51,11 @@ abbrev pub version_key : Meaning → List ℕ
 version_key m =
     key_format ∷ (number_key m.epoch ++ (component_key m.upstream ++ component_key m.revision))
 
+-- the order of bytes, as `memcmp` and databases have it: the first byte that differs decides, and a
+-- list that ends there comes first
+abbrev pub byte_order : List ℕ → List ℕ → Ordering
+byte_order = slice_cmp nat_cmp
+
 -- the bytes that the key of a text is made for: those of ASCII, as all bytes of versions are
 abbrev pub AreAscii : List ℕ → Type 0
 AreAscii text = AllByRecursion (λ b. b < 128) text
@@ -92,31 +97,32 @@ abbrev key_of : Option (List ℕ) → List ℕ → Option (List ℕ) → List �
 key_of epoch upstream revision =
     version_key (meaning_of_components (components_with epoch upstream revision))
 
--- the order of two keys
-abbrev key_order : List ℕ → List ℕ → Ordering
-key_order a b = slice_cmp nat_cmp a b
+-- the first byte that differs decides; a list that ends there comes first
+worked-byte_order : (byte_order (1 ∷ 9 ∷ []) (2 ∷ []) ≡ Less)
+    × (byte_order (1 ∷ []) (1 ∷ 0 ∷ []) ≡ Less) × (byte_order (2 ∷ []) (1 ∷ 9 ∷ []) ≡ Greater)
+worked-byte_order = (refl, refl, refl)
 
 -- the key of an upstream version alone
 abbrev upstream_key : List ℕ → List ℕ
 upstream_key upstream = key_of None upstream None
 
 -- ascending, as the versions: 1~~, 1~, 1, 1a, 1+; 1.9, 1.10; 1.0~rc1, 1.0; 1, 1.0
-worked-order : (key_order (upstream_key (codes "1~~")) (upstream_key (codes "1~")) ≡ Less)
-    × (key_order (upstream_key (codes "1~")) (upstream_key (codes "1")) ≡ Less)
-    × (key_order (upstream_key (codes "1")) (upstream_key (codes "1a")) ≡ Less)
-    × (key_order (upstream_key (codes "1a")) (upstream_key (codes "1+")) ≡ Less)
-    × (key_order (upstream_key (codes "1.9")) (upstream_key (codes "1.10")) ≡ Less)
-    × (key_order (upstream_key (codes "1.0~rc1")) (upstream_key (codes "1.0")) ≡ Less)
-    × (key_order (upstream_key (codes "1")) (upstream_key (codes "1.0")) ≡ Less)
+worked-order : (byte_order (upstream_key (codes "1~~")) (upstream_key (codes "1~")) ≡ Less)
+    × (byte_order (upstream_key (codes "1~")) (upstream_key (codes "1")) ≡ Less)
+    × (byte_order (upstream_key (codes "1")) (upstream_key (codes "1a")) ≡ Less)
+    × (byte_order (upstream_key (codes "1a")) (upstream_key (codes "1+")) ≡ Less)
+    × (byte_order (upstream_key (codes "1.9")) (upstream_key (codes "1.10")) ≡ Less)
+    × (byte_order (upstream_key (codes "1.0~rc1")) (upstream_key (codes "1.0")) ≡ Less)
+    × (byte_order (upstream_key (codes "1")) (upstream_key (codes "1.0")) ≡ Less)
 worked-order = (refl, refl, refl, refl, refl, refl, refl)
 
 -- 1.0~rc1-1 before 1.0; 1-~ before 1; 9:z before 10:a; 1.0 and 0:1.00-0 have one key
-worked-revisions_and_epochs : (key_order (key_of None (codes "1.0~rc1") (Some (codes "1")))
+worked-revisions_and_epochs : (byte_order (key_of None (codes "1.0~rc1") (Some (codes "1")))
     (upstream_key (codes "1.0")) ≡ Less)
-    × (key_order (key_of None (codes "1") (Some (codes "~"))) (upstream_key (codes "1")) ≡ Less)
-    × (key_order (key_of (Some (codes "9")) (codes "z") None)
+    × (byte_order (key_of None (codes "1") (Some (codes "~"))) (upstream_key (codes "1")) ≡ Less)
+    × (byte_order (key_of (Some (codes "9")) (codes "z") None)
     (key_of (Some (codes "10")) (codes "a") None) ≡ Less)
-    × (key_order (upstream_key (codes "1.0"))
+    × (byte_order (upstream_key (codes "1.0"))
     (key_of (Some (codes "0")) (codes "1.00") (Some (codes "0"))) ≡ Equal)
 worked-revisions_and_epochs = (refl, refl, refl, refl)
 
