@@ -1,0 +1,5 @@
+pub mod AskedFiles
+pub mod Readings
+pub mod Meanings
+pub mod Values
+pub mod Groups

@@ -1,0 +1,72 @@
+-- Which relations of which kind of file are asked. Debian Policy 5.3, 5.4, 7.2 and 7.7.
+use Rattle.std.specs.Prelude.{◌≡◌, ℕ, Bool, true, false, List, [], ◌∷◌, map, codes, refl}
+use Rattle.deb_base.specs.declared.doc.Doc.{Doc}
+use Rattle.deb_base.specs.declared.doc.Doc.TheVariants as docs
+use Rattle.deb_unmet.specs.declared.asked.Asked.{Asked}
+use Rattle.deb_unmet.specs.declared.asked.Asked.TheVariants.{Packages, Binary, Sources, Source}
+use Rattle.deb_unmet.specs.declared.asked.Strength.{Strength}
+use Rattle.deb_unmet.specs.declared.asked.Strength.TheVariants.{Depends, Recommends}
+
+-- the kind of the file
+abbrev pub doc_of : Asked → Doc
+doc_of (Packages strength) = docs.Packages
+doc_of (Binary strength) = docs.Binary
+doc_of Sources = docs.Sources
+doc_of Source = docs.Source
+
+-- the fields whose groups are asked, in the order of their lines
+abbrev pub fields_with : Strength → List (List ℕ)
+fields_with Depends = codes "Pre-Depends" ∷ codes "Depends" ∷ []
+fields_with Recommends = codes "Pre-Depends" ∷ codes "Depends" ∷ codes "Recommends" ∷ []
+
+abbrev pub build_fields : List (List ℕ)
+build_fields =
+    codes "Build-Depends" ∷ codes "Build-Depends-Arch" ∷ codes "Build-Depends-Indep" ∷ []
+
+abbrev pub fields_asked : Asked → List (List ℕ)
+fields_asked (Packages strength) = fields_with strength
+fields_asked (Binary strength) = fields_with strength
+fields_asked Sources = build_fields
+fields_asked Source = build_fields
+
+-- its paragraphs are binary packages
+abbrev pub is_binary : Asked → Bool
+is_binary (Packages strength) = true
+is_binary (Binary strength) = true
+is_binary Sources = false
+is_binary Source = false
+
+-- the field that names a package
+abbrev pub name_field : Asked → List ℕ
+name_field (Packages strength) = codes "Package"
+name_field (Binary strength) = codes "Package"
+name_field Sources = codes "Package"
+name_field Source = codes "Source"
+
+abbrev all_asked : List Asked
+all_asked =
+    Packages Depends ∷ Packages Recommends ∷ Binary Depends ∷ Binary Recommends ∷ Sources ∷ Source
+    ∷ []
+
+worked-kinds : map doc_of all_asked
+    ≡ docs.Packages ∷ docs.Packages ∷ docs.Binary ∷ docs.Binary ∷ docs.Sources ∷ docs.Source ∷ []
+worked-kinds = refl
+
+abbrev strong : List (List ℕ)
+strong = codes "Pre-Depends" ∷ codes "Depends" ∷ []
+
+abbrev with_recommends : List (List ℕ)
+with_recommends = codes "Pre-Depends" ∷ codes "Depends" ∷ codes "Recommends" ∷ []
+
+abbrev to_build : List (List ℕ)
+to_build = codes "Build-Depends" ∷ codes "Build-Depends-Arch" ∷ codes "Build-Depends-Indep" ∷ []
+
+worked-fields : map fields_asked all_asked
+    ≡ strong ∷ with_recommends ∷ strong ∷ with_recommends ∷ to_build ∷ to_build ∷ []
+worked-fields = refl
+
+worked-packages : (map is_binary all_asked ≡ true ∷ true ∷ true ∷ true ∷ false ∷ false ∷ [])
+    × (map name_field all_asked
+    ≡ codes "Package" ∷ codes "Package" ∷ codes "Package" ∷ codes "Package" ∷ codes "Package"
+    ∷ codes "Source" ∷ [])
+worked-packages = (refl, refl)

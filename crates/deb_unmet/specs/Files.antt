@@ -1,0 +1,129 @@
+-- The lines of a file, and what is written of it. Debian Policy 5.1.
+use Rattle.std.specs.Prelude.{◌≡◌, ◌⊎◌, ℕ, ◌+◌, Bool, true, false, List, [], ◌∷◌, ◌++◌, length, Option, Some, codes, refl}
+use Rattle.std.specs.Fmt.{digits}
+use Rattle.std.specs.Io.KnownBytes.{Appends}
+use Rattle.deb_base.specs.Devices.{AppendsFront}
+use Rattle.deb_base.specs.declared.refusal.Refusal.{Refusal}
+use Rattle.deb_syntax.specs.Lines.{IsClosed}
+use Rattle.deb_syntax.specs.Meaning.{Entries}
+use Rattle.deb_syntax.specs.Reading.{passed_count}
+use Rattle.deb_relation.specs.Applying.{Environment}
+use Rattle.deb_relation.specs.Environments.{environment_with}
+use Rattle.deb_relation.specs.Texts.{group_text}
+use Rattle.deb_version.specs.Places.{version_in}
+use Rattle.deb_field.specs.Values.{ValueMeaning, NameMeans, VersionMeans, RelationMeans, SpellsValue}
+use Rattle.deb_control.specs.Documents.{Meaning, Accepted, refusal_of, rules_of}
+use Rattle.deb_control.specs.Refusals.{outcome}
+use Rattle.deb_control.specs.ValueFiles.{SpellsEntries, ValueEntries}
+use Rattle.deb_index.specs.Alternatives.{alone}
+use Rattle.deb_index.specs.Listed.{Listed}
+use Rattle.deb_unmet.specs.Asked.{doc_of}
+use Rattle.deb_unmet.specs.Fields.{paragraph_lines}
+use Rattle.deb_unmet.specs.declared.asked.Asked.{Asked}
+use Rattle.deb_unmet.specs.declared.asked.Asked.TheVariants.{Sources}
+use Rattle.deb_unmet.specs.declared.asking.Summary.{Summary}
+
+-- what is asked: of which kind of file, for which environment, and of which packages
+pub record Asks : Type 0 where
+  pub asked : Asked
+  pub environment : Environment
+  pub packages : List Listed
+
+-- the lines of paragraphs, of which the first has this number
+abbrev pub lines_from : Asks → ℕ → Meaning → List ℕ
+lines_from asks n [] = []
+lines_from asks n (values ∷ more) =
+    paragraph_lines asks.asked asks.environment asks.packages n values
+    ++ lines_from asks (n + 1) more
+
+-- The lines of a file are a function of what it means.
+abbrev pub file_lines : Asks → Meaning → List ℕ
+file_lines asks meaning = lines_from asks 1 meaning
+
+abbrev pub is_nothing : List ℕ → Bool
+is_nothing [] = true
+is_nothing (x ∷ xs) = false
+
+-- Bodies of paragraphs mean this, and exactly their lines were written, or a front of them.
+pub record WritesLines (asks : Asks) (bodies : List Entries) (old new : Option (List ℕ)) : Type 0
+  where
+    pub values : Meaning
+    pub are : SpellsEntries (SpellsValue (doc_of asks.asked)) bodies values
+    pub written : Appends old new (file_lines asks values)
+
+pub record WritesFront (asks : Asks) (bodies : List Entries) (old new : Option (List ℕ)) : Type 0
+  where
+    pub values : Meaning
+    pub are : SpellsEntries (SpellsValue (doc_of asks.asked)) bodies values
+    pub written : AppendsFront old new (file_lines asks values)
+
+-- The file is accepted, exactly its lines were written, and the summary says how many paragraphs it
+-- has and whether there is no line.
+pub record WritesUnmet (asks : Asks) (text : List ℕ) (summary : Summary)
+    (old new : Option (List ℕ)) : Type 0 where
+  pub meaning : Meaning
+  pub accepted : Accepted (doc_of asks.asked) text meaning
+  pub count : length meaning ≡ summary.paragraphs
+  pub written : Appends old new (file_lines asks meaning)
+  pub is_empty : summary.is_empty ≡ is_nothing (file_lines asks meaning)
+
+-- The file is refused so, and exactly the lines of the paragraphs before the first that fails were
+-- written.
+pub record WritesRefused (asks : Asks) (text : List ℕ) (refusal : Refusal)
+    (old new : Option (List ℕ)) : Type 0 where
+  pub refused : refusal_of (doc_of asks.asked) text ≡ Some refusal
+  pub lines : WritesLines asks (outcome (rules_of (doc_of asks.asked)) text).passed old new
+
+-- A front of the file was read that ends with a blank line and its newline, or is all of it: its
+-- paragraphs are the first of those that pass, and so they are where that front is a file of its
+-- own. Exactly their lines were written.
+pub record WritesRead (asks : Asks) (text : List ℕ) (old new : Option (List ℕ)) : Type 0 where
+  pub read : List ℕ
+  pub behind : List ℕ
+  pub whole : text ≡ read ++ behind
+  pub closed : IsClosed read ⊎ (behind ≡ [])
+  pub first : List Entries
+  pub more : List Entries
+  pub passed : (outcome (rules_of (doc_of asks.asked)) text).passed ≡ first ++ more
+  pub all : passed_count read ≡ length first
+  pub alone : (outcome (rules_of (doc_of asks.asked)) read).passed ≡ first
+  pub lines : WritesLines asks first old new
+
+-- These paragraphs pass, others may follow them, and a front of their lines was written.
+pub record WritesSome (asks : Asks) (text : List ℕ) (old new : Option (List ℕ)) : Type 0 where
+  pub first : List Entries
+  pub more : List Entries
+  pub passed : (outcome (rules_of (doc_of asks.asked)) text).passed ≡ first ++ more
+  pub lines : WritesFront asks first old new
+
+-- For amd64 and no packages: two source packages, of which the second has unmet groups.
+abbrev asks : Asks
+asks = record {
+  asked = Sources;
+  environment = environment_with (codes "amd64") [];
+  packages = [];
+}
+
+abbrev without : ValueEntries ValueMeaning
+without =
+    (codes "Package", NameMeans (codes "xx"))
+    ∷ (codes "Version", VersionMeans (version_in (codes "1"))) ∷ []
+
+abbrev with_two : ValueEntries ValueMeaning
+with_two = (
+  codes "Build-Depends",
+  RelationMeans ((alone (codes "aa") ∷ []) ∷ (alone (codes "bb") ∷ []) ∷ []),
+)
+    ∷ (codes "Package", NameMeans (codes "yy"))
+    ∷ (codes "Version", VersionMeans (version_in (codes "2"))) ∷ []
+
+worked-lines : (file_lines asks (without ∷ with_two ∷ [])
+    ≡ codes "unmet 2 yy 2 source Build-Depends aa\nunmet 2 yy 2 source Build-Depends bb\n")
+    × (file_lines asks (without ∷ []) ≡ []) × (file_lines asks [] ≡ [])
+    × (lines_from asks 7 (with_two ∷ [])
+    ≡ codes "unmet 7 yy 2 source Build-Depends aa\nunmet 7 yy 2 source Build-Depends bb\n")
+unfolding group_text digits
+worked-lines = (refl, refl, refl, refl)
+
+worked-nothing : (is_nothing [] ≡ true) × (is_nothing (codes "unmet") ≡ false)
+worked-nothing = (refl, refl)

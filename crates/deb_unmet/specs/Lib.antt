@@ -1,0 +1,9 @@
+pub mod Readings
+pub mod Troubles
+pub mod GroupReadings
+pub mod Asked
+pub mod Fields
+pub mod Paragraphs
+pub mod Files
+pub mod Asking
+pub mod Laws

@@ -1,0 +1,11 @@
+-- The values of a paragraph that passes. Debian Policy 5.1.
+use Rattle.deb_field.specs.Values.{ValueMeaning}
+use Rattle.deb_control.specs.CheckedStates.{doc_judged, passing_judged}
+use Rattle.deb_control.specs.Paragraphs.{AreValuesOf}
+use Rattle.deb_control.specs.ValueFiles.{ValueEntries}
+use Rattle.deb_control.specs.declared.judged.Judged.{Judged}
+
+-- These are the paragraph's values.
+abbrev pub HasValues : Judged → ValueEntries ValueMeaning → Type 0
+HasValues paragraph values =
+    AreValuesOf (doc_judged paragraph) (passing_judged paragraph).seen values

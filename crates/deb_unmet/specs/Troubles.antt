@@ -1,0 +1,119 @@
+-- Which groups have a line, and the line. Debian Policy 7.1; the form of the line is this project's
+-- own.
+use Rattle.std.specs.Prelude.{◌≡◌, ℕ, Bool, true, false, not, cond, ◌&&◌, ◌||◌, List, [], ◌∷◌, map, Option, Some, None, codes, refl}
+use Rattle.std.specs.List.{concat, list_any}
+use Rattle.deb_version.specs.Places.{version_in}
+use Rattle.deb_relation.specs.Applying.{Environment}
+use Rattle.deb_relation.specs.Meaning.{Alternative, Group}
+use Rattle.deb_relation.specs.Texts.{group_text}
+use Rattle.deb_relation.specs.declared.operator.Op.TheVariants.{LaterEqual}
+use Rattle.deb_index.specs.Alternatives.{alone, with_bound, with_formula, with_list, with_qualifier}
+use Rattle.deb_index.specs.Listed.{Listed}
+use Rattle.deb_index.specs.Meeting.{meets}
+use Rattle.deb_unmet.specs.Readings.{applies_by, may, surely}
+use Rattle.deb_unmet.specs.declared.trouble.Trouble.{Trouble}
+use Rattle.deb_unmet.specs.declared.trouble.Trouble.TheVariants.{Unmet, Unsure}
+
+-- some listed package meets the alternative, whether or not it applies
+abbrev pub is_met : Environment → List Listed → Alternative → Bool
+is_met environment packages a = list_any (meets environment a) packages
+
+-- A group can be unmet: no alternative that a package meets surely applies, and another one may.
+abbrev pub can_be_unmet : Environment → List Listed → Group → Bool
+can_be_unmet environment packages group =
+    not (list_any (λ a. surely (applies_by environment a) && is_met environment packages a) group)
+    && list_any (λ a. may (applies_by environment a) && not (is_met environment packages a)) group
+
+-- It can be met or ignored: an alternative that a package meets may apply, or none surely applies.
+abbrev pub can_be_otherwise : Environment → List Listed → Group → Bool
+can_be_otherwise environment packages group =
+    list_any (λ a. may (applies_by environment a) && is_met environment packages a) group
+    || not (list_any (λ a. surely (applies_by environment a)) group)
+
+-- A group has a line if it can be unmet: `unsure` if it can be otherwise too.
+abbrev pub trouble : Environment → List Listed → Group → Option Trouble
+trouble environment packages group =
+    cond (can_be_unmet environment packages group)
+    (cond (can_be_otherwise environment packages group) (Some Unsure) (Some Unmet)) None
+
+abbrev pub trouble_word : Trouble → List ℕ
+trouble_word Unmet = codes "unmet"
+trouble_word Unsure = codes "unsure"
+
+-- the word, the heading of its paragraph, the field, and the group
+abbrev pub trouble_line : Option Trouble → List ℕ → List ℕ → Group → List ℕ
+trouble_line None heading field group = []
+trouble_line (Some why) heading field group =
+    concat (trouble_word why ∷ heading ∷ field ∷ codes " " ∷ group_text group ∷ codes "\n" ∷ [])
+
+abbrev pub group_lines : Environment → List Listed → List ℕ → List ℕ → Group → List ℕ
+group_lines environment packages heading field group =
+    trouble_line (trouble environment packages group) heading field group
+
+-- For amd64, over aa in version 1 for amd64 alone.
+abbrev environment : Environment
+environment = record { target = codes "amd64"; profiles = [] }
+
+abbrev packages : List Listed
+packages =
+    record {
+      name = codes "aa";
+      version = version_in (codes "1");
+      architecture = codes "amd64";
+      multi_arch = None;
+      provisions = [];
+    } ∷ []
+
+worked-met : map (is_met environment packages)
+    (alone (codes "aa") ∷ alone (codes "bb") ∷ with_list (codes "aa") false (codes "i386")
+    ∷ with_qualifier (codes "aa") (codes "any") ∷ []) ≡ true ∷ false ∷ true ∷ false ∷ []
+worked-met = refl
+
+abbrev troubles : List Group → List (Option Trouble)
+troubles groups = map (trouble environment packages) groups
+
+-- Read in one way: met, also by the second alternative; unmet, also by version and by qualifier;
+-- ignored by the list and by the formula; unmet where the one that is met doesn't apply.
+worked-decided : troubles
+    ((alone (codes "aa") ∷ []) ∷ (alone (codes "bb") ∷ alone (codes "aa") ∷ [])
+    ∷ (alone (codes "bb") ∷ [])
+    ∷ (alone (codes "bb") ∷ with_bound (codes "aa") LaterEqual (codes "2") ∷ [])
+    ∷ (with_qualifier (codes "aa") (codes "any") ∷ [])
+    ∷ (with_list (codes "bb") false (codes "i386") ∷ [])
+    ∷ (with_formula (codes "bb") (codes "nodoc") ∷ [])
+    ∷ (with_list (codes "aa") false (codes "i386") ∷ alone (codes "bb") ∷ []) ∷ [])
+    ≡ None ∷ None ∷ Some Unmet ∷ Some Unmet ∷ Some Unmet ∷ None ∷ None ∷ Some Unmet ∷ []
+worked-decided = refl
+
+-- Read in two ways: bb [linux-any] is unmet or ignored, and so is bb [!linux-any]; aa [linux-any]
+-- is met or ignored; aa | bb [linux-any] is met either way; aa [linux-any] | bb is met or unmet;
+-- bb | cc [linux-any] is unmet either way; aa [linux-any] | bb [linux-any] is each of the three.
+worked-undecided : troubles
+    ((with_list (codes "bb") false (codes "linux-any") ∷ [])
+    ∷ (with_list (codes "bb") true (codes "linux-any") ∷ [])
+    ∷ (with_list (codes "aa") false (codes "linux-any") ∷ [])
+    ∷ (alone (codes "aa") ∷ with_list (codes "bb") false (codes "linux-any") ∷ [])
+    ∷ (with_list (codes "aa") false (codes "linux-any") ∷ alone (codes "bb") ∷ [])
+    ∷ (alone (codes "bb") ∷ with_list (codes "cc") false (codes "linux-any") ∷ [])
+    ∷ (with_list (codes "aa") false (codes "linux-any")
+    ∷ with_list (codes "bb") false (codes "linux-any") ∷ []) ∷ [])
+    ≡ Some Unsure ∷ Some Unsure ∷ None ∷ None ∷ Some Unsure ∷ Some Unmet ∷ Some Unsure ∷ []
+worked-undecided = refl
+
+worked-can : (can_be_unmet environment packages (alone (codes "bb") ∷ []) ≡ true)
+    × (can_be_otherwise environment packages (alone (codes "bb") ∷ []) ≡ false)
+    × (can_be_unmet environment packages (alone (codes "aa") ∷ []) ≡ false)
+    × (can_be_otherwise environment packages (alone (codes "aa") ∷ []) ≡ true)
+    × (can_be_unmet environment packages [] ≡ false)
+    × (can_be_otherwise environment packages [] ≡ true)
+worked-can = (refl, refl, refl, refl, refl, refl)
+
+-- lines, and none
+worked-lines : map (group_lines environment packages (codes " 2 world 1.0 all ") (codes "Depends"))
+    ((alone (codes "aa") ∷ [])
+    ∷ (alone (codes "bb") ∷ with_bound (codes "aa") LaterEqual (codes "2") ∷ [])
+    ∷ (with_list (codes "bb") true (codes "linux-any") ∷ []) ∷ [])
+    ≡ [] ∷ codes "unmet 2 world 1.0 all Depends bb | aa (>= 2)\n"
+    ∷ codes "unsure 2 world 1.0 all Depends bb [!linux-any]\n" ∷ []
+unfolding group_text
+worked-lines = refl

@@ -1,0 +1,33 @@
+//! Laws of the lines of a file. Each function does nothing; its contract is the law.
+
+ghost use Rattle.deb_unmet.specs.Laws.{CanonicalTextChangesNoLine, LinesAreSound, LinesSayReadings, QueryReadsNames, ReadingsDecide};
+
+/// The lines of a file don't change if the index, the file or both are replaced by their canonical
+/// text.
+pub fn canonical_text_changes_no_line()
+    ensures { CanonicalTextChangesNoLine }
+{}
+
+/// A group can be unmet exactly if some reading of its architecture lists makes it unmet, and it can
+/// be met or ignored exactly if some reading does.
+pub fn readings_decide()
+    ensures { ReadingsDecide }
+{}
+
+/// A group without a line is unmet in no reading; one whose line says `unmet` is unmet in each, and
+/// one whose line says `unsure` is unmet in one reading and not in another.
+pub fn lines_say_readings()
+    ensures { LinesSayReadings }
+{}
+
+/// Whatever architecture wildcards and other names with a hyphen mean, a group without a line is
+/// met or ignored, and one whose line says `unmet` is unmet.
+pub fn lines_are_sound()
+    ensures { LinesAreSound }
+{}
+
+/// The verdict of `query` is that of the meaning in which a name in a list holds the target only if
+/// it is the target's own.
+pub fn query_reads_names()
+    ensures { QueryReadsNames }
+{}

@@ -1,0 +1,23 @@
+//! Which dependencies of a file nothing in an index meets (Debian Policy 7.1, 7.2 and 7.7).
+//!
+//! ```text
+//! let index = Index::read(alloc, &mut packages)?;
+//! let environment = Env::new(alloc, b"amd64", &[])?;
+//! let summary = unmet(alloc, &index, &environment, Asked::Sources, &mut sources, &mut writer)?;
+//! summary.is_empty; // no line was written
+//! ```
+//!
+//! `specs/` defines which groups have a line and what it contains; `laws` has the theorems about
+//! these definitions.
+#![tactic(auto)]
+
+mod applying;
+mod asked;
+mod asking;
+mod group;
+pub mod laws;
+mod paragraph;
+mod trouble;
+
+pub use asked::{Asked, Strength};
+pub use asking::{Summary, unmet};

@@ -1,0 +1,226 @@
+//! Lines of a paragraph.
+
+ghost use Rattle.std.specs.Prelude.{◌≡◌, ◌++◌, IfOk, OnOk, Some};
+ghost use Rattle.std.specs.Option.{option_map};
+ghost use Rattle.deb_control.specs.ValueFiles.{ValueEntries};
+ghost use Rattle.deb_field.specs.ValueMeanings.{value_meaning};
+ghost use Rattle.deb_field.specs.Values.{ValueMeaning};
+ghost use Rattle.deb_relation.specs.Environments.{environment_of};
+ghost use Rattle.deb_relation.specs.Views.{names_of};
+ghost use Rattle.deb_index.specs.Indexes.{packages_of};
+ghost use Rattle.deb_unmet.specs.Fields.{architecture_of, field_lines, fields_lines, heading, own_environment, paragraph_lines, value_under, word_in, word_under};
+ghost use Rattle.deb_unmet.specs.Paragraphs.{HasValues};
+
+use crate::asked::Asked;
+use crate::group::{Question, append_groups};
+use deb_control::Judged;
+use deb_field::Value;
+use deb_relation::{Env, EnvFault, RelationFault};
+use deb_version::CanonicalVersion;
+use itoa::Buffer;
+use std::alloc::{AllocError, Global};
+
+/// Appends the lines of a paragraph.
+pub(crate) fn append_paragraph(
+    alloc: Global,
+    out: &mut Vec<u8>,
+    question: &Question<'_>,
+    asked: Asked,
+    number: u64,
+    paragraph: &Judged<'_>,
+) -> Result<(), AllocError>
+    ensures { (values : ValueEntries ValueMeaning) → HasValues paragraph.now values
+        → OnOk result (out.new.items ≡ out.old.items ++ paragraph_lines asked
+        (environment_of question.now.environment.now) (packages_of question.now.index.now)
+        number values) }
+{
+    let architecture = architecture_of(alloc, asked, paragraph)?;
+    let heading = heading_of(alloc, asked, number, &architecture, paragraph)?;
+    match own_environment(alloc, asked, question.environment, &architecture)? {
+        Some(own) => {
+            let own_question = Question {
+                index: question.index,
+                environment: &own,
+            };
+            append_fields(
+                alloc,
+                out,
+                &own_question,
+                asked.fields(),
+                &heading,
+                paragraph,
+            )
+        }
+        None => append_fields(alloc, out, question, asked.fields(), &heading, paragraph),
+    }
+}
+
+/// Returns the environment of a binary package's own architecture, if that can be a target.
+fn own_environment(
+    alloc: Global,
+    asked: Asked,
+    environment: &Env,
+    architecture: &[u8],
+) -> Result<Option<Env>, AllocError>
+    ensures { IfOk result (λ own. option_map environment_of own
+        ≡ own_environment asked (environment_of environment.now) architecture.now) }
+{
+    if !asked.is_binary() {
+        return Ok(None);
+    }
+    match environment.for_target(alloc, architecture) {
+        Ok(own) => Ok(Some(own)),
+        Err(EnvFault::BadEnvironment) => Ok(None),
+        Err(EnvFault::Memory) => Err(AllocError),
+    }
+}
+
+/// Appends the lines of fields.
+fn append_fields(
+    alloc: Global,
+    out: &mut Vec<u8>,
+    question: &Question<'_>,
+    fields: &[&[u8]],
+    heading: &[u8],
+    paragraph: &Judged<'_>,
+) -> Result<(), AllocError>
+    ensures { (values : ValueEntries ValueMeaning) → HasValues paragraph.now values
+        → OnOk result (out.new.items ≡ out.old.items ++ fields_lines
+        (environment_of question.now.environment.now) (packages_of question.now.index.now)
+        heading.now values (names_of fields.now)) }
+{
+    for field in fields {
+        append_field(alloc, out, question, heading, field, paragraph)?;
+    }
+    Ok(())
+}
+
+/// Appends the lines of one field.
+fn append_field(
+    alloc: Global,
+    out: &mut Vec<u8>,
+    question: &Question<'_>,
+    heading: &[u8],
+    field: &[u8],
+    paragraph: &Judged<'_>,
+) -> Result<(), AllocError>
+    ensures { (values : ValueEntries ValueMeaning) → HasValues paragraph.now values
+        → OnOk result (out.new.items ≡ out.old.items ++ field_lines
+        (environment_of question.now.environment.now) (packages_of question.now.index.now)
+        heading.now field.now (value_under field.now values)) }
+{
+    match value_of(alloc, paragraph, field)? {
+        Some(value) => append_value(alloc, out, question, heading, field, &value),
+        None => Ok(()),
+    }
+}
+
+/// Appends the lines of a field with a value.
+fn append_value(
+    alloc: Global,
+    out: &mut Vec<u8>,
+    question: &Question<'_>,
+    heading: &[u8],
+    field: &[u8],
+    value: &Value<'_>,
+) -> Result<(), AllocError>
+    ensures { OnOk result (out.new.items ≡ out.old.items ++ field_lines
+        (environment_of question.now.environment.now) (packages_of question.now.index.now)
+        heading.now field.now (Some (value_meaning value.now))) }
+{
+    let Value::Relation(body) = value else {
+        return Ok(());
+    };
+    match body.relation(alloc) {
+        Ok(relation) => append_groups(out, question, heading, field, relation.groups()),
+        Err(RelationFault::Memory) => Err(AllocError),
+        Err(RelationFault::Bad { .. }) => unreachable!(),
+    }
+}
+
+/// Returns the architecture of a paragraph's lines.
+fn architecture_of(
+    alloc: Global,
+    asked: Asked,
+    paragraph: &Judged<'_>,
+) -> Result<Vec<u8>, AllocError>
+    ensures { (values : ValueEntries ValueMeaning) → HasValues paragraph.now values
+        → IfOk result (λ made. made.items ≡ architecture_of asked values) }
+{
+    if !asked.is_binary() {
+        return Vec::from_slice(alloc, b"source");
+    }
+    let mut architecture = Vec::new(alloc);
+    append_word(alloc, &mut architecture, b"Architecture", paragraph)?;
+    Ok(architecture)
+}
+
+/// Returns the heading of a paragraph's lines.
+fn heading_of(
+    alloc: Global,
+    asked: Asked,
+    number: u64,
+    architecture: &[u8],
+    paragraph: &Judged<'_>,
+) -> Result<Vec<u8>, AllocError>
+    ensures { (values : ValueEntries ValueMeaning) → HasValues paragraph.now values
+        → architecture.now ≡ architecture_of asked values
+        → IfOk result (λ made. made.items ≡ heading asked number values) }
+{
+    let mut buffer = Buffer::new();
+    let mut out = Vec::new(alloc);
+    out.push(b' ')?;
+    out.extend_from_slice(buffer.format(number).as_bytes())?;
+    out.push(b' ')?;
+    append_word(alloc, &mut out, asked.name_field(), paragraph)?;
+    out.push(b' ')?;
+    append_word(alloc, &mut out, b"Version", paragraph)?;
+    out.push(b' ')?;
+    out.extend_from_slice(architecture)?;
+    out.push(b' ')?;
+    Ok(out)
+}
+
+/// Appends the name, the version or the architecture in a field.
+fn append_word(
+    alloc: Global,
+    out: &mut Vec<u8>,
+    name: &[u8],
+    paragraph: &Judged<'_>,
+) -> Result<(), AllocError>
+    ensures { (values : ValueEntries ValueMeaning) → HasValues paragraph.now values
+        → OnOk result (out.new.items ≡ out.old.items ++ word_under name.now values) }
+{
+    match value_of(alloc, paragraph, name)? {
+        Some(value) => append_word_in(alloc, out, &value),
+        None => Ok(()),
+    }
+}
+
+fn append_word_in(alloc: Global, out: &mut Vec<u8>, value: &Value<'_>) -> Result<(), AllocError>
+    ensures { OnOk result
+        (out.new.items ≡ out.old.items ++ word_in (value_meaning value.now)) }
+{
+    match value {
+        Value::Name(name) => out.extend_from_slice(name.bytes()),
+        Value::Source(source) => out.extend_from_slice(source.name()),
+        Value::Version(version) => {
+            let kept = CanonicalVersion::of(alloc, version)?;
+            out.extend_from_slice(kept.text())
+        }
+        Value::Architecture(name) => out.extend_from_slice(name.bytes()),
+        _ => Ok(()),
+    }
+}
+
+/// Returns the value of a field, without ASCII case.
+fn value_of<'a>(
+    alloc: Global,
+    paragraph: &Judged<'a>,
+    name: &[u8],
+) -> Result<Option<Value<'a>>, AllocError>
+    ensures { (values : ValueEntries ValueMeaning) → HasValues paragraph.now values
+        → IfOk result (λ value. option_map value_meaning value ≡ value_under name.now values) }
+{
+    paragraph.value(alloc, name)
+}
