@@ -1,5 +1,5 @@
 -- What the loops that check and normalise a file know of it, and what they answer by that.
-use Rattle.deb_control.proofs.Common.{◌≡◌, ℕ, ◌+◌, List, [], ◌∷◌, ◌++◌, length, map, Option, None, Some, Result, Ok, Err, IfOk, IfNone, refl, sym, ap, ◌∙◌, subst, arith, append_assoc, append-nil, Appends-trans, length-map, Appends, newline, AppendsFront, read_failures_after, Fault, Refused, Memory, Read, Write, Refusal, AppendsFront-then, AppendsFront-more, TakesNoMore, feed_state, file_limit, taken_none, reach_limit, checked_state, Checked, Entries, Doc, value_text, ValueMeaning, SpellsValue, value_law, IfRefused, IfCutOff, HasParagraphs, WritesCanonical, WritesRefused, WritesRead, paragraph_text, file_text, Passing, CheckedState, CheckedMoment, HasChecked, GivesPassing, GivesEnd, AnswersChecked, Checks, ChecksOn, rules_of, canonical_text, refusal_of, out_of, IsAllOf, outcome, gap_behind, body_under}
+use Rattle.deb_control.proofs.Common.{◌≡◌, ℕ, ◌+◌, List, [], ◌∷◌, ◌++◌, length, map, Option, None, Some, Result, Ok, Err, IfOk, IfNone, refl, sym, ap, ◌∙◌, subst, arith, append_assoc, append-nil, Appends-trans, length-map, Appends, newline, AppendsFront, read_failures_after, Fault, Refused, Memory, Read, Write, Refusal, AppendsFront-then, AppendsFront-more, TakesNoMore, cursor_state, file_limit, taken_none, reach_limit, checked_state, Checked, Entries, Doc, value_text, ValueMeaning, SpellsValue, value_law, IfRefused, IfCutOff, HasParagraphs, WritesCanonical, WritesRefused, WritesRead, paragraph_text, file_text, Passing, CheckedState, CheckedMoment, HasChecked, GivesPassing, GivesEnd, AnswersChecked, Checks, ChecksOn, rules_of, canonical_text, refusal_of, out_of, IsAllOf, outcome, gap_behind, body_under}
 use Rattle.deb_control.proofs.Accepting.{accepted-from_none, outcome-accepted, accepted_is_written}
 use Rattle.deb_control.proofs.Checks.{counted-err}
 use Rattle.deb_control.proofs.DocumentRules.{document_rules}
@@ -61,7 +61,7 @@ counted_all doc text (Err fault) has = tt
 pub has_taken : (checked : Checked) (doc : Doc) (text : List ℕ) (left : Option (List ℕ)) → HasChecked doc text (checked_state checked) left → TakesNoMore text file_limit left
 has_taken checked doc text left has =
     let p = checked.paragraphs in
-    taken_none text has.fits.passed (feed_state p.feed) p.hidden p.finished _ p.fault left has.fits.fits (reach_limit _ p.reach)
+    taken_none text has.fits.passed (cursor_state p.cursor) p.overlong_len p.finished _ p.fault left has.fits.fits (reach_limit _ p.reach)
 
 -- a refusal behind them is the file's, and they are all that passes
 pub refused_behind : (T : Type 0) (doc : Doc) (text : List ℕ) (state new : CheckedState) (left left_after : Option (List ℕ)) (fault : Fault) (checked : HasChecked doc text state left) → AnswersChecked doc text checked.before (Err fault) new left_after → IfRefused {T = T} (Err fault) (λ refusal. outcome (rules_of doc) text ≡ record { passed = checked.before; refusal = Some refusal })
@@ -93,14 +93,14 @@ writes_read doc text state left old new checked written =
     let starts = outcome-starts (rules_of doc) text checked.before fits.given in
     record {
       read = fits.passed;
-      behind = fits.fits.hidden ++ (state.reader.unread ++ fits.fits.rest);
+      behind = fits.fits.overlong ++ (state.reader.unread ++ fits.fits.rest);
       whole = fits.fits.whole;
       closed = fits.fits.closed;
       first = checked.before;
       more = starts.0;
       passed = starts.1;
       all = fits.paragraphs;
-      alone = read-alone (rules_of doc) text fits.passed (fits.fits.hidden ++ (state.reader.unread ++ fits.fits.rest)) checked.before fits.fits.whole fits.paragraphs fits.given fits.fits.closed;
+      alone = read-alone (rules_of doc) text fits.passed (fits.fits.overlong ++ (state.reader.unread ++ fits.fits.rest)) checked.before fits.fits.whole fits.paragraphs fits.given fits.fits.closed;
       written = written;
     }
 

@@ -68,7 +68,7 @@ pub use Rattle.deb_syntax.proofs.ParagraphLines.{HaveLines, HaveLines-paragraphs
 pub use Rattle.deb_syntax.proofs.Parts.{line_beyond-some, part_within-all, part_within-some}
 pub use Rattle.deb_syntax.proofs.Runs.{paragraphs_from-run}
 pub use Rattle.deb_syntax.specs.Answers.{Seen, answer_of_first, begin_of_first, is_line, line_beyond, line_too_long, next_answer, next_begin, paragraph_answer, paragraphs_within, part_within, seen_from, whole_lines, with_whole}
-pub use Rattle.deb_syntax.specs.Feeding.{feed_state}
+pub use Rattle.deb_syntax.specs.Cursors.{cursor_state}
 pub use Rattle.deb_syntax.specs.Fields.{AreDistinct, Field, IsShort, SpellsField, SpellsFields, SpellsParagraph, are_fields, are_numbered, has_name, is_field}
 pub use Rattle.deb_syntax.specs.Judging.{judged}
 pub use Rattle.deb_syntax.specs.Laws.{IsRun, StandsAmong, body_of}
@@ -102,7 +102,7 @@ pub use Rattle.deb_control.specs.Totals.{bytes_with, gap_behind}
 pub use Rattle.deb_control.specs.ValueFileLaws.{CanonicalTextMeansTheSame, CanonicalTextTellsMeanings, TextMeansOneThing}
 pub use Rattle.deb_control.specs.ValueFiles.{MeansValues, SpellsEntries, SpellsEntry, ValueEntries, bodies_of, body_under, values_text}
 pub use Rattle.deb_control.specs.Visiting.{IsVisit, Visit, VisitsField, VisitsFields, VisitsFound, VisitsValues, canonical_visit, fields_visited, most, texts_length, visit_of, visit_text}
-pub use Rattle.deb_control.specs.declared.accepted.Accepted.{Accepted}
+pub use Rattle.deb_control.specs.declared.checked_text.CheckedText.{CheckedText}
 pub use Rattle.deb_control.specs.declared.checked.Checked.{Checked}
 pub use Rattle.deb_control.specs.declared.canon_text.CanonSpan.{CanonSpan}
 pub use Rattle.deb_control.specs.declared.totals.Totals.{Totals}

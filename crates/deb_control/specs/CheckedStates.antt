@@ -10,9 +10,9 @@ use Rattle.deb_control.specs.Checking.{CheckedMoment, CheckedState, Passing, pas
 use Rattle.deb_control.specs.Documents.{rules_of}
 use Rattle.deb_control.specs.Refusals.{built}
 use Rattle.deb_control.specs.Refused.{seen_refused}
-use Rattle.deb_control.specs.declared.accepted.Accepted.{Accepted}
+use Rattle.deb_control.specs.declared.checked_text.CheckedText.{CheckedText}
 use Rattle.deb_control.specs.declared.checked.Checked.{Checked}
-use Rattle.deb_control.specs.declared.judged.Judged.{Judged}
+use Rattle.deb_control.specs.declared.checked_view.CheckedView.{CheckedView}
 
 abbrev pub checked_state : Checked → CheckedState
 checked_state c = record {
@@ -42,24 +42,24 @@ checked_moment c left failures = record {
 }
 
 -- what a view of a paragraph that passes shows
-abbrev pub passing_judged : Judged → Passing
+abbrev pub passing_judged : CheckedView → Passing
 passing_judged judged = passing_seen judged.doc (seen_of judged.raw)
 
 -- and what one with its canonical text does
-abbrev pub passing_of : Accepted → Passing
+abbrev pub passing_of : CheckedText → Passing
 passing_of accepted = record {
-  seen = seen_of accepted.judged.raw;
+  seen = seen_of accepted.view.raw;
   text = accepted.canonical.now;
 }
 
 -- and the kinds of their documents
-abbrev pub doc_judged : Judged → Doc
+abbrev pub doc_judged : CheckedView → Doc
 doc_judged judged = judged.doc
 
-abbrev pub doc_of : Accepted → Doc
-doc_of accepted = accepted.judged.doc
+abbrev pub doc_of : CheckedText → Doc
+doc_of accepted = accepted.view.doc
 
-abbrev pub checked_answer : Result (Option Accepted) Fault → Result (Option Passing) Fault
+abbrev pub checked_answer : Result (Option CheckedText) Fault → Result (Option Passing) Fault
 checked_answer (Ok accepted) = Ok (option_map passing_of accepted)
 checked_answer (Err fault) = Err fault
 
@@ -80,18 +80,18 @@ refused_shown : (c : Checked)
     × (lines_checked c ≡ judged_last c.paragraphs)
 refused_shown c = (refl, refl)
 
-view_shown : (judged : Judged) → ((passing_judged judged).seen ≡ seen_of judged.raw)
+view_shown : (judged : CheckedView) → ((passing_judged judged).seen ≡ seen_of judged.raw)
     × ((passing_judged judged).text ≡ text_built (built (rules_of judged.doc) (seen_of judged.raw)))
     × (doc_judged judged ≡ judged.doc)
 view_shown judged = (refl, refl, refl)
 
-view_with_text_shown : (accepted : Accepted)
-    → ((passing_of accepted).seen ≡ seen_of accepted.judged.raw)
+view_with_text_shown : (accepted : CheckedText)
+    → ((passing_of accepted).seen ≡ seen_of accepted.view.raw)
     × ((passing_of accepted).text ≡ accepted.canonical.now)
-    × (doc_of accepted ≡ accepted.judged.doc)
+    × (doc_of accepted ≡ accepted.view.doc)
 view_with_text_shown accepted = (refl, refl, refl)
 
-answers_shown : (accepted : Accepted) (fault : Fault)
+answers_shown : (accepted : CheckedText) (fault : Fault)
     → (checked_answer (Ok (Some accepted)) ≡ Ok (Some (passing_of accepted)))
     × (checked_answer (Ok None) ≡ Ok None) × (checked_answer (Err fault) ≡ Err fault)
 answers_shown accepted fault = (refl, refl, refl)

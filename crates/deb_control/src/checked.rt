@@ -7,10 +7,10 @@ ghost use Rattle.deb_control.specs.Documents.{rules_of};
 ghost use Rattle.deb_control.specs.Refusals.{built};
 ghost use Rattle.deb_control.specs.Visiting.{PassesVisiting};
 
-use crate::accepted::Accepted;
 use crate::canon_text::CanonText;
+use crate::checked_text::CheckedText;
+use crate::checked_view::CheckedView;
 use crate::find::find;
-use crate::judged::Judged;
 use crate::totals::Totals;
 use crate::visitor::FieldVisitor;
 use deb_base::{Fault, Source};
@@ -51,7 +51,7 @@ impl Checked {
     ghost use Rattle.deb_control.specs.CheckedStates.{refused_last};
     ghost use Rattle.deb_control.specs.Calls.{IfRefused};
     ghost use Rattle.deb_control.specs.Refused.{lines_behind};
-    ghost use Rattle.deb_syntax.specs.Judged.{line_judged};
+    ghost use Rattle.deb_syntax.specs.CheckedView.{line_judged};
     ghost use Rattle.deb_syntax.specs.Meaning.{Entries};
 
     /// Returns a reader of checked paragraphs that has read nothing: the file is what its source
@@ -89,7 +89,10 @@ impl Checked {
     ///   bytes (`FileTooLong`, at the paragraph's first line).
     /// - `Fault::Memory`: a growth of memory was refused.
     /// - `Fault::Read`: a read of `reader` failed in this call.
-    pub fn next<'a, R: Source>(&'a mut self, reader: &mut R) -> Result<Option<Accepted<'a>>, Fault>
+    pub fn next<'a, R: Source>(
+        &'a mut self,
+        reader: &mut R,
+    ) -> Result<Option<CheckedText<'a>>, Fault>
         ensures doc { IfOk result
             (λ given. IfSome given (λ accepted. doc_of accepted ≡ doc_read self.old)) }
         ensures* after { sem 𝓛
@@ -155,7 +158,7 @@ impl Checked {
 
     /// Returns the paragraph that the last `advance` or `next` found, or `None` if it found none or
     /// failed.
-    pub fn current(&self) -> Option<Judged<'_>>
+    pub fn current(&self) -> Option<CheckedView<'_>>
         ensures seen { option_map (λ judged. (passing_judged judged).seen) result
             ≡ (checked_state self.now).current }
         ensures doc { IfSome result (λ judged. doc_judged judged ≡ doc_read self.now) }
@@ -164,12 +167,12 @@ impl Checked {
             return None;
         }
         let raw = self.paragraphs.current()?;
-        Some(Judged::new(self.doc, raw))
+        Some(CheckedView::new(self.doc, raw))
     }
 
-    /// Returns the paragraph at which the file is refused, after a refusal: the one whose value, lack
-    /// of a field, or canonical text is refused. `None` if the refusal isn't of a paragraph, or is
-    /// of its lines, or of a second paragraph whatever it contains.
+    /// Returns the paragraph at which the file is refused, after a refusal: the one whose value,
+    /// lack of a field, or canonical text is refused. `None` if the refusal isn't of a paragraph,
+    /// or is of its lines, or of a second paragraph whatever it contains.
     pub fn refused(&self) -> Option<Raw<'_>>
         ensures { option_map seen_of result ≡ refused_last (checked_state self.now) }
     {
@@ -180,8 +183,8 @@ impl Checked {
     }
 
     /// Returns the line of a number, counted from 1, without its newline, of the paragraph that the
-    /// last `advance` found, or at which it refused the file. `None` if that has no such line, or if
-    /// there is no such paragraph.
+    /// last `advance` found, or at which it refused the file. `None` if that has no such line, or
+    /// if there is no such paragraph.
     pub fn line(&self, number: u64) -> Option<&[u8]>
         ensures { option_map (λ line. line.now) result
             ≡ line_judged number (lines_checked self.now) }
@@ -222,7 +225,7 @@ impl Checked {
 
     /// The paragraph that was given last, whose canonical text was built, or `None` if the last
     /// answer was none.
-    fn accepted(&self) -> Option<Accepted<'_>>
+    fn accepted(&self) -> Option<CheckedText<'_>>
         requires text { IfSome (checked_state self.now).current
             (λ seen. self.now.text.items ≡ text_built (built (rules_of self.now.doc) seen)) }
         ensures passing { option_map passing_of result
@@ -230,6 +233,6 @@ impl Checked {
         ensures doc { IfSome result (λ accepted. doc_of accepted ≡ self.now.doc) }
     {
         let judged = self.current()?;
-        Some(Accepted::new(judged, self.text.as_slice()))
+        Some(CheckedText::new(judged, self.text.as_slice()))
     }
 }

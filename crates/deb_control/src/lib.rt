@@ -12,14 +12,14 @@
 //! ```
 #![tactic(auto)]
 
-mod accepted;
 mod canon_text;
 mod checked;
+mod checked_text;
+mod checked_view;
 mod checking;
 mod comparing;
 mod field;
 mod find;
-mod judged;
 pub mod laws;
 mod name;
 mod normalising;
@@ -31,11 +31,11 @@ mod typed_field;
 pub mod value_laws;
 mod visitor;
 
-pub use accepted::Accepted;
 pub use checked::Checked;
+pub use checked_text::CheckedText;
+pub use checked_view::CheckedView;
 pub use checking::check;
 pub use comparing::same;
-pub use judged::Judged;
 pub use normalising::normalise;
 pub use paragraph::Paragraph;
 pub use side::{Side, SideFault};

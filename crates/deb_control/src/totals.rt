@@ -2,7 +2,7 @@
 
 ghost use Rattle.std.specs.Prelude.{◌≡◌, ◌+◌, ◌≤◌, ◌<◌, Some, None, IfSome, IfNone};
 ghost use Rattle.deb_control.specs.Totals.{bytes_with};
-ghost use Rattle.deb_syntax.specs.declared.feed.TheConstants.{FILE_LIMIT};
+ghost use Rattle.deb_syntax.specs.declared.file_cursor.TheConstants.{FILE_LIMIT};
 
 use deb_base::PARAGRAPH_LIMIT;
 use deb_syntax::FILE_LIMIT;

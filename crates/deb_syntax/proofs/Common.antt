@@ -1,4 +1,4 @@
--- The names of specifications and of lower crates that the proofs cite, passed on from one place. Declares nothing.
+-- The names of specifications and of lower crates that the proofs cite, passed on from one span. Declares nothing.
 pub use Rattle.std.proofs.Common.{Bool, Contains, Err, IfNone, IsFalse, IsPermutation, IsTrue, IsUtf8, List, MatchOption, MatchResult, None, Ok, Option, Result, Some, T, [], ap, append_assoc, arith, cond, drop, eqb, false, flat_map, fold, get_or, inl, inr, le_refl, leb, length, length-append, length-drop, length-take, map, min, nat_le, nat_lt, not, refl, rules, set, slice_index, slice_index_or, slice_range, subst, suc, sym, take, true, zero, ℕ, ◌%◌, ◌&&◌, ◌*◌, ◌++◌, ◌+◌, ◌-◌, ◌<◌, ◌==◌, ◌||◌, ◌∙◌, ◌∷◌, ◌≡◌, ◌≢◌, ◌≤◌, ◌⊎◌}
 pub use Rattle.std.proofs.Math.ListN.{get_or-map}
 pub use Rattle.std.proofs.Math.Seq.{drop-append-add, drop-append_seam, drop-length, take-add, take-append-add, take-append_seam}
@@ -59,32 +59,32 @@ pub use Rattle.deb_base.specs.Reading.{TakesNoMore, piece_limit}
 pub use Rattle.deb_syntax.specs.Ahead.{DropsLine, EndsAt, EndsInSight, HasFirst, HidesLine, IsAhead, IsDropped, IsExtentAhead, IsExtentOf, IsFirst, IsNear, IsNextRun, KeepsLine, PassesAll, PassesBlanks, PassesParagraph, SameCounts, TextAfterLine, left_answer, left_begin, room_ahead}
 pub use Rattle.deb_syntax.specs.Answers.{Seen, answer_of_first, begin_of_first, is_line, line_beyond, line_too_long, next_answer, next_begin, paragraph_answer, paragraphs_within, part_within, seen_from, whole_lines, with_whole}
 pub use Rattle.deb_syntax.specs.Extents.{AreBlank, AreNotBlank}
-pub use Rattle.deb_syntax.specs.Feeding.{Comes, FeedState, IsTail, KeepsFirst, PassesOn, Sees, Stays, Takes, buffer_of, feed_state, had, left_count, room_of, start_of}
+pub use Rattle.deb_syntax.specs.Cursors.{Comes, CursorState, IsEnd, KeepsFirst, PassesOn, Sees, Stays, Takes, buffer_of, cursor_state, had, left_count, room_of, start_of}
 pub use Rattle.deb_syntax.specs.Fields.{AreDistinct, Field, IsShort, SpellsField, SpellsFields, SpellsParagraph, are_fields, are_numbered, has_name, is_field}
 pub use Rattle.deb_syntax.specs.Judging.{begins_armour, begins_comment, begun, continuation_line, continued, ended, field_line, has_colon, is_named, judged, line_judged, lines_judged, with_text}
 pub use Rattle.deb_syntax.specs.Laws.{AreRuns, IsFirstRefusal, IsLineRefusal, IsRefusalWithin, IsRun, IsTextRefusal, StandsAmong, body_at, body_of, with_last_newline}
 pub use Rattle.deb_syntax.specs.Lines.{IsClosed, Paragraph, begins_blank, ends_blank, ends_line, file_limit, lines_of, paragraphs_from, paragraphs_of, total_length, with_line, with_newlines}
 pub use Rattle.deb_syntax.specs.Meaning.{Accepted, Entries, HaveMeanings, Means, byte_order, entries_after, entries_of}
 pub use Rattle.deb_syntax.specs.Paragraphs.{state_of}
-pub use Rattle.deb_syntax.specs.Places.{IsFaultOf, Keeps, KeepsNext, LastGoesOn, StandsAt, begun_at, begun_fields, ends_before, field_at, fields_at, has_row, has_stood, is_kept, lies_within, name_at}
+pub use Rattle.deb_syntax.specs.FieldSpans.{IsFaultOf, Keeps, KeepsNext, LastGoesOn, StandsAt, begun_at, begun_fields, ends_before, field_at, fields_at, has_row, has_stood, is_kept, lies_within, name_at}
 pub use Rattle.deb_syntax.specs.Raw.{field_named, fields_of, has_field_in}
 pub use Rattle.deb_syntax.specs.Reading.{Advances, Answers, Begins, BeginsHere, FindsFirst, Fits, GivesLine, GivesNext, GivesNone, IsRefusalOfText, Moment, KeepsErrors, State, passed_count, state_from, tells_end}
-pub use Rattle.deb_syntax.specs.Standing.{EndsHidden, HidesLong, IsPassed, PassesNext, standing_of, stands_within}
+pub use Rattle.deb_syntax.specs.CurrentParagraphs.{EndsOverlong, HidesLong, IsPassed, PassesNext, current_of, stands_within}
 pub use Rattle.deb_syntax.specs.Walking.{CanGoOn, CannotBeBlank, Describes, EndsIn, EndsNotBlank, GoesAlong, GoesThroughBlanks, RunStands, SkipsBlanks, StandInFront, Stops}
-pub use Rattle.deb_syntax.specs.declared.begun.AlongLine.{AlongLine}
-pub use Rattle.deb_syntax.specs.declared.begun.Begun.{Begun}
+pub use Rattle.deb_syntax.specs.declared.partial_line.LineScan.{LineScan}
+pub use Rattle.deb_syntax.specs.declared.partial_line.PartialLine.{PartialLine}
 pub use Rattle.deb_syntax.specs.declared.dropped.DroppedLine.{DroppedLine}
 pub use Rattle.deb_syntax.specs.declared.ending.Extent.{Extent}
-pub use Rattle.deb_syntax.specs.declared.feed.Feed.{Feed}
-pub use Rattle.deb_syntax.specs.declared.feed.Sight.{Sight}
-pub use Rattle.deb_syntax.specs.declared.feed.Tail.{Tail}
-pub use Rattle.deb_syntax.specs.declared.feed.Tail.TheVariants.{Beyond, More, Nothing}
-pub use Rattle.deb_syntax.specs.declared.first.First.{First}
-pub use Rattle.deb_syntax.specs.declared.first.First.TheVariants.{Dropped, End, Kept}
+pub use Rattle.deb_syntax.specs.declared.file_cursor.FileCursor.{FileCursor}
+pub use Rattle.deb_syntax.specs.declared.file_cursor.Visible.{Visible}
+pub use Rattle.deb_syntax.specs.declared.file_cursor.End.{End}
+pub use Rattle.deb_syntax.specs.declared.file_cursor.End.TheVariants.{Limit, More, Eof}
+pub use Rattle.deb_syntax.specs.declared.first.FirstLine.{FirstLine}
+pub use Rattle.deb_syntax.specs.declared.first.FirstLine.TheVariants.{TooLong, NoMore, Buffered}
 pub use Rattle.deb_syntax.specs.declared.folded_name.FoldedName.{FoldedName}
-pub use Rattle.deb_syntax.specs.declared.place.Place.{Place}
+pub use Rattle.deb_syntax.specs.declared.field_span.FieldSpan.{FieldSpan}
 pub use Rattle.deb_syntax.specs.declared.seen_names.Names.{Names}
 pub use Rattle.deb_syntax.specs.declared.skip.Skipped.{Skipped}
-pub use Rattle.deb_syntax.specs.declared.line_run.Run.{Run}
-pub use Rattle.deb_syntax.specs.declared.line_run.Stop.{Stop}
-pub use Rattle.deb_syntax.specs.declared.line_run.Stop.TheVariants.{Blank, Open, TooLong}
+pub use Rattle.deb_syntax.specs.declared.line_run.LineRun.{LineRun}
+pub use Rattle.deb_syntax.specs.declared.line_run.RunEnd.{RunEnd}
+pub use Rattle.deb_syntax.specs.declared.line_run.RunEnd.TheVariants.{Blank, Open, OverLimit}

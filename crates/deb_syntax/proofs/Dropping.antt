@@ -1,27 +1,27 @@
 -- A line that is read to its end, of whose bytes only those that came last are kept.
-use Rattle.deb_syntax.proofs.Common.{◌≡◌, ℕ, ◌+◌, ◌-◌, ◌<◌, ◌≤◌, inl, inr, true, false, List, [], ◌∷◌, ◌++◌, Option, Some, Ok, Err, length, take, drop, drop_all, IsTrue, IsFalse, refl, sym, ap, subst, ◌∙◌, append_assoc, arith, length-append, length-drop, length-take, take-append-add, take-append_seam, drop-append-add, drop-append_seam, take-append-drop, take-append-le, take_all, take_rest, length-take-le, MatchBool, newline, FileTooLong, Refused, Refusal, FeedState, piece_limit, Comes, KeepsFirst, Sees, room_of, had, Takes, Describes, EndsIn, GoesAlong, room_ahead, IsAhead, DropsLine, EndsAt, IsDropped, Begun, AlongLine, Run, Sight, DroppedLine}
+use Rattle.deb_syntax.proofs.Common.{◌≡◌, ℕ, ◌+◌, ◌-◌, ◌<◌, ◌≤◌, inl, inr, true, false, List, [], ◌∷◌, ◌++◌, Option, Some, Ok, Err, length, take, drop, drop_all, IsTrue, IsFalse, refl, sym, ap, subst, ◌∙◌, append_assoc, arith, length-append, length-drop, length-take, take-append-add, take-append_seam, drop-append-add, drop-append_seam, take-append-drop, take-append-le, take_all, take_rest, length-take-le, MatchBool, newline, FileTooLong, Refused, Refusal, CursorState, piece_limit, Comes, KeepsFirst, Sees, room_of, had, Takes, Describes, EndsIn, GoesAlong, room_ahead, IsAhead, DropsLine, EndsAt, IsDropped, PartialLine, LineScan, LineRun, Visible, DroppedLine}
 use Rattle.std.proofs.Common.{append-nil}
 use Rattle.deb_syntax.specs.Lines.{file_limit}
-use Rattle.deb_syntax.proofs.Feeds.{comes_whole, comes_end}
+use Rattle.deb_syntax.proofs.CursorLemmas.{comes_whole, comes_end}
 use Rattle.deb_syntax.proofs.Takings.{takes_none, takes_more, takes_then, consumes_takes}
 
 -- so much of the line was seen, and the file goes on
-pub record Dropping (before : FeedState) (left_before : Option (List ℕ)) (run : Run) (feed : FeedState) (left : Option (List ℕ)) (begun : Begun) : Type 0 where
+pub record Dropping (before : CursorState) (left_before : Option (List ℕ)) (run : LineRun) (cursor : CursorState) (left : Option (List ℕ)) (partial : PartialLine) : Type 0 where
   pub seen : List ℕ
-  pub describes : Describes begun seen
+  pub describes : Describes partial seen
   pub added : List ℕ
   pub begins : seen ≡ drop run.bytes before.unread ++ added
-  pub bytes : feed.bytes ≡ before.bytes
-  pub lines : feed.lines ≡ before.lines
-  pub kept : take run.bytes feed.unread ≡ take run.bytes before.unread
-  pub within : run.bytes ≤ length feed.unread
-  pub more : IsFalse feed.ended
+  pub bytes : cursor.bytes ≡ before.bytes
+  pub lines : cursor.lines ≡ before.lines
+  pub kept : take run.bytes cursor.unread ≡ take run.bytes before.unread
+  pub within : run.bytes ≤ length cursor.unread
+  pub more : IsFalse cursor.ended
   pub small : before.bytes ≤ file_limit
   pub room : run.bytes + length seen ≤ room_ahead before
   pub takes : Takes (had before) left_before (before.bytes + (run.bytes + length seen)) left
   pub ahead : (text : List ℕ) → IsAhead text [] before left_before → (rest : List ℕ) × (left ≡ Some rest) × (text ≡ take run.bytes before.unread ++ (seen ++ rest))
 
-pub dropping-start : (before : FeedState) (left : Option (List ℕ)) (run : Run) → IsFalse before.ended → run.bytes ≤ length before.unread → length before.unread ≤ room_ahead before → Describes run.begun (drop run.bytes before.unread) → before.bytes ≤ file_limit → Dropping before left run before left run.begun
+pub dropping-start : (before : CursorState) (left : Option (List ℕ)) (run : LineRun) → IsFalse before.ended → run.bytes ≤ length before.unread → length before.unread ≤ room_ahead before → Describes run.partial (drop run.bytes before.unread) → before.bytes ≤ file_limit → Dropping before left run before left run.partial
 dropping-start before left run more within room described small = record {
   seen = drop run.bytes before.unread;
   describes = described;
@@ -45,33 +45,33 @@ dropping-start before left run more within room described small = record {
 }
 
 -- what of a text stands behind the bytes that were seen: a piece, and what the source has left
-pub record PieceAhead (text front seen piece : List ℕ) (feed : FeedState) (left : Option (List ℕ)) : Type 0 where
+pub record PieceAhead (text front seen piece : List ℕ) (cursor : CursorState) (left : Option (List ℕ)) : Type 0 where
   pub rest : List ℕ
   pub told : left ≡ Some rest
   pub whole : text ≡ front ++ (seen ++ (piece ++ rest))
-  pub ended : IsTrue feed.ended → rest ≡ []
+  pub ended : IsTrue cursor.ended → rest ≡ []
 
 -- a piece came behind what was seen of the line
-pub record Came (before : FeedState) (left_before : Option (List ℕ)) (run : Run) (feed : FeedState) (left : Option (List ℕ)) (begun : Begun) : Type 0 where
+pub record Came (before : CursorState) (left_before : Option (List ℕ)) (run : LineRun) (cursor : CursorState) (left : Option (List ℕ)) (partial : PartialLine) : Type 0 where
   pub seen : List ℕ
-  pub describes : Describes begun seen
+  pub describes : Describes partial seen
   pub added : List ℕ
   pub begins : seen ≡ drop run.bytes before.unread ++ added
-  pub bytes : feed.bytes ≡ before.bytes
-  pub lines : feed.lines ≡ before.lines
+  pub bytes : cursor.bytes ≡ before.bytes
+  pub lines : cursor.lines ≡ before.lines
   pub piece : List ℕ
   pub front : length (take run.bytes before.unread) ≡ run.bytes
-  pub unread : feed.unread ≡ take run.bytes before.unread ++ piece
+  pub unread : cursor.unread ≡ take run.bytes before.unread ++ piece
   pub short : length piece ≤ piece_limit
   pub small : before.bytes ≤ file_limit
   pub room : run.bytes + length seen ≤ room_ahead before
   pub takes : Takes (had before) left_before (before.bytes + (run.bytes + length seen) + length piece) left
-  pub ended : IsTrue feed.ended → piece ≡ []
-  pub more : IsFalse feed.ended → 0 < length piece
-  pub ahead : (text : List ℕ) → IsAhead text [] before left_before → PieceAhead text (take run.bytes before.unread) seen piece feed left
+  pub ended : IsTrue cursor.ended → piece ≡ []
+  pub more : IsFalse cursor.ended → 0 < length piece
+  pub ahead : (text : List ℕ) → IsAhead text [] before left_before → PieceAhead text (take run.bytes before.unread) seen piece cursor left
 
-pub came : (before : FeedState) (left_before : Option (List ℕ)) (run : Run) (feed mid after : FeedState) (left left_after : Option (List ℕ)) (begun : Begun) → Dropping before left_before run feed left begun → KeepsFirst feed run.bytes mid → Comes mid left after left_after → Came before left_before run after left_after begun
-came before left_before run feed mid after left left_after begun d keeps come = record {
+pub came : (before : CursorState) (left_before : Option (List ℕ)) (run : LineRun) (cursor mid after : CursorState) (left left_after : Option (List ℕ)) (partial : PartialLine) → Dropping before left_before run cursor left partial → KeepsFirst cursor run.bytes mid → Comes mid left after left_after → Came before left_before run after left_after partial
+came before left_before run cursor mid after left left_after partial d keeps come = record {
   seen = d.seen;
   describes = d.describes;
   added = d.added;
@@ -79,7 +79,7 @@ came before left_before run feed mid after left left_after begun d keeps come = 
   bytes = come.bytes ∙ keeps.bytes ∙ d.bytes;
   lines = come.lines ∙ keeps.lines ∙ d.lines;
   piece = come.piece;
-  front = ap length (sym d.kept) ∙ length-take-le run.bytes feed.unread d.within;
+  front = ap length (sym d.kept) ∙ length-take-le run.bytes cursor.unread d.within;
   unread = come.unread ∙ ap (λ zs. zs ++ come.piece) (keeps.unread ∙ d.kept);
   short = come.short;
   small = d.small;
@@ -98,8 +98,8 @@ came before left_before run feed mid after left left_after begun d keeps come = 
       };
 }
 
-module _ (before : FeedState) (left_before : Option (List ℕ)) (run : Run) (after : FeedState) (left : Option (List ℕ)) (begun : Begun) (c : Came before left_before run after left begun) where
-  pub came-small : after.bytes + begun.len ≤ file_limit
+module _ (before : CursorState) (left_before : Option (List ℕ)) (run : LineRun) (after : CursorState) (left : Option (List ℕ)) (partial : PartialLine) (c : Came before left_before run after left partial) where
+  pub came-small : after.bytes + partial.len ≤ file_limit
   came-small = omega (arith, c.bytes, c.small, c.room, c.describes.len)
 
   came-kept : take run.bytes after.unread ≡ take run.bytes before.unread
@@ -118,26 +118,26 @@ module _ (before : FeedState) (left_before : Option (List ℕ)) (run : Run) (aft
   abbrev pub fresh_room : ℕ
   fresh_room = room_ahead before - (run.bytes + length c.seen)
 
-  room-is : room_of after begun.len ≡ length (take run.bytes before.unread) + fresh_room
+  room-is : room_of after partial.len ≡ length (take run.bytes before.unread) + fresh_room
   room-is = omega (arith, c.bytes, c.front, c.room, c.describes.len)
 
-  seen-is : (sight : Sight) → Sees after begun.len sight → sight.seen.now ≡ take run.bytes before.unread ++ take fresh_room c.piece
-  seen-is sight sees =
-      sees.seen ∙ ap (take (room_of after begun.len)) c.unread ∙ ap (λ n. take n (take run.bytes before.unread ++ c.piece)) room-is
+  seen-is : (visible : Visible) → Sees after partial.len visible → visible.bytes.now ≡ take run.bytes before.unread ++ take fresh_room c.piece
+  seen-is visible sees =
+      sees.seen ∙ ap (take (room_of after partial.len)) c.unread ∙ ap (λ n. take n (take run.bytes before.unread ++ c.piece)) room-is
       ∙ take-append-add (take run.bytes before.unread) c.piece fresh_room
 
-  pub came-fresh : (sight : Sight) → Sees after begun.len sight → drop run.bytes sight.seen.now ≡ take fresh_room c.piece
-  came-fresh sight sees =
-      ap (drop run.bytes) (seen-is sight sees) ∙ ap (λ n. drop n (take run.bytes before.unread ++ take fresh_room c.piece)) (sym c.front)
+  pub came-fresh : (visible : Visible) → Sees after partial.len visible → drop run.bytes visible.bytes.now ≡ take fresh_room c.piece
+  came-fresh visible sees =
+      ap (drop run.bytes) (seen-is visible sees) ∙ ap (λ n. drop n (take run.bytes before.unread ++ take fresh_room c.piece)) (sym c.front)
       ∙ drop-append_seam (take run.bytes before.unread) (take fresh_room c.piece)
 
-  pub came-bound : (sight : Sight) → Sees after begun.len sight → run.bytes ≤ length sight.seen.now
-  came-bound sight sees = omega (arith, ap length (seen-is sight sees), length-append (take run.bytes before.unread) (take fresh_room c.piece), c.front)
+  pub came-bound : (visible : Visible) → Sees after partial.len visible → run.bytes ≤ length visible.bytes.now
+  came-bound visible sees = omega (arith, ap length (seen-is visible sees), length-append (take run.bytes before.unread) (take fresh_room c.piece), c.front)
 
   pub fresh-short : length (take fresh_room c.piece) ≤ length c.piece
   fresh-short = omega (arith, ap length (take-append-drop fresh_room c.piece), length-append (take fresh_room c.piece) (drop fresh_room c.piece))
 
-  all-fresh : length after.unread ≤ room_of after begun.len → take fresh_room c.piece ≡ c.piece
+  all-fresh : length after.unread ≤ room_of after partial.len → take fresh_room c.piece ≡ c.piece
   all-fresh le = take_all fresh_room c.piece (omega (arith, le, came-length, room-is, c.front))
 
   begins-with : (fresh : List ℕ) → c.seen ++ fresh ≡ drop run.bytes before.unread ++ (c.added ++ fresh)
@@ -156,24 +156,24 @@ module _ (before : FeedState) (left_before : Option (List ℕ)) (run : Run) (aft
   }
 
   -- what the line is with these bytes
-  pub went : (sight : Sight) (next : AlongLine) → Sees after begun.len sight → ((seen : List ℕ) → Describes begun seen → GoesAlong seen (take (length sight.seen.now - run.bytes) (drop run.bytes sight.seen.now)) next) → GoesAlong c.seen (take fresh_room c.piece) next
-  went sight next sees goes = subst (λ zs. GoesAlong c.seen zs next) (take_rest sight.seen.now run.bytes ∙ came-fresh sight sees) (goes c.seen c.describes)
+  pub went : (visible : Visible) (next : LineScan) → Sees after partial.len visible → ((seen : List ℕ) → Describes partial seen → GoesAlong seen (take (length visible.bytes.now - run.bytes) (drop run.bytes visible.bytes.now)) next) → GoesAlong c.seen (take fresh_room c.piece) next
+  went visible next sees goes = subst (λ zs. GoesAlong c.seen zs next) (take_rest visible.bytes.now run.bytes ∙ came-fresh visible sees) (goes c.seen c.describes)
 
   -- it is no longer than a number can be
-  pub came-fits : (sight : Sight) → Sees after begun.len sight → begun.len + length (take (length sight.seen.now - run.bytes) (drop run.bytes sight.seen.now)) < 18446744073709551616
+  pub came-fits : (visible : Visible) → Sees after partial.len visible → partial.len + length (take (length visible.bytes.now - run.bytes) (drop run.bytes visible.bytes.now)) < 18446744073709551616
   unfolding file_limit
-  came-fits sight sees =
-      let fresh : length (take (length sight.seen.now - run.bytes) (drop run.bytes sight.seen.now)) ≡ length (take fresh_room c.piece) = ap length (take_rest sight.seen.now run.bytes ∙ came-fresh sight sees) in
+  came-fits visible sees =
+      let fresh : length (take (length visible.bytes.now - run.bytes) (drop run.bytes visible.bytes.now)) ≡ length (take fresh_room c.piece) = ap length (take_rest visible.bytes.now run.bytes ∙ came-fresh visible sees) in
       omega (arith, fresh, fresh-short, c.short, came-small)
 
-  pub went-ended : (next : AlongLine) → GoesAlong c.seen (take fresh_room c.piece) next → next.ended ≡ true → EndsIn c.seen (take fresh_room c.piece) next.begun
-  went-ended next goes is = subst (λ t. MatchBool t (EndsIn c.seen (take fresh_room c.piece) next.begun) (Describes next.begun (c.seen ++ take fresh_room c.piece))) is goes
+  pub went-ended : (next : LineScan) → GoesAlong c.seen (take fresh_room c.piece) next → next.ended ≡ true → EndsIn c.seen (take fresh_room c.piece) next.partial
+  went-ended next goes is = subst (λ t. MatchBool t (EndsIn c.seen (take fresh_room c.piece) next.partial) (Describes next.partial (c.seen ++ take fresh_room c.piece))) is goes
 
-  pub went-on : (next : AlongLine) → GoesAlong c.seen (take fresh_room c.piece) next → next.ended ≡ false → Describes next.begun (c.seen ++ take fresh_room c.piece)
-  went-on next goes is = subst (λ t. MatchBool t (EndsIn c.seen (take fresh_room c.piece) next.begun) (Describes next.begun (c.seen ++ take fresh_room c.piece))) is goes
+  pub went-on : (next : LineScan) → GoesAlong c.seen (take fresh_room c.piece) next → next.ended ≡ false → Describes next.partial (c.seen ++ take fresh_room c.piece)
+  went-on next goes is = subst (λ t. MatchBool t (EndsIn c.seen (take fresh_room c.piece) next.partial) (Describes next.partial (c.seen ++ take fresh_room c.piece))) is goes
 
   -- the line's newline is among these bytes
-  module _ (next : Begun) (e : EndsIn c.seen (take fresh_room c.piece) next) where
+  module _ (next : PartialLine) (e : EndsIn c.seen (take fresh_room c.piece) next) where
     fresh-length : length (take fresh_room c.piece) ≡ length e.more + (length e.rest + 1)
     fresh-length = omega (arith, ap length e.whole, length-append e.more (newline ∷ e.rest))
 
@@ -183,12 +183,12 @@ module _ (before : FeedState) (left_before : Option (List ℕ)) (run : Run) (aft
     piece-is : c.piece ≡ e.more ++ newline ∷ behind
     piece-is = sym (take-append-drop fresh_room c.piece) ∙ ap (λ zs. zs ++ drop fresh_room c.piece) e.whole ∙ append_assoc e.more (newline ∷ e.rest) (drop fresh_room c.piece)
 
-    at-is : run.bytes + (next.len - begun.len) ≡ length (take run.bytes before.unread) + (length e.more + 0)
+    at-is : run.bytes + (next.len - partial.len) ≡ length (take run.bytes before.unread) + (length e.more + 0)
     at-is = omega (arith, e.describes.len, c.describes.len, length-append c.seen e.more, c.front)
 
-    drop-at : drop (run.bytes + (next.len - begun.len)) after.unread ≡ newline ∷ behind
+    drop-at : drop (run.bytes + (next.len - partial.len)) after.unread ≡ newline ∷ behind
     drop-at =
-        ap (drop (run.bytes + (next.len - begun.len))) (c.unread ∙ ap (λ zs. take run.bytes before.unread ++ zs) piece-is)
+        ap (drop (run.bytes + (next.len - partial.len))) (c.unread ∙ ap (λ zs. take run.bytes before.unread ++ zs) piece-is)
         ∙ ap (λ n. drop n (take run.bytes before.unread ++ (e.more ++ newline ∷ behind))) at-is
         ∙ drop-append-add (take run.bytes before.unread) (e.more ++ newline ∷ behind) (length e.more + 0)
         ∙ drop-append-add e.more (newline ∷ behind) 0
@@ -196,11 +196,11 @@ module _ (before : FeedState) (left_before : Option (List ℕ)) (run : Run) (aft
     ended-room : run.bytes + length (c.seen ++ e.more) + 1 ≤ room_ahead before
     ended-room = omega (arith, length-append c.seen e.more, fresh-length, length-take fresh_room c.piece, c.room)
 
-    pub ended-drops : IsDropped before left_before run (Ok (record { line = next; end = run.bytes + (next.len - begun.len) })) after left
+    pub ended-drops : IsDropped before left_before run (Ok (record { line = next; end = run.bytes + (next.len - partial.len) })) after left
     ended-drops = (
       drops _ e.more e.describes,
       record {
-        within = omega (arith, ap length drop-at, length-drop (run.bytes + (next.len - begun.len)) after.unread);
+        within = omega (arith, ap length drop-at, length-drop (run.bytes + (next.len - partial.len)) after.unread);
         near = omega (arith, ap length drop-at, c.short, ap length piece-is, length-append e.more (newline ∷ behind));
         ends = inl (behind, drop-at, ended-room);
       },
@@ -218,15 +218,15 @@ module _ (before : FeedState) (left_before : Option (List ℕ)) (run : Run) (aft
     )
 
   -- the line goes on through all of them
-  module _ (next : Begun) (d : Describes next (c.seen ++ take fresh_room c.piece)) where
-    abbrev whole-line : length after.unread ≤ room_of after begun.len → Describes next (c.seen ++ c.piece)
+  module _ (next : PartialLine) (d : Describes next (c.seen ++ take fresh_room c.piece)) where
+    abbrev whole-line : length after.unread ≤ room_of after partial.len → Describes next (c.seen ++ c.piece)
     whole-line le = subst (λ zs. Describes next (c.seen ++ zs)) (all-fresh le) d
 
-    whole-room : length after.unread ≤ room_of after begun.len → run.bytes + length (c.seen ++ c.piece) ≤ room_ahead before
+    whole-room : length after.unread ≤ room_of after partial.len → run.bytes + length (c.seen ++ c.piece) ≤ room_ahead before
     whole-room le = omega (arith, length-append c.seen c.piece, came-length, room-is, c.front, c.room, le)
 
     -- and goes on behind them
-    pub more-dropping : length after.unread ≤ room_of after begun.len → IsFalse after.ended → Dropping before left_before run after left next
+    pub more-dropping : length after.unread ≤ room_of after partial.len → IsFalse after.ended → Dropping before left_before run after left next
     more-dropping le more = record {
       seen = c.seen ++ c.piece;
       describes = whole-line le;
@@ -245,13 +245,13 @@ module _ (before : FeedState) (left_before : Option (List ℕ)) (run : Run) (aft
           (p.rest, p.told, p.whole ∙ ap (λ zs. take run.bytes before.unread ++ zs) (sym (append_assoc c.seen c.piece p.rest)));
     }
 
-    pub more-smaller : length after.unread ≤ room_of after begun.len → IsFalse after.ended → file_limit - next.len < file_limit - begun.len
+    pub more-smaller : length after.unread ≤ room_of after partial.len → IsFalse after.ended → file_limit - next.len < file_limit - partial.len
     more-smaller le more = omega (arith, (whole-line le).len, length-append c.seen c.piece, whole-room le, c.more more, c.describes.len, c.small)
 
     -- and the file ends
-    pub none-drops : length after.unread ≤ room_of after begun.len → IsTrue after.ended → IsDropped before left_before run (Ok (record { line = next; end = run.bytes + (next.len - begun.len) })) after left
+    pub none-drops : length after.unread ≤ room_of after partial.len → IsTrue after.ended → IsDropped before left_before run (Ok (record { line = next; end = run.bytes + (next.len - partial.len) })) after left
     none-drops le ended =
-        let at = run.bytes + (next.len - begun.len) in
+        let at = run.bytes + (next.len - partial.len) in
         let none = c.ended ended in
         let over : length after.unread ≡ at = omega (arith, came-length, ap length none, (whole-line le).len, c.describes.len, length-append c.seen c.piece) in
         let behind : drop at after.unread ≡ [] = drop_all at after.unread (omega (arith, over)) in (
@@ -267,7 +267,7 @@ module _ (before : FeedState) (left_before : Option (List ℕ)) (run : Run) (aft
         )
 
     -- and beyond what may be looked at
-    pub beyond-drops : (refusal : Refusal) → room_of after begun.len < length after.unread → refusal ≡ record { code = FileTooLong; line = before.lines + run.lines + 1 } → IsDropped before left_before run (Err (Refused refusal)) after left
+    pub beyond-drops : (refusal : Refusal) → room_of after partial.len < length after.unread → refusal ≡ record { code = FileTooLong; line = before.lines + run.lines + 1 } → IsDropped before left_before run (Err (Refused refusal)) after left
     beyond-drops refusal long is = λ text a.
         let p = c.ahead text a in
         let room : room_ahead before ≡ length (take run.bytes before.unread) + (length c.seen + fresh_room) = omega (arith, c.front, c.room) in

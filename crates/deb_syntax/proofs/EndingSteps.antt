@@ -1,23 +1,23 @@
 -- Where a paragraph ends, by why no line more was taken: at the file's end, or behind a line that was dropped.
-use Rattle.deb_syntax.proofs.Common.{inl, inr, min, append_assoc, length-take, drop-length, ◌≡◌, ◌≢◌, ℕ, ◌+◌, ◌-◌, ◌<◌, ◌≤◌, true, false, List, [], ◌∷◌, ◌++◌, Option, Some, None, Result, Ok, Err, length, take, drop, IsTrue, refl, sym, ap, subst, ◌∙◌, arith, length-append, length-drop, append-nil, take-append-drop, drop-drop, Line, newline, paragraph_limit, is_blank, Code, ParagraphTooLong, FileTooLong, Fault, Refused, Refusal, left_answer, room_ahead, IsAhead, IsExtentOf, PassesParagraph, IsNextRun, IsExtentAhead, DropsLine, EndsAt, TextAfterLine, IsDropped, Seen, FeedState, with_newlines, StandInFront, Stops, DroppedLine, Extent, Run, Stop, Open}
+use Rattle.deb_syntax.proofs.Common.{inl, inr, min, append_assoc, length-take, drop-length, ◌≡◌, ◌≢◌, ℕ, ◌+◌, ◌-◌, ◌<◌, ◌≤◌, true, false, List, [], ◌∷◌, ◌++◌, Option, Some, None, Result, Ok, Err, length, take, drop, IsTrue, refl, sym, ap, subst, ◌∙◌, arith, length-append, length-drop, append-nil, take-append-drop, drop-drop, Line, newline, paragraph_limit, is_blank, Code, ParagraphTooLong, FileTooLong, Fault, Refused, Refusal, left_answer, room_ahead, IsAhead, IsExtentOf, PassesParagraph, IsNextRun, IsExtentAhead, DropsLine, EndsAt, TextAfterLine, IsDropped, Seen, CursorState, with_newlines, StandInFront, Stops, DroppedLine, Extent, LineRun, RunEnd, Open}
 use Rattle.deb_syntax.proofs.Endings.{RunLines, Ends, extent_behind, ends-ahead, ends-behind, ends-last, some-lines, some-full, refused-long, refused-end, refused-beyond}
 use Rattle.deb_syntax.proofs.Faults.{readers_fault}
 use Rattle.deb_syntax.proofs.WalkingLines.{front-step, take-front, drop-front, length-front, few_lines-with_newlines}
 
 -- the line behind a run goes on through all bytes
-pub open-front : (text : List ℕ) (run : Run) (s : Stops text Open run) → StandInFront text s.lines s.seen
+pub open-front : (text : List ℕ) (run : LineRun) (s : Stops text Open run) → StandInFront text s.lines s.seen
 open-front text run s = record {
   text = s.stands.front.text ∙ ap (λ zs. with_newlines s.lines ++ zs) (ap (λ zs. s.seen ++ zs) s.stopped ∙ append-nil s.seen);
   lines = s.stands.front.lines;
 }
 
-pub open-length : (text : List ℕ) (run : Run) → Stops text Open run → length text ≡ run.bytes + run.begun.len
+pub open-length : (text : List ℕ) (run : LineRun) → Stops text Open run → length text ≡ run.bytes + run.partial.len
 open-length text run s =
     let whole = length-front text s.lines s.seen (open-front text run s) in
     omega (arith, s.stands.bytes, s.stands.describes.len)
 
 -- its whole lines
-abbrev pub run_lines-open : (text : List ℕ) (run : Run) → Stops text Open run → RunLines text run
+abbrev pub run_lines-open : (text : List ℕ) (run : LineRun) → Stops text Open run → RunLines text run
 run_lines-open text run s = record {
   lines = s.lines;
   behind = s.seen;
@@ -32,7 +32,7 @@ run_lines-open text run s = record {
 at-end : (passed unread : List ℕ) (n : ℕ) → n ≡ length unread → passed ≡ passed ++ (drop n unread ++ [])
 at-end passed unread n is = sym (append-nil passed) ∙ ap (λ zs. passed ++ zs) (sym (append-nil (drop n unread) ∙ ap (λ k. drop k unread) is ∙ drop-length unread))
 
-pub stops-few : (text : List ℕ) (stop : Stop) (run : Run) → Stops text stop run → run.lines ≤ run.bytes
+pub stops-few : (text : List ℕ) (stop : RunEnd) (run : LineRun) → Stops text stop run → run.lines ≤ run.bytes
 stops-few text stop run s = let few = few_lines-with_newlines s.lines in omega (arith, s.stands.bytes, s.stands.counted)
 
 pub some-bytes : (lines : List Line) → lines ≢ [] → 0 < length (with_newlines lines)
@@ -40,7 +40,7 @@ some-bytes [] some = absurd (some refl)
 some-bytes (line ∷ lines) some = let few = few_lines-with_newlines (line ∷ lines) in omega arith
 
 -- all of the text ahead is unread
-ahead-end : (text : List ℕ) (state : FeedState) (left : Option (List ℕ)) → IsAhead text [] state left → IsTrue state.ended → (left ≡ Some []) × (text ≡ state.unread)
+ahead-end : (text : List ℕ) (state : CursorState) (left : Option (List ℕ)) → IsAhead text [] state left → IsTrue state.ended → (left ≡ Some []) × (text ≡ state.unread)
 ahead-end text state left a ended =
     let none = a.ended ended in
     (a.told ∙ ap (λ zs. Some zs) none, a.whole ∙ ap (λ zs. state.unread ++ zs) none ∙ append-nil state.unread)
@@ -49,12 +49,12 @@ same_line : (code : Code) (answer : Result (Option Seen) Refusal) (a b : ℕ) �
 same_line code answer a b e h = subst (λ n. answer ≡ Err (record { code = code; line = n })) e h
 
 -- a refusal at the line behind a run
-pub refusal-ahead : (text : List ℕ) (before after : FeedState) (left : Option (List ℕ)) (fault : Fault) (code : Code) (count : ℕ) (lines : List Line) → fault ≡ Refused (record { code = code; line = before.lines + count + 1 }) → count ≡ length lines → left_answer (before.lines + 1) (room_ahead before) text ≡ Err (record { code = code; line = before.lines + 1 + length lines }) → IsExtentAhead text before (Err fault) after left
+pub refusal-ahead : (text : List ℕ) (before after : CursorState) (left : Option (List ℕ)) (fault : Fault) (code : Code) (count : ℕ) (lines : List Line) → fault ≡ Refused (record { code = code; line = before.lines + count + 1 }) → count ≡ length lines → left_answer (before.lines + 1) (room_ahead before) text ≡ Err (record { code = code; line = before.lines + 1 + length lines }) → IsExtentAhead text before (Err fault) after left
 refusal-ahead text before after left fault code count lines is counted answer =
     let line : before.lines + 1 + length lines ≡ before.lines + count + 1 = omega arith in
     subst (λ f. IsExtentAhead text before (Err f) after left) (sym is) (same_line code _ _ _ line answer)
 
-module _ (state : FeedState) (run : Run) (s : Stops state.unread Open run) where
+module _ (state : CursorState) (run : LineRun) (s : Stops state.unread Open run) where
   file-lines : is_blank s.seen ≡ true → s.lines ≢ []
   file-lines blank = some-lines s.lines s.seen s.stands.begins blank
 
@@ -62,7 +62,7 @@ module _ (state : FeedState) (run : Run) (s : Stops state.unread Open run) where
   file-some blank = let some = some-bytes s.lines (file-lines blank) in omega (arith, s.stands.bytes)
 
   -- a blank line without newline is behind the run, or nothing
-  pub file-none : (e : Extent) → is_blank s.seen ≡ true → IsTrue state.ended → length state.unread ≤ room_ahead state → e ≡ extent_behind run (run.bytes + run.begun.len) 0 → Ends (with_newlines s.lines ++ s.seen) e state
+  pub file-none : (e : Extent) → is_blank s.seen ≡ true → IsTrue state.ended → length state.unread ≤ room_ahead state → e ≡ extent_behind run (run.bytes + run.partial.len) 0 → Ends (with_newlines s.lines ++ s.seen) e state
   file-none e blank ended room is =
       let size = open-length state.unread run s in
       let len = s.stands.describes.len in
@@ -72,7 +72,7 @@ module _ (state : FeedState) (run : Run) (s : Stops state.unread Open run) where
       (inr (refl, ended, omega (arith, skip, size))) (omega (arith, skip, size)) (omega (arith, skip, size, length-drop e.skip state.unread)) (omega (arith, bytes, len)) (omega (arith, ap (λ (x : Extent). x.lines) is, len))
 
   -- a line that isn't blank, without newline
-  pub file-last : is_blank s.seen ≡ false → IsTrue state.ended → length state.unread ≤ room_ahead state → run.bytes + run.begun.len < paragraph_limit → Ends state.unread (record { end = run.bytes + run.begun.len; skip = run.bytes + run.begun.len; bytes = run.bytes + run.begun.len; lines = run.lines + 1 }) state
+  pub file-last : is_blank s.seen ≡ false → IsTrue state.ended → length state.unread ≤ room_ahead state → run.bytes + run.partial.len < paragraph_limit → Ends state.unread (record { end = run.bytes + run.partial.len; skip = run.bytes + run.partial.len; bytes = run.bytes + run.partial.len; lines = run.lines + 1 }) state
   file-last line_not ended room short =
       let extent : ℕ → Extent = λ n. record { end = n; skip = n; bytes = n; lines = run.lines + 1 } in
       ends-last state run (run_lines-open state.unread run s) s.seen _ (open-front state.unread run s) s.stands.describes.line line_not (omega (arith, short, s.stands.describes.len)) ended room
@@ -83,7 +83,7 @@ module _ (state : FeedState) (run : Run) (s : Stops state.unread Open run) where
       let here = ahead-end text state left a ended in
       ends-ahead text [] passed e state left (state.lines + 1) b here.0 (here.1 ∙ is ∙ at-end passed state.unread e.skip skip) (λ _. refl)
 
-  pub file-long-ahead : (text : List ℕ) (left : Option (List ℕ)) (fault : Fault) → is_blank s.seen ≡ false → length state.unread ≤ room_ahead state → paragraph_limit ≤ run.bytes + run.begun.len → IsTrue state.ended → fault ≡ Refused (record { code = ParagraphTooLong; line = state.lines + run.lines + 1 }) → IsAhead text [] state left → IsExtentAhead text state (Err fault) state left
+  pub file-long-ahead : (text : List ℕ) (left : Option (List ℕ)) (fault : Fault) → is_blank s.seen ≡ false → length state.unread ≤ room_ahead state → paragraph_limit ≤ run.bytes + run.partial.len → IsTrue state.ended → fault ≡ Refused (record { code = ParagraphTooLong; line = state.lines + run.lines + 1 }) → IsAhead text [] state left → IsExtentAhead text state (Err fault) state left
   file-long-ahead text left fault line_not room long ended is a =
       let here = ahead-end text state left a ended in
       let front = open-front state.unread run s in
@@ -93,7 +93,7 @@ module _ (state : FeedState) (run : Run) (s : Stops state.unread Open run) where
       (omega (arith, s.stands.bytes, s.stands.describes.len)) s.stands.not_blank line_not (omega (arith, s.stands.short, s.stands.bytes))
       (omega (arith, s.stands.bytes, s.stands.describes.len)))
 
-module _ (before after : FeedState) (run : Run) (s : Stops before.unread Open run) where
+module _ (before after : CursorState) (run : LineRun) (s : Stops before.unread Open run) where
   take-run : take run.bytes before.unread ≡ with_newlines s.lines
   take-run = ap (λ n. take n before.unread) s.stands.bytes ∙ take-front before.unread s.lines s.seen (open-front before.unread run s)
 
@@ -161,7 +161,7 @@ module _ (before after : FeedState) (run : Run) (s : Stops before.unread Open ru
         ])
 
     -- a blank line is behind the run, with its newline or without
-    pub dropped-behind : (e : Extent) (at newline_len : ℕ) → paragraph_limit ≤ length before.unread → is_blank d.line ≡ true → EndsAt before run d.line at after → newline_len ≡ min (length after.unread - at) 1 → e ≡ extent_behind (record run { begun = dropped.line }) at newline_len → Ends (with_newlines s.lines ++ (d.line ++ take newline_len (drop at after.unread))) e after
+    pub dropped-behind : (e : Extent) (at newline_len : ℕ) → paragraph_limit ≤ length before.unread → is_blank d.line ≡ true → EndsAt before run d.line at after → newline_len ≡ min (length after.unread - at) 1 → e ≡ extent_behind (record run { partial = dropped.line }) at newline_len → Ends (with_newlines s.lines ++ (d.line ++ take newline_len (drop at after.unread))) e after
     dropped-behind e at n full blank h n_is is =
         let bytes = ap (λ (x : Extent). x.bytes) is in
         let skip = ap (λ (x : Extent). x.skip) is in

@@ -1,16 +1,16 @@
 -- The walk to the end of a paragraph, piece by piece.
-use Rattle.deb_syntax.proofs.Common.{length-take, length-drop, false_from_ne_true, ◌≡◌, ◌≢◌, ℕ, ◌+◌, ◌-◌, ◌<◌, ◌≤◌, inl, inr, false, nat_le, List, [], ◌∷◌, ◌++◌, Option, Result, Ok, Err, length, take, drop, refl, sym, ap, subst, ◌∙◌, append_assoc, arith, length-append, take-append-add, and_from, cases_lt, false≢true, le-leb, append-nil, take-append-drop, take-append-le, take_all, Line, newline, paragraph_limit, is_blank, is_all_blank, ParagraphTooLong, FileTooLong, Fault, Refused, left_answer, room_ahead, IsAhead, IsNear, KeepsLine, EndsInSight, IsNextRun, IsExtentAhead, SameCounts, FeedState, piece_limit, Comes, Sees, room_of, with_newlines, StandInFront, RunStands, CanGoOn, CannotBeBlank, Stops, Begun, Extent, Sight, Run, Stop, Open, Blank, TooLong}
+use Rattle.deb_syntax.proofs.Common.{length-take, length-drop, false_from_ne_true, ◌≡◌, ◌≢◌, ℕ, ◌+◌, ◌-◌, ◌<◌, ◌≤◌, inl, inr, false, nat_le, List, [], ◌∷◌, ◌++◌, Option, Result, Ok, Err, length, take, drop, refl, sym, ap, subst, ◌∙◌, append_assoc, arith, length-append, take-append-add, and_from, cases_lt, false≢true, le-leb, append-nil, take-append-drop, take-append-le, take_all, Line, newline, paragraph_limit, is_blank, is_all_blank, ParagraphTooLong, FileTooLong, Fault, Refused, left_answer, room_ahead, IsAhead, IsNear, KeepsLine, EndsInSight, IsNextRun, IsExtentAhead, SameCounts, CursorState, piece_limit, Comes, Sees, room_of, with_newlines, StandInFront, RunStands, CanGoOn, CannotBeBlank, Stops, PartialLine, Extent, Visible, LineRun, RunEnd, Open, Blank, OverLimit}
 use Rattle.deb_syntax.proofs.Endings.{Ends, extent_behind, ends-ahead, ends-behind, some-lines, refused-long, refused-beyond}
 use Rattle.deb_syntax.proofs.EndingSteps.{open-front, open-length, refusal-ahead, some-bytes}
 use Rattle.deb_syntax.proofs.Faults.{readers_fault}
-use Rattle.deb_syntax.proofs.Feeds.{comes_whole, comes_end}
+use Rattle.deb_syntax.proofs.CursorLemmas.{comes_whole, comes_end}
 use Rattle.deb_syntax.proofs.WalkingLines.{drop-front, front-step, with_newlines-append, length-with_newlines-step, length-front}
 
-pub record Walks (before : FeedState) (left_before : Option (List ℕ)) (run : Run) (state : FeedState) (left : Option (List ℕ)) : Type 0 where
+pub record Walks (before : CursorState) (left_before : Option (List ℕ)) (run : LineRun) (state : CursorState) (left : Option (List ℕ)) : Type 0 where
   pub counts : SameCounts before state
   pub ahead : (text : List ℕ) → IsAhead text [] before left_before → IsAhead text [] state left
   pub can : CanGoOn (take (room_ahead state) state.unread) run
-  pub near : length state.unread ≤ run.bytes + run.begun.len + (piece_limit + 1)
+  pub near : length state.unread ≤ run.bytes + run.partial.len + (piece_limit + 1)
 
 cannot : (line : List ℕ) → is_blank line ≡ false → CannotBeBlank line
 cannot line h =
@@ -20,12 +20,12 @@ cannot line h =
     ]
 
 -- a line begins the unread bytes
-begins-line : (line : List ℕ) (state : FeedState) → IsNear state.unread → EndsInSight state.unread line state → (more : List ℕ) × (state.unread ≡ line ++ more) × (length line ≤ room_ahead state) × (length more ≤ piece_limit + 1)
+begins-line : (line : List ℕ) (state : CursorState) → IsNear state.unread → EndsInSight state.unread line state → (more : List ℕ) × (state.unread ≡ line ++ more) × (length line ≤ room_ahead state) × (length more ≤ piece_limit + 1)
 begins-line line state near (inl (more, e, le)) = let few = near line more e in (newline ∷ more, e, omega arith, omega arith)
 begins-line line state near (inr (e, ended, le)) = ([], e ∙ sym (append-nil line), le, omega arith)
 
-pub walks-start : (before : FeedState) (left : Option (List ℕ)) (begun : Begun) → KeepsLine begun before → Walks before left (record { bytes = 0; lines = 0; begun = begun }) before left
-walks-start before left begun k =
+pub walks-start : (before : CursorState) (left : Option (List ℕ)) (partial : PartialLine) → KeepsLine partial before → Walks before left (record { bytes = 0; lines = 0; partial = partial }) before left
+walks-start before left partial k =
     let room = room_ahead before in
     let b = begins-line k.line before k.near k.ends in
     let size : length k.line + (room - length k.line) ≡ room = omega (arith, b.2) in
@@ -54,7 +54,7 @@ walks-start before left begun k =
     }
 
 -- a piece comes, where a line goes on through all bytes that are seen
-pub walks-more : (before : FeedState) (left_before : Option (List ℕ)) (run next : Run) (state after : FeedState) (left left_after : Option (List ℕ)) → Walks before left_before run state left → Stops state.unread Open next → length state.unread ≤ room_ahead state → Comes state left after left_after → Walks before left_before next after left_after
+pub walks-more : (before : CursorState) (left_before : Option (List ℕ)) (run next : LineRun) (state after : CursorState) (left left_after : Option (List ℕ)) → Walks before left_before run state left → Stops state.unread Open next → length state.unread ≤ room_ahead state → Comes state left after left_after → Walks before left_before next after left_after
 walks-more before left_before run next state after left left_after w s room come =
     let front = open-front state.unread next s in
     let k = room_ahead state - length state.unread in
@@ -94,20 +94,20 @@ walks-more before left_before run next state after left left_after w s room come
     }
 
 -- what is said of the text ahead holds where nothing has passed
-pub same-ahead : (text : List ℕ) (before state after : FeedState) (left : Option (List ℕ)) (result : Result Extent Fault) → SameCounts before state → IsExtentAhead text state result after left → IsExtentAhead text before result after left
+pub same-ahead : (text : List ℕ) (before state after : CursorState) (left : Option (List ℕ)) (result : Result Extent Fault) → SameCounts before state → IsExtentAhead text state result after left → IsExtentAhead text before result after left
 same-ahead text before state after left (Ok e) same (x, passes, next) = (x, passes, subst (λ n. IsNextRun (n + 1) (room_ahead before) text x.lines) same.lines (subst (λ r. IsNextRun (state.lines + 1) r text x.lines) (ap (λ n. Rattle.deb_syntax.specs.Lines.file_limit - n) same.bytes) next))
 same-ahead text before state after left (Err fault) same h = readers_fault fault (λ refusal e.
     subst (λ n. left_answer (n + 1) (room_ahead before) text ≡ Err refusal) same.lines (subst (λ r. left_answer (state.lines + 1) r text ≡ Err refusal) (ap (λ n. Rattle.deb_syntax.specs.Lines.file_limit - n) same.bytes) e)) h
 
-module _ (state : FeedState) (run : Run) where
+module _ (state : CursorState) (run : LineRun) where
   -- a newline comes next among the bytes that are seen
   record InSight (lines : List Line) (line : List ℕ) : Type 0 where
     more : List ℕ
     front : StandInFront state.unread lines (line ++ newline ∷ more)
     within : length (with_newlines lines) + (length line + 1) ≤ room_ahead state
 
-  in-sight : (lines : List Line) (line fresh rest : List ℕ) → RunStands (take (room_ahead state) state.unread) run lines line fresh → fresh ≡ newline ∷ rest → InSight lines line
-  in-sight lines line fresh rest h e =
+  in-visible : (lines : List Line) (line fresh rest : List ℕ) → RunStands (take (room_ahead state) state.unread) run lines line fresh → fresh ≡ newline ∷ rest → InSight lines line
+  in-visible lines line fresh rest h e =
       let room = room_ahead state in
       let behind = drop room state.unread in
       let short = length-take room state.unread in
@@ -132,12 +132,12 @@ module _ (state : FeedState) (run : Run) where
     pub blank-some : 0 < run.bytes
     blank-some = let some = some-bytes s.lines blank-some-lines in omega (arith, s.stands.bytes)
 
-    blank-sight : InSight s.lines s.seen
-    blank-sight = in-sight s.lines s.seen s.fresh s.stopped.0.0 s.stands s.stopped.0.1
+    blank-visible : InSight s.lines s.seen
+    blank-visible = in-visible s.lines s.seen s.fresh s.stopped.0.0 s.stands s.stopped.0.1
 
-    pub stop-blank : (e : Extent) → length state.unread ≤ run.bytes + run.begun.len + (piece_limit + 1) → e ≡ extent_behind run (run.bytes + run.begun.len) 1 → Ends (with_newlines s.lines ++ (s.seen ++ newline ∷ [])) e state
+    pub stop-blank : (e : Extent) → length state.unread ≤ run.bytes + run.partial.len + (piece_limit + 1) → e ≡ extent_behind run (run.bytes + run.partial.len) 1 → Ends (with_newlines s.lines ++ (s.seen ++ newline ∷ [])) e state
     stop-blank e near is =
-        let i = blank-sight in
+        let i = blank-visible in
         let h = s.stands in
         let size = length-front state.unread s.lines (s.seen ++ newline ∷ i.more) i.front in
         let both = length-append s.seen (newline ∷ i.more) in
@@ -148,9 +148,9 @@ module _ (state : FeedState) (run : Run) where
         (ap (λ (x : Extent). x.end) is) (omega (arith, bytes, h.bytes, h.describes.len, i.within)) _ (inl refl) (omega (arith, skip, size, both, h.bytes, h.describes.len)) (omega (arith, skip, near, length-drop e.skip state.unread))
         (omega (arith, bytes, h.describes.len, one)) (omega (arith, ap (λ (x : Extent). x.lines) is, h.describes.len, one))
 
-    pub stop-blank-ahead : (text : List ℕ) (left : Option (List ℕ)) (e : Extent) → Ends (with_newlines s.lines ++ (s.seen ++ newline ∷ [])) e state → e.skip ≡ run.bytes + run.begun.len + 1 → IsAhead text [] state left → IsExtentAhead text state (Ok e) state left
+    pub stop-blank-ahead : (text : List ℕ) (left : Option (List ℕ)) (e : Extent) → Ends (with_newlines s.lines ++ (s.seen ++ newline ∷ [])) e state → e.skip ≡ run.bytes + run.partial.len + 1 → IsAhead text [] state left → IsExtentAhead text state (Ok e) state left
     stop-blank-ahead text left e b skip a =
-        let i = blank-sight in
+        let i = blank-visible in
         let front = front-step state.unread s.lines s.seen i.more i.front s.stands.describes.line in
         let at : e.skip ≡ length (with_newlines (s.lines ++ s.seen ∷ [])) = omega (arith, skip, s.stands.bytes, s.stands.describes.len, length-with_newlines-step s.lines s.seen) in
         let behind : i.more ≡ drop e.skip state.unread = sym (ap (λ k. drop k state.unread) at ∙ drop-front state.unread (s.lines ++ s.seen ∷ []) i.more front) in
@@ -158,9 +158,9 @@ module _ (state : FeedState) (run : Run) where
         ends-ahead text a.rest _ e state left (state.lines + 1) b a.told
         (a.whole ∙ ap (λ zs. zs ++ a.rest) (front.text ∙ ap (λ zs. zs ++ i.more) (with_newlines-append s.lines (s.seen ∷ [])) ∙ ap (λ zs. passed ++ zs) behind) ∙ append_assoc passed (drop e.skip state.unread) a.rest) a.ended
 
-  pub stop-long-ahead : (s : Stops (take (room_ahead state) state.unread) TooLong run) → (text : List ℕ) (left : Option (List ℕ)) (fault : Fault) → fault ≡ Refused (record { code = ParagraphTooLong; line = state.lines + run.lines + 1 }) → IsAhead text [] state left → IsExtentAhead text state (Err fault) state left
+  pub stop-long-ahead : (s : Stops (take (room_ahead state) state.unread) OverLimit run) → (text : List ℕ) (left : Option (List ℕ)) (fault : Fault) → fault ≡ Refused (record { code = ParagraphTooLong; line = state.lines + run.lines + 1 }) → IsAhead text [] state left → IsExtentAhead text state (Err fault) state left
   stop-long-ahead s text left fault is a =
-      let i = in-sight s.lines s.seen s.fresh s.stopped.0.0 s.stands s.stopped.0.1 in
+      let i = in-visible s.lines s.seen s.fresh s.stopped.0.0 s.stands s.stopped.0.1 in
       let whole : text ≡ with_newlines s.lines ++ (s.seen ++ newline ∷ (i.more ++ a.rest)) =
       a.whole ∙ ap (λ zs. zs ++ a.rest) i.front.text ∙ append_assoc (with_newlines s.lines) (s.seen ++ newline ∷ i.more) a.rest
       ∙ ap (λ zs. with_newlines s.lines ++ zs) (append_assoc s.seen (newline ∷ i.more) a.rest) in
@@ -178,17 +178,17 @@ module _ (state : FeedState) (run : Run) where
       (refused-beyond (state.lines + 1) room text s.lines s.seen (omega arith) seen s.stands.front.lines s.stands.describes.line s.stands.not_blank
       (omega (arith, s.stands.short, s.stands.bytes)))
 
--- what is seen, with nothing hidden
-pub sees-ahead : (state : FeedState) (sight : Sight) → Sees state 0 sight → sight.seen.now ≡ take (room_ahead state) state.unread
-sees-ahead state sight sees = let same : room_of state 0 ≡ room_ahead state = omega arith in sees.seen ∙ ap (λ n. take n state.unread) same
+-- what is seen, with nothing discarded
+pub sees-ahead : (state : CursorState) (visible : Visible) → Sees state 0 visible → visible.bytes.now ≡ take (room_ahead state) state.unread
+sees-ahead state visible sees = let same : room_of state 0 ≡ room_ahead state = omega arith in sees.seen ∙ ap (λ n. take n state.unread) same
 
-pub sees-unread : (state : FeedState) (sight : Sight) → Sees state 0 sight → length state.unread ≤ room_of state 0 → sight.seen.now ≡ state.unread
-sees-unread state sight sees le = sees.seen ∙ take_all (room_of state 0) state.unread le
+pub sees-unread : (state : CursorState) (visible : Visible) → Sees state 0 visible → length state.unread ≤ room_of state 0 → visible.bytes.now ≡ state.unread
+sees-unread state visible sees le = sees.seen ∙ take_all (room_of state 0) state.unread le
 
 -- where the taking of lines stopped among the bytes that may be looked at
-pub seen-stops : (state : FeedState) (sight : Sight) (stop at : Stop) (run : Run) → Sees state 0 sight → stop ≡ at → Stops sight.seen.now stop run → Stops (take (room_ahead state) state.unread) at run
-seen-stops state sight stop at run sees is s = subst (λ t. Stops t at run) (sees-ahead state sight sees) (subst (λ x. Stops sight.seen.now x run) is s)
+pub seen-stops : (state : CursorState) (visible : Visible) (stop at : RunEnd) (run : LineRun) → Sees state 0 visible → stop ≡ at → Stops visible.bytes.now stop run → Stops (take (room_ahead state) state.unread) at run
+seen-stops state visible stop at run sees is s = subst (λ t. Stops t at run) (sees-ahead state visible sees) (subst (λ x. Stops visible.bytes.now x run) is s)
 
 -- which are all unread ones
-pub unread-stops : (state : FeedState) (sight : Sight) (stop at : Stop) (run : Run) → Sees state 0 sight → length state.unread ≤ room_of state 0 → stop ≡ at → Stops sight.seen.now stop run → Stops state.unread at run
-unread-stops state sight stop at run sees le is s = subst (λ t. Stops t at run) (sees-unread state sight sees le) (subst (λ x. Stops sight.seen.now x run) is s)
+pub unread-stops : (state : CursorState) (visible : Visible) (stop at : RunEnd) (run : LineRun) → Sees state 0 visible → length state.unread ≤ room_of state 0 → stop ≡ at → Stops visible.bytes.now stop run → Stops state.unread at run
+unread-stops state visible stop at run sees le is s = subst (λ t. Stops t at run) (sees-unread state visible sees le) (subst (λ x. Stops visible.bytes.now x run) is s)

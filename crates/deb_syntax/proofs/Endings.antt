@@ -1,5 +1,5 @@
 -- Where a paragraph ends: lines that aren't blank at the front of a text, and a blank line or the end behind them.
-use Rattle.deb_syntax.proofs.Common.{min, IsClosed, Run, ◌≡◌, ◌≢◌, ℕ, ◌+◌, ◌-◌, ◌<◌, ◌≤◌, ◌⊎◌, inl, inr, true, false, nat_le, List, [], ◌∷◌, ◌++◌, Option, Some, Err, length, take, drop, IsTrue, refl, sym, ap, subst, ◌∙◌, append_assoc, arith, length-append, length-drop, drop-length, and_parts, leb-true, false≢true, append-nil, take_all, AllByRecursion, All-append, ParagraphTooLong, FileTooLong, Line, newline, is_blank, is_all_blank, pieces_of, HasNoNewline, left_answer, room_ahead, IsExtentOf, PassesParagraph, IsNextRun, part_within, whole_lines, AreBlank, AreNotBlank, FeedState, piece_limit, lines_of, with_newlines, total_length, begins_blank, paragraphs_from, StandInFront, CannotBeBlank, Extent}
+use Rattle.deb_syntax.proofs.Common.{min, IsClosed, LineRun, ◌≡◌, ◌≢◌, ℕ, ◌+◌, ◌-◌, ◌<◌, ◌≤◌, ◌⊎◌, inl, inr, true, false, nat_le, List, [], ◌∷◌, ◌++◌, Option, Some, Err, length, take, drop, IsTrue, refl, sym, ap, subst, ◌∙◌, append_assoc, arith, length-append, length-drop, drop-length, and_parts, leb-true, false≢true, append-nil, take_all, AllByRecursion, All-append, ParagraphTooLong, FileTooLong, Line, newline, is_blank, is_all_blank, pieces_of, HasNoNewline, left_answer, room_ahead, IsExtentOf, PassesParagraph, IsNextRun, part_within, whole_lines, AreBlank, AreNotBlank, CursorState, piece_limit, lines_of, with_newlines, total_length, begins_blank, paragraphs_from, StandInFront, CannotBeBlank, Extent}
 use Rattle.deb_base.specs.Bodies.{paragraph_limit}
 use Rattle.deb_syntax.proofs.Boundaries.{lines_of-append}
 use Rattle.deb_syntax.proofs.LeftAnswers.{left-run, left-long, left-beyond}
@@ -87,7 +87,7 @@ next-run n room text (line ∷ run) rest some is not_blank begins short ends = r
 }
 
 -- Whole lines of a run at the front of a text.
-pub record RunLines (text : List ℕ) (run : Run) : Type 0 where
+pub record RunLines (text : List ℕ) (run : LineRun) : Type 0 where
   pub lines : List Line
   pub behind : List ℕ
   pub front : StandInFront text lines behind
@@ -97,11 +97,11 @@ pub record RunLines (text : List ℕ) (run : Run) : Type 0 where
   pub counted : run.lines ≡ length lines
 
 -- where a run ends that a blank line ends, or the file
-abbrev pub extent_behind : Run → (at newline : ℕ) → Extent
-extent_behind run at newline = record { end = run.bytes - 1; skip = at + newline; bytes = run.bytes + (run.begun.len + newline); lines = run.lines + min (run.begun.len + newline) 1 }
+abbrev pub extent_behind : LineRun → (at newline : ℕ) → Extent
+extent_behind run at newline = record { end = run.bytes - 1; skip = at + newline; bytes = run.bytes + (run.partial.len + newline); lines = run.lines + min (run.partial.len + newline) 1 }
 
 -- A paragraph ends here, and passes with the blank line behind it, or with all that is left: which bytes and lines of the file those are.
-pub record Ends (passed : List ℕ) (e : Extent) (state : FeedState) : Type 0 where
+pub record Ends (passed : List ℕ) (e : Extent) (state : CursorState) : Type 0 where
   pub lines : List Line
   pub ending : List Line
   pub some : lines ≢ []
@@ -119,7 +119,7 @@ pub record Ends (passed : List ℕ) (e : Extent) (state : FeedState) : Type 0 wh
   pub counted : e.lines ≡ length lines + length ending
   pub closed : ((0 < length ending) × IsClosed passed) ⊎ (IsTrue state.ended × (e.skip ≡ length state.unread))
 
-pub ends-found : (passed : List ℕ) (e : Extent) (state : FeedState) → Ends passed e state → IsExtentOf e state
+pub ends-found : (passed : List ℕ) (e : Extent) (state : CursorState) → Ends passed e state → IsExtentOf e state
 ends-found passed e state b = record {
   lines = b.lines;
   some = b.some;
@@ -139,7 +139,7 @@ begins [] more blank (inl some) = absurd (omega (arith, some))
 begins [] more blank (inr none) = ap begins_blank none
 begins (line ∷ ending) more blank some = blank.0
 
-pub ends-ahead : (text rest passed : List ℕ) (e : Extent) (state : FeedState) (left : Option (List ℕ)) (n : ℕ) → Ends passed e state → left ≡ Some rest → text ≡ passed ++ (drop e.skip state.unread ++ rest) → (IsTrue state.ended → rest ≡ []) → (x : IsExtentOf e state) × PassesParagraph text e state left x.lines × IsNextRun n (room_ahead state) text x.lines
+pub ends-ahead : (text rest passed : List ℕ) (e : Extent) (state : CursorState) (left : Option (List ℕ)) (n : ℕ) → Ends passed e state → left ≡ Some rest → text ≡ passed ++ (drop e.skip state.unread ++ rest) → (IsTrue state.ended → rest ≡ []) → (x : IsExtentOf e state) × PassesParagraph text e state left x.lines × IsNextRun n (room_ahead state) text x.lines
 unfolding ends-found
 ends-ahead text rest passed e state left n b told whole ended = (
   ends-found passed e state b,
@@ -183,7 +183,7 @@ ends-ahead text rest passed e state left n b told whole ended = (
         next-run n (room_ahead state) text b.lines b.ending b.some (ap lines_of (part_within-all (room_ahead state) text within ∙ all) ∙ b.is)
         b.not_blank (ap begins_blank (sym (append-nil b.ending)) ∙ begins b.ending [] b.blank (inr refl)) b.short (inl within)
 
-module _ (state : FeedState) (run : Run) (t : RunLines state.unread run) (line : List ℕ) (e : Extent) where
+module _ (state : CursorState) (run : LineRun) (t : RunLines state.unread run) (line : List ℕ) (e : Extent) where
   module _ (is_line : HasNoNewline line) (blank : is_blank line ≡ true) (some : 0 < run.bytes) (end : e.end ≡ run.bytes - 1) (room : e.bytes ≤ room_ahead state) where
     some-taken : t.lines ≢ []
     some-taken none = absurd (omega (arith, some, t.bytes, ap (λ ls. length (with_newlines ls)) none))

@@ -1,7 +1,7 @@
 -- What a line that begins a field makes of the fields before it, from what a search for its colon says.
-use Rattle.deb_syntax.proofs.Common.{false_from_ne_true, ◌≡◌, ℕ, zero, suc, ◌==◌, ◌+◌, ◌-◌, ◌<◌, ◌≤◌, Bool, true, false, not, cond, ◌&&◌, List, [], ◌∷◌, ◌++◌, length, map, take, drop, nat_lt, slice_index, slice_range, Some, None, Ok, Err, refl, sym, ap, ◌∙◌, arith, length-take, length-drop, list_all, position_or_len, prefix_len, and_parts, and_from, eq-eqb, eqb-true, ltb-true, lt-ltb, true≢false, cond-true, cond-false, map_push, take-append-drop, drop_more, All-from_get_or, list_any_at, list_any_none, position_or_len_is, IsFirstByte, is_byte, BadFieldName, NoColon, DuplicateField, Line, Field, has_name, colon, is_name, is_name_byte, each_name_byte, begins_armour, begins_comment, has_colon, begun, is_named, field_line, begun_at, begun_fields, name_at, has_stood, known_row, row_of, FieldId, IsAtFront, NameAtFront, Place}
+use Rattle.deb_syntax.proofs.Common.{false_from_ne_true, ◌≡◌, ℕ, zero, suc, ◌==◌, ◌+◌, ◌-◌, ◌<◌, ◌≤◌, Bool, true, false, not, cond, ◌&&◌, List, [], ◌∷◌, ◌++◌, length, map, take, drop, nat_lt, slice_index, slice_range, Some, None, Ok, Err, refl, sym, ap, ◌∙◌, arith, length-take, length-drop, list_all, position_or_len, prefix_len, and_parts, and_from, eq-eqb, eqb-true, ltb-true, lt-ltb, true≢false, cond-true, cond-false, map_push, take-append-drop, drop_more, All-from_get_or, list_any_at, list_any_none, position_or_len_is, IsFirstByte, is_byte, BadFieldName, NoColon, DuplicateField, Line, Field, has_name, colon, is_name, is_name_byte, each_name_byte, begins_armour, begins_comment, has_colon, begun, is_named, field_line, begun_at, begun_fields, name_at, has_stood, known_row, row_of, FieldId, IsAtFront, NameAtFront, FieldSpan}
 use Rattle.deb_syntax.proofs.JudgingLaws.{field_line-name}
-use Rattle.deb_syntax.proofs.PlaceLemmas.{LiesWithin, has_name-begun}
+use Rattle.deb_syntax.proofs.FieldSpanLemmas.{LiesWithin, has_name-begun}
 use Rattle.deb_syntax.proofs.Slices.{take-slice_range, drop-slice_range}
 
 -- the bytes of a name end at the first that is none
@@ -56,7 +56,7 @@ at_front-is_named line len id named is =
     let front = and_parts (nat_lt len (length line)) (slice_index line len == colon) parts.0 in
     record { within = ltb-true _ _ front.0; colon = eqb-true _ _ front.1; name = parts.1; id = is }
 
--- the place of a field that the line from `start` to `end` begins, with its colon at `at`
+-- the span of a field that the line from `start` to `end` begins, with its colon at `at`
 module _ (text : List ℕ) (start end at : ℕ) (ordered : start ≤ end) (within : end ≤ length text) (inside : at < length (slice_range text start end)) where
   fits : start + at < end
   fits = omega (arith, inside, length-take (end - start) (drop start text), length-drop start text)
@@ -74,17 +74,17 @@ module _ (text : List ℕ) (start end at : ℕ) (ordered : start ≤ end) (withi
       let field : List ℕ → List ℕ → Field = λ name rest. record { name = name; line = n; body = rest } in
       ap (λ name. field name (drop (at + 1) (slice_range text start end))) name_at-begun ∙ ap (field (slice_range text start (start + at))) body
 
-  module _ (n : ℕ) (places : List Place)
-      (judges : field_line n (begun_fields text places) (slice_range text start end) ≡ cond (has_name (take at (slice_range text start end)) (begun_fields text places)) (Err (record { code = DuplicateField; line = n })) (Ok (begun_fields text places ++ record { name = take at (slice_range text start end); line = n; body = drop (at + 1) (slice_range text start end) } ∷ []))) where
-    pub field_line-stood : has_stood (take at (slice_range text start end)) (map (name_at text) places) ≡ true → field_line n (begun_fields text places) (slice_range text start end) ≡ Err (record { code = DuplicateField; line = n })
-    field_line-stood stood = judges ∙ cond-true (has_name (take at (slice_range text start end)) (begun_fields text places)) _ _ (has_name-begun text _ places ∙ stood)
+  module _ (n : ℕ) (spans : List FieldSpan)
+      (judges : field_line n (begun_fields text spans) (slice_range text start end) ≡ cond (has_name (take at (slice_range text start end)) (begun_fields text spans)) (Err (record { code = DuplicateField; line = n })) (Ok (begun_fields text spans ++ record { name = take at (slice_range text start end); line = n; body = drop (at + 1) (slice_range text start end) } ∷ []))) where
+    pub field_line-stood : has_stood (take at (slice_range text start end)) (map (name_at text) spans) ≡ true → field_line n (begun_fields text spans) (slice_range text start end) ≡ Err (record { code = DuplicateField; line = n })
+    field_line-stood stood = judges ∙ cond-true (has_name (take at (slice_range text start end)) (begun_fields text spans)) _ _ (has_name-begun text _ spans ∙ stood)
 
-    pub field_line-new : (id : FieldId) → has_stood (take at (slice_range text start end)) (map (name_at text) places) ≡ false → field_line n (begun_fields text places) (slice_range text start end) ≡ Ok (begun_fields text (places ++ record { line = n; start = start; colon = start + at; end = end; id = id } ∷ []))
+    pub field_line-new : (id : FieldId) → has_stood (take at (slice_range text start end)) (map (name_at text) spans) ≡ false → field_line n (begun_fields text spans) (slice_range text start end) ≡ Ok (begun_fields text (spans ++ record { line = n; start = start; colon = start + at; end = end; id = id } ∷ []))
     field_line-new id new =
         judges
-        ∙ cond-false (has_name (take at (slice_range text start end)) (begun_fields text places)) _ _ (has_name-begun text _ places ∙ new)
-        ∙ ap (λ f. Ok (begun_fields text places ++ f ∷ [])) (begun_at-begun n id)
-        ∙ ap Ok (sym (map_push (begun_at text) places (record { line = n; start = start; colon = start + at; end = end; id = id })))
+        ∙ cond-false (has_name (take at (slice_range text start end)) (begun_fields text spans)) _ _ (has_name-begun text _ spans ∙ new)
+        ∙ ap (λ f. Ok (begun_fields text spans ++ f ∷ [])) (begun_at-begun n id)
+        ∙ ap Ok (sym (map_push (begun_at text) spans (record { line = n; start = start; colon = start + at; end = end; id = id })))
 
 pub ruleset naming = (field_line-found, is_named-at_front, at_front-is_named, not_named, field_line-no_colon, field_line-bad_name)
 

@@ -1,5 +1,5 @@
 -- Fields that pass the test of a paragraph's fields: those that lines spell.
-use Rattle.deb_syntax.proofs.Common.{◌≡◌, ℕ, zero, suc, ◌+◌, ◌<◌, ◌≤◌, true, not, List, [], ◌∷◌, ◌++◌, length, leb, get_or, subst, refl, ap, arith, Ok, IsUtf8, AllByRecursion, list_all, and_parts, and_from, le-leb, Line, IsBody, is_body, paragraph_limit, pieces_of, is_name, IsBody-from_test, is_body-from_IsBody, Paragraph, total_length, Field, SpellsField, SpellsFields, SpellsParagraph, AreDistinct, is_field, are_fields, are_numbered, judged, AreNotBlank, field_at, fields_at, Place}
+use Rattle.deb_syntax.proofs.Common.{◌≡◌, ℕ, zero, suc, ◌+◌, ◌<◌, ◌≤◌, true, not, List, [], ◌∷◌, ◌++◌, length, leb, get_or, subst, refl, ap, arith, Ok, IsUtf8, AllByRecursion, list_all, and_parts, and_from, le-leb, Line, IsBody, is_body, paragraph_limit, pieces_of, is_name, IsBody-from_test, is_body-from_IsBody, Paragraph, total_length, Field, SpellsField, SpellsFields, SpellsParagraph, AreDistinct, is_field, are_fields, are_numbered, judged, AreNotBlank, field_at, fields_at, FieldSpan}
 use Rattle.deb_syntax.proofs.FieldBytes.{IsUtf8-body}
 use Rattle.deb_syntax.proofs.JudgingLaws.{all_left, all_right}
 use Rattle.deb_syntax.proofs.JudgingLawsRefusals.{not_blank-solid}
@@ -37,8 +37,8 @@ are_numbered-judged n text fields some not_blank short is =
     let spells = judged-sound_from n (pieces_of text) fields (pieces_of-no_newline text) (not_blank-solid (pieces_of text) not_blank short) is in
     and_from _ _ (le-leb 1 n some) (numbered-from fields n (pieces_of text) some spells.spelt)
 
--- the field at one of the places
-pub is_field-at : (text : List ℕ) (places : List Place) (i : ℕ) (d : Place) → i < length places → are_fields (fields_at text places) ≡ true → is_field (field_at text (get_or places i d)) ≡ true
+-- the field in one of the spans
+pub is_field-at : (text : List ℕ) (spans : List FieldSpan) (i : ℕ) (d : FieldSpan) → i < length spans → are_fields (fields_at text spans) ≡ true → is_field (field_at text (get_or spans i d)) ≡ true
 is_field-at text [] i d h are = absurd (omega arith)
 is_field-at text (p ∷ ps) zero d h are =
     (and_parts (is_field (field_at text p)) _ (and_parts _ (are_fields (fields_at text ps)) are).0).0

@@ -1,16 +1,16 @@
 -- The paragraph that was judged last is the next one of a text, where its lines are judged.
-use Rattle.deb_syntax.proofs.Common.{◌≡◌, ℕ, ◌+◌, ◌≤◌, cond-true, cond-false, List, [], ◌∷◌, ◌++◌, Option, Some, None, Result, Ok, Err, length, refl, sym, ap, ◌∙◌, subst, arith, IsTrue, IsSome, leb, le-leb, lt-leb, pieces_of, ParagraphTooLong, Fault, Refused, Memory, Read, Write, Refusal, Extent, IsExtentOf, IsNextRun, room_ahead, Seen, next_answer, paragraphs_within, FeedState, feed_state, buffer_of, start_of, Feed, judged, Paragraph, paragraphs_of, State, passed_count, Answers, IsReadersFault, IsFaultOf, IsRefusalOfText, stands_within}
+use Rattle.deb_syntax.proofs.Common.{◌≡◌, ℕ, ◌+◌, ◌≤◌, cond-true, cond-false, List, [], ◌∷◌, ◌++◌, Option, Some, None, Result, Ok, Err, length, refl, sym, ap, ◌∙◌, subst, arith, IsTrue, IsSome, leb, le-leb, lt-leb, pieces_of, ParagraphTooLong, Fault, Refused, Memory, Read, Write, Refusal, Extent, IsExtentOf, IsNextRun, room_ahead, Seen, next_answer, paragraphs_within, CursorState, cursor_state, buffer_of, start_of, FileCursor, judged, Paragraph, paragraphs_of, State, passed_count, Answers, IsReadersFault, IsFaultOf, IsRefusalOfText, stands_within}
 use Rattle.std.specs.Prelude.{slice_get}
 use Rattle.deb_base.specs.Codes.{number_of}
 use Rattle.deb_syntax.specs.Lines.{file_limit}
 use Rattle.deb_syntax.specs.Judged.{is_of_line, judged_by, judged_behind, lines_standing, ShowsJudged, IsRefusalOfLength, IsFirstAhead, JudgesAhead, JudgesLines}
-use Rattle.deb_syntax.specs.declared.paragraphs.Standing.{Standing}
+use Rattle.deb_syntax.specs.declared.paragraphs.CurrentParagraph.{CurrentParagraph}
 use Rattle.deb_syntax.proofs.Advancing.{paragraphs_ahead, standing_bytes}
 use Rattle.deb_syntax.proofs.Faults.{readers_fault}
-use Rattle.deb_syntax.proofs.Feeds.{unread_within}
+use Rattle.deb_syntax.proofs.CursorLemmas.{unread_within}
 use Rattle.deb_syntax.proofs.JudgingLawsRefusals.{judged-refusal}
 use Rattle.deb_syntax.proofs.Passing.{IsCut}
-use Rattle.deb_syntax.proofs.PlacesWithin.{within_test}
+use Rattle.deb_syntax.proofs.SpansWithin.{within_test}
 
 slice_get-seam : {X : Type 0} (xs : List X) (x : X) (ys : List X) → slice_get (xs ++ x ∷ ys) (length xs) ≡ Some x
 slice_get-seam [] x ys = refl
@@ -31,8 +31,8 @@ judged_code n lines Read is = absurd is
 judged_code n lines Write is = absurd is
 
 -- where a paragraph's lines stand in the buffer
-module _ (mid : Feed) (buffer : List ℕ) (e : Extent) (from n : ℕ) (same : buffer ≡ buffer_of mid) (at : from ≡ start_of mid) (x : IsExtentOf e (feed_state mid)) where
-  abbrev pub standing : Standing
+module _ (mid : FileCursor) (buffer : List ℕ) (e : Extent) (from n : ℕ) (same : buffer ≡ buffer_of mid) (at : from ≡ start_of mid) (x : IsExtentOf e (cursor_state mid)) where
+  abbrev pub standing : CurrentParagraph
   standing = record { from = from; to = from + e.end; first_line = n }
 
   pub lines_stand : 1 ≤ n → IsTrue (stands_within buffer [] (Some standing))
@@ -41,7 +41,7 @@ module _ (mid : Feed) (buffer : List ℕ) (e : Extent) (from n : ℕ) (same : bu
       rw (le-leb from (from + e.end) (omega arith), le-leb (from + e.end) (length buffer) room, le-leb 1 n some) refl
 
   -- it is the first of the text ahead
-  pub first_ahead : (text : List ℕ) (before : FeedState) → n ≡ before.lines + 1 → IsNextRun (before.lines + 1) (room_ahead before) text x.lines → IsFirstAhead text before (lines_standing buffer standing)
+  pub first_ahead : (text : List ℕ) (before : CursorState) → n ≡ before.lines + 1 → IsNextRun (before.lines + 1) (room_ahead before) text x.lines → IsFirstAhead text before (lines_standing buffer standing)
   first_ahead text before is next =
       let lines : x.lines ≡ (lines_standing buffer standing).lines = sym x.pieces ∙ ap pieces_of (sym (standing_bytes mid buffer e from [] same at x)) in
       let one : record { first = before.lines + 1; lines = x.lines } ≡ lines_standing buffer standing
@@ -49,19 +49,19 @@ module _ (mid : Feed) (buffer : List ℕ) (e : Extent) (from n : ℕ) (same : bu
       record { more = next.more; next = next.next ∙ ap (λ p. p ∷ next.more) one }
 
 -- behind what has passed, what was judged is the next paragraph
-module _ (text passed ahead : List ℕ) (feed : FeedState) (cut : IsCut text passed ahead feed.bytes feed.lines) (small : feed.bytes ≤ file_limit) where
-  next_found : (p : Paragraph) → IsFirstAhead ahead feed p → slice_get (paragraphs_within text) (passed_count passed) ≡ Some p
+module _ (text passed ahead : List ℕ) (cursor : CursorState) (cut : IsCut text passed ahead cursor.bytes cursor.lines) (small : cursor.bytes ≤ file_limit) where
+  next_found : (p : Paragraph) → IsFirstAhead ahead cursor p → slice_get (paragraphs_within text) (passed_count passed) ≡ Some p
   next_found p first =
-      ap (λ ps. slice_get ps (passed_count passed)) (paragraphs_ahead text passed ahead feed.bytes feed.lines cut small p first.more first.next)
+      ap (λ ps. slice_get ps (passed_count passed)) (paragraphs_ahead text passed ahead cursor.bytes cursor.lines cut small p first.more first.next)
       ∙ slice_get-seam (paragraphs_of passed) p first.more
 
-  pub shows_found : (T : Type 0) (a : T) (current : Option Seen) (last : Option Paragraph) (new : State) (left : Option (List ℕ)) → IsSome current → Answers text passed (Ok current) new left → JudgesLines (Ok a) last → JudgesAhead ahead feed last → ShowsJudged text (passed_count passed) (Ok current) last
+  pub shows_found : (T : Type 0) (a : T) (current : Option Seen) (last : Option Paragraph) (new : State) (left : Option (List ℕ)) → IsSome current → Answers text passed (Ok current) new left → JudgesLines (Ok a) last → JudgesAhead ahead cursor last → ShowsJudged text (passed_count passed) (Ok current) last
   shows_found T a None last new left some answers lines first = absurd cc
   shows_found T a (Some seen) None new left some answers lines first = absurd lines
   shows_found T a (Some seen) (Some p) new left some answers lines first =
       sym (ap (λ answer. judged_by answer (slice_get (paragraphs_within text) (passed_count passed))) answers.answer ∙ next_found p first)
 
-  pub shows_refused : (T : Type 0) (fault : Fault) (last : Option Paragraph) (new : State) (left : Option (List ℕ)) → Answers text passed (Err fault) new left → JudgesLines {T = T} (Err fault) last → JudgesAhead ahead feed last → ShowsJudged text (passed_count passed) (Err fault) last
+  pub shows_refused : (T : Type 0) (fault : Fault) (last : Option Paragraph) (new : State) (left : Option (List ℕ)) → Answers text passed (Err fault) new left → JudgesLines {T = T} (Err fault) last → JudgesAhead ahead cursor last → ShowsJudged text (passed_count passed) (Err fault) last
   shows_refused T Memory last new left answers lines first = tt
   shows_refused T Read last new left answers lines first = tt
   shows_refused T Write last new left answers lines first = absurd answers

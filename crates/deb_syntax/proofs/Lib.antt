@@ -9,7 +9,7 @@ pub mod EndingSteps
 pub mod EndingWalks
 pub mod Endings
 pub mod Faults
-pub mod Feeds
+pub mod CursorLemmas
 pub mod FieldBytes
 pub mod FieldLines
 pub mod FieldTests
@@ -36,8 +36,8 @@ pub mod NextParagraph
 pub mod ParagraphLines
 pub mod Parts
 pub mod Passing
-pub mod PlaceLemmas
-pub mod PlacesWithin
+pub mod FieldSpanLemmas
+pub mod SpansWithin
 pub mod Runs
 pub mod Slices
 pub mod Takings

@@ -1,30 +1,30 @@
 -- Names that stood before, one after another, and a set that keeps them.
-use Rattle.deb_syntax.proofs.Common.{false_from_ne_true, ◌≡◌, ℕ, ◌+◌, ◌<◌, Bool, true, false, cond, ◌||◌, List, [], ◌∷◌, ◌++◌, length, map, take, drop, get_or, refl, sym, ap, ◌∙◌, subst, list_any, bytes_eq, nat_list_eq_equiv, drop_more, take_more, map_push, list_any-append, bytes_eq-Decides, folded, name_at, has_stood, is_kept, FoldedName, Place}
+use Rattle.deb_syntax.proofs.Common.{false_from_ne_true, ◌≡◌, ℕ, ◌+◌, ◌<◌, Bool, true, false, cond, ◌||◌, List, [], ◌∷◌, ◌++◌, length, map, take, drop, get_or, refl, sym, ap, ◌∙◌, subst, list_any, bytes_eq, nat_list_eq_equiv, drop_more, take_more, map_push, list_any-append, bytes_eq-Decides, folded, name_at, has_stood, is_kept, FoldedName, FieldSpan}
 
 pub or_false : (b : Bool) → (b || false) ≡ b
 or_false true = refl
 or_false false = refl
 
--- a search from one place on
-module _ (text name : List ℕ) (places : List Place) (i : ℕ) (d : Place) (within : i < length places) where
-  step : has_stood name (map (name_at text) (drop i places)) ≡ (bytes_eq (folded (name_at text (get_or places i d))) (folded name) || has_stood name (map (name_at text) (drop (i + 1) places)))
-  step = ap (λ l. has_stood name (map (name_at text) l)) (drop_more places i d within)
+-- a search from one span on
+module _ (text name : List ℕ) (spans : List FieldSpan) (i : ℕ) (d : FieldSpan) (within : i < length spans) where
+  step : has_stood name (map (name_at text) (drop i spans)) ≡ (bytes_eq (folded (name_at text (get_or spans i d))) (folded name) || has_stood name (map (name_at text) (drop (i + 1) spans)))
+  step = ap (λ l. has_stood name (map (name_at text) l)) (drop_more spans i d within)
 
-  pub has_stood-found : folded (name_at text (get_or places i d)) ≡ folded name → has_stood name (map (name_at text) (drop i places)) ≡ true
-  has_stood-found same = step ∙ ap (λ t. t || has_stood name (map (name_at text) (drop (i + 1) places))) ((bytes_eq-Decides (folded (name_at text (get_or places i d))) (folded name)).1 same)
+  pub has_stood-found : folded (name_at text (get_or spans i d)) ≡ folded name → has_stood name (map (name_at text) (drop i spans)) ≡ true
+  has_stood-found same = step ∙ ap (λ t. t || has_stood name (map (name_at text) (drop (i + 1) spans))) ((bytes_eq-Decides (folded (name_at text (get_or spans i d))) (folded name)).1 same)
 
-  pub has_stood-passed : (folded (name_at text (get_or places i d)) ≡ folded name → ⊥) → has_stood name (map (name_at text) (drop i places)) ≡ has_stood name (map (name_at text) (drop (i + 1) places))
-  has_stood-passed other = step ∙ ap (λ t. t || has_stood name (map (name_at text) (drop (i + 1) places))) (false_from_ne_true _ (λ e. other ((bytes_eq-Decides (folded (name_at text (get_or places i d))) (folded name)).0 e)))
+  pub has_stood-passed : (folded (name_at text (get_or spans i d)) ≡ folded name → ⊥) → has_stood name (map (name_at text) (drop i spans)) ≡ has_stood name (map (name_at text) (drop (i + 1) spans))
+  has_stood-passed other = step ∙ ap (λ t. t || has_stood name (map (name_at text) (drop (i + 1) spans))) (false_from_ne_true _ (λ e. other ((bytes_eq-Decides (folded (name_at text (get_or spans i d))) (folded name)).0 e)))
 
 -- one name more
 pub has_stood-push : (stood : List (List ℕ)) (name other : List ℕ) → has_stood other (stood ++ name ∷ []) ≡ (has_stood other stood || bytes_eq (folded name) (folded other))
 has_stood-push stood name other = list_any-append (λ s. bytes_eq (folded s) (folded other)) stood (name ∷ []) ∙ ap (λ t. has_stood other stood || t) (or_false (bytes_eq (folded name) (folded other)))
 
-pub has_stood-more : (text name : List ℕ) (places : List Place) (i : ℕ) (d : Place) → i < length places → has_stood name (map (name_at text) (take (i + 1) places)) ≡ (has_stood name (map (name_at text) (take i places)) || bytes_eq (folded (name_at text (get_or places i d))) (folded name))
-has_stood-more text name places i d within =
-    ap (λ l. has_stood name (map (name_at text) l)) (take_more places i d within)
-    ∙ ap (has_stood name) (map_push (name_at text) (take i places) (get_or places i d))
-    ∙ has_stood-push (map (name_at text) (take i places)) (name_at text (get_or places i d)) name
+pub has_stood-more : (text name : List ℕ) (spans : List FieldSpan) (i : ℕ) (d : FieldSpan) → i < length spans → has_stood name (map (name_at text) (take (i + 1) spans)) ≡ (has_stood name (map (name_at text) (take i spans)) || bytes_eq (folded (name_at text (get_or spans i d))) (folded name))
+has_stood-more text name spans i d within =
+    ap (λ l. has_stood name (map (name_at text) l)) (take_more spans i d within)
+    ∙ ap (has_stood name) (map_push (name_at text) (take i spans) (get_or spans i d))
+    ∙ has_stood-push (map (name_at text) (take i spans)) (name_at text (get_or spans i d)) name
 
 pub is_kept-push : (names : List FoldedName) (n : FoldedName) (other : List ℕ) → is_kept other (names ++ n ∷ []) ≡ (is_kept other names || bytes_eq (folded n.0.now) (folded other))
 is_kept-push names n other =

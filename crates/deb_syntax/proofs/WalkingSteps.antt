@@ -8,7 +8,7 @@ line-found (b ∷ bs) zero before lt = tt
 line-found (b ∷ bs) (suc n) before lt =
     (false_from_ne_true _ (before 0 (omega arith)), line-found bs n (λ k h. before (suc k) (omega arith)) (omega arith))
 
--- a newline at a place parts a text
+-- a newline in a span parts a text
 pub newline_at : (text : List ℕ) (n : ℕ) → n < length text → slice_index text n ≡ newline → text ≡ take n text ++ newline ∷ drop (suc n) text
 newline_at [] n lt here = absurd (omega arith)
 newline_at (b ∷ bs) zero lt here = ap (λ c. c ∷ bs) here

@@ -13,9 +13,9 @@ use Rattle.deb_base.specs.declared.fault.Fault.{Fault}
 use Rattle.deb_base.specs.declared.refusal.Refusal.{Refusal}
 use Rattle.deb_syntax.specs.Answers.{Seen, next_answer, part_within, paragraphs_within}
 use Rattle.deb_syntax.specs.Ahead.{room_ahead}
-use Rattle.deb_syntax.specs.Feeding.{FeedState}
+use Rattle.deb_syntax.specs.Cursors.{CursorState}
 use Rattle.deb_syntax.specs.Lines.{Paragraph, lines_of, paragraphs_from, file_limit}
-use Rattle.deb_syntax.specs.declared.paragraphs.Standing.{Standing}
+use Rattle.deb_syntax.specs.declared.paragraphs.CurrentParagraph.{CurrentParagraph}
 
 -- whether a refusal with the code is one of a line: its number is from 1 to 7
 abbrev pub is_of_line : Code → Bool
@@ -34,7 +34,7 @@ judged_behind text count =
     judged_by (next_answer text count) (slice_get (paragraphs_within text) count)
 
 -- the lines that stand in a buffer
-abbrev pub lines_standing : List ℕ → Standing → Paragraph
+abbrev pub lines_standing : List ℕ → CurrentParagraph → Paragraph
 lines_standing buffer at =
     record { first = at.first_line; lines = pieces_of (slice_range buffer at.from at.to) }
 
@@ -60,13 +60,13 @@ pub record IsRefusalOfLength (refusal : Refusal) : Type 0 where
   pub line : 1 ≤ refusal.line
 
 -- the paragraph is the first of the text ahead
-pub record IsFirstAhead (text : List ℕ) (before : FeedState) (p : Paragraph) : Type 0 where
+pub record IsFirstAhead (text : List ℕ) (before : CursorState) (p : Paragraph) : Type 0 where
   pub more : List Paragraph
   pub next : paragraphs_from (before.lines + 1) (lines_of (part_within (room_ahead before) text))
       ≡ p ∷ more
 
 -- What was judged of the text ahead, if anything was.
-abbrev pub JudgesAhead : List ℕ → FeedState → Option Paragraph → Type 0
+abbrev pub JudgesAhead : List ℕ → CursorState → Option Paragraph → Type 0
 JudgesAhead text before None = Unit {0}
 JudgesAhead text before (Some p) = IsFirstAhead text before p
 
@@ -93,8 +93,8 @@ second = record { first = 3; lines = codes "b:2" ∷ codes "c" ∷ [] }
 
 -- one that passes, one whose lines are refused, and none
 paragraphs_judged : (judged_behind sample 0
-    ≡ Some (record { first = 1; lines = codes "a:1" ∷ [] })) × (judged_behind sample 1 ≡ Some second)
-    × (judged_behind sample 2 ≡ None)
+    ≡ Some (record { first = 1; lines = codes "a:1" ∷ [] }))
+    × (judged_behind sample 1 ≡ Some second) × (judged_behind sample 2 ≡ None)
 unfolding paragraph_limit file_limit is_utf8 chars encode
 paragraphs_judged = (refl, refl, refl)
 

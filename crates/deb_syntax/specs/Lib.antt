@@ -1,7 +1,7 @@
 pub mod Ahead
 pub mod Answers
 pub mod Extents
-pub mod Feeding
+pub mod Cursors
 pub mod Fields
 pub mod Judged
 pub mod Judging
@@ -10,8 +10,8 @@ pub mod LineEnds
 pub mod Lines
 pub mod Meaning
 pub mod Paragraphs
-pub mod Places
+pub mod FieldSpans
 pub mod Raw
 pub mod Reading
-pub mod Standing
+pub mod CurrentParagraphs
 pub mod Walking

@@ -10,8 +10,8 @@ use Rattle.deb_base.specs.Kinds.{known_row}
 use Rattle.deb_base.specs.Names.{folded}
 use Rattle.deb_base.specs.declared.known_fields.FieldId.{FieldId}
 use Rattle.deb_syntax.specs.Fields.{Field}
-use Rattle.deb_syntax.specs.Places.{fields_at}
-use Rattle.deb_syntax.specs.declared.place.Place.{Place}
+use Rattle.deb_syntax.specs.FieldSpans.{fields_at}
+use Rattle.deb_syntax.specs.declared.field_span.FieldSpan.{FieldSpan}
 use Rattle.deb_syntax.specs.declared.raw.Fields.{Fields}
 use Rattle.deb_syntax.specs.declared.raw.Raw.{Raw}
 use Rattle.deb_syntax.specs.declared.raw.RawField.{RawField}
@@ -21,14 +21,14 @@ field_of field = record { name = field.name.now; line = field.line; body = field
 
 -- the fields of a paragraph in the order of its lines
 abbrev pub fields_of : Raw → List Field
-fields_of raw = fields_at raw.text.now raw.places.now
+fields_of raw = fields_at raw.text.now raw.spans.now
 
 abbrev pub first_line_of : Raw → ℕ
 first_line_of raw = raw.first_line
 
 -- the fields that an iterator over them has left
 abbrev pub fields_left : Fields → List Field
-fields_left fields = fields_at fields.text.now fields.places.now
+fields_left fields = fields_at fields.text.now fields.spans.now
 
 -- the first field of the name, without ASCII case
 abbrev pub field_named : List ℕ → List Field → Option Field
@@ -56,15 +56,15 @@ named_otherwise : field_named (codes "Versio")
     (record { name = codes "Version"; line = 1; body = codes "1" } ∷ []) ≡ None
 named_otherwise = refl
 
--- for the worked cases: a reference, and the places of the fields of `A: 1`, ` 2` and `B:`
+-- for the worked cases: a reference, and the spans of the fields of `A: 1`, ` 2` and `B:`
 abbrev to : {T : Type 0} → T → Bor T
 to value = record { ref_ptr = (0, 0); now = value }
 
 abbrev other : FieldId
 other = record { 0 = 54 }
 
-abbrev two_places : List Place
-two_places =
+abbrev two_spans : List FieldSpan
+two_spans =
     record { line = 5; start = 0; colon = 1; end = 7; id = other }
     ∷ record { line = 7; start = 8; colon = 9; end = 10; id = other } ∷ []
 
@@ -86,7 +86,7 @@ abbrev two_fields : Raw
 unfolding paragraph_limit is_utf8 chars encode known_row
 two_fields = record {
   text = to (codes "A: 1\n 2\nB:");
-  places = to two_places;
+  spans = to two_spans;
   first_line = 4;
   within = refl;
   fields = refl;
@@ -100,5 +100,5 @@ unfolding two_fields
 paragraph_shown = (refl, refl)
 
 left_fields_shown : (fields : Fields)
-    → fields_left fields ≡ fields_at fields.text.now fields.places.now
+    → fields_left fields ≡ fields_at fields.text.now fields.spans.now
 left_fields_shown fields = refl

@@ -10,11 +10,11 @@ use Rattle.deb_base.specs.Faults.{IsReadersFault}
 use Rattle.deb_base.specs.declared.fault.Fault.{Fault}
 use Rattle.deb_base.specs.declared.refusal.Refusal.{Refusal}
 use Rattle.deb_base.specs.Reading.{TakesNoMore, piece_limit}
-use Rattle.deb_syntax.specs.declared.first.First.{First}
-use Rattle.deb_syntax.specs.declared.first.First.TheVariants.{End, Kept, Dropped}
+use Rattle.deb_syntax.specs.declared.first.FirstLine.{FirstLine}
+use Rattle.deb_syntax.specs.declared.first.FirstLine.TheVariants.{NoMore, Buffered, TooLong}
 use Rattle.deb_syntax.specs.Ahead.{IsNear}
 use Rattle.deb_syntax.specs.Answers.{Seen, paragraphs_within, next_answer, next_begin}
-use Rattle.deb_syntax.specs.Feeding.{FeedState}
+use Rattle.deb_syntax.specs.Cursors.{CursorState}
 use Rattle.deb_syntax.specs.Fields.{IsShort}
 use Rattle.deb_syntax.specs.Judging.{judged}
 use Rattle.deb_syntax.specs.Lines.{lines_of, IsClosed, Paragraph, paragraphs_of, file_limit}
@@ -28,21 +28,21 @@ pub record State : Type 0 where
   pub held : ℕ
   pub bytes : ℕ
   pub lines : ℕ
-  pub hidden : ℕ
+  pub overlong_len : ℕ
   pub ended : Bool
   pub finished : Bool
   pub current : Option Seen
   pub fault : Option Fault
 
 -- the same by what has come of the file
-abbrev pub state_from : FeedState → ℕ → Bool → Option Seen → Option Fault → State
-state_from feed hidden finished current fault = record {
-  unread = feed.unread;
-  held = feed.held;
-  bytes = feed.bytes;
-  lines = feed.lines;
-  hidden = hidden;
-  ended = feed.ended;
+abbrev pub state_from : CursorState → ℕ → Bool → Option Seen → Option Fault → State
+state_from cursor overlong_len finished current fault = record {
+  unread = cursor.unread;
+  held = cursor.held;
+  bytes = cursor.bytes;
+  lines = cursor.lines;
+  overlong_len = overlong_len;
+  ended = cursor.ended;
   finished = finished;
   current = current;
   fault = fault;
@@ -52,17 +52,17 @@ state_from feed hidden finished current fault = record {
 -- the unread ones, then what the source has left. What has passed has the bytes and lines that are
 -- counted; it is closed, or nothing follows it.
 pub record Fits (text passed : List ℕ) (state : State) (left : Option (List ℕ)) : Type 0 where
-  pub hidden : List ℕ
+  pub overlong : List ℕ
   pub rest : List ℕ
   pub told : left ≡ Some rest
-  pub whole : text ≡ passed ++ (hidden ++ (state.unread ++ rest))
+  pub whole : text ≡ passed ++ (overlong ++ (state.unread ++ rest))
   pub bytes : state.bytes ≡ length passed
   pub lines : state.lines ≡ length (lines_of passed)
-  pub hidden_bytes : length hidden ≡ state.hidden
-  pub hidden_line : HasNoNewline hidden
-  pub closed : IsClosed passed ⊎ (hidden ++ (state.unread ++ rest) ≡ [])
+  pub overlong_bytes : length overlong ≡ state.overlong_len
+  pub overlong_line : HasNoNewline overlong
+  pub closed : IsClosed passed ⊎ (overlong ++ (state.unread ++ rest) ≡ [])
   pub ended : IsTrue state.ended → rest ≡ []
-  pub finished : IsTrue state.finished → hidden ++ (state.unread ++ rest) ≡ []
+  pub finished : IsTrue state.finished → overlong ++ (state.unread ++ rest) ≡ []
 
 -- how many paragraphs have passed
 abbrev pub passed_count : List ℕ → ℕ
@@ -122,11 +122,11 @@ Answers text passed (Err fault) new left =
 
 -- What is told of the first line ahead that isn't blank: it is there, or none is, or why the file
 -- is refused.
-abbrev pub FindsFirst : (text passed : List ℕ) → Result First Fault → State → Option (List ℕ)
+abbrev pub FindsFirst : (text passed : List ℕ) → Result FirstLine Fault → State → Option (List ℕ)
     → Type 0
-FindsFirst text passed (Ok End) new left = GivesNone text passed new left
-FindsFirst text passed (Ok (Kept begun)) new left = BeginsHere text passed new left
-FindsFirst text passed (Ok (Dropped begun)) new left = BeginsHere text passed new left
+FindsFirst text passed (Ok NoMore) new left = GivesNone text passed new left
+FindsFirst text passed (Ok (Buffered partial)) new left = BeginsHere text passed new left
+FindsFirst text passed (Ok (TooLong partial)) new left = BeginsHere text passed new left
 FindsFirst text passed (Err fault) new left =
     IsReadersFault fault (λ refusal.
     (next_answer text (passed_count passed) ≡ Err refusal)
@@ -165,7 +165,7 @@ tells_end (Err fault) = false
 -- A call of a reader without error: what it answers of each text that fits, and how much of it was
 -- taken by then, how often its source failed, and which errors there are. Only the answer that
 -- nothing follows ends it, and is then given again and again. After a paragraph no bytes are
--- hidden.
+-- discarded.
 pub record Advances (before : Moment) (answer : Result (Option Seen) Fault)
     (after : Moment) : Type 0 where
   pub answers : (text passed : List ℕ) → Fits text passed before.state before.source.bytes
@@ -178,7 +178,7 @@ pub record Advances (before : Moment) (answer : Result (Option Seen) Fault)
       (λ fault. after.state.current ≡ None)
   pub finished : after.state.finished ≡ tells_end answer
   pub ended : IsTrue before.state.finished → answer ≡ Ok None
-  pub unhidden : IfOk answer (λ seen. IfSome seen (λ _. after.state.hidden ≡ 0))
+  pub no_overlong : IfOk answer (λ seen. IfSome seen (λ _. after.state.overlong_len ≡ 0))
 
 -- The same of a call that tells where the next paragraph begins; afterwards none is current.
 pub record Begins (before : Moment) (answer : Result (Option ℕ) Fault)
@@ -204,14 +204,14 @@ pub record KeepsErrors {A : Type 0} (Goes : Moment → Result A Fault → Moment
   pub repeats : IfSome before.state.fault (λ fault. (answer ≡ Err fault) × (after ≡ before))
 
 -- for the worked cases: a reader without error, by its unread bytes, how many bytes and lines have
--- passed, and how many bytes are hidden
+-- passed, and how many bytes are discarded
 abbrev reader_of : List ℕ → ℕ → ℕ → ℕ → State
-reader_of unread bytes lines hidden = record {
+reader_of unread bytes lines overlong_len = record {
   unread = unread;
   held = 65536;
   bytes = bytes;
   lines = lines;
-  hidden = hidden;
+  overlong_len = overlong_len;
   ended = false;
   finished = false;
   current = None;
@@ -222,14 +222,14 @@ reader_of unread bytes lines hidden = record {
 fits_new : Fits (codes "a\n") [] (reader_of [] 0 0 0) (Some (codes "a\n"))
 fits_new =
     record {
-      hidden = [];
+      overlong = [];
       rest = codes "a\n";
       told = refl;
       whole = refl;
       bytes = refl;
       lines = refl;
-      hidden_bytes = refl;
-      hidden_line = tt;
+      overlong_bytes = refl;
+      overlong_line = tt;
       closed = inl (refl, refl);
       ended = λ e. absurd (false≢true e);
       finished = λ e. absurd (false≢true e);
@@ -241,32 +241,32 @@ fits_behind : Fits (codes "a\n \nb\n") (codes "a\n \n") (reader_of (codes "b") 4
 unfolding paragraph_limit
 fits_behind =
     record {
-      hidden = [];
+      overlong = [];
       rest = codes "\n";
       told = refl;
       whole = refl;
       bytes = refl;
       lines = refl;
-      hidden_bytes = refl;
-      hidden_line = tt;
+      overlong_bytes = refl;
+      overlong_line = tt;
       closed = inl (refl, refl);
       ended = λ e. absurd (false≢true e);
       finished = λ e. absurd (false≢true e);
     }
 
 -- three bytes of a line aren't kept: in their place any others but newlines may stand
-fits_hidden : Fits (codes "\nxyz\n") (codes "\n") (reader_of (codes "\n") 1 1 3) (Some [])
+fits_overlong : Fits (codes "\nxyz\n") (codes "\n") (reader_of (codes "\n") 1 1 3) (Some [])
 unfolding paragraph_limit
-fits_hidden =
+fits_overlong =
     record {
-      hidden = codes "xyz";
+      overlong = codes "xyz";
       rest = [];
       told = refl;
       whole = refl;
       bytes = refl;
       lines = refl;
-      hidden_bytes = refl;
-      hidden_line = (refl, (refl, (refl, tt)));
+      overlong_bytes = refl;
+      overlong_line = (refl, (refl, (refl, tt)));
       closed = inl (refl, refl);
       ended = λ e. refl;
       finished = λ e. absurd (false≢true e);
@@ -276,34 +276,34 @@ fits_hidden =
 fits_all : Fits (codes "a") (codes "a") (record (reader_of [] 1 1 0) { finished = true }) (Some [])
 fits_all =
     record {
-      hidden = [];
+      overlong = [];
       rest = [];
       told = refl;
       whole = refl;
       bytes = refl;
       lines = refl;
-      hidden_bytes = refl;
-      hidden_line = tt;
+      overlong_bytes = refl;
+      overlong_line = tt;
       closed = inr refl;
       ended = λ e. refl;
       finished = λ e. refl;
     }
 
-state_by_parts : (unread : List ℕ) (held bytes lines hidden : ℕ) (ended finished : Bool)
+state_by_parts : (unread : List ℕ) (held bytes lines overlong_len : ℕ) (ended finished : Bool)
     (current : Option Seen) (fault : Option Fault) → state_from
     (record { unread = unread; held = held; bytes = bytes; lines = lines; ended = ended })
-    hidden finished current fault ≡ record {
+    overlong_len finished current fault ≡ record {
       unread = unread;
       held = held;
       bytes = bytes;
       lines = lines;
-      hidden = hidden;
+      overlong_len = overlong_len;
       ended = ended;
       finished = finished;
       current = current;
       fault = fault;
     }
-state_by_parts unread held bytes lines hidden ended finished current fault = refl
+state_by_parts unread held bytes lines overlong_len ended finished current fault = refl
 
 moment_by_parts : (state : State) (left : Option (List ℕ)) (failures : ℕ)
     → ((moment_of state left failures).state ≡ state)

@@ -10,14 +10,14 @@ ghost use Rattle.deb_syntax.specs.Ahead.{room_ahead, IsAhead, KeepsLine, HasExte
 ghost use Rattle.deb_syntax.specs.Judged.{IsRefusalOfLength};
 ghost use Rattle.deb_syntax.specs.LineEnds.{line_ends, piece_ends};
 ghost use Rattle.deb_syntax.specs.Lines.{file_limit};
-ghost use Rattle.deb_syntax.specs.Feeding.{feed_state, had, Takes};
+ghost use Rattle.deb_syntax.specs.Cursors.{cursor_state, had, Takes};
 ghost use Rattle.deb_syntax.specs.Walking.{Stops};
-ghost use Rattle.deb_syntax.specs.declared.line_run.Stop.TheVariants.{Open};
+ghost use Rattle.deb_syntax.specs.declared.line_run.RunEnd.TheVariants.{Open};
 
-use crate::begun::Begun;
 use crate::dropped::drop_line;
-use crate::feed::{Feed, Tail};
-use crate::line_run::{Run, Stop, take_lines};
+use crate::file_cursor::{End, FileCursor};
+use crate::line_run::{LineRun, RunEnd, scan_lines};
+use crate::partial_line::PartialLine;
 use deb_base::{Code, Fault, PARAGRAPH_LIMIT, Refusal, Source};
 
 /// Where the paragraph ends that begins the unread bytes.
@@ -33,126 +33,134 @@ pub(crate) struct Extent {
     pub(crate) lines: u64,
 }
 
-/// Where the paragraph ends that begins the unread bytes; `begun` is the whole of its first line,
+/// Where the paragraph ends that begins the unread bytes; `partial` is the whole of its first line,
 /// which isn't blank. After Ok `ends` holds where each of its lines ends, without its newline.
 ///
 /// Refused: with a line that isn't blank its lines are too long (`ParagraphTooLong`, at that line),
 /// or the file is too long and no blank line behind the paragraph is in sight (`FileTooLong`, at
 /// the line that is cut off). Memory: a growth of `ends`, or of the buffer, was refused.
 pub(crate) fn paragraph_extent<R: Source>(
-    feed: &mut Feed,
-    begun: Begun,
+    cursor: &mut FileCursor,
+    partial: PartialLine,
     reader: &mut R,
     ends: &mut Vec<u32>,
 ) -> Result<Extent, Fault>
-    requires line { KeepsLine begun (feed_state feed.old) }
-    requires reach { (feed_state feed.old).bytes + length (feed_state feed.old).unread
+    requires line { KeepsLine partial (cursor_state cursor.old) }
+    requires reach { (cursor_state cursor.old).bytes + length (cursor_state cursor.old).unread
         ≤ file_limit + piece_limit }
-    ensures found { HasExtent result (feed_state feed.new) }
-    ensures ahead { (text : List ℕ) → IsAhead text [] (feed_state feed.old) (R.left reader.old)
+    ensures found { HasExtent result (cursor_state cursor.new) }
+    ensures ahead { (text : List ℕ) → IsAhead text [] (cursor_state cursor.old) (R.left reader.old)
         → IsExtentAhead text
-        (feed_state feed.old) result (feed_state feed.new) (R.left reader.new) }
+        (cursor_state cursor.old) result (cursor_state cursor.new) (R.left reader.new) }
     ensures ends { IfOk result (λ extent.
-        ends.new.items ≡ piece_ends (take extent.end (feed_state feed.new).unread)) }
-    ensures same { SameCounts (feed_state feed.old) (feed_state feed.new) }
-    ensures taken { Takes (had (feed_state feed.old)) (R.left reader.old)
+        ends.new.items ≡ piece_ends (take extent.end (cursor_state cursor.new).unread)) }
+    ensures same { SameCounts (cursor_state cursor.old) (cursor_state cursor.new) }
+    ensures reads_at_most { Takes (had (cursor_state cursor.old)) (R.left reader.old)
         (file_limit + piece_limit) (R.left reader.new) }
     ensures fault { IfErr result (λ fault. IsReadersFault fault IsRefusalOfLength) }
-    ensures counted { R.failures reader.new ≡ read_failures_after (R.failures reader.old) result }
-    ensures source_untouched { IsTrue (feed_state feed.old).ended → reader.new ≡ reader.old }
+    ensures fault_iff_device_failed { R.failures reader.new
+        ≡ read_failures_after (R.failures reader.old) result }
+    ensures source_untouched { IsTrue (cursor_state cursor.old).ended → reader.new ≡ reader.old }
 {
     ends.clear();
-    let mut run = Run {
+    let mut run = LineRun {
         bytes: 0,
         lines: 0,
-        begun,
+        partial,
     };
     'pieces: loop {
-        let sight = feed.sight(0);
-        let tail = sight.tail;
-        let is_full = sight.seen.len() >= PARAGRAPH_LIMIT;
-        let taken = take_lines(sight.seen, run, ends)?;
-        run = taken.run;
-        match taken.stop {
-            Stop::Blank => return Ok(ended_behind(run, run.bytes + run.begun.len, 1)),
-            Stop::TooLong => return Err(refused(feed, Code::ParagraphTooLong, run)),
-            Stop::Open => {}
+        let visible = cursor.visible(0);
+        let end = visible.ends;
+        let is_full = visible.bytes.len() >= PARAGRAPH_LIMIT;
+        let scan = scan_lines(visible.bytes, run, ends)?;
+        run = scan.run;
+        match scan.stop {
+            RunEnd::Blank => return Ok(ended_behind(run, run.bytes + run.partial.len, 1)),
+            RunEnd::OverLimit => return Err(refused(cursor, Code::ParagraphTooLong, run)),
+            RunEnd::Open => {}
         }
-        match tail {
-            Tail::More if is_full => return extent_beyond(feed, run, reader),
-            Tail::More => feed.fill(reader)?,
-            Tail::Nothing => return ended_by_file(feed, run, ends),
-            Tail::Beyond => return Err(refused(feed, Code::FileTooLong, run)),
+        match end {
+            End::More if is_full => return extent_beyond(cursor, run, reader),
+            End::More => cursor.fill(reader)?,
+            End::Eof => return ended_by_file(cursor, run, ends),
+            End::Limit => return Err(refused(cursor, Code::FileTooLong, run)),
         }
     }
 }
 
 /// The refusal at the line behind a run.
-fn refused(feed: &Feed, code: Code, run: Run) -> Fault
-    requires { (feed_state feed.now).lines + run.lines + 1 < 2 ^ 64 }
+fn refused(cursor: &FileCursor, code: Code, run: LineRun) -> Fault
+    requires { (cursor_state cursor.now).lines + run.lines + 1 < 2 ^ 64 }
     ensures { result
-        ≡ Refused (record { code = code; line = (feed_state feed.now).lines + run.lines + 1 }) }
+        ≡ Refused (record { code = code; line = (cursor_state cursor.now).lines + run.lines + 1 }) }
 {
     Fault::Refused(Refusal {
         code,
-        line: feed.lines() + run.lines + 1,
+        line: cursor.lines() + run.lines + 1,
     })
 }
 
 /// As `paragraph_extent`, where as much is unread as a paragraph may have, and the line behind the
 /// run hasn't ended.
-fn extent_beyond<R: Source>(feed: &mut Feed, run: Run, reader: &mut R) -> Result<Extent, Fault>
-    requires more { IsFalse (feed_state feed.old).ended }
-    requires room { length (feed_state feed.old).unread ≤ room_ahead (feed_state feed.old) }
-    requires full { paragraph_limit ≤ length (feed_state feed.old).unread }
-    requires stops { Stops (feed_state feed.old).unread Open run }
-    ensures found { HasExtent result (feed_state feed.new) }
-    ensures ahead { (text : List ℕ) → IsAhead text [] (feed_state feed.old) (R.left reader.old)
+fn extent_beyond<R: Source>(
+    cursor: &mut FileCursor,
+    run: LineRun,
+    reader: &mut R,
+) -> Result<Extent, Fault>
+    requires more { IsFalse (cursor_state cursor.old).ended }
+    requires room { length (cursor_state cursor.old).unread ≤ room_ahead (cursor_state cursor.old) }
+    requires full { paragraph_limit ≤ length (cursor_state cursor.old).unread }
+    requires stops { Stops (cursor_state cursor.old).unread Open run }
+    ensures found { HasExtent result (cursor_state cursor.new) }
+    ensures ahead { (text : List ℕ) → IsAhead text [] (cursor_state cursor.old) (R.left reader.old)
         → IsExtentAhead text
-        (feed_state feed.old) result (feed_state feed.new) (R.left reader.new) }
-    ensures ends { IfOk result (λ extent. line_ends (take run.bytes (feed_state feed.old).unread)
-        ≡ piece_ends (take extent.end (feed_state feed.new).unread)) }
-    ensures same { SameCounts (feed_state feed.old) (feed_state feed.new) }
-    ensures taken { Takes (had (feed_state feed.old)) (R.left reader.old)
+        (cursor_state cursor.old) result (cursor_state cursor.new) (R.left reader.new) }
+    ensures ends { IfOk result (λ extent. line_ends (take run.bytes
+        (cursor_state cursor.old).unread)
+        ≡ piece_ends (take extent.end (cursor_state cursor.new).unread)) }
+    ensures same { SameCounts (cursor_state cursor.old) (cursor_state cursor.new) }
+    ensures reads_at_most { Takes (had (cursor_state cursor.old)) (R.left reader.old)
         (file_limit + piece_limit) (R.left reader.new) }
     ensures fault { IfErr result (λ fault. IsReadersFault fault IsRefusalOfLength) }
-    ensures counted { R.failures reader.new ≡ read_failures_after (R.failures reader.old) result }
+    ensures fault_iff_device_failed { R.failures reader.new
+        ≡ read_failures_after (R.failures reader.old) result }
 {
-    let dropped = drop_line(feed, run, reader)?;
+    let dropped = drop_line(cursor, run, reader)?;
     if !dropped.line.is_blank() {
-        return Err(refused(feed, Code::ParagraphTooLong, run));
+        return Err(refused(cursor, Code::ParagraphTooLong, run));
     }
-    let ended = Run {
+    let ended = LineRun {
         bytes: run.bytes,
         lines: run.lines,
-        begun: dropped.line,
+        partial: dropped.line,
     };
-    let newline = (feed.unread().len() - dropped.end).min(1);
+    let newline = (cursor.unread().len() - dropped.end).min(1);
     Ok(ended_behind(ended, dropped.end, newline))
 }
 
 /// As `paragraph_extent`, where the file ends with the line behind the run, whose newline is
 /// missing.
-fn ended_by_file(feed: &Feed, run: Run, ends: &mut Vec<u32>) -> Result<Extent, Fault>
-    requires ended { IsTrue (feed_state feed.now).ended }
-    requires room { length (feed_state feed.now).unread ≤ room_ahead (feed_state feed.now) }
-    requires stops { Stops (feed_state feed.now).unread Open run }
-    requires ends { ends.old.items ≡ line_ends (take run.bytes (feed_state feed.now).unread) }
-    ensures found { HasExtent result (feed_state feed.now) }
+fn ended_by_file(cursor: &FileCursor, run: LineRun, ends: &mut Vec<u32>) -> Result<Extent, Fault>
+    requires ended { IsTrue (cursor_state cursor.now).ended }
+    requires room { length (cursor_state cursor.now).unread ≤ room_ahead (cursor_state cursor.now) }
+    requires stops { Stops (cursor_state cursor.now).unread Open run }
+    requires ends { ends.old.items ≡ line_ends (take run.bytes (cursor_state cursor.now).unread) }
+    ensures found { HasExtent result (cursor_state cursor.now) }
     ensures ahead { (text : List ℕ) → (left : Option (List ℕ))
-        → IsAhead text [] (feed_state feed.now) left
-        → IsExtentAhead text (feed_state feed.now) result (feed_state feed.now) left }
+        → IsAhead text [] (cursor_state cursor.now) left
+        → IsExtentAhead text (cursor_state cursor.now) result (cursor_state cursor.now) left }
     ensures ends { IfOk result (λ extent.
-        ends.new.items ≡ piece_ends (take extent.end (feed_state feed.now).unread)) }
+        ends.new.items ≡ piece_ends (take extent.end (cursor_state cursor.now).unread)) }
     ensures fault { IfErr result (λ fault. IsReadersFault fault IsRefusalOfLength) }
-    ensures counted { (failures : ℕ) → failures ≡ read_failures_after failures result }
+    ensures fault_iff_device_failed { (failures : ℕ)
+        → failures ≡ read_failures_after failures result }
 {
-    let all = run.bytes + run.begun.len;
-    if run.begun.is_blank() {
+    let all = run.bytes + run.partial.len;
+    if run.partial.is_blank() {
         return Ok(ended_behind(run, all, 0));
     }
     if all >= PARAGRAPH_LIMIT {
-        return Err(refused(feed, Code::ParagraphTooLong, run));
+        return Err(refused(cursor, Code::ParagraphTooLong, run));
     }
     ends.push(all as u32)?;
     Ok(Extent {
@@ -165,20 +173,20 @@ fn ended_by_file(feed: &Feed, run: Run, ends: &mut Vec<u32>) -> Result<Extent, F
 
 /// A run that is ended by the blank line behind it, or by the file's end. The line ends at `at` of
 /// the unread bytes, and has a newline of so many bytes: 1, or 0 if the file ends with it.
-fn ended_behind(run: Run, at: usize, newline: usize) -> Extent
+fn ended_behind(run: LineRun, at: usize, newline: usize) -> Extent
     requires some { 0 < run.bytes }
     requires one { newline ≤ 1 }
-    requires bytes { run.bytes + run.begun.len + 1 < 2 ^ 64 }
+    requires bytes { run.bytes + run.partial.len + 1 < 2 ^ 64 }
     requires lines { run.lines + 1 < 2 ^ 64 }
     requires at { at + 1 < 2 ^ 64 }
     ensures { result ≡ record {
       end = run.bytes - 1;
       skip = at + newline;
-      bytes = run.bytes + (run.begun.len + newline);
-      lines = run.lines + min (run.begun.len + newline) 1;
+      bytes = run.bytes + (run.partial.len + newline);
+      lines = run.lines + min (run.partial.len + newline) 1;
     } }
 {
-    let line = run.begun.len + newline;
+    let line = run.partial.len + newline;
     Extent {
         end: run.bytes - 1,
         skip: at + newline,

@@ -10,10 +10,10 @@ ghost use Rattle.deb_base.specs.Bodies.{newline, pieces_of};
 ghost use Rattle.deb_syntax.specs.Fields.{Field, has_name};
 ghost use Rattle.deb_syntax.specs.LineEnds.{piece_ends};
 ghost use Rattle.deb_syntax.specs.Judging.{begins_comment, is_named, field_line, judged, line_judged};
-ghost use Rattle.deb_syntax.specs.Places.{begun_fields, fields_at, lies_within, LastGoesOn, StandsAt, IsFaultOf};
+ghost use Rattle.deb_syntax.specs.FieldSpans.{begun_fields, fields_at, lies_within, LastGoesOn, StandsAt, IsFaultOf};
 
 use crate::field_name::{is_name, name_bytes};
-use crate::place::Place;
+use crate::field_span::FieldSpan;
 use crate::seen_names::{Names, add};
 use deb_base::{Code, Fault, FieldId, NameAtFront, Refusal, begins_with_blank};
 use memchr::memchr;
@@ -38,31 +38,31 @@ struct Line {
 /// Policy 5.1; deb822(5), "Syntax").
 ///
 /// `text` is the paragraph's lines with a newline between two of them, `ends` is where each of them
-/// ends in it, and `first_line` is the number of the first. After Ok `places` holds the places of
+/// ends in it, and `first_line` is the number of the first. After Ok `spans` holds the spans of
 /// the fields in the text, and no others; after an error what it holds isn't told.
 ///
 /// Refused: a line isn't UTF-8 (`NotUtf8`), begins an armoured message (`Armour`) or a comment
 /// (`Comment`), is a continuation line without a field above it (`StrayContinuation`), has no colon
 /// (`NoColon`), or no name before its colon (`BadFieldName`) or one that stood before
-/// (`DuplicateField`). Memory: a growth of `places`, or of the set of names, was refused.
+/// (`DuplicateField`). Memory: a growth of `spans`, or of the set of names, was refused.
 #[tactic(auto, using(crate::proofs::Judgements::judging))]
 pub(crate) fn judge(
     alloc: Global,
     text: &[u8],
     ends: &[u32],
     first_line: u64,
-    places: &mut Vec<Place>,
+    spans: &mut Vec<FieldSpan>,
 ) -> Result<(), Fault>
     requires ends { ends.now ≡ piece_ends text.now }
     requires small { length text.now < 2 ^ 32 }
     requires lines { first_line + length ends.now ≤ 2 ^ 32 }
     ensures ok { OnOk result
-        (judged first_line (pieces_of text.now) ≡ Ok (fields_at text.now places.new.items)) }
+        (judged first_line (pieces_of text.now) ≡ Ok (fields_at text.now spans.new.items)) }
     ensures within { OnOk result (IsTrue (list_all (lies_within text.now)
-        places.new.items)) }
+        spans.new.items)) }
     ensures fault { IfErr result (IsFaultOf (judged first_line (pieces_of text.now))) }
 {
-    places.clear();
+    spans.clear();
     let checked = utf8_front(text);
     let mut names = Names::new(alloc);
     let mut number = first_line;
@@ -73,7 +73,7 @@ pub(crate) fn judge(
         if !is_line_utf8(text, line, checked) {
             return Err(refused(Code::NotUtf8, line));
         }
-        judge_line(text, line, places, &mut names)?;
+        judge_line(text, line, spans, &mut names)?;
         start = end + 1;
         number += 1;
     }
@@ -98,32 +98,32 @@ fn is_line_utf8(text: &[u8], line: Line, checked: usize) -> bool
 }
 
 /// Judges one line, which is UTF-8, after the lines before it.
-#[tactic(auto, using(crate::proofs::Judgements::judging, crate::proofs::PlaceLemmas::going_on))]
+#[tactic(auto, using(crate::proofs::Judgements::judging, crate::proofs::FieldSpanLemmas::going_on))]
 fn judge_line<'a>(
     text: &'a [u8],
     line: Line,
-    places: &mut Vec<Place>,
+    spans: &mut Vec<FieldSpan>,
     names: &mut Names<'a>,
 ) -> Result<(), Fault>
     requires after { line.start ≤ line.end }
     requires within { line.end ≤ length text.now }
     requires newline { 0 < line.start → slice_index text.now (line.start - 1) ≡ newline }
-    requires stands { StandsAt text.now line.start places.old.items names.old }
+    requires stands { StandsAt text.now line.start spans.old.items names.old }
     requires utf8 { IsUtf8 (slice_range text.now line.start line.end) }
     requires small { length text.now < 2 ^ 32 }
     requires number { line.number < 2 ^ 32 }
     ensures ok { let content = slice_range text.now line.start line.end in
-        OnOk result (line_judged line.number (begun_fields text.now places.old.items) content
-        ≡ Ok (begun_fields text.now places.new.items)) }
-    ensures stands { OnOk result (StandsAt text.now (line.end + 1) places.new.items names.new) }
+        OnOk result (line_judged line.number (begun_fields text.now spans.old.items) content
+        ≡ Ok (begun_fields text.now spans.new.items)) }
+    ensures stands { OnOk result (StandsAt text.now (line.end + 1) spans.new.items names.new) }
     ensures fault { let content = slice_range text.now line.start line.end in
         IfErr result (IsFaultOf
-        (line_judged line.number (begun_fields text.now places.old.items) content)) }
+        (line_judged line.number (begun_fields text.now spans.old.items) content)) }
 {
     if begins_with_blank(&text[line.start..line.end]) {
-        continue_field(line, places)
+        continue_field(line, spans)
     } else {
-        begin_field(text, line, places, names)
+        begin_field(text, line, spans, names)
     }
 }
 
@@ -138,18 +138,18 @@ fn refused(code: Code, line: Line) -> Fault
 }
 
 /// Gives a continuation line to the last field.
-#[tactic(auto, using(crate::proofs::PlaceLemmas::going_on))]
-fn continue_field(line: Line, places: &mut Vec<Place>) -> Result<(), Fault>
+#[tactic(auto, using(crate::proofs::FieldSpanLemmas::going_on))]
+fn continue_field(line: Line, spans: &mut Vec<FieldSpan>) -> Result<(), Fault>
     requires { line.end < 2 ^ 32 }
-    ensures ok { OnOk result (LastGoesOn line.end places.old.items places.new.items) }
-    ensures stray { IfErr result (λ fault. (places.old.items ≡ [])
+    ensures ok { OnOk result (LastGoesOn line.end spans.old.items spans.new.items) }
+    ensures stray { IfErr result (λ fault. (spans.old.items ≡ [])
         × (fault ≡ Fault.Refused (record { code = Code.StrayContinuation; line = line.number }))) }
 {
-    let count = places.len();
+    let count = spans.len();
     if count == 0 {
         return Err(refused(Code::StrayContinuation, line));
     }
-    places[count - 1].end = line.end as u32;
+    spans[count - 1].end = line.end as u32;
     Ok(())
 }
 
@@ -158,36 +158,36 @@ fn continue_field(line: Line, places: &mut Vec<Place>) -> Result<(), Fault>
 fn begin_field<'a>(
     text: &'a [u8],
     line: Line,
-    places: &mut Vec<Place>,
+    spans: &mut Vec<FieldSpan>,
     names: &mut Names<'a>,
 ) -> Result<(), Fault>
     requires after { line.start ≤ line.end }
     requires within { line.end ≤ length text.now }
-    requires stands { StandsAt text.now line.start places.old.items names.old }
+    requires stands { StandsAt text.now line.start spans.old.items names.old }
     requires small { length text.now < 2 ^ 32 }
     requires number { line.number < 2 ^ 32 }
     ensures ok { let content = slice_range text.now line.start line.end in
-        OnOk result (field_line line.number (begun_fields text.now places.old.items) content
-        ≡ Ok (begun_fields text.now places.new.items)) }
-    ensures stands { OnOk result (StandsAt text.now (line.end + 1) places.new.items names.new) }
+        OnOk result (field_line line.number (begun_fields text.now spans.old.items) content
+        ≡ Ok (begun_fields text.now spans.new.items)) }
+    ensures stands { OnOk result (StandsAt text.now (line.end + 1) spans.new.items names.new) }
     ensures fault { let content = slice_range text.now line.start line.end in
         IfErr result (IsFaultOf
-        (field_line line.number (begun_fields text.now places.old.items) content)) }
+        (field_line line.number (begun_fields text.now spans.old.items) content)) }
 {
     let content = &text[line.start..line.end];
     let front = name_of(content, line)?;
     let name = &content[..front.len];
-    if !add(names, text, places.as_slice(), name, front.id)? {
+    if !add(names, text, spans.as_slice(), name, front.id)? {
         return Err(refused(Code::DuplicateField, line));
     }
-    let place = Place {
+    let span = FieldSpan {
         line: line.number as u32,
         start: line.start as u32,
         colon: (line.start + front.len) as u32,
         end: line.end as u32,
         id: front.id,
     };
-    places.push(place)?;
+    spans.push(span)?;
     Ok(())
 }
 

@@ -14,23 +14,23 @@
 //! - An error repeats at each later call, and a failed read is never taken for the end.
 #![tactic(auto)]
 
-mod begun;
 mod dropped;
 mod ending;
-mod feed;
 mod field_name;
+mod field_span;
+mod file_cursor;
 mod first;
 mod folded_name;
 mod judge;
 pub mod laws;
 mod line_run;
 mod paragraphs;
-mod place;
+mod partial_line;
 mod raw;
+mod read_buffer;
 mod seen_names;
 mod skip;
-mod window;
 
-pub use feed::FILE_LIMIT;
+pub use file_cursor::FILE_LIMIT;
 pub use paragraphs::Paragraphs;
 pub use raw::{Fields, Raw, RawField};

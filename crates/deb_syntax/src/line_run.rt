@@ -4,78 +4,78 @@ ghost use Rattle.std.specs.Prelude.{◌≡◌, ◌+◌, ◌≤◌, take, IfOk, I
 ghost use Rattle.deb_syntax.specs.LineEnds.{line_ends};
 ghost use Rattle.deb_syntax.specs.Walking.{CanGoOn, Stops};
 
-use crate::begun::{Begun, along};
+use crate::partial_line::{PartialLine, scan_line};
 use deb_base::{Fault, PARAGRAPH_LIMIT};
 
 /// Lines at the front of a text, of which none is blank, and the line behind them.
 #[derive(Clone, Copy, Debug)]
-pub(crate) struct Run {
+pub(crate) struct LineRun {
     /// How many bytes the whole lines have, with their newlines.
     pub(crate) bytes: usize,
     /// How many they are.
     pub(crate) lines: u64,
     /// What was seen of the line behind them.
-    pub(crate) begun: Begun,
+    pub(crate) partial: PartialLine,
 }
 
 /// Why no further line is taken.
 #[derive(Clone, Copy, Debug)]
-pub(crate) enum Stop {
+pub(crate) enum RunEnd {
     /// The newline of the line behind them hasn't come.
     Open,
     /// The line behind them is blank.
     Blank,
     /// With the line behind them, which isn't blank, they are too long.
-    TooLong,
+    OverLimit,
 }
 
 /// A run of lines, and why it has no line more.
 #[derive(Clone, Copy, Debug)]
-pub(crate) struct Taken {
-    pub(crate) run: Run,
-    pub(crate) stop: Stop,
+pub(crate) struct RunScan {
+    pub(crate) run: LineRun,
+    pub(crate) stop: RunEnd,
 }
 
 /// Takes lines from where a run has come so far, up to a blank one, or to one with which they are
-/// too long for a paragraph, or until no newline follows. `ends` has the places of their newlines.
+/// too long for a paragraph, or until no newline follows. `ends` has the offsets of their newlines.
 ///
 /// Memory: a growth of `ends` was refused.
-pub(crate) fn take_lines(text: &[u8], run: Run, ends: &mut Vec<u32>) -> Result<Taken, Fault>
+pub(crate) fn scan_lines(text: &[u8], run: LineRun, ends: &mut Vec<u32>) -> Result<RunScan, Fault>
     requires run { CanGoOn text.now run }
     requires ends { ends.old.items ≡ line_ends (take run.bytes text.now) }
-    ensures stops { IfOk result (λ taken. Stops text.now taken.stop taken.run) }
-    ensures further { IfOk result (λ taken. run.bytes + run.begun.len
-        ≤ taken.run.bytes + taken.run.begun.len) }
-    ensures ends { IfOk result (λ taken.
-        ends.new.items ≡ line_ends (take taken.run.bytes text.now)) }
+    ensures stops { IfOk result (λ scan. Stops text.now scan.stop scan.run) }
+    ensures further { IfOk result (λ scan. run.bytes + run.partial.len
+        ≤ scan.run.bytes + scan.run.partial.len) }
+    ensures ends { IfOk result (λ scan.
+        ends.new.items ≡ line_ends (take scan.run.bytes text.now)) }
     ensures fault { IfErr result (λ fault. fault ≡ Fault.Memory) }
 {
     let mut bytes = run.bytes;
     let mut lines = run.lines;
-    let mut begun = run.begun;
+    let mut partial = run.partial;
     loop {
-        let next = along(&text[bytes + begun.len..], begun);
-        let run = Run {
+        let next = scan_line(&text[bytes + partial.len..], partial);
+        let run = LineRun {
             bytes,
             lines,
-            begun: next.begun,
+            partial: next.partial,
         };
         if !next.ended {
-            let stop = Stop::Open;
-            return Ok(Taken { run, stop });
+            let stop = RunEnd::Open;
+            return Ok(RunScan { run, stop });
         }
-        if next.begun.is_blank() {
-            let stop = Stop::Blank;
-            return Ok(Taken { run, stop });
+        if next.partial.is_blank() {
+            let stop = RunEnd::Blank;
+            return Ok(RunScan { run, stop });
         }
-        let end = bytes + next.begun.len;
+        let end = bytes + next.partial.len;
         if end >= PARAGRAPH_LIMIT {
-            let stop = Stop::TooLong;
-            return Ok(Taken { run, stop });
+            let stop = RunEnd::OverLimit;
+            return Ok(RunScan { run, stop });
         }
         ends.push(end as u32)?;
-        bytes += next.begun.len + 1;
+        bytes += next.partial.len + 1;
         lines += 1;
-        begun = Begun::nothing();
+        partial = PartialLine::nothing();
     }
 }

@@ -3,27 +3,27 @@
 ghost use Rattle.std.specs.Prelude.{◌≡◌, ◌+◌, ◌≤◌, ◌⊎◌, ℕ, List, [], Some, None, true, false, length, option_map, IsTrue, IfErr, IfOk, OnOk};
 ghost use Rattle.deb_base.specs.Reading.{piece_limit};
 ghost use Rattle.deb_syntax.specs.Ahead.{IsAhead, IsNear, KeepsLine};
-ghost use Rattle.deb_syntax.specs.Feeding.{feed_state, buffer_of, had, Takes};
+ghost use Rattle.deb_syntax.specs.Cursors.{cursor_state, buffer_of, had, Takes};
 ghost use Rattle.deb_syntax.specs.Judged.{lines_standing, IsRefusalOfLength, JudgesAhead, JudgesLines};
 ghost use Rattle.deb_syntax.specs.Lines.{file_limit};
-ghost use Rattle.deb_syntax.specs.Standing.{HidesLong, stands_within, standing_answer, IsPassed};
+ghost use Rattle.deb_syntax.specs.CurrentParagraphs.{HidesLong, stands_within, current_answer, IsPassed};
 ghost use Rattle.deb_base.specs.Devices.{read_failures_after};
 ghost use Rattle.deb_base.specs.Faults.{IsReadersFault};
 ghost use Rattle.deb_syntax.specs.Reading.{IsRefusalOfText};
 
-use crate::begun::Begun;
 use crate::ending::paragraph_extent;
-use crate::feed::{FILE_LIMIT, Feed};
-use crate::first::{First, first_line};
+use crate::field_span::FieldSpan;
+use crate::file_cursor::{FILE_LIMIT, FileCursor};
+use crate::first::{FirstLine, first_line};
 use crate::judge::judge;
-use crate::place::Place;
+use crate::partial_line::PartialLine;
 use crate::raw::Raw;
 use deb_base::{Code, Fault, Refusal, Source};
 use std::alloc::Global;
 
 /// Where a paragraph's bytes begin and end in the buffer, and the number of its first line.
 #[derive(Clone, Copy)]
-pub(crate) struct Standing {
+pub(crate) struct CurrentParagraph {
     pub(crate) from: usize,
     pub(crate) to: usize,
     pub(crate) first_line: u64,
@@ -37,28 +37,28 @@ pub(crate) struct Standing {
 /// the rest of one piece are held. After a read that returns no byte the reader isn't read again.
 #[derive(Drop)]
 pub struct Paragraphs {
-    feed: Feed,
+    cursor: FileCursor,
     /// How many bytes of the first unread line aren't kept, since it is longer than a paragraph may
     /// be.
-    hidden: u64,
+    overlong_len: u64,
     /// Whether it was answered that no paragraph follows.
     finished: bool,
     /// Returns the paragraph that the last `advance` or `next` found, or `None` if it found none or
     /// failed, or if `begins` was called since.
-    current: Option<Standing>,
+    current: Option<CurrentParagraph>,
     /// Where the lines are of the paragraph that the last `advance` or `next` judged, or `None` if
     /// it judged none, or if `begins` was called since.
-    judged: Option<Standing>,
-    places: Vec<Place>,
+    judged: Option<CurrentParagraph>,
+    spans: Vec<FieldSpan>,
     /// Where each line of the paragraph ends, while it is judged.
     ends: Vec<u32>,
     fault: Option<Fault>,
-    ghost near: { IsNear (feed_state feed).unread },
-    ghost reach: { (feed_state feed).bytes + hidden + length (feed_state feed).unread
+    ghost near: { IsNear (cursor_state cursor).unread },
+    ghost reach: { (cursor_state cursor).bytes + overlong_len + length (cursor_state cursor).unread
         ≤ 4295032831 },
-    ghost hides: { HidesLong hidden (feed_state feed) },
-    ghost stands: { IsTrue (stands_within (buffer_of feed) places.items current) },
-    ghost judges: { IsTrue (stands_within (buffer_of feed) [] judged) },
+    ghost hides: { HidesLong overlong_len (cursor_state cursor) },
+    ghost stands: { IsTrue (stands_within (buffer_of cursor) spans.items current) },
+    ghost judges: { IsTrue (stands_within (buffer_of cursor) [] judged) },
 }
 
 impl Paragraphs {
@@ -82,7 +82,7 @@ impl Paragraphs {
               held = 0;
               bytes = 0;
               lines = 0;
-              hidden = 0;
+              overlong_len = 0;
               ended = false;
               finished = false;
               current = None;
@@ -91,12 +91,12 @@ impl Paragraphs {
         ensures fits { (text : List ℕ) → Fits text [] (state_of result) (Some text) }
     {
         Paragraphs {
-            feed: Feed::new(alloc),
-            hidden: 0,
+            cursor: FileCursor::new(alloc),
+            overlong_len: 0,
             finished: false,
             current: None,
             judged: None,
-            places: Vec::new(alloc),
+            spans: Vec::new(alloc),
             ends: Vec::new(alloc),
             fault: None,
         }
@@ -108,7 +108,7 @@ impl Paragraphs {
         ensures value { result ≡ (state_of self.now).held }
         ensures bounded { result ≤ 16842752 }
     {
-        self.feed.held()
+        self.cursor.held()
     }
 
     /// Returns the number of lines of the file, once a call has returned that no paragraph follows,
@@ -120,7 +120,11 @@ impl Paragraphs {
         ensures unfinished { (state_of self.now).finished ≡ false → result ≡ 0 }
         ensures bounded { result ≤ FILE_LIMIT }
     {
-        if self.finished { self.feed.lines() } else { 0 }
+        if self.finished {
+            self.cursor.lines()
+        } else {
+            0
+        }
     }
 
     /// Returns the paragraph that the last `advance` or `next` found, or `None` if it found none or
@@ -130,8 +134,8 @@ impl Paragraphs {
     {
         let at = self.current?;
         Some(Raw::new(
-            self.feed.slice(at.from, at.to),
-            self.places.as_slice(),
+            self.cursor.slice(at.from, at.to),
+            self.spans.as_slice(),
             at.first_line,
         ))
     }
@@ -146,7 +150,7 @@ impl Paragraphs {
         if number < at.first_line {
             return None;
         }
-        self.feed
+        self.cursor
             .slice(at.from, at.to)
             .split(|byte| *byte == b'\n')
             .nth((number - at.first_line) as usize)
@@ -225,7 +229,8 @@ impl Paragraphs {
             (moment_of (state_of self.new) (R.left reader.new) (R.failures reader.new)) }
         ensures found { IfOk result (λ found. IsTrue found ↔ IsSome (state_of self.new).current) }
         ensures judged { IfNone (state_of self.old).fault ((text passed : List ℕ)
-            → Fits text passed (state_of self.old) (R.left reader.old) → ShowsJudged text (passed_count passed)
+            → Fits text passed (state_of self.old) (R.left reader.old)
+            → ShowsJudged text (passed_count passed)
             (advance_answer (state_of self.new) result) (judged_last self.new)) }
         ensures repeats { IsSome (state_of self.old).fault → self.new ≡ self.old }
         ensures source_untouched { IsQuiet (state_of self.old) → reader.new ≡ reader.old }
@@ -252,9 +257,9 @@ impl Paragraphs {
         ensures kept { self.new.fault ≡ self.old.fault }
     {
         match self.find_first(reader) {
-            Ok(First::End) => Ok(None),
-            Ok(First::Kept(_)) => Ok(Some(self.feed.lines() + 1)),
-            Ok(First::Dropped(_)) => Ok(Some(self.feed.lines() + 1)),
+            Ok(FirstLine::NoMore) => Ok(None),
+            Ok(FirstLine::Buffered(_)) => Ok(Some(self.cursor.lines() + 1)),
+            Ok(FirstLine::TooLong(_)) => Ok(Some(self.cursor.lines() + 1)),
             Err(fault) => Err(fault),
         }
     }
@@ -266,7 +271,8 @@ impl Paragraphs {
             (moment_of (state_of self.new) (R.left reader.new) (R.failures reader.new)) }
         ensures found { IfOk result (λ found. IsTrue found ↔ IsSome (state_of self.new).current) }
         ensures judged { (text passed : List ℕ)
-            → Fits text passed (state_of self.old) (R.left reader.old) → ShowsJudged text (passed_count passed)
+            → Fits text passed (state_of self.old) (R.left reader.old)
+            → ShowsJudged text (passed_count passed)
             (advance_answer (state_of self.new) result) (judged_last self.new) }
         ensures source_untouched { IsTrue (state_of self.old).ended ⊎ IsTrue
             (state_of self.old).finished
@@ -274,12 +280,12 @@ impl Paragraphs {
         ensures kept { self.new.fault ≡ self.old.fault }
     {
         match self.find_first(reader) {
-            Ok(First::End) => Ok(false),
-            Ok(First::Dropped(_)) => Err(Fault::Refused(Refusal {
+            Ok(FirstLine::NoMore) => Ok(false),
+            Ok(FirstLine::TooLong(_)) => Err(Fault::Refused(Refusal {
                 code: Code::ParagraphTooLong,
-                line: self.feed.lines() + 1,
+                line: self.cursor.lines() + 1,
             })),
-            Ok(First::Kept(begun)) => match self.find_end(begun, reader) {
+            Ok(FirstLine::Buffered(partial)) => match self.find_end(partial, reader) {
                 Ok(()) => Ok(true),
                 Err(fault) => Err(fault),
             },
@@ -288,97 +294,98 @@ impl Paragraphs {
     }
 
     /// Passes blank lines up to the first other line. From then on there is no current paragraph.
-    fn find_first<R: Source>(&mut self, reader: &mut R) -> Result<First, Fault>
+    fn find_first<R: Source>(&mut self, reader: &mut R) -> Result<FirstLine, Fault>
         ensures first { (text passed : List ℕ)
             → Fits text passed (state_of self.old) (R.left reader.old)
             → FindsFirst text passed result (state_of self.new) (R.left reader.new) }
-        ensures shows { ShowsFirst result self.new.hidden self.new.finished
-            (feed_state self.new.feed) }
+        ensures shows { ShowsFirst result self.new.overlong_len self.new.finished
+            (cursor_state self.new.cursor) }
         ensures none { (state_of self.new).current ≡ None }
         ensures judged { self.new.judged ≡ None }
-        ensures ended { IsTrue (state_of self.old).finished → result ≡ Ok First.End }
-        ensures taken { Takes (had (feed_state self.old.feed) + self.old.hidden)
+        ensures ended { IsTrue (state_of self.old).finished → result ≡ Ok FirstLine.NoMore }
+        ensures reads_at_most { Takes (had (cursor_state self.old.cursor) + self.old.overlong_len)
             (R.left reader.old) (file_limit + piece_limit) (R.left reader.new) }
         ensures fault { IfErr result (λ fault. IsReadersFault fault IsRefusalOfLength) }
-        ensures counted { R.failures reader.new
+        ensures fault_iff_device_failed { R.failures reader.new
             ≡ read_failures_after (R.failures reader.old) result }
         ensures source_untouched { IsTrue (state_of self.old).ended ⊎ IsTrue
             (state_of self.old).finished
             → reader.new ≡ reader.old }
-        ensures stays { IsTrue (state_of self.old).ended → IsTrue (state_of self.new).ended }
+        ensures end_stays { IsTrue (state_of self.old).ended → IsTrue (state_of self.new).ended }
         ensures kept { self.new.fault ≡ self.old.fault }
     {
         self.current = None;
         self.judged = None;
         if self.finished {
-            return Ok(First::End);
+            return Ok(FirstLine::NoMore);
         }
-        if self.hidden > 0 {
-            return Ok(First::Dropped(Begun {
-                len: self.hidden as usize,
+        if self.overlong_len > 0 {
+            return Ok(FirstLine::TooLong(PartialLine {
+                len: self.overlong_len as usize,
                 blank: false,
             }));
         }
-        match first_line(&mut self.feed, reader) {
-            Ok(First::End) => {
+        match first_line(&mut self.cursor, reader) {
+            Ok(FirstLine::NoMore) => {
                 self.finished = true;
-                Ok(First::End)
+                Ok(FirstLine::NoMore)
             }
-            Ok(First::Kept(begun)) => Ok(First::Kept(begun)),
-            Ok(First::Dropped(begun)) => {
-                self.hidden = begun.len as u64;
-                Ok(First::Dropped(begun))
+            Ok(FirstLine::Buffered(partial)) => Ok(FirstLine::Buffered(partial)),
+            Ok(FirstLine::TooLong(partial)) => {
+                self.overlong_len = partial.len as u64;
+                Ok(FirstLine::TooLong(partial))
             }
             Err(fault) => {
                 // Nothing that is unread is asked for again.
-                self.feed.keep(0);
+                self.cursor.truncate(0);
                 Err(fault)
             }
         }
     }
 
     /// Finds the end of the paragraph that begins the unread bytes, judges it and passes it.
-    fn find_end<R: Source>(&mut self, begun: Begun, reader: &mut R) -> Result<(), Fault>
-        requires unhidden { self.old.hidden ≡ 0 }
+    fn find_end<R: Source>(&mut self, partial: PartialLine, reader: &mut R) -> Result<(), Fault>
+        requires no_overlong { self.old.overlong_len ≡ 0 }
         requires unfinished { self.old.finished ≡ false }
         requires none { self.old.current ≡ None }
         requires unjudged { self.old.judged ≡ None }
-        requires line { KeepsLine begun (feed_state self.old.feed) }
+        requires line { KeepsLine partial (cursor_state self.old.cursor) }
         ensures answers { (text passed : List ℕ)
             → Fits text passed (state_of self.old) (R.left reader.old)
             → Answers text passed (end_answer (state_of self.new) result) (state_of self.new)
             (R.left reader.new) }
         ensures judged { (text passed : List ℕ)
-            → Fits text passed (state_of self.old) (R.left reader.old) → ShowsJudged text (passed_count passed)
+            → Fits text passed (state_of self.old) (R.left reader.old)
+            → ShowsJudged text (passed_count passed)
             (end_answer (state_of self.new) result) (judged_last self.new) }
         ensures found { OnOk result (IsSome (state_of self.new).current) }
         ensures unfinished { self.new.finished ≡ false }
-        ensures unhidden { self.new.hidden ≡ 0 }
+        ensures no_overlong { self.new.overlong_len ≡ 0 }
         ensures none { IfErr result (λ _. (state_of self.new).current ≡ None) }
-        ensures taken { Takes (had (feed_state self.old.feed) + self.old.hidden)
+        ensures reads_at_most { Takes (had (cursor_state self.old.cursor) + self.old.overlong_len)
             (R.left reader.old) (file_limit + piece_limit) (R.left reader.new) }
         ensures fault { IfErr result (λ fault. IsReadersFault fault IsRefusalOfText) }
-        ensures counted { R.failures reader.new
+        ensures fault_iff_device_failed { R.failures reader.new
             ≡ read_failures_after (R.failures reader.old) result }
         ensures source_untouched { IsTrue (state_of self.old).ended → reader.new ≡ reader.old }
         ensures kept { self.new.fault ≡ self.old.fault }
     {
-        let (places, ends) = (&mut self.places, &mut self.ends);
+        let (spans, ends) = (&mut self.spans, &mut self.ends);
         match pass_paragraph(
-            &mut self.feed,
-            begun,
+            &mut self.cursor,
+            partial,
             reader,
-            places,
+            spans,
             ends,
             &mut self.judged,
         ) {
-            Ok(standing) => {
-                self.current = Some(standing);
+            Ok(paragraph) => {
+                self.current = Some(paragraph);
                 Ok(())
             }
             Err(fault) => {
                 // Nothing that is unread is asked for again.
-                self.feed.keep(0);
+                self.cursor.truncate(0);
                 Err(fault)
             }
         }
@@ -388,49 +395,51 @@ impl Paragraphs {
 /// Finds the end of the paragraph that begins the unread bytes, judges it and passes it. Where its
 /// end was found, `judged` is where its lines are, also if one of them is refused.
 fn pass_paragraph<R: Source>(
-    feed: &mut Feed,
-    begun: Begun,
+    cursor: &mut FileCursor,
+    partial: PartialLine,
     reader: &mut R,
-    places: &mut Vec<Place>,
+    spans: &mut Vec<FieldSpan>,
     ends: &mut Vec<u32>,
-    judged: &mut Option<Standing>,
-) -> Result<Standing, Fault>
+    judged: &mut Option<CurrentParagraph>,
+) -> Result<CurrentParagraph, Fault>
     requires unjudged { judged.old ≡ None }
-    requires line { KeepsLine begun (feed_state feed.old) }
-    requires reach { (feed_state feed.old).bytes + length (feed_state feed.old).unread
+    requires line { KeepsLine partial (cursor_state cursor.old) }
+    requires reach { (cursor_state cursor.old).bytes + length (cursor_state cursor.old).unread
         ≤ file_limit + piece_limit }
-    ensures stands { IfOk result (λ at. IsTrue (stands_within (buffer_of feed.new) places.new.items
+    ensures stands { IfOk result (λ at. IsTrue (stands_within (buffer_of cursor.new) spans.new.items
         (Some at))) }
-    ensures judges { IsTrue (stands_within (buffer_of feed.new) [] judged.new) }
-    ensures lines { JudgesLines result (option_map (lines_standing (buffer_of feed.new))
+    ensures judges { IsTrue (stands_within (buffer_of cursor.new) [] judged.new) }
+    ensures lines { JudgesLines result (option_map (lines_standing (buffer_of cursor.new))
         judged.new) }
-    ensures judged { (text : List ℕ) → IsAhead text [] (feed_state feed.old) (R.left reader.old)
-        → JudgesAhead text (feed_state feed.old)
-        (option_map (lines_standing (buffer_of feed.new)) judged.new) }
-    ensures near { OnOk result (length (feed_state feed.new).unread ≤ piece_limit) }
-    ensures ahead { (text : List ℕ) → IsAhead text [] (feed_state feed.old) (R.left reader.old)
-        → IsPassed text (feed_state feed.old) (standing_answer (buffer_of feed.new) places.new.items
-        result) (feed_state feed.new) (R.left reader.new) }
-    ensures taken { Takes (had (feed_state feed.old)) (R.left reader.old)
+    ensures judged { (text : List ℕ) → IsAhead text [] (cursor_state cursor.old) (R.left reader.old)
+        → JudgesAhead text (cursor_state cursor.old)
+        (option_map (lines_standing (buffer_of cursor.new)) judged.new) }
+    ensures near { OnOk result (length (cursor_state cursor.new).unread ≤ piece_limit) }
+    ensures ahead { (text : List ℕ) → IsAhead text [] (cursor_state cursor.old) (R.left reader.old)
+        → IsPassed text (cursor_state cursor.old) (current_answer
+        (buffer_of cursor.new) spans.new.items
+        result) (cursor_state cursor.new) (R.left reader.new) }
+    ensures reads_at_most { Takes (had (cursor_state cursor.old)) (R.left reader.old)
         (file_limit + piece_limit) (R.left reader.new) }
     ensures fault { IfErr result (λ fault. IsReadersFault fault IsRefusalOfText) }
-    ensures counted { R.failures reader.new ≡ read_failures_after (R.failures reader.old) result }
-    ensures source_untouched { IsTrue (feed_state feed.old).ended → reader.new ≡ reader.old }
+    ensures fault_iff_device_failed { R.failures reader.new
+        ≡ read_failures_after (R.failures reader.old) result }
+    ensures source_untouched { IsTrue (cursor_state cursor.old).ended → reader.new ≡ reader.old }
 {
-    let extent = paragraph_extent(feed, begun, reader, ends)?;
-    let (from, first_line) = (feed.start(), feed.lines() + 1);
-    let standing = Standing {
+    let extent = paragraph_extent(cursor, partial, reader, ends)?;
+    let (from, first_line) = (cursor.start(), cursor.lines() + 1);
+    let current = CurrentParagraph {
         from,
         to: from + extent.end,
         first_line,
     };
-    *judged = Some(standing);
-    let paragraph = &feed.unread()[..extent.end];
-    let alloc = *places.allocator();
-    match judge(alloc, paragraph, ends.as_slice(), first_line, places) {
+    *judged = Some(current);
+    let paragraph = &cursor.unread()[..extent.end];
+    let alloc = *spans.allocator();
+    match judge(alloc, paragraph, ends.as_slice(), first_line, spans) {
         Ok(()) => {
-            feed.pass(extent.skip, extent.bytes, extent.lines);
-            Ok(standing)
+            cursor.consume(extent.skip, extent.bytes, extent.lines);
+            Ok(current)
         }
         Err(fault) => Err(fault),
     }

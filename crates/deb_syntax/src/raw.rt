@@ -7,9 +7,9 @@ ghost use Rattle.deb_base.specs.FieldNames.{is_name};
 ghost use Rattle.deb_base.specs.Kinds.{known_row};
 ghost use Rattle.deb_base.specs.KnownFields.{row_of};
 ghost use Rattle.deb_syntax.specs.Fields.{is_field, are_fields, are_numbered};
-ghost use Rattle.deb_syntax.specs.Places.{field_at, fields_at, lies_within};
+ghost use Rattle.deb_syntax.specs.FieldSpans.{field_at, fields_at, lies_within};
 
-use crate::place::Place;
+use crate::field_span::FieldSpan;
 use deb_base::{FieldId, same_name, trimmed};
 
 /// A field of a paragraph, as slices of the paragraph's bytes (Debian Policy 5.1).
@@ -30,19 +30,19 @@ pub struct RawField<'a> {
 impl<'a> RawField<'a> {
     ghost use Rattle.deb_syntax.specs.Raw.{field_of};
 
-    /// The field at a place of a paragraph's bytes.
-    fn at(text: &'a [u8], place: Place) -> RawField<'a>
-        requires within { IsTrue (lies_within text.now place) }
-        requires field { IsTrue (is_field (field_at text.now place)) }
-        ensures field { field_of result ≡ field_at text.now place }
+    /// The field in a span of a paragraph's bytes.
+    fn at(text: &'a [u8], span: FieldSpan) -> RawField<'a>
+        requires within { IsTrue (lies_within text.now span) }
+        requires field { IsTrue (is_field (field_at text.now span)) }
+        ensures field { field_of result ≡ field_at text.now span }
         ensures name { IsTrue (is_name result.name.now) }
         ensures body { IsBody result.body.now }
     {
         RawField {
-            name: &text[place.start as usize..place.colon as usize],
-            line: u64::from(place.line),
-            body: trimmed(&text[place.colon as usize + 1..place.end as usize]),
-            id: place.id,
+            name: &text[span.start as usize..span.colon as usize],
+            line: u64::from(span.line),
+            body: trimmed(&text[span.colon as usize + 1..span.end as usize]),
+            id: span.id,
         }
     }
 }
@@ -54,28 +54,28 @@ impl<'a> RawField<'a> {
 #[derive(Clone, Copy)]
 pub struct Raw<'a> {
     text: &'a [u8],
-    places: &'a [Place],
+    spans: &'a [FieldSpan],
     first_line: u64,
-    ghost within: { IsTrue (list_all (lies_within text.now) places.now) },
-    ghost fields: { IsTrue (are_fields (fields_at text.now places.now)) },
-    ghost numbered: { IsTrue (are_numbered first_line (fields_at text.now places.now)) },
+    ghost within: { IsTrue (list_all (lies_within text.now) spans.now) },
+    ghost fields: { IsTrue (are_fields (fields_at text.now spans.now)) },
+    ghost numbered: { IsTrue (are_numbered first_line (fields_at text.now spans.now)) },
 }
 
 impl<'a> Raw<'a> {
     ghost use Rattle.deb_syntax.specs.Raw.{field_of, fields_of, fields_left};
     ghost use Rattle.deb_syntax.specs.Raw.{first_line_of, field_named, has_field_in};
 
-    /// The paragraph of these bytes, whose fields stand at the places.
-    pub(crate) fn new(text: &'a [u8], places: &'a [Place], first_line: u64) -> Raw<'a>
-        requires within { IsTrue (list_all (lies_within text.now) places.now) }
-        requires fields { IsTrue (are_fields (fields_at text.now places.now)) }
-        requires numbered { IsTrue (are_numbered first_line (fields_at text.now places.now)) }
-        ensures fields { fields_of result ≡ fields_at text.now places.now }
+    /// The paragraph of these bytes, whose fields stand in the spans.
+    pub(crate) fn new(text: &'a [u8], spans: &'a [FieldSpan], first_line: u64) -> Raw<'a>
+        requires within { IsTrue (list_all (lies_within text.now) spans.now) }
+        requires fields { IsTrue (are_fields (fields_at text.now spans.now)) }
+        requires numbered { IsTrue (are_numbered first_line (fields_at text.now spans.now)) }
+        ensures fields { fields_of result ≡ fields_at text.now spans.now }
         ensures first_line { first_line_of result ≡ first_line }
     {
         Raw {
             text,
-            places,
+            spans,
             first_line,
         }
     }
@@ -92,14 +92,14 @@ impl<'a> Raw<'a> {
     pub fn len(&self) -> usize
         ensures { result ≡ length (fields_of self.now) }
     {
-        self.places.len()
+        self.spans.len()
     }
 
     /// Returns whether there are no fields.
     pub fn is_empty(&self) -> bool
         ensures { IsTrue result ↔ (fields_of self.now ≡ []) }
     {
-        self.places.is_empty()
+        self.spans.is_empty()
     }
 
     /// Returns the field at an index from 0, in file order, or `None` if there are no more.
@@ -109,8 +109,8 @@ impl<'a> Raw<'a> {
         ensures name { IfSome result (λ field. IsTrue (is_name field.name.now)) }
         ensures body { IfSome result (λ field. IsBody field.body.now) }
     {
-        let place = self.places.get(index)?;
-        Some(RawField::at(self.text, *place))
+        let span = self.spans.get(index)?;
+        Some(RawField::at(self.text, *span))
     }
 
     /// Returns the field with a name, or `None` if there is no such field. ASCII case in names
@@ -121,9 +121,9 @@ impl<'a> Raw<'a> {
         ensures name { IfSome result (λ field. IsTrue (is_name field.name.now)) }
         ensures body { IfSome result (λ field. IsBody field.body.now) }
     {
-        for place in self.places {
-            if same_name(&self.text[place.start as usize..place.colon as usize], name) {
-                return Some(RawField::at(self.text, *place));
+        for span in self.spans {
+            if same_name(&self.text[span.start as usize..span.colon as usize], name) {
+                return Some(RawField::at(self.text, *span));
             }
         }
         None
@@ -134,8 +134,8 @@ impl<'a> Raw<'a> {
     pub fn has(&self, id: FieldId) -> bool
         ensures { result ≡ has_field_in (row_of id) (fields_of self.now) }
     {
-        for place in self.places {
-            if place.id.row() == id.row() {
+        for span in self.spans {
+            if span.id.row() == id.row() {
                 return true;
             }
         }
@@ -148,7 +148,7 @@ impl<'a> Raw<'a> {
     {
         Fields {
             text: self.text,
-            places: self.places,
+            spans: self.spans,
         }
     }
 }
@@ -157,9 +157,9 @@ impl<'a> Raw<'a> {
 #[derive(Clone, Copy)]
 pub struct Fields<'a> {
     text: &'a [u8],
-    places: &'a [Place],
-    ghost within: { IsTrue (list_all (lies_within text.now) places.now) },
-    ghost fields: { IsTrue (are_fields (fields_at text.now places.now)) },
+    spans: &'a [FieldSpan],
+    ghost within: { IsTrue (list_all (lies_within text.now) spans.now) },
+    ghost fields: { IsTrue (are_fields (fields_at text.now spans.now)) },
 }
 
 impl<'a> Iterator for Fields<'a> {
@@ -173,8 +173,8 @@ impl<'a> Iterator for Fields<'a> {
     ghost remaining = { item_count fields_left };
 
     fn next(&mut self) -> Option<RawField<'a>> {
-        let (first, others) = self.places.split_first()?;
-        self.places = others;
+        let (first, others) = self.spans.split_first()?;
+        self.spans = others;
         Some(RawField::at(self.text, *first))
     }
 }

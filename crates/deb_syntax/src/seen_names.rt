@@ -6,10 +6,10 @@ ghost use Rattle.std.specs.Str.{bytes_eq};
 ghost use Rattle.deb_base.specs.Kinds.{known_row};
 ghost use Rattle.deb_base.specs.KnownFields.{row_of};
 ghost use Rattle.deb_base.specs.Names.{folded};
-ghost use Rattle.deb_syntax.specs.Places.{name_at, lies_within, has_stood, is_kept, Keeps, KeepsNext};
+ghost use Rattle.deb_syntax.specs.FieldSpans.{name_at, lies_within, has_stood, is_kept, Keeps, KeepsNext};
 
+use crate::field_span::FieldSpan;
 use crate::folded_name::FoldedName;
-use crate::place::Place;
 use deb_base::{Fault, FieldId, KNOWN_FIELDS, same_name};
 use indexmap::IndexSet;
 use std::alloc::Global;
@@ -39,33 +39,33 @@ impl<'a> Names<'a> {
     }
 }
 
-/// Adds the name of a field behind those at the places, and says whether it is new. Memory: a
+/// Adds the name of a field behind those in the spans, and says whether it is new. Memory: a
 /// growth of the set was refused. Where it isn't new, or after out of memory, the set is of no
 /// further use.
 pub(crate) fn add<'a>(
     names: &mut Names<'a>,
     text: &'a [u8],
-    places: &[Place],
+    spans: &[FieldSpan],
     name: &'a [u8],
     id: FieldId,
 ) -> Result<bool, Fault>
-    requires within { IsTrue (list_all (lies_within text.now) places.now) }
+    requires within { IsTrue (list_all (lies_within text.now) spans.now) }
     requires id { row_of id ≡ known_row name.now }
-    requires keeps { Keeps text.now places.now names.old }
+    requires keeps { Keeps text.now spans.now names.old }
     ensures new { IfOk result (λ new.
-        new ≡ not (has_stood name.now (map (name_at text.now) places.now))) }
+        new ≡ not (has_stood name.now (map (name_at text.now) spans.now))) }
     ensures keeps { IfOk result (λ new. IsTrue new
-        → KeepsNext text.now places.now name.now names.new) }
+        → KeepsNext text.now spans.now name.now names.new) }
     ensures fault { IfErr result (λ fault. fault ≡ Fault.Memory) }
 {
     if id.is_known() {
         return Ok(add_known(&mut names.known, id.row()));
     }
     if names.all.is_empty() {
-        if places.len() < FEW {
-            return Ok(!stands_at(text, places, name));
+        if spans.len() < FEW {
+            return Ok(!stands_at(text, spans, name));
         }
-        keep_all(&mut names.all, text, places)?;
+        keep_all(&mut names.all, text, spans)?;
     }
     keep(&mut names.all, name)
 }
@@ -82,35 +82,35 @@ fn add_known(known: &mut [bool; KNOWN_FIELDS], row: usize) -> bool
     !stood
 }
 
-/// Whether the name stands at one of the places.
+/// Whether the name stands in one of the spans.
 #[tactic(auto, using(crate::proofs::NameSets::standing))]
-fn stands_at(text: &[u8], places: &[Place], name: &[u8]) -> bool
-    requires { IsTrue (list_all (lies_within text.now) places.now) }
-    ensures { result ≡ has_stood name.now (map (name_at text.now) places.now) }
+fn stands_at(text: &[u8], spans: &[FieldSpan], name: &[u8]) -> bool
+    requires { IsTrue (list_all (lies_within text.now) spans.now) }
+    ensures { result ≡ has_stood name.now (map (name_at text.now) spans.now) }
 {
-    for place in places {
-        if same_name(&text[place.start as usize..place.colon as usize], name) {
+    for span in spans {
+        if same_name(&text[span.start as usize..span.colon as usize], name) {
             return true;
         }
     }
     false
 }
 
-/// Keeps the names at the places in an empty set.
+/// Keeps the names in the spans in an empty set.
 #[tactic(auto, using(crate::proofs::NameSets::standing))]
 fn keep_all<'a>(
     all: &mut IndexSet<FoldedName<'a>>,
     text: &'a [u8],
-    places: &[Place],
+    spans: &[FieldSpan],
 ) -> Result<(), Fault>
-    requires within { IsTrue (list_all (lies_within text.now) places.now) }
+    requires within { IsTrue (list_all (lies_within text.now) spans.now) }
     requires empty { all.old.keys ≡ [] }
     ensures all { OnOk result ((name : List ℕ) →
-        is_kept name all.new.keys ≡ has_stood name (map (name_at text.now) places.now)) }
+        is_kept name all.new.keys ≡ has_stood name (map (name_at text.now) spans.now)) }
     ensures fault { IfErr result (λ fault. fault ≡ Fault.Memory) }
 {
-    for place in places {
-        keep(all, &text[place.start as usize..place.colon as usize])?;
+    for span in spans {
+        keep(all, &text[span.start as usize..span.colon as usize])?;
     }
     Ok(())
 }

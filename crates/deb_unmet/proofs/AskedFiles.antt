@@ -123,7 +123,7 @@ asked_read asks text state left old held count empty has =
     let fits = has.checked.fits in
     let rules = rules_of (doc_of asks.asked) in
     let starts = outcome-starts rules text has.checked.before fits.given in
-    let behind = fits.fits.hidden ++ (state.reader.unread ++ fits.fits.rest) in
+    let behind = fits.fits.overlong ++ (state.reader.unread ++ fits.fits.rest) in
     record {
       read = fits.passed;
       behind = behind;

@@ -14,14 +14,14 @@ use Rattle.deb_control.specs.CheckedStates.{doc_judged, passing_judged}
 use Rattle.deb_control.specs.Paragraphs.{AreValuesOf}
 use Rattle.deb_control.specs.PassingValues.{HasValue}
 use Rattle.deb_control.specs.ValueFiles.{ValueEntries}
-use Rattle.deb_control.specs.declared.judged.Judged.{Judged}
+use Rattle.deb_control.specs.declared.checked_view.CheckedView.{CheckedView}
 use Rattle.deb_control.proofs.PassingParagraphs.{values-passing}
 use Rattle.deb_control.proofs.ValueBodies.{one_paragraph}
 use Rattle.deb_unmet.specs.Fields.{value_under}
 use Rattle.deb_unmet.specs.Paragraphs.{HasValues}
 
 -- the value that is found under a name is that of any list of the paragraph's values
-pub value_found : {E : Type 0} (paragraph : Judged) (name : List ℕ) (found : Result (Option Value) E)
+pub value_found : {E : Type 0} (paragraph : CheckedView) (name : List ℕ) (found : Result (Option Value) E)
     → IfOk found (λ value. HasValue (doc_judged paragraph) (passing_judged paragraph).seen name (option_map value_meaning value))
     → (values : ValueEntries ValueMeaning) → HasValues paragraph values → IfOk found (λ value. option_map value_meaning value ≡ value_under name values)
 value_found paragraph name (Ok value) has values are =
@@ -30,12 +30,12 @@ value_found paragraph name (Ok value) has values are =
 value_found paragraph name (Err error) has values are = tt
 
 -- the paragraph that was given last has values
-pub record GivenValues (paragraph : Judged) (doc : Doc) (given : Seen) : Type 0 where
+pub record GivenValues (paragraph : CheckedView) (doc : Doc) (given : Seen) : Type 0 where
   pub values : ValueEntries ValueMeaning
   pub has : HasValues paragraph values
   pub are : AreValuesOf doc given values
 
-pub given_values : (paragraph : Judged) (doc : Doc) (given : Seen) (current : Option Seen) → Some (passing_judged paragraph).seen ≡ current → current ≡ Some given → doc_judged paragraph ≡ doc → GivenValues paragraph doc given
+pub given_values : (paragraph : CheckedView) (doc : Doc) (given : Seen) (current : Option Seen) → Some (passing_judged paragraph).seen ≡ current → current ≡ Some given → doc_judged paragraph ≡ doc → GivenValues paragraph doc given
 given_values paragraph doc given current seen is same_doc =
     let found = values-passing (doc_judged paragraph) (passing_judged paragraph).seen paragraph.passes in
     let some : Some (passing_judged paragraph).seen ≡ Some given = seen ∙ is in

@@ -3,9 +3,9 @@ use Rattle.deb_field.specs.Values.{ValueMeaning}
 use Rattle.deb_control.specs.CheckedStates.{doc_judged, passing_judged}
 use Rattle.deb_control.specs.Paragraphs.{AreValuesOf}
 use Rattle.deb_control.specs.ValueFiles.{ValueEntries}
-use Rattle.deb_control.specs.declared.judged.Judged.{Judged}
+use Rattle.deb_control.specs.declared.checked_view.CheckedView.{CheckedView}
 
 -- These are the paragraph's values.
-abbrev pub HasValues : Judged → ValueEntries ValueMeaning → Type 0
+abbrev pub HasValues : CheckedView → ValueEntries ValueMeaning → Type 0
 HasValues paragraph values =
     AreValuesOf (doc_judged paragraph) (passing_judged paragraph).seen values

@@ -18,7 +18,7 @@ use crate::asked::Asked;
 use crate::group::Question;
 use crate::paragraph::append_paragraph;
 use deb_base::{Fault, Sink, Source, put_all};
-use deb_control::{Checked, Judged, NoVisitor};
+use deb_control::{Checked, CheckedView, NoVisitor};
 use deb_index::Index;
 use deb_relation::Env;
 use std::alloc::Global;
@@ -122,7 +122,7 @@ fn write_paragraph<W: Sink>(
     question: &Question<'_>,
     asked: Asked,
     number: u64,
-    paragraph: &Judged<'_>,
+    paragraph: &CheckedView<'_>,
     writer: &mut W,
 ) -> Result<bool, Fault>
     ensures puts { (values : ValueEntries ValueMeaning) → HasValues paragraph.now values

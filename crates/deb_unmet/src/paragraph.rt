@@ -13,7 +13,7 @@ ghost use Rattle.deb_unmet.specs.Paragraphs.{HasValues};
 
 use crate::asked::Asked;
 use crate::group::{Question, append_groups};
-use deb_control::Judged;
+use deb_control::CheckedView;
 use deb_field::Value;
 use deb_relation::{Env, EnvFault, RelationFault};
 use deb_version::CanonicalVersion;
@@ -27,7 +27,7 @@ pub(crate) fn append_paragraph(
     question: &Question<'_>,
     asked: Asked,
     number: u64,
-    paragraph: &Judged<'_>,
+    paragraph: &CheckedView<'_>,
 ) -> Result<(), AllocError>
     ensures { (values : ValueEntries ValueMeaning) → HasValues paragraph.now values
         → OnOk result (out.new.items ≡ out.old.items ++ paragraph_lines asked
@@ -82,7 +82,7 @@ fn append_fields(
     question: &Question<'_>,
     fields: &[&[u8]],
     heading: &[u8],
-    paragraph: &Judged<'_>,
+    paragraph: &CheckedView<'_>,
 ) -> Result<(), AllocError>
     ensures { (values : ValueEntries ValueMeaning) → HasValues paragraph.now values
         → OnOk result (out.new.items ≡ out.old.items ++ fields_lines
@@ -102,7 +102,7 @@ fn append_field(
     question: &Question<'_>,
     heading: &[u8],
     field: &[u8],
-    paragraph: &Judged<'_>,
+    paragraph: &CheckedView<'_>,
 ) -> Result<(), AllocError>
     ensures { (values : ValueEntries ValueMeaning) → HasValues paragraph.now values
         → OnOk result (out.new.items ≡ out.old.items ++ field_lines
@@ -142,7 +142,7 @@ fn append_value(
 fn architecture_of(
     alloc: Global,
     asked: Asked,
-    paragraph: &Judged<'_>,
+    paragraph: &CheckedView<'_>,
 ) -> Result<Vec<u8>, AllocError>
     ensures { (values : ValueEntries ValueMeaning) → HasValues paragraph.now values
         → IfOk result (λ made. made.items ≡ architecture_of asked values) }
@@ -161,7 +161,7 @@ fn heading_of(
     asked: Asked,
     number: u64,
     architecture: &[u8],
-    paragraph: &Judged<'_>,
+    paragraph: &CheckedView<'_>,
 ) -> Result<Vec<u8>, AllocError>
     ensures { (values : ValueEntries ValueMeaning) → HasValues paragraph.now values
         → architecture.now ≡ architecture_of asked values
@@ -186,7 +186,7 @@ fn append_word(
     alloc: Global,
     out: &mut Vec<u8>,
     name: &[u8],
-    paragraph: &Judged<'_>,
+    paragraph: &CheckedView<'_>,
 ) -> Result<(), AllocError>
     ensures { (values : ValueEntries ValueMeaning) → HasValues paragraph.now values
         → OnOk result (out.new.items ≡ out.old.items ++ word_under name.now values) }
@@ -216,7 +216,7 @@ fn append_word_in(alloc: Global, out: &mut Vec<u8>, value: &Value<'_>) -> Result
 /// Returns the value of a field, without ASCII case.
 fn value_of<'a>(
     alloc: Global,
-    paragraph: &Judged<'a>,
+    paragraph: &CheckedView<'a>,
     name: &[u8],
 ) -> Result<Option<Value<'a>>, AllocError>
     ensures { (values : ValueEntries ValueMeaning) → HasValues paragraph.now values

@@ -1,7 +1,7 @@
 //! Tests of a returned paragraph: its fields as they are in the file, and their values.
 
 use super::*;
-use deb_control::{Accepted, Judged, NoVisitor, Paragraph};
+use deb_control::{CheckedText, CheckedView, NoVisitor, Paragraph};
 use deb_field::{Canon, Value};
 
 /// A field as it stands in the file: its name, its line and its body.
@@ -76,7 +76,7 @@ fn paragraphs_without_their_text(rt: HostRuntime) -> Result<(), Fail> {
 
 /// Whether a paragraph without its canonical text shows its first line, a field, its version and
 /// all of its values.
-fn is_judged(alloc: Global, paragraph: &Judged<'_>, shown: &Shown) -> Result<bool, Fail> {
+fn is_judged(alloc: Global, paragraph: &CheckedView<'_>, shown: &Shown) -> Result<bool, Fail> {
     let Shown(first_line, fields, version_text, text) = shown;
     let version = paragraph.value(alloc, b"VERSION")?.ok_or("no version")?;
     let mut written = Vec::new(alloc);
@@ -115,7 +115,7 @@ fn a_long_body_of_a_source(rt: HostRuntime) -> Result<(), Fail> {
 }
 
 /// Whether the first line, the canonical text, and the fields in the order of the file are right.
-fn shows(paragraph: &Accepted<'_>, shown: &Shown) -> bool {
+fn shows(paragraph: &CheckedText<'_>, shown: &Shown) -> bool {
     let Shown(first_line, wanted, _, text) = shown;
     let mut fields = paragraph.fields();
     for Field(name, line, body) in wanted {
@@ -132,7 +132,7 @@ fn shows(paragraph: &Accepted<'_>, shown: &Shown) -> bool {
 }
 
 /// Whether fields are found by their names, in any case and whole.
-fn finds(paragraph: &Accepted<'_>, shown: &Shown) -> bool {
+fn finds(paragraph: &CheckedText<'_>, shown: &Shown) -> bool {
     for Field(name, line, body) in &shown.1 {
         let found = paragraph.get(name).map(|field| (field.line, field.body));
         if found != Some((*line, *body)) {
@@ -147,7 +147,7 @@ fn finds(paragraph: &Accepted<'_>, shown: &Shown) -> bool {
 }
 
 /// Whether single values are right.
-fn has_values(alloc: Global, paragraph: &Accepted<'_>, shown: &Shown) -> Result<bool, Fail> {
+fn has_values(alloc: Global, paragraph: &CheckedText<'_>, shown: &Shown) -> Result<bool, Fail> {
     let name = paragraph.value(alloc, b"pACKAGE")?.ok_or("no name")?;
     let version = paragraph.value(alloc, b"VERSION")?.ok_or("no version")?;
     let absent = paragraph.value(alloc, b"Absent")?;
@@ -162,7 +162,7 @@ fn has_values(alloc: Global, paragraph: &Accepted<'_>, shown: &Shown) -> Result<
 }
 
 /// Whether the typed paragraph is right, and its text behind a byte that stood there.
-fn is_typed(alloc: Global, paragraph: &Accepted<'_>, shown: &Shown) -> Result<bool, Fail> {
+fn is_typed(alloc: Global, paragraph: &CheckedText<'_>, shown: &Shown) -> Result<bool, Fail> {
     let typed = paragraph.paragraph(alloc)?;
     let mut text = Vec::new(alloc);
     text.push(b'=')?;

@@ -1,4 +1,4 @@
-use Rattle.deb_control.proofs.Common.{◌≡◌, ◌∙◌, ◌+◌, Bool, true, false, Option, None, Some, ap, sym, refl, subst, arith, not, is_none, false≢true, bytes_eq-Decides, bytes_eq, passing_of, Agrees, Accepted}
+use Rattle.deb_control.proofs.Common.{◌≡◌, ◌∙◌, ◌+◌, Bool, true, false, Option, None, Some, ap, sym, refl, subst, arith, not, is_none, false≢true, bytes_eq-Decides, bytes_eq, passing_of, Agrees, CheckedText}
 use Rattle.std.specs.Option.{option_map}
 use Rattle.deb_syntax.specs.Lines.{file_limit}
 use Rattle.deb_control.proofs.CheckedSoFar.{goes_on}
@@ -11,7 +11,7 @@ not-not : (t : Bool) → not (not t) ≡ t
 not-not true = refl
 not-not false = refl
 
-none-passing : (next : Option Accepted) → is_none (option_map passing_of next) ≡ is_none next
+none-passing : (next : Option CheckedText) → is_none (option_map passing_of next) ≡ is_none next
 none-passing None = refl
 none-passing (Some accepted) = refl
 

@@ -33,14 +33,14 @@ pub returns-then-not-is_line_utf8-clause-fault : goal.returns-then-not-is_line_u
 returns-then-not-is_line_utf8-clause-fault c =
     let l = c.loop-end in
     let line = next_line c.args.text.now c.args.ends.now l.start l.end-index l.invariant.left c.loop-end-test.true in
-    rw c.refused.ensures (judged-refused c.args.text.now c.args.first_line l.number l.start l.places.items l.invariant.so_far _ _ line.pieces (line_judged-not_utf8 l.number (begun_fields c.args.text.now l.places.items) _ c.if-not-is_line_utf8.ensures.1))
+    rw c.refused.ensures (judged-refused c.args.text.now c.args.first_line l.number l.start l.spans.items l.invariant.so_far _ _ line.pieces (line_judged-not_utf8 l.number (begun_fields c.args.text.now l.spans.items) _ c.if-not-is_line_utf8.ensures.1))
 
 pub returns-in_err-judge_line-clause-fault : goal.returns-in_err-judge_line-clause-fault
 returns-in_err-judge_line-clause-fault c =
     let l = c.loop-end in
     let line = next_line c.args.text.now c.args.ends.now l.start l.end-index l.invariant.left c.loop-end-test.true in
     let p = err_from_is_err_and c.from_residual.result c.from_residual.ensures.1 in
-    rw (p.1, p.2) (judged-fault c.args.text.now c.args.first_line l.number l.start l.places.items l.invariant.so_far _ _ line.pieces c.in_err-judge_line.ensures.fault)
+    rw (p.1, p.2) (judged-fault c.args.text.now c.args.first_line l.number l.start l.spans.items l.invariant.so_far _ _ line.pieces c.in_err-judge_line.ensures.fault)
 
 pub loop-end-preserved : goal.loop-end-preserved
 loop-end-preserved c =
@@ -55,10 +55,10 @@ loop-end-preserved c =
           ap (slice_index c.args.text.now) at ∙ line.stopped (omega (arith, within));
       stands = c.in_ok-judge_line.ensures.stands;
       utf8 = λ is. (subst (λ lines. AllByRecursion IsUtf8 lines) line.pieces (l.invariant.utf8 is)).1;
-      so_far = judged-step c.args.text.now c.args.first_line l.number l.start l.places.items l.invariant.so_far _ _ line.pieces c.in_ok-judge_line.ensures.ok;
+      so_far = judged-step c.args.text.now c.args.first_line l.number l.start l.spans.items l.invariant.so_far _ _ line.pieces c.in_ok-judge_line.ensures.ok;
     }
 
 pub returns-clause-ok : goal.returns-clause-ok
 returns-clause-ok c =
     let l = c.loop-end in
-    judged-whole c.args.text.now c.args.first_line l.number l.start l.places.items l.invariant.so_far (no_line c.args.text.now c.args.ends.now l.start l.end-index l.invariant.left (omega (arith, c.loop-end-test.false)))
+    judged-whole c.args.text.now c.args.first_line l.number l.start l.spans.items l.invariant.so_far (no_line c.args.text.now c.args.ends.now l.start l.end-index l.invariant.left (omega (arith, c.loop-end-test.false)))

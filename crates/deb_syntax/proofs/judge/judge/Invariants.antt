@@ -10,7 +10,7 @@ invariant-loop-end l = record {
   numbered : l.number ≡ l.first_line + l.end-index;
   reached : l.start ≤ length l.text + 1;
   behind : 0 < l.start → l.start ≤ length l.text → slice_index l.text (l.start - 1) ≡ newline;
-  stands : StandsAt l.text l.start l.places.items l.names;
+  stands : StandsAt l.text l.start l.spans.items l.names;
   utf8 : 0 < l.checked → AllByRecursion IsUtf8 (pieces_from l.text l.start);
-  so_far : judged l.first_line (pieces_of l.text) ≡ lines_judged l.number (Ok (begun_fields l.text l.places.items)) (pieces_from l.text l.start);
+  so_far : judged l.first_line (pieces_of l.text) ≡ lines_judged l.number (Ok (begun_fields l.text l.spans.items)) (pieces_from l.text l.start);
 }

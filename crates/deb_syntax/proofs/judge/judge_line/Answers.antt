@@ -1,7 +1,7 @@
 use Rattle.deb_syntax.proofs.Common.{sym, subst, ◌∙◌, IfErr-weaker, IsFaultOf}
 use Rattle.std.proofs.lemmas.Result.{on_ok_weaker}
 use Rattle.deb_syntax.proofs.Judgements.{line_judged-continuation, line_judged-field}
-use Rattle.deb_syntax.proofs.PlaceLemmas.{StandsAt-longer, continuation_line-begun}
+use Rattle.deb_syntax.proofs.FieldSpanLemmas.{StandsAt-longer, continuation_line-begun}
 use Rattle.deb_syntax.proofs.judge.judge_line.Goals as goal
 
 pub returns-then-begins_with_blank-clause-ok : goal.returns-then-begins_with_blank-clause-ok

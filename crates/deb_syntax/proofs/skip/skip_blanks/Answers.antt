@@ -16,8 +16,8 @@ returns-then-seen-line c =
       | then-seen-line-via-else-seen-line+then-line-seen-ne10 w ↦ inr (inl w.if-line-seen-ne10.true)
       | then-seen-line-via-else-seen-line+else-line-seen-ne10+then-not-is_blank w ↦ inr (inr (sym (w.is_blank.ensures _ c.through_blanks-seen.ensures.describes) ∙ w.if-not-is_blank.true))
     ]) in
-    skip-end text n c.loop-line.lines c.loop-line.front seen c.along-next.result c.loop-line.invariant.skipped through stop
-    (subst (λ zs. GoesAlong (take seen.len (drop n text)) zs c.along-next.result) (take_rest line seen.len ∙ ap (drop seen.len) rest) (c.along-next.ensures.goes (take seen.len (drop n text)) through.describes))
+    skip-end text n c.loop-line.lines c.loop-line.front seen c.scan_line-next.result c.loop-line.invariant.skipped through stop
+    (subst (λ zs. GoesAlong (take seen.len (drop n text)) zs c.scan_line-next.result) (take_rest line seen.len ∙ ap (drop seen.len) rest) (c.scan_line-next.ensures.goes (take seen.len (drop n text)) through.describes))
 
 pub loop-line-preserved : goal.loop-line-preserved
 loop-line-preserved c =

@@ -12,7 +12,7 @@ returns c =
     let at = c.in_ok-at.at in
     let bytes = c.slice.result.now in
     let index = c.args.number - at.first_line in
-    let among : line_judged c.args.number (judged_last c.args.self.now) ≡ line_among c.args.number (lines_standing (buffer_of c.args.self.now.feed) at) = ap (λ o. line_judged c.args.number (option_map (lines_standing (buffer_of c.args.self.now.feed)) o)) c.in_ok-at.was in
+    let among : line_judged c.args.number (judged_last c.args.self.now) ≡ line_among c.args.number (lines_standing (buffer_of c.args.self.now.cursor) at) = ap (λ o. line_judged c.args.number (option_map (lines_standing (buffer_of c.args.self.now.cursor)) o)) c.in_ok-at.was in
     nth_from_yields_List c.nth.result _ _ c.nth.ensures.ran (YieldsList-from_slice_split _ _ bytes c.split.ensures.rest c.split.ensures.done c.split.ensures.closure (λ x r q k. search (rules, tests)))
     ∙ ap (λ lines. slice_get lines index) (slice_split-pieces_of bytes)
     ∙ ap (λ text. slice_get (pieces_of text) index) c.slice.ensures

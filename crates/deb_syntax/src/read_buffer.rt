@@ -1,4 +1,4 @@
-//! The buffer: a window on the file. Its bytes move only if there is no room after them.
+//! The buffer that a file is read into. Its bytes move only if there is no room after them.
 
 ghost use Rattle.std.specs.Prelude.{◌≡◌, ◌+◌, ◌<◌, ◌≤◌, cond, vec_len, IfOk, IfErr, OnOk, OnErr, IsErrOf, length, take, drop};
 ghost use Rattle.std.specs.Io.KnownBytes.{Keeps, ReadConsumes};
@@ -10,11 +10,11 @@ use std::alloc::Global;
 /// The most bytes that the buffer has: those of a paragraph, and one piece.
 const MOST_HELD: usize = PARAGRAPH_LIMIT + PIECE_LIMIT;
 
-/// A window on the file. `buffer[start..filled]` are its unread bytes. Those before them have
-/// passed; behind them is room: bytes of no meaning, which are written once, when the buffer grows,
-/// and are never cleared again.
+/// The part of a file that is in memory. `buffer[start..filled]` are its unread bytes. Those before
+/// them have passed; behind them is room: bytes of no meaning, which are written once, when the
+/// buffer grows, and are never cleared again.
 #[derive(Drop)]
-pub(crate) struct Window {
+pub(crate) struct ReadBuffer {
     buffer: Vec<u8>,
     start: usize,
     filled: usize,
@@ -23,18 +23,18 @@ pub(crate) struct Window {
     ghost small: { vec_len buffer ≤ 16842752 },
 }
 
-impl Window {
+impl ReadBuffer {
     ghost use Rattle.std.specs.Prelude.{[], slice_range};
     ghost use Rattle.deb_base.specs.Reading.{IsMemoryOrRead};
-    ghost use Rattle.deb_syntax.specs.Feeding.{unread_of, Fills};
+    ghost use Rattle.deb_syntax.specs.Cursors.{unread_of, Fills};
 
-    /// A window without bytes. Takes no memory.
-    pub(crate) fn new(alloc: Global) -> Window
+    /// A buffer without bytes. Takes no memory.
+    pub(crate) fn new(alloc: Global) -> ReadBuffer
         ensures unread { unread_of result ≡ [] }
         ensures held { vec_len result.buffer ≡ 0 }
         ensures start { result.start ≡ 0 }
     {
-        Window {
+        ReadBuffer {
             buffer: Vec::new(alloc),
             start: 0,
             filled: 0,
@@ -74,7 +74,7 @@ impl Window {
 
     /// Passes the first `count` unread bytes.
     #[tactic(auto, using(crate::proofs::Slices::passing))]
-    pub(crate) fn pass(&mut self, count: usize)
+    pub(crate) fn consume(&mut self, count: usize)
         requires { count ≤ length (unread_of self.old) }
         ensures unread { unread_of self.new ≡ drop count (unread_of self.old) }
         ensures buffer { self.new.buffer ≡ self.old.buffer }
@@ -84,7 +84,7 @@ impl Window {
     }
 
     /// Forgets the unread bytes behind the first `count`.
-    pub(crate) fn keep(&mut self, count: usize)
+    pub(crate) fn truncate(&mut self, count: usize)
         requires { count ≤ length (unread_of self.old) }
         ensures unread { unread_of self.new ≡ take count (unread_of self.old) }
         ensures buffer { self.new.buffer ≡ self.old.buffer }
@@ -96,13 +96,13 @@ impl Window {
     /// Takes one piece of the reader behind the unread bytes, and says how many bytes came.
     pub(crate) fn fill<R: Source>(&mut self, reader: &mut R) -> Result<usize, Fault>
         requires { length (unread_of self.old) ≤ PARAGRAPH_LIMIT }
-        ensures taken { IfOk result (λ count. Fills self.old (R.left reader.old) count self.new
+        ensures fills { IfOk result (λ count. Fills self.old (R.left reader.old) count self.new
             (R.left reader.new)) }
         ensures unread { OnErr result (unread_of self.new ≡ unread_of self.old) }
         ensures kept { OnErr result (Keeps (R.left reader.old) (R.left reader.new)) }
         ensures fault { IfErr result IsMemoryOrRead }
         ensures untouched { IsErrOf result Fault.Memory → reader.new ≡ reader.old }
-        ensures counted { R.failures reader.new
+        ensures fault_iff_device_failed { R.failures reader.new
             ≡ read_failures_after (R.failures reader.old) result }
     {
         self.make_room()?;
@@ -185,7 +185,8 @@ fn read_behind<R: Source>(buffer: &mut [u8], filled: usize, reader: &mut R) -> R
     ensures short { IfOk result (λ count. count ≤ PIECE_LIMIT) }
     ensures bytes { ReadConsumes (R.left reader.old) (R.left reader.new) result
         (drop filled buffer.new) }
-    ensures counted { R.failures reader.new ≡ failures_after (R.failures reader.old) result }
+    ensures fault_iff_device_failed { R.failures reader.new
+        ≡ failures_after (R.failures reader.old) result }
 {
     let end = buffer.len().min(filled + PIECE_LIMIT);
     reader.read(&mut buffer[filled..end])

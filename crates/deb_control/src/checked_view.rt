@@ -14,13 +14,13 @@ use std::alloc::{AllocError, Global};
 /// A view of a paragraph that passes every rule of its kind of document: its fields as they are in
 /// the file. Values are read from it on demand, and are never refused.
 #[derive(Clone, Copy)]
-pub struct Judged<'a> {
+pub struct CheckedView<'a> {
     doc: Doc,
     raw: Raw<'a>,
     ghost passes: { IsTrue (is_judged doc (seen_of raw)) },
 }
 
-impl<'a> Judged<'a> {
+impl<'a> CheckedView<'a> {
     ghost use Rattle.std.specs.Prelude.{Some, None, IfOk, IfSome, option_map};
     ghost use Rattle.std.specs.List.Sorted.{IsPermutation};
     ghost use Rattle.deb_syntax.specs.Raw.{field_of, field_named, fields_left};
@@ -30,12 +30,12 @@ impl<'a> Judged<'a> {
     ghost use Rattle.deb_control.specs.ParagraphValues.{fields_shown, values_of};
     ghost use Rattle.deb_control.specs.PassingValues.{HasValue};
 
-    pub(crate) fn new(doc: Doc, raw: Raw<'a>) -> Judged<'a>
+    pub(crate) fn new(doc: Doc, raw: Raw<'a>) -> CheckedView<'a>
         requires { IsTrue (is_judged doc (seen_of raw)) }
         ensures doc { result.doc ≡ doc }
         ensures seen { (passing_judged result).seen ≡ seen_of raw.entry }
     {
-        Judged { doc, raw }
+        CheckedView { doc, raw }
     }
 
     /// Returns the number of the paragraph's first line in its file, counted from 1.

@@ -4,7 +4,7 @@ ghost use Rattle.std.specs.Prelude.{◌≡◌, List, IsTrue};
 ghost use Rattle.deb_syntax.specs.Paragraphs.{seen_of};
 ghost use Rattle.deb_control.specs.Checking.{is_passing};
 
-use crate::judged::Judged;
+use crate::checked_view::CheckedView;
 use crate::paragraph::Paragraph;
 use deb_field::Value;
 use deb_syntax::{Fields, RawField};
@@ -13,13 +13,13 @@ use std::alloc::{AllocError, Global};
 /// A view of a paragraph that passes every rule of its kind of document: its fields as they are in
 /// the file, and its canonical text. Values are read from it on demand, and are never refused.
 #[derive(Clone, Copy)]
-pub struct Accepted<'a> {
-    judged: Judged<'a>,
+pub struct CheckedText<'a> {
+    view: CheckedView<'a>,
     canonical: &'a [u8],
-    ghost passes: { IsTrue (is_passing judged.doc (seen_of judged.raw) canonical.now) },
+    ghost passes: { IsTrue (is_passing view.doc (seen_of view.raw) canonical.now) },
 }
 
-impl<'a> Accepted<'a> {
+impl<'a> CheckedText<'a> {
     ghost use Rattle.std.specs.Prelude.{IfOk, option_map};
     ghost use Rattle.std.specs.List.Sorted.{IsPermutation};
     ghost use Rattle.deb_syntax.specs.Raw.{field_of, field_named, fields_left};
@@ -29,20 +29,20 @@ impl<'a> Accepted<'a> {
     ghost use Rattle.deb_control.specs.ParagraphValues.{fields_shown, values_of};
     ghost use Rattle.deb_control.specs.PassingValues.{HasValue};
 
-    pub(crate) fn new(judged: Judged<'a>, canonical: &'a [u8]) -> Accepted<'a>
-        requires { IsTrue (is_passing judged.doc (seen_of judged.raw) canonical.now) }
-        ensures doc { doc_of result ≡ judged.entry.doc }
+    pub(crate) fn new(view: CheckedView<'a>, canonical: &'a [u8]) -> CheckedText<'a>
+        requires { IsTrue (is_passing view.doc (seen_of view.raw) canonical.now) }
+        ensures doc { doc_of result ≡ view.entry.doc }
         ensures passing { passing_of result
-            ≡ record { seen = seen_of judged.entry.raw; text = canonical.now } }
+            ≡ record { seen = seen_of view.entry.raw; text = canonical.now } }
     {
-        Accepted { judged, canonical }
+        CheckedText { view, canonical }
     }
 
     /// Returns the number of the paragraph's first line in its file, counted from 1.
     pub fn first_line(&self) -> u64
         ensures { result ≡ (passing_of self.now).seen.first }
     {
-        self.judged.first_line()
+        self.view.first_line()
     }
 
     /// Returns the field with a name as it is in the file, without ASCII case, or `None` if there
@@ -51,14 +51,14 @@ impl<'a> Accepted<'a> {
         ensures { option_map field_of result
             ≡ field_named name.now (passing_of self.now).seen.fields }
     {
-        self.judged.get(name)
+        self.view.get(name)
     }
 
     /// Returns the fields in file order.
     pub fn fields(&self) -> Fields<'a>
         ensures { fields_left result ≡ (passing_of self.now).seen.fields }
     {
-        self.judged.fields()
+        self.view.fields()
     }
 
     /// Returns the paragraph's canonical text: each field on lines of its own, in ascending order
@@ -80,7 +80,7 @@ impl<'a> Accepted<'a> {
             (λ value. HasValue (doc_of self.now) (passing_of self.now).seen name.now
             (option_map value_meaning value)) }
     {
-        self.judged.value(alloc, name)
+        self.view.value(alloc, name)
     }
 
     /// Returns the paragraph with its values.
@@ -94,6 +94,6 @@ impl<'a> Accepted<'a> {
         ensures fields { IfOk result
             (λ typed. IsPermutation (passing_of self.now).seen.fields (fields_shown typed)) }
     {
-        self.judged.paragraph(alloc)
+        self.view.paragraph(alloc)
     }
 }

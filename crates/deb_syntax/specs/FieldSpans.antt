@@ -14,55 +14,55 @@ use Rattle.deb_syntax.specs.Fields.{Field}
 use Rattle.deb_base.specs.Trimming.{trimmed}
 use Rattle.deb_syntax.specs.declared.folded_name.FoldedName.{FoldedName}
 use Rattle.deb_syntax.specs.declared.seen_names.Names.{Names}
-use Rattle.deb_syntax.specs.declared.place.Place.{Place}
+use Rattle.deb_syntax.specs.declared.field_span.FieldSpan.{FieldSpan}
 
--- the name of the field at a place of a paragraph's bytes
-abbrev pub name_at : List ℕ → Place → List ℕ
-name_at text place = slice_range text place.start place.colon
+-- the name of the field in a span of a paragraph's bytes
+abbrev pub name_at : List ℕ → FieldSpan → List ℕ
+name_at text span = slice_range text span.start span.colon
 
--- the field at a place: its name, its line, and what stands behind its colon, trimmed
-abbrev pub field_at : List ℕ → Place → Field
-field_at text place =
+-- the field in a span: its name, its line, and what stands behind its colon, trimmed
+abbrev pub field_at : List ℕ → FieldSpan → Field
+field_at text span =
     record {
-      name = name_at text place;
-      line = place.line;
-      body = trimmed (slice_range text (place.colon + 1) place.end);
+      name = name_at text span;
+      line = span.line;
+      body = trimmed (slice_range text (span.colon + 1) span.end);
     }
 
-abbrev pub fields_at : List ℕ → List Place → List Field
-fields_at text places = map (field_at text) places
+abbrev pub fields_at : List ℕ → List FieldSpan → List Field
+fields_at text spans = map (field_at text) spans
 
--- whether a place lies within a text, its colon before its end, and its id is that of its name
-abbrev pub lies_within : List ℕ → Place → Bool
-lies_within text place =
-    nat_le place.start place.colon && nat_lt place.colon place.end
-    && nat_le place.end (length text) && (row_of place.id == known_row (name_at text place))
+-- whether a span lies within a text, its colon before its end, and its id is that of its name
+abbrev pub lies_within : List ℕ → FieldSpan → Bool
+lies_within text span =
+    nat_le span.start span.colon && nat_lt span.colon span.end
+    && nat_le span.end (length text) && (row_of span.id == known_row (name_at text span))
 
 -- a field of which more lines may come: in place of its body, all that stands behind its colon so
 -- far
-abbrev pub begun_at : List ℕ → Place → Field
-begun_at text place =
+abbrev pub begun_at : List ℕ → FieldSpan → Field
+begun_at text span =
     record {
-      name = name_at text place;
-      line = place.line;
-      body = slice_range text (place.colon + 1) place.end;
+      name = name_at text span;
+      line = span.line;
+      body = slice_range text (span.colon + 1) span.end;
     }
 
-abbrev pub begun_fields : List ℕ → List Place → List Field
-begun_fields text places = map (begun_at text) places
+abbrev pub begun_fields : List ℕ → List FieldSpan → List Field
+begun_fields text spans = map (begun_at text) spans
 
--- The last of the places goes on to `end`.
-pub record LastGoesOn (end : ℕ) (places longer : List Place) : Type 0 where
-  pub front : List Place
-  pub last : Place
-  pub is : places ≡ front ++ last ∷ []
+-- The last of the spans goes on to `end`.
+pub record LastGoesOn (end : ℕ) (spans longer : List FieldSpan) : Type 0 where
+  pub front : List FieldSpan
+  pub last : FieldSpan
+  pub is : spans ≡ front ++ last ∷ []
   pub becomes : longer ≡ front ++ record last { end = end } ∷ []
 
--- whether the last of the places ends one byte before a line's begin
-abbrev pub ends_before : ℕ → List Place → Bool
+-- whether the last of the spans ends one byte before a line's begin
+abbrev pub ends_before : ℕ → List FieldSpan → Bool
 ends_before start [] = true
-ends_before start (place ∷ []) = place.end + 1 == start
-ends_before start (place ∷ next ∷ places) = ends_before start (next ∷ places)
+ends_before start (span ∷ []) = span.end + 1 == start
+ends_before start (span ∷ next ∷ spans) = ends_before start (next ∷ spans)
 
 -- whether a name is one of those that stood before, without ASCII case
 abbrev pub has_stood : List ℕ → List (List ℕ) → Bool
@@ -72,30 +72,31 @@ has_stood name stood = list_any (λ other. bytes_eq (folded other) (folded name)
 abbrev pub is_kept : List ℕ → List FoldedName → Bool
 is_kept name names = list_any (λ other. bytes_eq (folded name) (folded other.0.now)) names
 
--- whether a field of the table is at one of the places
-abbrev pub has_row : ℕ → List Place → Bool
-has_row row places = list_any (λ place. row_of place.id == row) places
+-- whether a field of the table is in one of the spans
+abbrev pub has_row : ℕ → List FieldSpan → Bool
+has_row row spans = list_any (λ span. row_of span.id == row) spans
 
--- What is kept of the names at the places: which of the table stood, and of the others all in a
+-- What is kept of the names in the spans: which of the table stood, and of the others all in a
 -- set, or none.
-pub record Keeps (text : List ℕ) (places : List Place) (names : Names) : Type 0 where
-  pub known : (row : ℕ) → row < 54 → get_or names.known row false ≡ has_row row places
+pub record Keeps (text : List ℕ) (spans : List FieldSpan) (names : Names) : Type 0 where
+  pub known : (row : ℕ) → row < 54 → get_or names.known row false ≡ has_row row spans
   pub others : (names.all.keys ≡ [])
       ⊎ ((name : List ℕ) → 54 ≤ known_row name
-      → is_kept name names.all.keys ≡ has_stood name (map (name_at text) places))
+      → is_kept name names.all.keys ≡ has_stood name (map (name_at text) spans))
 
 -- The name that comes next is kept, wherever its field ends.
-abbrev pub KeepsNext : List ℕ → List Place → List ℕ → Names → Type 0
-KeepsNext text places name names =
-    (place : Place) → name_at text place ≡ name → row_of place.id ≡ known_row name
-    → Keeps text (places ++ place ∷ []) names
+abbrev pub KeepsNext : List ℕ → List FieldSpan → List ℕ → Names → Type 0
+KeepsNext text spans name names =
+    (span : FieldSpan) → name_at text span ≡ name → row_of span.id ≡ known_row name
+    → Keeps text (spans ++ span ∷ []) names
 
--- What is kept of the lines before the one that begins at `start`: the places lie within the text,
+-- What is kept of the lines before the one that begins at `start`: the spans lie within the text,
 -- the last of them ends at that line, and their names are kept.
-pub record StandsAt (text : List ℕ) (start : ℕ) (places : List Place) (names : Names) : Type 0 where
-  pub within : IsTrue (list_all (lies_within text) places)
-  pub reached : IsTrue (ends_before start places)
-  pub kept : Keeps text places names
+pub record StandsAt (text : List ℕ) (start : ℕ) (spans : List FieldSpan)
+    (names : Names) : Type 0 where
+  pub within : IsTrue (list_all (lies_within text) spans)
+  pub reached : IsTrue (ends_before start spans)
+  pub kept : Keeps text spans names
 
 -- the fault is the refusal that is judged, or out of memory
 abbrev pub IsFaultOf : Result (List Field) Refusal → Fault → Type 0
@@ -104,11 +105,11 @@ IsFaultOf judgement Memory = Unit {0}
 IsFaultOf judgement Read = ⊥
 IsFaultOf judgement Write = ⊥
 
--- for the worked cases: the id of a name that isn't in the table, and a place of such a name
+-- for the worked cases: the id of a name that isn't in the table, and a span of such a name
 abbrev other : FieldId
 other = record { 0 = 54 }
 
-abbrev place_from : (line start colon end : ℕ) → Place
+abbrev place_from : (line start colon end : ℕ) → FieldSpan
 place_from line start colon end = record {
   line = line;
   start = start;
@@ -117,16 +118,16 @@ place_from line start colon end = record {
   id = other;
 }
 
--- a place of `Tag` and of three bytes behind the colon, with the id of a row
-abbrev tag_in : ℕ → Place
+-- a span of `Tag` and of three bytes behind the colon, with the id of a row
+abbrev tag_in : ℕ → FieldSpan
 tag_in row = record (place_from 1 0 3 6) { id = record { 0 = row } }
 
 -- the second line belongs to the field of the first
-two_places : fields_at (codes "A: 1 \n 2\nB:")
+two_spans : fields_at (codes "A: 1 \n 2\nB:")
     (place_from 1 0 1 8 ∷ place_from 3 9 10 11 ∷ [])
     ≡ record { name = codes "A"; line = 1; body = codes "1 \n 2" }
     ∷ record { name = codes "B"; line = 3; body = [] } ∷ []
-two_places = refl
+two_spans = refl
 
 places_within : list_all (lies_within (codes "A: 1 \n 2\nB:"))
     (place_from 1 0 1 8 ∷ place_from 3 9 10 11 ∷ []) ≡ true
@@ -145,7 +146,7 @@ other_ids : (lies_within (codes "Tag: 1") (tag_in 47) ≡ true)
 unfolding known_row
 other_ids = (refl, refl, refl, refl)
 
--- of places that end before the line's begin the last goes on to the line's end
+-- of spans that end before the line's begin the last goes on to the line's end
 last_place_goes_on : LastGoesOn 11 (place_from 1 0 1 4 ∷ place_from 2 5 6 8 ∷ [])
     (place_from 1 0 1 4 ∷ place_from 2 5 6 11 ∷ [])
 last_place_goes_on =
@@ -163,7 +164,7 @@ places_before : (ends_before 9 (place_from 1 0 1 8 ∷ []) ≡ true)
     × (ends_before 8 (place_from 1 0 1 8 ∷ []) ≡ false)
 places_before = (refl, refl)
 
--- a colon at the end of a place, or before its begin
+-- a colon at the end of a span, or before its begin
 place_of_no_field : (lies_within (codes "A: 1 \n 2\nB:") (place_from 1 0 2 2) ≡ false)
     × (lies_within (codes "A: 1 \n 2\nB:") (place_from 1 3 2 4) ≡ false)
 unfolding known_row

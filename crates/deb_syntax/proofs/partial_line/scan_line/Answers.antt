@@ -1,6 +1,6 @@
 use Rattle.deb_syntax.proofs.Common.{take, drop, suc, arith, eqb-true}
 use Rattle.deb_syntax.proofs.WalkingSteps.{line-found, line-none, newline_at}
-use Rattle.deb_syntax.proofs.begun.along.Goals as goal
+use Rattle.deb_syntax.proofs.partial_line.scan_line.Goals as goal
 
 pub returns-in-Some-clause-goes : goal.returns-in-Some-clause-goes
 returns-in-Some-clause-goes c = λ seen described.

@@ -1,6 +1,6 @@
 use Rattle.deb_control.proofs.Common.{sym, seen_of, field_of, value_meaning}
 use Rattle.deb_control.proofs.PassingParagraphs.{none-passing, value-passing, only_memory, unrefused-passing}
-use Rattle.deb_control.proofs.judged.Judged.value.Goals as goal
+use Rattle.deb_control.proofs.checked_view.CheckedView.value.Goals as goal
 
 pub returns-in_default : goal.returns-in_default
 returns-in_default c =

@@ -1,5 +1,5 @@
 -- A file that is read by pieces: slices of its buffer, what a piece leaves of the text, and what is seen of it.
-use Rattle.deb_syntax.proofs.Common.{◌≡◌, ℕ, ◌+◌, ◌-◌, ◌≤◌, List, [], ◌++◌, Option, Some, None, length, take, drop, slice_range, IsTrue, refl, sym, ap, ◌∙◌, append_assoc, arith, length-drop, take-add, drop-take, drop-drop, length-take-le, Consumes, IsAtEnd, FeedState, feed_state, buffer_of, start_of, Comes, Feed}
+use Rattle.deb_syntax.proofs.Common.{◌≡◌, ℕ, ◌+◌, ◌-◌, ◌≤◌, List, [], ◌++◌, Option, Some, None, length, take, drop, slice_range, IsTrue, refl, sym, ap, ◌∙◌, append_assoc, arith, length-drop, take-add, drop-take, drop-drop, length-take-le, Consumes, IsAtEnd, CursorState, cursor_state, buffer_of, start_of, Comes, FileCursor}
 use Rattle.deb_syntax.specs.Lines.{file_limit}
 use Rattle.deb_syntax.proofs.Slices.{take-slice_range}
 
@@ -18,26 +18,26 @@ slice_range-grown old new s f n le h =
     ∙ ap (λ zs. take (f - s) (drop s new) ++ take n zs) (drop-drop (f - s) s new ∙ ap (λ k. drop k new) whole)
     ∙ ap (λ zs. zs ++ take n (drop f new)) (slice_range-same_front old new s f le h)
 
-pub unread_length : (feed : Feed) → start_of feed + length (feed_state feed).unread ≡ feed.window.filled
-unread_length feed =
-    let w = feed.window in
+pub unread_length : (cursor : FileCursor) → start_of cursor + length (cursor_state cursor).unread ≡ cursor.buffer.filled
+unread_length cursor =
+    let w = cursor.buffer in
     let size = length-take-le (w.filled - w.start) (drop w.start w.buffer.items) (omega (arith, length-drop w.start w.buffer.items, w.within, w.ordered, w.buffer.ok.0)) in
     omega (arith, size, w.ordered)
 
-pub unread_within : (feed : Feed) → start_of feed + length (feed_state feed).unread ≤ (feed_state feed).held
-unread_within feed = omega (arith, unread_length feed, feed.window.within)
+pub unread_within : (cursor : FileCursor) → start_of cursor + length (cursor_state cursor).unread ≤ (cursor_state cursor).held
+unread_within cursor = omega (arith, unread_length cursor, cursor.buffer.within)
 
 -- the first unread bytes, in the buffer
-pub front_of_unread : (feed : Feed) (n : ℕ) → n ≤ length (feed_state feed).unread → slice_range (buffer_of feed) (start_of feed) (start_of feed + n) ≡ take n (feed_state feed).unread
-front_of_unread feed n le = sym (take-slice_range (buffer_of feed) (start_of feed) feed.window.filled n (omega (arith, unread_length feed, le)))
+pub front_of_unread : (cursor : FileCursor) (n : ℕ) → n ≤ length (cursor_state cursor).unread → slice_range (buffer_of cursor) (start_of cursor) (start_of cursor + n) ≡ take n (cursor_state cursor).unread
+front_of_unread cursor n le = sym (take-slice_range (buffer_of cursor) (start_of cursor) cursor.buffer.filled n (omega (arith, unread_length cursor, le)))
 
 -- what has passed of a file is never too long
-pub feed_small : (feed : Feed) → (feed_state feed).bytes ≤ file_limit
+pub cursor_small : (cursor : FileCursor) → (cursor_state cursor).bytes ≤ file_limit
 unfolding file_limit
-feed_small feed = omega (arith, feed.small)
+cursor_small cursor = omega (arith, cursor.small)
 
-pub feed_few : (feed : Feed) → (feed_state feed).lines ≤ (feed_state feed).bytes
-feed_few feed = feed.few
+pub cursor_few : (cursor : FileCursor) → (cursor_state cursor).lines ≤ (cursor_state cursor).bytes
+cursor_few cursor = cursor.few
 
 -- what a reader has left behind the bytes that were taken
 consumed_rest : (rest bytes : List ℕ) (left left_after : Option (List ℕ)) → left ≡ Some rest → Consumes left left_after bytes → (rest_after : List ℕ) × (left_after ≡ Some rest_after) × (rest ≡ bytes ++ rest_after)
@@ -48,7 +48,7 @@ consumed_rest rest bytes (Some xs) (Some ys) e c =
     (ys, refl, same ∙ c)
 
 -- a piece that came: the unread bytes and what the reader has left are together as they were
-pub comes_whole : (before after : FeedState) (rest : List ℕ) (left left_after : Option (List ℕ)) → left ≡ Some rest → (come : Comes before left after left_after) → (rest_after : List ℕ) × (left_after ≡ Some rest_after) × (rest ≡ come.piece ++ rest_after) × (after.unread ++ rest_after ≡ before.unread ++ rest)
+pub comes_whole : (before after : CursorState) (rest : List ℕ) (left left_after : Option (List ℕ)) → left ≡ Some rest → (come : Comes before left after left_after) → (rest_after : List ℕ) × (left_after ≡ Some rest_after) × (rest ≡ come.piece ++ rest_after) × (after.unread ++ rest_after ≡ before.unread ++ rest)
 comes_whole before after rest left left_after e come =
     let next = consumed_rest rest come.piece left left_after e come.consumed in
     (next.0, next.1, next.2, ap (λ zs. zs ++ next.0) come.unread ∙ append_assoc before.unread come.piece next.0 ∙ ap (λ zs. before.unread ++ zs) (sym next.2))
@@ -60,5 +60,5 @@ at_end_rest rest (Some xs) e h =
     same ∙ h
 
 -- the end: the reader has nothing left
-pub comes_end : (before after : FeedState) (rest : List ℕ) (left left_after : Option (List ℕ)) → left_after ≡ Some rest → Comes before left after left_after → IsTrue after.ended → rest ≡ []
+pub comes_end : (before after : CursorState) (rest : List ℕ) (left left_after : Option (List ℕ)) → left_after ≡ Some rest → Comes before left after left_after → IsTrue after.ended → rest ≡ []
 comes_end before after rest left left_after e come ended = at_end_rest rest left_after e (come.at_end ended)

@@ -1,6 +1,6 @@
 use Rattle.deb_control.proofs.Common.{seen_of}
 use Rattle.deb_control.proofs.PassingParagraphs.{only_memory, built-unrefused}
-use Rattle.deb_control.proofs.judged.Judged.paragraph.Goals as goal
+use Rattle.deb_control.proofs.checked_view.CheckedView.paragraph.Goals as goal
 
 pub want_of_memory-requires : goal.want_of_memory-requires
 want_of_memory-requires c =

@@ -7,19 +7,19 @@ use Rattle.deb_base.specs.Reading.{piece_limit, IsMemoryOrRead}
 use Rattle.deb_base.specs.declared.fault.Fault.{Fault}
 use Rattle.deb_base.specs.declared.fault.Fault.TheVariants.{Memory}
 use Rattle.deb_syntax.specs.Lines.{file_limit}
-use Rattle.deb_syntax.specs.declared.window.Window.{Window}
-use Rattle.deb_syntax.specs.declared.feed.Feed.{Feed}
-use Rattle.deb_syntax.specs.declared.feed.Sight.{Sight}
-use Rattle.deb_syntax.specs.declared.feed.Tail.{Tail}
-use Rattle.deb_syntax.specs.declared.feed.Tail.TheVariants.{More, Nothing, Beyond}
+use Rattle.deb_syntax.specs.declared.read_buffer.ReadBuffer.{ReadBuffer}
+use Rattle.deb_syntax.specs.declared.file_cursor.FileCursor.{FileCursor}
+use Rattle.deb_syntax.specs.declared.file_cursor.Visible.{Visible}
+use Rattle.deb_syntax.specs.declared.file_cursor.End.{End}
+use Rattle.deb_syntax.specs.declared.file_cursor.End.TheVariants.{More, Eof, Limit}
 
--- the bytes of a window that haven't passed
-abbrev pub unread_of : Window → List ℕ
-unread_of window = slice_range window.buffer.items window.start window.filled
+-- the bytes of a buffer that haven't passed
+abbrev pub unread_of : ReadBuffer → List ℕ
+unread_of buffer = slice_range buffer.buffer.items buffer.start buffer.filled
 
 -- one piece of `count` bytes, which the reader had left and has no longer, came behind the unread
 -- bytes
-pub record Fills (before : Window) (left : Option (List ℕ)) (count : ℕ) (after : Window)
+pub record Fills (before : ReadBuffer) (left : Option (List ℕ)) (count : ℕ) (after : ReadBuffer)
     (left_after : Option (List ℕ)) : Type 0 where
   pub piece : List ℕ
   pub counted : length piece ≡ count
@@ -30,34 +30,34 @@ pub record Fills (before : Window) (left : Option (List ℕ)) (count : ℕ) (aft
 
 -- what has come of a file and hasn't passed; the length of the buffer, room included; how many
 -- bytes and lines of the file have passed; whether a read has told its end
-pub record FeedState : Type 0 where
+pub record CursorState : Type 0 where
   pub unread : List ℕ
   pub held : ℕ
   pub bytes : ℕ
   pub lines : ℕ
   pub ended : Bool
 
-abbrev pub feed_state : Feed → FeedState
-feed_state feed =
+abbrev pub cursor_state : FileCursor → CursorState
+cursor_state cursor =
     record {
-      unread = unread_of feed.window;
-      held = vec_len feed.window.buffer;
-      bytes = feed.bytes;
-      lines = feed.lines;
-      ended = feed.ended;
+      unread = unread_of cursor.buffer;
+      held = vec_len cursor.buffer.buffer;
+      bytes = cursor.bytes;
+      lines = cursor.lines;
+      ended = cursor.ended;
     }
 
 -- all bytes of the buffer: such as have passed, the unread ones, and room
-abbrev pub buffer_of : Feed → List ℕ
-buffer_of feed = feed.window.buffer.items
+abbrev pub buffer_of : FileCursor → List ℕ
+buffer_of cursor = cursor.buffer.buffer.items
 
 -- where the unread bytes begin in the buffer
-abbrev pub start_of : Feed → ℕ
-start_of feed = feed.window.start
+abbrev pub start_of : FileCursor → ℕ
+start_of cursor = cursor.buffer.start
 
 -- One piece, which the reader had left and has no longer, came behind the unread bytes. It is empty
 -- exactly at the end.
-pub record Comes (before : FeedState) (left : Option (List ℕ)) (after : FeedState)
+pub record Comes (before : CursorState) (left : Option (List ℕ)) (after : CursorState)
     (left_after : Option (List ℕ)) : Type 0 where
   pub piece : List ℕ
   pub short : length piece ≤ piece_limit
@@ -75,7 +75,7 @@ left_count None = 0
 left_count (Some rest) = length rest
 
 -- how many bytes of a file have passed or are unread
-abbrev pub had : FeedState → ℕ
+abbrev pub had : CursorState → ℕ
 had state = state.bytes + length state.unread
 
 -- `n` bytes and what a source had left are at most `m` bytes and what it has left afterwards: where
@@ -87,7 +87,7 @@ pub record Takes (n : ℕ) (left : Option (List ℕ)) (m : ℕ) (left_after : Op
   pub few : n + left_count left ≤ m + left_count left_after
 
 -- Nothing came, and nothing of the file has changed but the room behind it.
-pub record Stays (before : FeedState) (left : Option (List ℕ)) (after : FeedState)
+pub record Stays (before : CursorState) (left : Option (List ℕ)) (after : CursorState)
     (left_after : Option (List ℕ)) : Type 0 where
   pub unread : after.unread ≡ before.unread
   pub bytes : after.bytes ≡ before.bytes
@@ -96,8 +96,8 @@ pub record Stays (before : FeedState) (left : Option (List ℕ)) (after : FeedSt
   pub kept : Consumes left left_after []
 
 -- A call that takes one piece of a reader.
-pub record TakesPiece (before : FeedState) (shown : Shown) {T : Type 0} (result : Result T Fault)
-    (after : FeedState) (shown_after : Shown) : Type 0 where
+pub record TakesPiece (before : CursorState) (shown : Shown) {T : Type 0} (result : Result T Fault)
+    (after : CursorState) (shown_after : Shown) : Type 0 where
   pub taken : OnOk result (Comes before shown.bytes after shown_after.bytes)
   pub failed : OnErr result (Stays before shown.bytes after shown_after.bytes)
   pub fault : IfErr result IsMemoryOrRead
@@ -105,25 +105,27 @@ pub record TakesPiece (before : FeedState) (shown : Shown) {T : Type 0} (result 
   pub counted : shown_after.failures ≡ read_failures_after shown.failures result
 
 -- how many bytes of the unread ones and behind them may be looked at, where so many bytes of the
--- file are hidden
-abbrev pub room_of : FeedState → ℕ → ℕ
-room_of state hidden = file_limit - state.bytes - hidden
+-- file are discarded
+abbrev pub room_of : CursorState → ℕ → ℕ
+room_of state overlong_len = file_limit - state.bytes - overlong_len
 
 -- what stands behind the unread bytes that may be looked at: the byte that the file has too many;
 -- nothing; or what the reader has left
-abbrev pub IsTail : FeedState → ℕ → Tail → Type 0
-IsTail state hidden Beyond = room_of state hidden < length state.unread
-IsTail state hidden Nothing = (length state.unread ≤ room_of state hidden) × IsTrue state.ended
-IsTail state hidden More = (length state.unread ≤ room_of state hidden) × IsFalse state.ended
+abbrev pub IsEnd : CursorState → ℕ → End → Type 0
+IsEnd state overlong_len Limit = room_of state overlong_len < length state.unread
+IsEnd state overlong_len Eof = (length state.unread ≤ room_of state overlong_len)
+    × IsTrue state.ended
+IsEnd state overlong_len More = (length state.unread ≤ room_of state overlong_len)
+    × IsFalse state.ended
 
--- what is seen of a file, of which so many bytes are hidden
-pub record Sees (state : FeedState) (hidden : ℕ) (sight : Sight) : Type 0 where
-  pub seen : sight.seen.now ≡ take (room_of state hidden) state.unread
-  pub tail : IsTail state hidden sight.tail
+-- what is seen of a file, of which so many bytes are discarded
+pub record Sees (state : CursorState) (overlong_len : ℕ) (visible : Visible) : Type 0 where
+  pub seen : visible.bytes.now ≡ take (room_of state overlong_len) state.unread
+  pub tail : IsEnd state overlong_len visible.ends
 
 -- so many unread bytes, which are bytes and lines of the file, have passed
-pub record PassesOn (before : FeedState) (skip more_bytes more_lines : ℕ)
-    (after : FeedState) : Type 0 where
+pub record PassesOn (before : CursorState) (skip more_bytes more_lines : ℕ)
+    (after : CursorState) : Type 0 where
   pub unread : after.unread ≡ drop skip before.unread
   pub held : after.held ≡ before.held
   pub bytes : after.bytes ≡ before.bytes + more_bytes
@@ -131,7 +133,7 @@ pub record PassesOn (before : FeedState) (skip more_bytes more_lines : ℕ)
   pub ended : after.ended ≡ before.ended
 
 -- the unread bytes behind the first ones are forgotten
-pub record KeepsFirst (before : FeedState) (count : ℕ) (after : FeedState) : Type 0 where
+pub record KeepsFirst (before : CursorState) (count : ℕ) (after : CursorState) : Type 0 where
   pub unread : after.unread ≡ take count before.unread
   pub held : after.held ≡ before.held
   pub bytes : after.bytes ≡ before.bytes
@@ -143,21 +145,21 @@ longest_piece : (piece_limit ≡ 65536) × (file_limit + piece_limit ≡ 4295032
 unfolding file_limit
 longest_piece = (refl, refl)
 
-unread_bytes_shown : (window : Window) → unread_of window
-    ≡ take (window.filled - window.start) (drop window.start window.buffer.items)
-unread_bytes_shown window = refl
+unread_bytes_shown : (buffer : ReadBuffer) → unread_of buffer
+    ≡ take (buffer.filled - buffer.start) (drop buffer.start buffer.buffer.items)
+unread_bytes_shown buffer = refl
 
-feed_shown : (feed : Feed) → (feed_state feed ≡ record {
-  unread = unread_of feed.window;
-  held = feed.window.buffer.len;
-  bytes = feed.bytes;
-  lines = feed.lines;
-  ended = feed.ended;
-}) × (buffer_of feed ≡ feed.window.buffer.items) × (start_of feed ≡ feed.window.start)
-feed_shown feed = (refl, refl, refl)
+cursor_shown : (cursor : FileCursor) → (cursor_state cursor ≡ record {
+  unread = unread_of cursor.buffer;
+  held = cursor.buffer.buffer.len;
+  bytes = cursor.bytes;
+  lines = cursor.lines;
+  ended = cursor.ended;
+}) × (buffer_of cursor ≡ cursor.buffer.buffer.items) × (start_of cursor ≡ cursor.buffer.start)
+cursor_shown cursor = (refl, refl, refl)
 
 -- five bytes below the most that a file may have have passed, and two are unread
-abbrev near_end : FeedState
+abbrev near_end : CursorState
 near_end = record {
   unread = codes "ab";
   held = 9;

@@ -1,5 +1,5 @@
 -- What stands in the buffer of a reader of paragraphs: the paragraph that was found last, and the
--- line that is hidden.
+-- line that is discarded.
 use Rattle.std.specs.Prelude.{◌≡◌, ◌≢◌, ◌⊎◌, ◌<◌, ◌≤◌, ◌++◌, Result, Ok, Err, ◌+◌, [], length, ℕ, ◌&&◌, Bool, true, nat_le, List, Option, Some, None, IsTrue, get_or, slice_range, false, ◌∷◌, codes, refl}
 use Rattle.std.specs.Str.{is_utf8, chars}
 use lib.Utf8.{encode}
@@ -12,49 +12,51 @@ use Rattle.deb_base.specs.declared.known_fields.FieldId.{FieldId}
 use Rattle.deb_syntax.specs.Ahead.{left_answer, room_ahead, IsAhead, IsNextRun}
 use Rattle.deb_syntax.specs.Extents.{AreBlank, AreNotBlank}
 use Rattle.deb_syntax.specs.Judging.{judged}
-use Rattle.deb_syntax.specs.declared.place.Place.{Place}
-use Rattle.deb_syntax.specs.declared.paragraphs.Standing.{Standing}
+use Rattle.deb_syntax.specs.declared.field_span.FieldSpan.{FieldSpan}
+use Rattle.deb_syntax.specs.declared.paragraphs.CurrentParagraph.{CurrentParagraph}
 use Rattle.deb_syntax.specs.Answers.{Seen}
-use Rattle.deb_syntax.specs.Feeding.{FeedState}
+use Rattle.deb_syntax.specs.Cursors.{CursorState}
 use Rattle.deb_syntax.specs.Fields.{are_fields, are_numbered}
 use Rattle.deb_syntax.specs.Lines.{lines_of, IsClosed, total_length, file_limit}
-use Rattle.deb_syntax.specs.Places.{fields_at, lies_within}
+use Rattle.deb_syntax.specs.FieldSpans.{fields_at, lies_within}
 
--- what stands in a buffer, with its fields at the places
-abbrev pub standing_of : List ℕ → List Place → Standing → Seen
-standing_of buffer places at =
-    record { first = at.first_line; fields = fields_at (slice_range buffer at.from at.to) places }
+-- what stands in a buffer, with its fields in the spans
+abbrev pub current_of : List ℕ → List FieldSpan → CurrentParagraph → Seen
+current_of buffer spans at =
+    record { first = at.first_line; fields = fields_at (slice_range buffer at.from at.to) spans }
 
 -- whether it lies within the buffer, its fields within it, and they can be a paragraph's, with
 -- lines counted from 1
-abbrev pub stands_within : List ℕ → List Place → Option Standing → Bool
-stands_within buffer places None = true
-stands_within buffer places (Some at) =
+abbrev pub stands_within : List ℕ → List FieldSpan → Option CurrentParagraph → Bool
+stands_within buffer spans None = true
+stands_within buffer spans (Some at) =
     nat_le at.from at.to && nat_le at.to (length buffer)
-    && list_all (lies_within (slice_range buffer at.from at.to)) places
-    && (are_fields (standing_of buffer places at).fields
-    && are_numbered at.first_line (standing_of buffer places at).fields)
+    && list_all (lies_within (slice_range buffer at.from at.to)) spans
+    && (are_fields (current_of buffer spans at).fields
+    && are_numbered at.first_line (current_of buffer spans at).fields)
 
--- so many bytes of the file are hidden, which end in front of the unread bytes: with a newline, or
--- with the file
-abbrev pub EndsHidden : ℕ → FeedState → Type 0
-EndsHidden hidden feed =
-    (feed.bytes + hidden ≤ file_limit) × (length feed.unread ≡ 0 → IsTrue feed.ended)
-    × (0 < length feed.unread → (get_or feed.unread 0 newline ≡ newline)
-    × (feed.bytes + hidden + 1 ≤ file_limit))
+-- so many bytes of the file are discarded, which end in front of the unread bytes: with a newline,
+-- or with the file
+abbrev pub EndsOverlong : ℕ → CursorState → Type 0
+EndsOverlong overlong_len cursor =
+    (cursor.bytes + overlong_len ≤ file_limit) × (length cursor.unread ≡ 0 → IsTrue cursor.ended)
+    × (0 < length cursor.unread → (get_or cursor.unread 0 newline ≡ newline)
+    × (cursor.bytes + overlong_len + 1 ≤ file_limit))
 
--- a hidden line, if there is one, is longer than a paragraph may be, its newline counted, and ends
--- there
-abbrev pub HidesLong : ℕ → FeedState → Type 0
-HidesLong hidden feed = 0 < hidden → (paragraph_limit ≤ hidden) × EndsHidden hidden feed
+-- a discarded line, if there is one, is longer than a paragraph may be, its newline counted, and
+-- ends there
+abbrev pub HidesLong : ℕ → CursorState → Type 0
+HidesLong overlong_len cursor = 0 < overlong_len
+    → (paragraph_limit ≤ overlong_len) × EndsOverlong overlong_len cursor
 
 -- what an answer shows that says where a paragraph stands
-abbrev pub standing_answer : List ℕ → List Place → Result Standing Fault → Result Seen Fault
-standing_answer buffer places (Ok at) = Ok (standing_of buffer places at)
-standing_answer buffer places (Err fault) = Err fault
+abbrev pub current_answer : List ℕ → List FieldSpan → Result CurrentParagraph Fault
+    → Result Seen Fault
+current_answer buffer spans (Ok at) = Ok (current_of buffer spans at)
+current_answer buffer spans (Err fault) = Err fault
 
 -- The next paragraph of the text ahead, which has passed.
-pub record PassesNext (text : List ℕ) (before : FeedState) (seen : Seen) (after : FeedState)
+pub record PassesNext (text : List ℕ) (before : CursorState) (seen : Seen) (after : CursorState)
     (left : Option (List ℕ)) : Type 0 where
   pub run : List Line
   pub passed : List ℕ
@@ -76,13 +78,14 @@ pub record PassesNext (text : List ℕ) (before : FeedState) (seen : Seen) (afte
   pub counted : after.lines ≡ before.lines + length (lines_of passed)
 
 -- What is told of the paragraph that begins the text ahead.
-abbrev pub IsPassed : List ℕ → FeedState → Result Seen Fault → FeedState → Option (List ℕ) → Type 0
+abbrev pub IsPassed : List ℕ → CursorState → Result Seen Fault → CursorState → Option (List ℕ)
+    → Type 0
 IsPassed text before (Ok seen) after left = PassesNext text before seen after left
 IsPassed text before (Err fault) after left =
     IsReadersFault fault (λ refusal.
     left_answer (before.lines + 1) (room_ahead before) text ≡ Err refusal)
 
--- for the worked cases: a buffer in which bytes have passed and others are unread, and the places
+-- for the worked cases: a buffer in which bytes have passed and others are unread, and the spans
 -- of the fields of `A: 1`, ` 2` and `B:` in their paragraph
 abbrev buffer : List ℕ
 buffer = codes "\n\nA: 1\n 2\nB:\nC"
@@ -90,8 +93,8 @@ buffer = codes "\n\nA: 1\n 2\nB:\nC"
 abbrev other : FieldId
 other = record { 0 = 54 }
 
-abbrev two_places : List Place
-two_places =
+abbrev two_spans : List FieldSpan
+two_spans =
     record { line = 5; start = 0; colon = 1; end = 7; id = other }
     ∷ record { line = 7; start = 8; colon = 9; end = 10; id = other } ∷ []
 
@@ -102,18 +105,18 @@ two_fields = record {
       ∷ record { name = codes "B"; line = 7; body = [] } ∷ [];
 }
 
-paragraph_in_buffer : (standing_of buffer two_places
+paragraph_in_buffer : (current_of buffer two_spans
     (record { from = 2; to = 12; first_line = 5 }) ≡ two_fields)
-    × (standing_answer buffer two_places (Ok (record { from = 2; to = 12; first_line = 5 }))
+    × (current_answer buffer two_spans (Ok (record { from = 2; to = 12; first_line = 5 }))
     ≡ Ok two_fields)
 paragraph_in_buffer = (refl, refl)
 
-error_shown : (fault : Fault) → standing_answer buffer two_places (Err fault) ≡ Err fault
+error_shown : (fault : Fault) → current_answer buffer two_spans (Err fault) ≡ Err fault
 error_shown fault = refl
 
 -- none, and one that is whole
-paragraphs_within_buffer : (stands_within buffer two_places None ≡ true)
-    × (stands_within buffer two_places (Some (record { from = 2; to = 12; first_line = 5 })) ≡ true)
+paragraphs_within_buffer : (stands_within buffer two_spans None ≡ true)
+    × (stands_within buffer two_spans (Some (record { from = 2; to = 12; first_line = 5 })) ≡ true)
 unfolding paragraph_limit is_utf8 chars encode known_row
 paragraphs_within_buffer = (refl, refl)
 
@@ -121,11 +124,11 @@ paragraphs_within_buffer = (refl, refl)
 -- no number, or two fields have one name
 paragraphs_beyond_buffer : (stands_within buffer []
     (Some (record { from = 12; to = 2; first_line = 5 })) ≡ false)
-    × (stands_within buffer two_places (Some (record { from = 2; to = 99; first_line = 5 }))
+    × (stands_within buffer two_spans (Some (record { from = 2; to = 99; first_line = 5 }))
     ≡ false)
-    × (stands_within buffer two_places (Some (record { from = 2; to = 11; first_line = 5 }))
+    × (stands_within buffer two_spans (Some (record { from = 2; to = 11; first_line = 5 }))
     ≡ false)
-    × (stands_within buffer two_places (Some (record { from = 2; to = 12; first_line = 0 }))
+    × (stands_within buffer two_spans (Some (record { from = 2; to = 12; first_line = 0 }))
     ≡ false)
     × (stands_within (codes "A:a:") (record { line = 1; start = 0; colon = 1; end = 2; id = other }
     ∷ record { line = 2; start = 2; colon = 3; end = 4; id = other } ∷ [])

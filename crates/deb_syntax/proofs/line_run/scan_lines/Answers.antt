@@ -2,7 +2,7 @@ use Rattle.deb_syntax.proofs.Common.{◌∙◌, ◌+◌, ◌∷◌, ◌≤◌, r
 use Rattle.deb_base.specs.Bodies.{paragraph_limit}
 use Rattle.deb_syntax.proofs.WalkingRuns.{CanGoOn-within, CanGoOn-few, run-open-from, run-ended-from, run-step}
 use Rattle.deb_syntax.proofs.LineEnds.{line_ends-step}
-use Rattle.deb_syntax.proofs.line_run.take_lines.Goals as goal
+use Rattle.deb_syntax.proofs.line_run.scan_lines.Goals as goal
 
 pub loop-next-init : goal.loop-next-init
 loop-next-init c = record {
@@ -17,16 +17,16 @@ pub returns-then-not-next-clause-stops : goal.returns-then-not-next-clause-stops
 returns-then-not-next-clause-stops c =
     let text = c.args.text.now in
     let l = c.loop-next in
-    run-open-from text (record { bytes = l.bytes; lines = l.lines; begun = l.begun }) c.along-next.result l.invariant.stands
-    (λ seen d. subst (λ zs. GoesAlong seen zs c.along-next.result) (take_rest text (l.bytes + l.begun.len)) (c.along-next.ensures.goes seen d))
+    run-open-from text (record { bytes = l.bytes; lines = l.lines; partial = l.partial }) c.scan_line-next.result l.invariant.stands
+    (λ seen d. subst (λ zs. GoesAlong seen zs c.scan_line-next.result) (take_rest text (l.bytes + l.partial.len)) (c.scan_line-next.ensures.goes seen d))
     (not-true _ c.if-not-next.true)
 
 pub returns-then-is_blank-clause-stops : goal.returns-then-is_blank-clause-stops
 returns-then-is_blank-clause-stops c =
     let text = c.args.text.now in
     let l = c.loop-next in
-    let e = run-ended-from text (record { bytes = l.bytes; lines = l.lines; begun = l.begun }) c.along-next.result l.invariant.stands
-    (λ seen d. subst (λ zs. GoesAlong seen zs c.along-next.result) (take_rest text (l.bytes + l.begun.len)) (c.along-next.ensures.goes seen d))
+    let e = run-ended-from text (record { bytes = l.bytes; lines = l.lines; partial = l.partial }) c.scan_line-next.result l.invariant.stands
+    (λ seen d. subst (λ zs. GoesAlong seen zs c.scan_line-next.result) (take_rest text (l.bytes + l.partial.len)) (c.scan_line-next.ensures.goes seen d))
     (not-false _ c.if-not-next.false) in
     record {
       lines = e.lines;
@@ -41,8 +41,8 @@ unfolding paragraph_limit
 returns-then-end-ge-PARAGRAPH_LIMIT-clause-stops c =
     let text = c.args.text.now in
     let l = c.loop-next in
-    let e = run-ended-from text (record { bytes = l.bytes; lines = l.lines; begun = l.begun }) c.along-next.result l.invariant.stands
-    (λ seen d. subst (λ zs. GoesAlong seen zs c.along-next.result) (take_rest text (l.bytes + l.begun.len)) (c.along-next.ensures.goes seen d))
+    let e = run-ended-from text (record { bytes = l.bytes; lines = l.lines; partial = l.partial }) c.scan_line-next.result l.invariant.stands
+    (λ seen d. subst (λ zs. GoesAlong seen zs c.scan_line-next.result) (take_rest text (l.bytes + l.partial.len)) (c.scan_line-next.ensures.goes seen d))
     (not-false _ c.if-not-next.false) in
     record {
       lines = e.lines;
@@ -61,16 +61,16 @@ unfolding paragraph_limit
 loop-next-preserved c =
     let text = c.args.text.now in
     let l = c.loop-next in
-    let e = run-ended-from text (record { bytes = l.bytes; lines = l.lines; begun = l.begun }) c.along-next.result l.invariant.stands
-    (λ seen d. subst (λ zs. GoesAlong seen zs c.along-next.result) (take_rest text (l.bytes + l.begun.len)) (c.along-next.ensures.goes seen d))
+    let e = run-ended-from text (record { bytes = l.bytes; lines = l.lines; partial = l.partial }) c.scan_line-next.result l.invariant.stands
+    (λ seen d. subst (λ zs. GoesAlong seen zs c.scan_line-next.result) (take_rest text (l.bytes + l.partial.len)) (c.scan_line-next.ensures.goes seen d))
     (not-false _ c.if-not-next.false) in
-    let short : l.bytes + (c.along-next.result.begun.len + 1) ≤ paragraph_limit = omega (arith, c.if-end-ge-PARAGRAPH_LIMIT.false) in
-    let stands = run-step text (record { bytes = l.bytes; lines = l.lines; begun = c.along-next.result.begun }) c.nothing-begun.result e c.nothing-begun.ensures
+    let short : l.bytes + (c.scan_line-next.result.partial.len + 1) ≤ paragraph_limit = omega (arith, c.if-end-ge-PARAGRAPH_LIMIT.false) in
+    let stands = run-step text (record { bytes = l.bytes; lines = l.lines; partial = c.scan_line-next.result.partial }) c.nothing-partial.result e c.nothing-partial.ensures
     (sym (c.is_blank.ensures e.seen e.stands.describes) ∙ c.if-is_blank.false) short in
     record {
       stands = stands;
       within = CanGoOn-within text _ stands;
       few = CanGoOn-few text _ stands;
       further = omega arith;
-      ends = c.in_ok-push.ensures.items ∙ line_ends-step text (record { bytes = l.bytes; lines = l.lines; begun = c.along-next.result.begun }) l.ends.items e l.invariant.ends;
+      ends = c.in_ok-push.ensures.items ∙ line_ends-step text (record { bytes = l.bytes; lines = l.lines; partial = c.scan_line-next.result.partial }) l.ends.items e l.invariant.ends;
     }

@@ -1,9 +1,9 @@
 use Rattle.deb_syntax.proofs.Common.{◌∙◌, ◌+◌, ◌++◌, take, drop, slice_range, ap, arith, rules, length-drop, length-take-le, with_items_is, places}
-use Rattle.deb_syntax.proofs.Feeds.{slice_range-same_front, slice_range-grown}
-use Rattle.deb_syntax.proofs.window.Window.fill.Goals as goal
+use Rattle.deb_syntax.proofs.CursorLemmas.{slice_range-same_front, slice_range-grown}
+use Rattle.deb_syntax.proofs.read_buffer.ReadBuffer.fill.Goals as goal
 
-pub returns-in-Ok-clause-taken : goal.returns-in-Ok-clause-taken
-returns-in-Ok-clause-taken g c =
+pub returns-in-Ok-clause-fills : goal.returns-in-Ok-clause-fills
+returns-in-Ok-clause-fills g c =
     let mid = c.make_room.new.self in
     let new = c.read_behind.new.buffer in
     let same = with_items_is mid.buffer new (search (rules, places)) in

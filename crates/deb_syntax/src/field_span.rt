@@ -1,10 +1,10 @@
-//! The places of a paragraph's fields in its bytes.
+//! The spans of a paragraph's fields in its bytes.
 
 use deb_base::FieldId;
 
 /// Where a field is in the bytes of its paragraph. The file has fewer than 2^32 bytes.
 #[derive(Clone, Copy)]
-pub(crate) struct Place {
+pub(crate) struct FieldSpan {
     /// The number of the field's first line.
     pub(crate) line: u32,
     /// Where the field's first line, and so its name, begins.

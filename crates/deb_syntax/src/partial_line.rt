@@ -9,19 +9,19 @@ use memchr::memchr;
 
 /// What was seen of a line, without its newline.
 #[derive(Clone, Copy, Debug)]
-pub(crate) struct Begun {
+pub(crate) struct PartialLine {
     /// How many bytes, none of them a newline.
     pub(crate) len: usize,
     /// Whether all of them are spaces and tabs.
     pub(crate) blank: bool,
 }
 
-impl Begun {
+impl PartialLine {
     /// A line of which nothing was seen.
-    pub(crate) fn nothing() -> Begun
+    pub(crate) fn nothing() -> PartialLine
         ensures { Describes result [] }
     {
-        Begun {
+        PartialLine {
             len: 0,
             blank: true,
         }
@@ -36,13 +36,13 @@ impl Begun {
     }
 
     /// The same line with more bytes of it.
-    fn with(self, bytes: &[u8]) -> Begun
+    fn with(self, bytes: &[u8]) -> PartialLine
         requires { self.len + length bytes.now < 2 ^ 64 }
         ensures describes { (seen : List ℕ) → Describes self seen → HasNoNewline bytes.now
             → Describes result (seen ++ bytes.now) }
         ensures longer { self.len ≤ result.len }
     {
-        Begun {
+        PartialLine {
             len: self.len + bytes.len(),
             blank: self.blank && is_only_blanks(bytes),
         }
@@ -51,27 +51,27 @@ impl Begun {
 
 /// How far a line goes in bytes that hadn't been looked at.
 #[derive(Clone, Copy, Debug)]
-pub(crate) struct AlongLine {
+pub(crate) struct LineScan {
     /// The line, with what these bytes add to it.
-    pub(crate) begun: Begun,
+    pub(crate) partial: PartialLine,
     /// Whether its newline is among them.
     pub(crate) ended: bool,
 }
 
 /// Goes on along a line through bytes that haven't been looked at: to its newline, or through all
 /// of them.
-pub(crate) fn along(fresh: &[u8], begun: Begun) -> AlongLine
-    requires { begun.len + length fresh.now < 2 ^ 64 }
-    ensures goes { (seen : List ℕ) → Describes begun seen → GoesAlong seen fresh.now result }
-    ensures longer { begun.len ≤ result.begun.len }
+pub(crate) fn scan_line(fresh: &[u8], partial: PartialLine) -> LineScan
+    requires { partial.len + length fresh.now < 2 ^ 64 }
+    ensures goes { (seen : List ℕ) → Describes partial seen → GoesAlong seen fresh.now result }
+    ensures longer { partial.len ≤ result.partial.len }
 {
     match memchr(b'\n', fresh) {
-        Some(len) => AlongLine {
-            begun: begun.with(&fresh[..len]),
+        Some(len) => LineScan {
+            partial: partial.with(&fresh[..len]),
             ended: true,
         },
-        None => AlongLine {
-            begun: begun.with(fresh),
+        None => LineScan {
+            partial: partial.with(fresh),
             ended: false,
         },
     }
