@@ -59,6 +59,40 @@ fn canonical_text(rt: HostRuntime) {
     assert!(rt; has_text(rt.alloc(), b"01.0-a00-00", b"1.0-a-0") == Some(true));
 }
 
+/// Whether a version has this key, after what is in the list; None where a call fails.
+fn has_key(alloc: Global, text: &[u8], key: &[u8]) -> Option<bool> {
+    let version = Version::parse(text).ok()?;
+    let mut out = vec![in alloc; b'='; 2_000].ok()?;
+    version.key_into(&mut out).ok()?;
+    Some(out.get(2_000..) == Some(key))
+}
+
+#[test]
+fn version_keys(rt: HostRuntime) {
+    let with_tilde = b"\x01\x00\x02\x011\xae\x02\x00\x01rc\x02\x011\x02\x02\x00\x02";
+    assert!(rt; has_key(rt.alloc(), b"0:1.00~rc01-0", with_tilde) == Some(true));
+    let with_epoch = b"\x01\x012\x02\x011\xae\x02\x00\x02\x02\x013\x02";
+    assert!(rt; has_key(rt.alloc(), b"2:1.0-3", with_epoch) == Some(true));
+}
+
+/// A long number, as a version.
+const NINES: [u8; 515] = [b'9'; 515];
+
+/// Whether the key of a version of so many nines begins with these bytes; None where a call fails.
+fn begins_key(alloc: Global, count: usize, begin: &[u8]) -> Option<bool> {
+    let version = Version::parse(NINES.get(..count)?).ok()?;
+    let mut out = Vec::new(alloc);
+    version.key_into(&mut out).ok()?;
+    Some(out.starts_with(begin))
+}
+
+#[test]
+fn keys_of_long_numbers(rt: HostRuntime) {
+    assert!(rt; begins_key(rt.alloc(), 239, b"\x01\x00\x02\xef99") == Some(true));
+    assert!(rt; begins_key(rt.alloc(), 240, b"\x01\x00\x02\xf0\xf099") == Some(true));
+    assert!(rt; begins_key(rt.alloc(), 515, b"\x01\x00\x02\xf1\x02\x0399") == Some(true));
+}
+
 /// How two versions compare; None where one is none.
 fn order_of(a: &[u8], b: &[u8]) -> Option<Ordering> {
     Some(Version::parse(a).ok()?.cmp(&Version::parse(b).ok()?))
