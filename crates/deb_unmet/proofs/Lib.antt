@@ -3,3 +3,4 @@ pub mod Readings
 pub mod Meanings
 pub mod Values
 pub mod Groups
+pub mod Decided

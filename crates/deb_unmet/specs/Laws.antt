@@ -1,22 +1,28 @@
 -- Laws of lines: canonical text changes none, and a group has one by its readings. Debian Policy 5.1,
 -- 7.1 and 11.1; the canonical text is this project's own.
-use Rattle.std.specs.Prelude.{◌≡◌, ℕ, Bool, true, List, None, Some}
+use Rattle.std.specs.Prelude.{◌≡◌, ℕ, Bool, true, false, List, [], ◌∷◌, map, Option, None, Some, codes, refl}
+use Rattle.std.specs.List.{list_any}
 use Rattle.std.specs.Str.{bytes_eq}
 use Rattle.deb_relation.specs.Applying.{Environment}
 use Rattle.deb_relation.specs.Meaning.{Group}
 use Rattle.deb_base.specs.declared.doc.Doc.TheVariants.{Packages}
 use Rattle.deb_control.specs.Documents.{Meaning, Accepted, canonical_text}
+use Rattle.deb_index.specs.Alternatives.{alone, with_list}
 use Rattle.deb_index.specs.Listed.{Listed}
 use Rattle.deb_index.specs.Listing.{ListsAll}
 use Rattle.deb_index.specs.Reports.{group_verdict}
 use Rattle.deb_index.specs.declared.verdict.Verdict.{Verdict}
-use Rattle.deb_index.specs.declared.verdict.Verdict.TheVariants.{Unmet}
+use Rattle.deb_index.specs.declared.verdict.Verdict.TheVariants.{Ignored, Met, Unmet}
 use Rattle.deb_unmet.specs.Asked.{doc_of}
 use Rattle.deb_unmet.specs.Asking.{asks_of}
 use Rattle.deb_unmet.specs.Files.{file_lines}
 use Rattle.deb_unmet.specs.GroupReadings.{EachReading, IsMeaning, SomeReading, verdict_in}
+use Rattle.deb_unmet.specs.Readings.{applies_by}
 use Rattle.deb_unmet.specs.Troubles.{can_be_otherwise, can_be_unmet, trouble}
+use Rattle.deb_unmet.specs.declared.applying.Applies.{Applies}
+use Rattle.deb_unmet.specs.declared.applying.Applies.TheVariants.{Surely, Maybe, Never}
 use Rattle.deb_unmet.specs.declared.asked.Asked.{Asked}
+use Rattle.deb_unmet.specs.declared.trouble.Trouble.{Trouble}
 use Rattle.deb_unmet.specs.declared.trouble.Trouble.TheVariants as troubles
 
 -- The lines don't change if the index, the file or both are replaced by their canonical text.
@@ -87,3 +93,39 @@ QueryReadsNames =
     (environment : Environment) (packages : List Listed) (group : Group)
     → group_verdict environment packages group
     ≡ verdict_in (λ name. bytes_eq name environment.target) environment packages group
+
+-- no alternative's list may be read in two ways
+abbrev pub is_undecided : Applies → Bool
+is_undecided Surely = false
+is_undecided Maybe = true
+is_undecided Never = false
+
+abbrev pub some_undecided : Environment → Group → Bool
+some_undecided environment group = list_any (λ a. is_undecided (applies_by environment a)) group
+
+abbrev pub unmet_alone : Verdict → Option Trouble
+unmet_alone Ignored = None
+unmet_alone Met = None
+unmet_alone Unmet = Some troubles.Unmet
+
+-- Where none may be read in two ways, a group has a line exactly if its verdict in a query is that
+-- it is unmet, and the line says so.
+abbrev pub DecidedAsQueried : Type 0
+DecidedAsQueried =
+    (environment : Environment) (packages : List Listed) (group : Group)
+    → some_undecided environment group ≡ false
+    → trouble environment packages group ≡ unmet_alone (group_verdict environment packages group)
+
+worked-undecided : map is_undecided (Surely ∷ Maybe ∷ Never ∷ []) ≡ false ∷ true ∷ false ∷ []
+worked-undecided = refl
+
+worked-groups : map
+    (λ group. some_undecided (record { target = codes "amd64"; profiles = [] }) group)
+    ((alone (codes "aa") ∷ with_list (codes "bb") false (codes "i386") ∷ [])
+    ∷ (alone (codes "aa") ∷ with_list (codes "bb") false (codes "linux-any") ∷ []) ∷ [] ∷ [])
+    ≡ false ∷ true ∷ false ∷ []
+worked-groups = refl
+
+worked-verdicts : map unmet_alone (Ignored ∷ Met ∷ Unmet ∷ [])
+    ≡ None ∷ None ∷ Some troubles.Unmet ∷ []
+worked-verdicts = refl

@@ -1,6 +1,6 @@
 //! Laws of the lines of a file. Each function does nothing; its contract is the law.
 
-ghost use Rattle.deb_unmet.specs.Laws.{CanonicalTextChangesNoLine, LinesAreSound, LinesSayReadings, QueryReadsNames, ReadingsDecide};
+ghost use Rattle.deb_unmet.specs.Laws.{CanonicalTextChangesNoLine, DecidedAsQueried, LinesAreSound, LinesSayReadings, QueryReadsNames, ReadingsDecide};
 
 /// The lines of a file don't change if the index, the file or both are replaced by their canonical
 /// text.
@@ -30,4 +30,10 @@ pub fn lines_are_sound()
 /// it is the target's own.
 pub fn query_reads_names()
     ensures { QueryReadsNames }
+{}
+
+/// If no architecture list of a group may be read in two ways, the group has a line exactly if
+/// `query` reports it as unmet, and the line says `unmet`.
+pub fn decided_as_queried()
+    ensures { DecidedAsQueried }
 {}
