@@ -1,3 +1,5 @@
+pub mod Parts
+pub mod Commas
 pub mod PackageBuilder
 pub mod ShownValues
 pub mod ListedValues
@@ -13,4 +15,7 @@ pub mod Joined
 pub mod Meetings
 pub mod Neighbours
 pub mod ProvidedOrder
+pub mod VersionPlaces
+pub mod Cutting
 pub mod SomeMeets
+pub mod Stored

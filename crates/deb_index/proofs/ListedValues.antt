@@ -1,5 +1,5 @@
 -- The values of a paragraph of an index of packages: which are there, and what the bodies of the fields mean.
-use Rattle.std.proofs.Common.{◌≡◌, ◌⊎◌, inl, inr, ℕ, ◌&&◌, Bool, true, false, is_some, List, map, Option, None, Some, IsTrue, codes, refl, sym, ap, subst, ◌∙◌}
+use Rattle.std.proofs.Common.{◌≡◌, ◌⊎◌, inl, inr, ℕ, ◌&&◌, Bool, true, false, is_some, List, [], Option, None, Some, IfSome, IsTrue, codes, refl, sym, ap, subst, ◌∙◌}
 use Rattle.std.proofs.lemmas.Bool.{false≢true}
 use Rattle.std.specs.FinMap.{find}
 use Rattle.std.specs.Option.{option_map}
@@ -30,12 +30,20 @@ use Rattle.deb_control.proofs.FieldValues.{has_values-have_names}
 use Rattle.deb_control.proofs.Passing.{built-parts}
 use Rattle.deb_control.proofs.PassingParagraphs.{field-body, none-passing, values-passing}
 use Rattle.deb_control.proofs.ValueBodies.{one_paragraph, value_at}
-use Rattle.deb_version.specs.Kept.{kept_version}
-use Rattle.deb_index.specs.Kept.{provision_of}
-use Rattle.deb_index.specs.PackageBuilder.{KeepsVisited, bytes_in, shown_of}
+use Rattle.deb_version.specs.Grammar.{SpellsVersion}
+use Rattle.deb_version.proofs.CanonicalTexts.{canonical_text_spells}
+use Rattle.deb_relation.specs.Grammar.{SpellsRelation}
+use Rattle.deb_relation.specs.Regular.{IsRegularRelation}
+use Rattle.deb_relation.specs.Texts.{relation_text}
+use Rattle.deb_relation.proofs.Regular.{relation_regular}
+use Rattle.deb_index.specs.PackageBuilder.{KeepsPackage, KeepsVisited, shown_of, text_or_nothing}
 use Rattle.deb_index.specs.declared.paragraph.PackageBuilder.{PackageBuilder}
-use Rattle.deb_index.specs.Listed.{Provision}
+use Rattle.deb_index.specs.Listed.{Listed, Provision, provisions_in, provisions_of}
 use Rattle.deb_index.specs.Listing.{HasProvisions, SeenLists}
+
+-- some text spells a relation
+abbrev IsSpelled : Relation → Type 0
+IsSpelled m = (text : List ℕ) × SpellsRelation text m
 
 -- a paragraph has one list of values
 pub one_list_of_values : (seen : Seen) (values others : ValueEntries ValueMeaning) → AreValuesOf Packages seen values → AreValuesOf Packages seen others → values ≡ others
@@ -97,11 +105,11 @@ module _ (seen : Seen) (passes : IsTrue (is_judged Packages seen)) (fields : are
     | inr s ↦ (s.2.0, s.3 ∙ ap Some s.2.1)
   ]
 
-  version-said : (o : Option ValueMeaning) → HasValue Packages seen (codes "Version") o → (version : Version) × (o ≡ Some (VersionMeans version))
+  version-said : (o : Option ValueMeaning) → HasValue Packages seen (codes "Version") o → (version : Version) × (o ≡ Some (VersionMeans version)) × (body : List ℕ) × SpellsVersion body version
   unfolding kind_of kind_at known_row
   version-said o has = elim (under (codes "Version") o has) [
     | inl none ↦ absurd (version-there (subst (HasValue Packages seen (codes "Version")) none has))
-    | inr s ↦ (s.2.0, s.3 ∙ ap Some s.2.1)
+    | inr s ↦ (s.2.0, s.3 ∙ ap Some s.2.1, s.1, s.2.2)
   ]
 
   multi_arch-said : (o : Option ValueMeaning) → HasValue Packages seen (codes "Multi-Arch") o → (word : Option MultiArch) × (o ≡ option_map MultiArchMeans word)
@@ -111,11 +119,11 @@ module _ (seen : Seen) (passes : IsTrue (is_judged Packages seen)) (fields : are
     | inr s ↦ (Some s.2.0, s.3 ∙ ap Some s.2.1)
   ]
 
-  provides-said : (o : Option ValueMeaning) → HasValue Packages seen (codes "Provides") o → (relation : Option Relation) × (o ≡ option_map RelationMeans relation)
+  provides-said : (o : Option ValueMeaning) → HasValue Packages seen (codes "Provides") o → (relation : Option Relation) × (o ≡ option_map RelationMeans relation) × IfSome relation IsSpelled
   unfolding kind_of kind_at known_row
   provides-said o has = elim (under (codes "Provides") o has) [
-    | inl none ↦ (None, none)
-    | inr s ↦ (Some s.2.0, s.3 ∙ ap Some s.2.1)
+    | inl none ↦ (None, none, tt)
+    | inr s ↦ (Some s.2.0, s.3 ∙ ap Some s.2.1, (s.1, s.2.2.spells))
   ]
 
 -- what was read of a paragraph is the package that it lists
@@ -142,24 +150,28 @@ lists-read seen name version architecture multi_arch provisions named versioned 
     under : (name : List ℕ) (o : Option ValueMeaning) → (has : HasValue Packages seen name o) → find byte_order (canonical_name name) named.values ≡ o
     under name o has = ap (find byte_order (canonical_name name)) (one_list_of_values seen named.values has.values named.are has.are) ∙ sym has.found
 
-pub lists-same : (seen : Seen) (n m : List ℕ) (v w : Version) (a b : List ℕ) (word : Option MultiArch) (ps qs : List Provision) → n ≡ m → v ≡ w → a ≡ b → ps ≡ qs
-    → SeenLists seen (record { name = n; version = v; architecture = a; multi_arch = word; provisions = ps })
-    → SeenLists seen (record { name = m; version = w; architecture = b; multi_arch = word; provisions = qs })
-lists-same seen n m v w a b word ps qs names versions architectures provisions lists =
-    subst (λ x. SeenLists seen (record { name = m; version = w; architecture = b; multi_arch = word; provisions = x })) provisions
-    (subst (λ x. SeenLists seen (record { name = m; version = w; architecture = x; multi_arch = word; provisions = ps })) architectures
-    (subst (λ x. SeenLists seen (record { name = m; version = x; architecture = a; multi_arch = word; provisions = ps })) versions
-    (subst (λ x. SeenLists seen (record { name = x; version = v; architecture = a; multi_arch = word; provisions = ps })) names lists)))
-
--- what was kept of its fields is that package
+-- what was kept of its fields are the texts of that package
 pub record ListsKept (kept : PackageBuilder) (seen : Seen) : Type 0 where
-  pub name : List ℕ
-  pub version : Version
-  pub architecture : List ℕ
-  pub name_is : option_map bytes_in kept.name ≡ Some name
-  pub version_is : option_map kept_version kept.version ≡ Some version
-  pub architecture_is : option_map bytes_in kept.architecture ≡ Some architecture
-  pub lists : SeenLists seen (record { name = name; version = version; architecture = architecture; multi_arch = kept.multi_arch; provisions = map provision_of kept.provisions.entries.items })
+  pub listed : Listed
+  pub keeps : KeepsPackage kept listed
+  pub lists : SeenLists seen listed
+
+-- what stands in Provides, if it is there: a regular relation
+abbrev relation_in : Option Relation → Relation
+relation_in None = []
+relation_in (Some m) = m
+
+provides-regular : (o : Option Relation) → IfSome o IsSpelled → IsRegularRelation (relation_in o)
+provides-regular None is = record { groups = tt; ascend = tt }
+provides-regular (Some m) is = relation_regular is.0 m is.1
+
+provides-text : (o : Option Relation) → text_or_nothing relation_text o ≡ relation_text (relation_in o)
+provides-text None = refl
+provides-text (Some m) = refl
+
+provides-provisions : (o : Option Relation) → provisions_in o ≡ provisions_of (relation_in o)
+provides-provisions None = refl
+provides-provisions (Some m) = refl
 
 pub lists-kept : (kept : PackageBuilder) (seen : Seen) → VisitsValues KeepsVisited kept Packages seen → ListsKept kept seen
 lists-kept kept seen keeps =
@@ -172,17 +184,29 @@ lists-kept kept seen keeps =
     let word = multi_arch-said seen passes keeps.fields (shown (codes "Multi-Arch")) (are (codes "Multi-Arch")) in
     let provides = provides-said seen passes keeps.fields (shown (codes "Provides")) (are (codes "Provides")) in
     record {
-      name = name.0;
-      version = version.0;
-      architecture = architecture.0;
-      name_is = keeps.visits.name.follows (Some name.0) name.1;
-      version_is = keeps.visits.version.follows (Some version.0) version.1;
-      architecture_is = keeps.visits.architecture.follows (Some architecture.0) architecture.1;
+      listed = record {
+        name = name.0;
+        version = version.0;
+        architecture = architecture.0;
+        multi_arch = kept.multi_arch;
+        provisions = provisions_in provides.0;
+      };
+      keeps = record {
+        relation = relation_in provides.0;
+        name = keeps.visits.name.follows (Some name.0) name.1;
+        version = keeps.visits.version.follows (Some version.0) version.1;
+        spelled = canonical_text_spells version.2 version.0 version.3;
+        architecture = keeps.visits.architecture.follows (Some architecture.0) architecture.1;
+        multi_arch = refl;
+        provides = keeps.visits.provides.follows provides.0 provides.1 ∙ provides-text provides.0;
+        regular = provides-regular provides.0 provides.2;
+        provisions = provides-provisions provides.0;
+      };
       lists =
-          lists-read seen name.0 version.0 architecture.0 kept.multi_arch (map provision_of kept.provisions.entries.items)
+          lists-read seen name.0 version.0 architecture.0 kept.multi_arch (provisions_in provides.0)
           (subst (HasValue Packages seen (codes "Package")) name.1 (are (codes "Package")))
           (subst (HasValue Packages seen (codes "Version")) version.1 (are (codes "Version")))
           (subst (HasValue Packages seen (codes "Architecture")) architecture.1 (are (codes "Architecture")))
           (subst (HasValue Packages seen (codes "Multi-Arch")) (word.1 ∙ ap (option_map MultiArchMeans) (sym (keeps.visits.multi_arch.follows word.0 word.1))) (are (codes "Multi-Arch")))
-          (record { provides = provides.0; has = subst (HasValue Packages seen (codes "Provides")) provides.1 (are (codes "Provides")); are = keeps.visits.provisions.follows provides.0 provides.1 });
+          (record { provides = provides.0; has = subst (HasValue Packages seen (codes "Provides")) provides.1 (are (codes "Provides")); are = refl });
     }

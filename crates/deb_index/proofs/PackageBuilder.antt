@@ -17,9 +17,10 @@ use Rattle.deb_field.specs.declared.value.Value.TheVariants as values
 use Rattle.deb_version.specs.Parts.{Meaning as Parts}
 use Rattle.deb_version.specs.declared.version.Version.{Version}
 use Rattle.deb_relation.specs.Meaning.{Relation}
+use Rattle.deb_relation.specs.Texts.{relation_text}
+use Rattle.deb_version.specs.Canonical.{version_text}
 use Rattle.deb_control.specs.Visiting.{Visit}
-use Rattle.deb_index.specs.PackageBuilder.{KeepsShown, KeepsFields, KeepsMore, KeepsVisited, ShownValues, itself, none_shown, shown_of, shown_with}
-use Rattle.deb_index.specs.Listed.{provisions_in}
+use Rattle.deb_index.specs.PackageBuilder.{KeepsShown, KeepsFields, KeepsMore, KeepsVisited, ShownValues, itself, none_shown, shown_of, shown_with, text_or_nothing}
 use Rattle.deb_index.specs.declared.paragraph.PackageBuilder.{PackageBuilder}
 
 -- a value that is of another kind, or under another name, says nothing
@@ -51,13 +52,13 @@ pub keeps-still : (kept : PackageBuilder) (name : List ℕ) (v : ValueMeaning) (
     → ((n : Word) → v ≡ MultiArchMeans n → is_under name (codes "Multi-Arch") ≡ false)
     → ((n : Relation) → v ≡ RelationMeans n → is_under name (codes "Provides") ≡ false)
     → KeepsFields kept shown → KeepsFields kept (shown_with name v shown)
-keeps-still kept name v shown named versioned of_architecture of_word provides before =
+keeps-still kept name v shown named versioned of_architecture of_word provided before =
     record {
-      name = value-still NameMeans itself (is_under name (codes "Package")) v (shown (codes "Package")) _ named before.name;
-      version = value-still VersionMeans itself (is_under name (codes "Version")) v (shown (codes "Version")) _ versioned before.version;
-      architecture = value-still ArchitectureMeans itself (is_under name (codes "Architecture")) v (shown (codes "Architecture")) _ of_architecture before.architecture;
+      name = value-still NameMeans (text_or_nothing itself) (is_under name (codes "Package")) v (shown (codes "Package")) _ named before.name;
+      version = value-still VersionMeans (text_or_nothing version_text) (is_under name (codes "Version")) v (shown (codes "Version")) _ versioned before.version;
+      architecture = value-still ArchitectureMeans (text_or_nothing itself) (is_under name (codes "Architecture")) v (shown (codes "Architecture")) _ of_architecture before.architecture;
       multi_arch = value-still MultiArchMeans itself (is_under name (codes "Multi-Arch")) v (shown (codes "Multi-Arch")) _ of_word before.multi_arch;
-      provisions = value-still RelationMeans provisions_in (is_under name (codes "Provides")) v (shown (codes "Provides")) _ provides before.provisions;
+      provides = value-still RelationMeans (text_or_nothing relation_text) (is_under name (codes "Provides")) v (shown (codes "Provides")) _ provided before.provides;
     }
 
 -- whether a value is of a kind that is kept
@@ -103,10 +104,3 @@ keeps-others kept name v shown a b c d e before =
 pub visits-more : {T E : Type 0} (old new : PackageBuilder) (result : Result T E) (visit : Visit) → KeepsMore old new result visit.0.name visit.1 → (visited : List Visit) → KeepsVisited old visited → OnOk result (KeepsVisited new (visited ++ visit ∷ []))
 visits-more old new result visit more visited keeps =
     subst (λ shown. OnOk result (KeepsFields new shown)) (sym (fold-append (λ shown v. shown_with v.0.name v.1 shown) none_shown visited (visit ∷ []))) (more (shown_of visited) keeps)
-
--- what was taken was there
-pub none-taken : {A B : Type 0} (f : A → B) (o taken : Option A) (b : B) → taken ≡ None → taken ≡ o → option_map f o ≡ Some b → ⊥
-none-taken f o taken b none same is = let e : None ≡ Some b = ap (option_map f) (sym none ∙ same) ∙ is in cc
-
-pub some-taken : {A B : Type 0} (f : A → B) (o taken : Option A) (a : A) (b : B) → taken ≡ Some a → taken ≡ o → option_map f o ≡ Some b → b ≡ f a
-some-taken f o taken a b some same is = let e : Some (f a) ≡ Some b = ap (option_map f) (sym some ∙ same) ∙ is in cc

@@ -1,5 +1,5 @@
 -- What a relation provides stands in the byte order of its names, since its groups stand in that of their texts.
-use Rattle.std.proofs.Common.{◌≡◌, ℕ, ◌==◌, ◌&&◌, ◌<◌, Bool, true, false, cond, IsTrue, List, [], ◌∷◌, ◌++◌, length, map, Option, None, Some, Ok, is_none, append-nil, refl, sym, ap, ◌∙◌, arith, rules, tests}
+use Rattle.std.proofs.Common.{◌≡◌, ℕ, ◌==◌, ◌&&◌, ◌<◌, Bool, true, false, cond, IsTrue, List, [], ◌∷◌, ◌++◌, length, map, Option, None, Some, is_none, append-nil, refl, sym, ap, ◌∙◌, arith, rules, tests}
 use Rattle.std.specs.List.{AllByRecursion, AllPairs}
 use Rattle.std.specs.Ordering.{is_gt, nat_cmp, ordering_then}
 use Rattle.std.specs.declared.cmp.Ordering.{Ordering}
@@ -13,12 +13,10 @@ use Rattle.deb_version.specs.Parts.{Meaning as Version}
 use Rattle.deb_relation.specs.declared.operator.Op.{Op}
 use Rattle.deb_relation.specs.Laws.{Ascends}
 use Rattle.deb_relation.specs.Meaning.{Restrictions, Alternative, Relation}
-use Rattle.deb_relation.specs.Reading.{relation_in}
 use Rattle.deb_relation.specs.Sets.{byte_cmp}
 use Rattle.deb_relation.specs.Texts.{bound_text, group_text}
 use Rattle.deb_relation.proofs.Bytes.{package_bytes}
-use Rattle.deb_relation.proofs.ReadRelation.{relation_took}
-use Rattle.deb_relation.proofs.Regular.{IsRegular, IsRegularGroup, relation_regular}
+use Rattle.deb_relation.proofs.Regular.{IsRegular, IsRegularGroup, IsRegularRelation}
 use Rattle.deb_relation.proofs.Runs.{Passes}
 use Rattle.deb_relation.proofs.SetLemmas.{first_less, tail-ascends}
 use Rattle.deb_index.specs.Listed.{Provision, is_plain, provision_in, provisions_of}
@@ -100,8 +98,6 @@ ascend ((a ∷ []) ∷ groups) all ascends = go (ascend groups all.1 (tail-ascen
     go rest true is = AllPairs-cons IsNotAfter a.name (names_in (provisions_of groups)) (All-from_recursion (IsNotAfter a.name) (names_in (provisions_of groups)) (later a is all.0.each.0 groups all.1 (first_less group_text (a ∷ []) groups ascends))) rest
     go rest false is = rest
 
--- so do the names that a relation provides which its own text spells
-pub names_ascend : (text : List ℕ) (m : Relation) → relation_in text ≡ Ok m → AllPairs IsNotAfter (names_in (provisions_of m))
-names_ascend text m is =
-    let regular = relation_regular text m (relation_took text m is) in
-    ascend m regular.groups regular.ascend
+-- so do the names that a regular relation provides
+pub provided_ascend : (m : Relation) → IsRegularRelation m → AllPairs IsNotAfter (names_in (provisions_of m))
+provided_ascend m regular = ascend m regular.groups regular.ascend

@@ -1,26 +1,16 @@
--- What the values that an index keeps stand for.
-use Rattle.std.specs.Prelude.{map, Option, Some, None, List, [], ◌∷◌}
-use Rattle.std.specs.Option.{option_map}
-use Rattle.deb_relation.specs.Meaning.{Alternative}
-use Rattle.deb_index.specs.Listed.{Provision, Listed, provision_in}
-use Rattle.deb_version.specs.Kept.{kept_version}
+-- What the packages that an index lends stand for.
+use Rattle.std.specs.Prelude.{map}
+use Rattle.deb_version.specs.Places.{version_in}
+use Rattle.deb_index.specs.Entries.{provision_at}
+use Rattle.deb_index.specs.Listed.{Listed}
 use Rattle.deb_index.specs.declared.package.Package.{Package}
-use Rattle.deb_index.specs.declared.provision.Provision.{Provision as Provided}
-
-abbrev pub provision_of : Provided → Provision
-provision_of p = record { name = p.name.items; version = option_map kept_version p.version }
 
 abbrev pub listed_of : Package → Listed
 listed_of p =
     record {
-      name = p.name.items;
-      version = kept_version p.version;
-      architecture = p.architecture.items;
+      name = p.name.now;
+      version = version_in p.version.now;
+      architecture = p.architecture.now;
       multi_arch = p.multi_arch;
-      provisions = map provision_of p.provisions.entries.items;
+      provisions = map (provision_at p.provisions.text.now) p.provisions.entries.now;
     }
-
--- what an entry provides, if there is one
-abbrev pub entry_provisions : Option Alternative → List Provision
-entry_provisions None = []
-entry_provisions (Some entry) = provision_in entry ∷ []

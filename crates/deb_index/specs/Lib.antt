@@ -3,10 +3,13 @@ pub mod Listed
 pub mod Meeting
 pub mod Reports
 pub mod ReportText
+pub mod Spans
+pub mod Entries
+pub mod ProvidedNames
 pub mod Kept
 pub mod PackageBuilder
+pub mod Stores
 pub mod Named
-pub mod ProvidedNames
 pub mod Maps
 pub mod Listing
 pub mod Indexes

@@ -1,16 +1,18 @@
 -- What is kept of a paragraph of an index of packages while it is checked. Debian Policy 5.3,
 -- 5.6.1, 5.6.8, 5.6.12 and 7.5; Multi-Arch is that of deb-control(5).
-use Rattle.std.specs.Prelude.{◌≡◌, List, [], ◌∷◌, ℕ, map, Option, None, Some, Result, OnOk, Vec, cond, codes, refl}
-use Rattle.std.specs.Global.{Global}
+use Rattle.std.specs.Prelude.{◌≡◌, List, [], ◌∷◌, ℕ, Option, None, Some, Result, OnOk, cond, codes, refl}
 use Rattle.std.specs.List.{fold}
 use Rattle.std.specs.Option.{option_map}
 use Rattle.std.specs.Str.{bytes_eq}
 use Rattle.deb_base.specs.Names.{folded}
-use Rattle.deb_version.specs.Kept.{kept_version}
+use Rattle.deb_version.specs.Canonical.{version_text}
+use Rattle.deb_version.specs.Grammar.{SpellsVersion}
+use Rattle.deb_relation.specs.Meaning.{Relation}
+use Rattle.deb_relation.specs.Regular.{IsRegularRelation}
+use Rattle.deb_relation.specs.Texts.{relation_text}
 use Rattle.deb_field.specs.Values.{ValueMeaning, NameMeans, TextMeans, VersionMeans, ArchitectureMeans, MultiArchMeans, RelationMeans}
 use Rattle.deb_control.specs.Visiting.{Visit}
-use Rattle.deb_index.specs.Kept.{provision_of}
-use Rattle.deb_index.specs.Listed.{provisions_in}
+use Rattle.deb_index.specs.Listed.{Listed, provisions_of}
 use Rattle.deb_index.specs.declared.paragraph.PackageBuilder.{PackageBuilder}
 
 -- values by name: the last one under each, without ASCII case
@@ -37,19 +39,34 @@ pub record KeepsShown {A B : Type 0} (means : A → ValueMeaning) (of : Option A
 abbrev pub itself : {A : Type 0} → A → A
 itself a = a
 
-abbrev pub bytes_in : Vec ℕ Global → List ℕ
-bytes_in bytes = bytes.items
+-- a text, or nothing where there is none
+abbrev pub text_or_nothing : {A : Type 0} → (A → List ℕ) → Option A → List ℕ
+text_or_nothing text None = []
+text_or_nothing text (Some a) = text a
 
 -- What is kept is of the values that were shown: those of five names.
 pub record KeepsFields (kept : PackageBuilder) (shown : ShownValues) : Type 0 where
-  pub name : KeepsShown NameMeans itself (option_map bytes_in kept.name) (shown (codes "Package"))
-  pub version : KeepsShown VersionMeans itself (option_map kept_version kept.version)
+  pub name : KeepsShown NameMeans (text_or_nothing itself) kept.name.items
+      (shown (codes "Package"))
+  pub version : KeepsShown VersionMeans (text_or_nothing version_text) kept.version.items
       (shown (codes "Version"))
-  pub architecture : KeepsShown ArchitectureMeans itself (option_map bytes_in kept.architecture)
+  pub architecture : KeepsShown ArchitectureMeans (text_or_nothing itself) kept.architecture.items
       (shown (codes "Architecture"))
   pub multi_arch : KeepsShown MultiArchMeans itself kept.multi_arch (shown (codes "Multi-Arch"))
-  pub provisions : KeepsShown RelationMeans provisions_in
-      (map provision_of kept.provisions.entries.items) (shown (codes "Provides"))
+  pub provides : KeepsShown RelationMeans (text_or_nothing relation_text) kept.provides.items
+      (shown (codes "Provides"))
+
+-- What is kept are the canonical texts of a package.
+pub record KeepsPackage (kept : PackageBuilder) (p : Listed) : Type 0 where
+  pub relation : Relation
+  pub name : kept.name.items ≡ p.name
+  pub version : kept.version.items ≡ version_text p.version
+  pub spelled : SpellsVersion (version_text p.version) p.version
+  pub architecture : kept.architecture.items ≡ p.architecture
+  pub multi_arch : kept.multi_arch ≡ p.multi_arch
+  pub provides : kept.provides.items ≡ relation_text relation
+  pub regular : IsRegularRelation relation
+  pub provisions : p.provisions ≡ provisions_of relation
 
 -- What is kept is of the values that were visited.
 abbrev pub KeepsVisited : PackageBuilder → List Visit → Type 0
@@ -75,3 +92,7 @@ last_value_without_case = (refl, refl, refl)
 value_before_another : shown_with (codes "Tag") (TextMeans (codes "bb")) (shown_of two_visits)
     (codes "Package") ≡ Some (NameMeans (codes "aa"))
 value_before_another = refl
+
+worked-texts : (text_or_nothing itself (Some (codes "aa")) ≡ codes "aa")
+    × (text_or_nothing {A = List ℕ} itself None ≡ [])
+worked-texts = (refl, refl)

@@ -2,10 +2,6 @@
 use Rattle.std.specs.Prelude.{◌≡◌, ℕ, List, true, false, codes, refl}
 use Rattle.std.specs.Ordering.{is_gt}
 use Rattle.deb_relation.specs.Sets.{byte_cmp}
-use Rattle.deb_index.specs.declared.provision.Provision.{Provision}
-
-abbrev pub name_of : Provision → List ℕ
-name_of entry = entry.name.items
 
 -- a name that doesn't come after another
 abbrev pub IsNotAfter : List ℕ → List ℕ → Type 0

@@ -7,7 +7,7 @@ use Rattle.deb_index.specs.declared.report.Answer.{Answer as Answered}
 use Rattle.deb_index.specs.declared.report.Report.{Report}
 
 abbrev pub found_of : Found → Numbered
-found_of found = (found.number, listed_of found.package.now)
+found_of found = (found.number, listed_of found.package)
 
 abbrev pub answer_of : Answered → Answer
 answer_of reported =

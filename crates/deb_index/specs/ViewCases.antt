@@ -1,34 +1,34 @@
 -- Worked cases of what the contracts see of the code's values, which are written out here: each
--- field under its own name, and lists in their order. A version that owns its text is a variable.
-use Rattle.std.specs.Prelude.{◌≡◌, ℕ, ◌^◌, nat_lt, true, List, [], ◌∷◌, length, map, Some, None, Vec, codes, refl}
+-- field under its own name, and lists in their order.
+use Rattle.std.specs.Prelude.{◌≡◌, ℕ, ◌^◌, nat_lt, true, List, [], ◌∷◌, length, map, None, Some, Vec, codes, refl}
 use Rattle.std.specs.Global.{Global}
 use Rattle.std.specs.Option.{option_map_or}
 use Rattle.std.specs.Map.{lookup}
 use Rattle.std.specs.Str.{bytes_eq}
-use Rattle.std.proofs.Common.{ap, arith}
+use Rattle.std.proofs.Common.{ap, arith, ◌∙◌}
 use Rattle.std.proofs.lemmas.Bool.{ltb-true}
 use denote.RawPtr.{null_ptr}
 use denote.Ref.{Bor}
-use Rattle.deb_version.specs.Kept.{kept_version}
+use Rattle.deb_version.specs.Canonical.{version_text}
+use Rattle.deb_version.specs.Faults.{first_fault}
 use Rattle.deb_version.specs.Places.{version_in}
-use Rattle.deb_version.specs.declared.canonical_version.CanonicalVersion.{CanonicalVersion}
-use Rattle.deb_relation.specs.declared.operator.Op.TheVariants.{LaterEqual}
 use Rattle.deb_field.specs.declared.flag.MultiArch.TheVariants.{Foreign}
-use Rattle.deb_index.specs.Alternatives.{alone, with_bound}
+use Rattle.deb_index.specs.Entries.{Places, provision_at}
 use Rattle.deb_index.specs.Indexes.{packages_of}
-use Rattle.deb_index.specs.Kept.{entry_provisions, listed_of, provision_of}
-use Rattle.deb_index.specs.PackageBuilder.{bytes_in, itself}
+use Rattle.deb_index.specs.Kept.{listed_of}
+use Rattle.deb_index.specs.Listed.{Listed, Provision}
+use Rattle.deb_index.specs.PackageBuilder.{itself}
 use Rattle.deb_index.specs.Maps.{numbers_under}
-use Rattle.deb_index.specs.ProvidedNames.{name_of}
 use Rattle.deb_index.specs.Reported.{answer_of, found_of, report_of}
+use Rattle.deb_index.specs.Stores.{listed_by}
 use Rattle.deb_index.specs.declared.index.Index.{Index}
 use Rattle.deb_index.specs.declared.names.Names.{Names}
 use Rattle.deb_index.specs.declared.package.Package.{Package}
-use Rattle.deb_index.specs.declared.provision.Provision.{Provision}
 use Rattle.deb_index.specs.declared.provisions.Provisions.{Provisions}
 use Rattle.deb_index.specs.declared.report.Answer.{Answer}
 use Rattle.deb_index.specs.declared.report.Found.{Found}
 use Rattle.deb_index.specs.declared.report.Report.{Report}
+use Rattle.deb_index.specs.declared.store.Record.{Record}
 use Rattle.deb_index.specs.declared.verdict.Verdict.TheVariants.{Ignored, Met}
 
 -- a reference, and a vector that has room for what it holds
@@ -51,70 +51,73 @@ vector alloc xs short =
 abbrev text : Global → (bytes : List ℕ) → nat_lt (length bytes) (2 ^ 63) ≡ true → Vec ℕ Global
 text alloc bytes short = vector alloc bytes short
 
-worked-bytes : (alloc : Global) → bytes_in (text alloc (codes "aa") refl) ≡ codes "aa"
-worked-bytes alloc = refl
-
 worked-itself : itself (codes "aa") ≡ codes "aa"
 worked-itself = refl
 
--- vv without a version, and ww with one
-abbrev bare : Global → Provision
-bare alloc = record { name = text alloc (codes "vv") refl; version = None }
-
-abbrev versioned : Global → CanonicalVersion → Provision
-versioned alloc version = record { name = text alloc (codes "ww") refl; version = Some version }
-
-worked-name : (alloc : Global) → name_of (bare alloc) ≡ codes "vv"
-worked-name alloc = refl
-
-worked-provisions : (alloc : Global) (version : CanonicalVersion)
-    → map provision_of (bare alloc ∷ versioned alloc version ∷ [])
-    ≡ record { name = codes "vv"; version = None }
-    ∷ record { name = codes "ww"; version = Some (kept_version version) } ∷ []
-worked-provisions alloc version = refl
-
--- an entry of Provides, whatever its operator, and none
-worked-entries : (entry_provisions (Some (with_bound (codes "ww") LaterEqual (codes "2.0")))
-    ≡ record { name = codes "ww"; version = Some (version_in (codes "2.0")) } ∷ [])
-    × (entry_provisions (Some (alone (codes "vv")))
-    ≡ record { name = codes "vv"; version = None } ∷ [])
-    × (entry_provisions None ≡ [])
-worked-entries = (refl, refl, refl)
-
--- aa for all with Multi-Arch `foreign`, which provides these
-abbrev listed : Global → CanonicalVersion → Provisions → Package
-listed alloc version provisions =
+-- aa for all with Multi-Arch `foreign`, which provides vv, and ww in a version
+abbrev listed : Provisions → first_fault (codes "1.0") ≡ None
+    → version_text (version_in (codes "1.0")) ≡ codes "1.0" → Package
+listed provisions faultless canonical =
     record {
-      name = text alloc (codes "aa") refl;
-      version = version;
-      architecture = text alloc (codes "all") refl;
+      name = lent (codes "aa");
+      version = lent (codes "1.0");
+      architecture = lent (codes "all");
+      multi_arch = Some Foreign;
+      provisions = provisions;
+      faultless = faultless;
+      canonical = canonical;
+    }
+
+abbrev provided : List Places
+provided = record { start = 0; name_end = 2; version = 2; end = 2 }
+    ∷ record { start = 4; name_end = 6; version = 10; end = 11 } ∷ []
+
+abbrev foreign : List Provision → Listed
+foreign provisions =
+    record {
+      name = codes "aa";
+      version = version_in (codes "1.0");
+      architecture = codes "all";
       multi_arch = Some Foreign;
       provisions = provisions;
     }
 
-worked-package : (alloc : Global) (own other : CanonicalVersion) (provisions : Provisions)
-    → provisions.entries.items ≡ versioned alloc other ∷ bare alloc ∷ []
-    → listed_of (listed alloc own provisions)
-    ≡ record {
-      name = codes "aa";
-      version = kept_version own;
-      architecture = codes "all";
-      multi_arch = Some Foreign;
-      provisions = record { name = codes "ww"; version = Some (kept_version other) }
-          ∷ record { name = codes "vv"; version = None } ∷ [];
-    }
-worked-package alloc own other provisions are =
-    ap (λ entries. record {
-      name = codes "aa";
-      version = kept_version own;
-      architecture = codes "all";
-      multi_arch = Some Foreign;
-      provisions = map provision_of entries;
-    }) are
+abbrev two : List Provision
+two = record { name = codes "vv"; version = None }
+    ∷ record { name = codes "ww"; version = Some (version_in (codes "2")) } ∷ []
 
-worked-packages : (index : Index) (p q : Package) → index.packages.items ≡ p ∷ q ∷ p ∷ []
-    → packages_of index ≡ listed_of p ∷ listed_of q ∷ listed_of p ∷ []
-worked-packages index p q are = ap (map listed_of) are
+worked-package : (provisions : Provisions) (faultless : first_fault (codes "1.0") ≡ None)
+    (canonical : version_text (version_in (codes "1.0")) ≡ codes "1.0")
+    → provisions.text.now ≡ codes "vv, ww (= 2)" → provisions.entries.now ≡ provided
+    → listed_of (listed provisions faultless canonical) ≡ foreign two
+worked-package provisions faultless canonical text entries =
+    ap (λ t. foreign (map (provision_at t) provisions.entries.now)) text
+    ∙ ap (λ es. foreign (map (provision_at (codes "vv, ww (= 2)")) es)) entries
+
+-- the same package behind another one in a store
+abbrev second : Record
+second =
+    record {
+      start = 2;
+      name_end = 4;
+      version_end = 7;
+      architecture_end = 10;
+      end = 22;
+      first = 0;
+      behind = 2;
+      multi_arch = Some Foreign;
+    }
+
+worked-second : listed_by (codes "xxaa1.0allvv, ww (= 2)yy") provided second ≡ foreign two
+worked-second = refl
+
+worked-packages : (index : Index) (p q : Record) → index.store.records.items ≡ p ∷ q ∷ p ∷ []
+    → packages_of index
+    ≡ listed_by index.store.bytes.items index.store.entries.items p
+    ∷ listed_by index.store.bytes.items index.store.entries.items q
+    ∷ listed_by index.store.bytes.items index.store.entries.items p ∷ []
+worked-packages index p q are =
+    ap (map (listed_by index.store.bytes.items index.store.entries.items)) are
 
 -- aa under 1 and 3, and vv under 2: names that are there, a prefix of one, and another one
 worked-numbers : (alloc : Global) (names : Names)
@@ -130,7 +133,7 @@ worked-numbers alloc names are =
 
 -- the packages p and q of an index, with their numbers there
 abbrev found : ℕ → Package → Found
-found number p = record { number = number; «package» = lent p }
+found number p = record { number = number; «package» = p }
 
 worked-found : (p : Package) → found_of (found 2 p) ≡ (2, listed_of p)
 worked-found p = refl

@@ -1,6 +1,6 @@
 //! Indexes: reading one, and the packages under a name. `report` answers queries.
 
-ghost use Rattle.std.specs.Prelude.{◌≡◌, ◌-◌, ◌≤◌, ℕ, List, map, Some, Err, IfOk, IfErr, IsTrue, length};
+ghost use Rattle.std.specs.Prelude.{◌≡◌, ◌-◌, ◌≤◌, ℕ, List, Some, Err, IfOk, IfErr, IsTrue, length};
 ghost use Rattle.std.specs.List.{slice_get};
 ghost use Rattle.std.specs.Option.{option_map};
 ghost use Rattle.deb_base.specs.Devices.{read_failures_after, ReadFaultIffFailed};
@@ -21,6 +21,7 @@ ghost use Rattle.deb_index.specs.Named.{has_name, numbers_of, package_at, provid
 ghost use Rattle.deb_index.specs.Questions.{ReportsOf, wildcard};
 ghost use Rattle.deb_index.specs.Reports.{report};
 ghost use Rattle.deb_index.specs.Reported.{report_of};
+ghost use Rattle.deb_index.specs.Stores.{IsStore, listed_in};
 
 use crate::fault::QueryFault;
 use crate::names::Names;
@@ -28,6 +29,7 @@ use crate::package::Package;
 use crate::paragraph::PackageBuilder;
 use crate::question::{Question, refusal};
 use crate::report::Report;
+use crate::store::Store;
 use deb_base::{Code, Fault, Source};
 use deb_control::Checked;
 use deb_field::Doc;
@@ -41,13 +43,14 @@ use std::alloc::{AllocError, Global};
 /// without going over the list.
 #[derive(Debug, Drop)]
 pub struct Index {
-    packages: Vec<Package>,
+    store: Store,
     named: Names,
     provided: Names,
+    ghost kept: { IsStore store },
     ghost named_are: { (name : List ℕ) → numbers_under named name
-        ≡ numbers_of (has_name name) (map listed_of packages.items) },
+        ≡ numbers_of (has_name name) (listed_in store) },
     ghost provided_are: { (name : List ℕ) → numbers_under provided name
-        ≡ numbers_of (provides name) (map listed_of packages.items) },
+        ≡ numbers_of (provides name) (listed_in store) },
 }
 
 impl Index {
@@ -82,28 +85,26 @@ impl Index {
     {
         let mut checked = Checked::new(alloc, Doc::Packages);
         let mut builder = PackageBuilder::new(alloc);
-        let mut packages = Vec::new(alloc);
+        let mut store = Store::new(alloc);
         for count in 0..u64::MAX {
             if !checked.advance(&mut builder, reader)? {
-                return Ok(Index::of(alloc, packages)?);
+                return Ok(Index::of(alloc, store)?);
             }
-            let Some(package) = builder.package() else {
-                unreachable!()
-            };
-            packages.push(package)?;
+            store.push(&builder)?;
         }
         // No file has so many paragraphs.
         unreachable!()
     }
 
     /// The index of packages.
-    fn of(alloc: Global, packages: Vec<Package>) -> Result<Index, AllocError>
-        ensures { IfOk result (λ index. packages_of index ≡ map listed_of packages.items) }
+    fn of(alloc: Global, store: Store) -> Result<Index, AllocError>
+        requires { IsStore store }
+        ensures { IfOk result (λ index. packages_of index ≡ listed_in store) }
     {
-        let named = Names::own(alloc, &packages)?;
-        let provided = Names::provided(alloc, &packages)?;
+        let named = Names::own(alloc, &store)?;
+        let provided = Names::provided(alloc, &store)?;
         Ok(Index {
-            packages,
+            store,
             named,
             provided,
         })
@@ -132,23 +133,22 @@ impl Index {
 
     /// Returns what the index keeps of the package with a number, which is counted from 1, or
     /// `None` if there is no such package.
-    pub fn package(&self, number: u64) -> Option<&Package>
-        ensures { option_map (λ p. listed_of p.now) result
-            ≡ package_at number (packages_of self.now) }
+    pub fn package(&self, number: u64) -> Option<Package<'_>>
+        ensures { option_map listed_of result ≡ package_at number (packages_of self.now) }
     {
-        if number == 0 {
+        if number == 0 || number as usize > self.len() {
             return None;
         }
-        self.packages.get(number as usize - 1)
+        Some(self.numbered(number))
     }
 
     /// The package of a number, which is counted from 1.
-    pub(crate) fn numbered(&self, number: u64) -> &Package
+    pub(crate) fn numbered(&self, number: u64) -> Package<'_>
         requires from_one { 1 ≤ number }
         requires within { number ≤ length (packages_of self.now) }
-        ensures { slice_get (packages_of self.now) (number - 1) ≡ Some (listed_of result.now) }
+        ensures { slice_get (packages_of self.now) (number - 1) ≡ Some (listed_of result) }
     {
-        &self.packages[number as usize - 1]
+        self.store.package(number as usize - 1)
     }
 
     /// Reports on a relation in an environment: for each group, in the order of the groups'
@@ -206,6 +206,6 @@ impl Index {
     pub fn len(&self) -> usize
         ensures { result ≡ length (packages_of self.now) }
     {
-        self.packages.len()
+        self.store.records.len()
     }
 }

@@ -14,6 +14,8 @@
 #![tactic(auto)]
 
 mod candidates;
+mod cut;
+mod entry;
 mod fault;
 mod index;
 mod judging;
@@ -21,11 +23,12 @@ pub mod laws;
 mod names;
 mod package;
 mod paragraph;
-mod provision;
 mod provisions;
 mod question;
 mod report;
 mod report_text;
+mod span;
+mod store;
 mod verdict;
 
 pub use fault::QueryFault;

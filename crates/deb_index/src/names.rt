@@ -3,12 +3,13 @@
 ghost use Rattle.std.specs.Prelude.{◌≡◌, [], ℕ, List, map, if◌then◌else◌, IfOk, OnOk};
 ghost use Rattle.std.specs.List.{list_any};
 ghost use Rattle.std.specs.Str.{bytes_eq};
-ghost use Rattle.deb_index.specs.Kept.{listed_of, provision_of};
+ghost use Rattle.deb_index.specs.Entries.{provision_at};
 ghost use Rattle.deb_index.specs.Maps.{numbers_under, put_last};
 ghost use Rattle.deb_index.specs.Named.{has_name, numbers_of, provides};
+ghost use Rattle.deb_index.specs.Stores.{listed_in};
 
-use crate::package::Package;
-use crate::provision::Provision;
+use crate::entry::Entry;
+use crate::store::Store;
 use indexmap::IndexMap;
 use std::alloc::{AllocError, Global};
 
@@ -20,27 +21,28 @@ pub(crate) struct Names {
 
 impl Names {
     /// The numbers of the packages that have a name, under that name.
-    pub(crate) fn own(alloc: Global, packages: &[Package]) -> Result<Names, AllocError>
+    pub(crate) fn own(alloc: Global, store: &Store) -> Result<Names, AllocError>
         ensures { IfOk result (λ names. (name : List ℕ)
             → numbers_under names name
-            ≡ numbers_of (has_name name) (map listed_of packages.now)) }
+            ≡ numbers_of (has_name name) (listed_in store.now)) }
     {
         let mut names = Names::new(alloc);
-        for (index, package) in packages.iter().enumerate() {
-            names.put(alloc, &package.name, index as u64 + 1)?;
+        for (index, record) in store.records.iter().enumerate() {
+            names.put(alloc, store.name(record), index as u64 + 1)?;
         }
         Ok(names)
     }
 
     /// The numbers of the packages that provide a name, under that name.
-    pub(crate) fn provided(alloc: Global, packages: &[Package]) -> Result<Names, AllocError>
+    pub(crate) fn provided(alloc: Global, store: &Store) -> Result<Names, AllocError>
         ensures { IfOk result (λ names. (name : List ℕ)
             → numbers_under names name
-            ≡ numbers_of (provides name) (map listed_of packages.now)) }
+            ≡ numbers_of (provides name) (listed_in store.now)) }
     {
         let mut names = Names::new(alloc);
-        for (index, package) in packages.iter().enumerate() {
-            names.put_provided(alloc, &package.provisions.entries, index as u64 + 1)?;
+        for (index, record) in store.records.iter().enumerate() {
+            let text = store.provides(record);
+            names.put_provided(alloc, text, store.entries(record), index as u64 + 1)?;
         }
         Ok(names)
     }
@@ -67,16 +69,17 @@ impl Names {
     fn put_provided(
         &mut self,
         alloc: Global,
-        provisions: &[Provision],
+        text: &[u8],
+        entries: &[Entry],
         number: u64,
     ) -> Result<(), AllocError>
         ensures { OnOk result ((name : List ℕ) → numbers_under self.new name
-            ≡ (if list_any (λ p. bytes_eq p.name name) (map provision_of provisions.now)
+            ≡ (if list_any (λ p. bytes_eq p.name name) (map (provision_at text.now) entries.now)
             then put_last number (numbers_under self.old name)
             else numbers_under self.old name)) }
     {
-        for provision in provisions {
-            self.put(alloc, &provision.name, number)?;
+        for entry in entries {
+            self.put(alloc, entry.name(text), number)?;
         }
         Ok(())
     }

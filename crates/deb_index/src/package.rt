@@ -1,51 +1,54 @@
 //! The packages of an index.
 
-ghost use Rattle.std.specs.Prelude.{◌≡◌};
+ghost use Rattle.std.specs.Prelude.{◌≡◌, None};
 ghost use Rattle.std.specs.Option.{option_copied};
 ghost use Rattle.std.specs.Str.{bytes_eq};
 ghost use Rattle.deb_relation.specs.Environments.{environment_of};
 ghost use Rattle.deb_relation.specs.Views.{alternative_of};
 ghost use Rattle.deb_version.specs.Canonical.{version_text};
+ghost use Rattle.deb_version.specs.Faults.{first_fault};
+ghost use Rattle.deb_version.specs.Places.{version_in};
 ghost use Rattle.deb_index.specs.Meeting.{effective, is_allowed, is_foreign, meets, meets_by_name, meets_qualifier, multi_arch_or_no};
 
-use crate::provision::meets_bound;
+use crate::entry::meets_bound;
 use crate::provisions::Provisions;
 use deb_field::MultiArch;
 use deb_relation::{Alternative, Env};
-use deb_version::CanonicalVersion;
 
-/// What an index keeps of a package.
-#[derive(Debug, Drop)]
-pub struct Package {
-    pub(crate) name: Vec<u8>,
-    pub(crate) version: CanonicalVersion,
-    pub(crate) architecture: Vec<u8>,
+/// What an index keeps of a package. It borrows the bytes of the index.
+#[derive(Clone, Copy, Debug)]
+pub struct Package<'a> {
+    pub(crate) name: &'a [u8],
+    pub(crate) version: &'a [u8],
+    pub(crate) architecture: &'a [u8],
     pub(crate) multi_arch: Option<MultiArch>,
-    pub(crate) provisions: Provisions,
+    pub(crate) provisions: Provisions<'a>,
+    ghost faultless: { first_fault version.now ≡ None },
+    ghost canonical: { version_text (version_in version.now) ≡ version.now },
 }
 
-impl Package {
+impl<'a> Package<'a> {
     ghost use Rattle.deb_index.specs.Kept.{listed_of};
 
     /// Returns the name.
-    pub fn name(&self) -> &[u8]
+    pub fn name(&self) -> &'a [u8]
         ensures { result.now ≡ (listed_of self.now).name }
     {
-        &self.name
+        self.name
     }
 
     /// Returns the canonical text of the version.
-    pub fn version(&self) -> &[u8]
+    pub fn version(&self) -> &'a [u8]
         ensures { result.now ≡ version_text (listed_of self.now).version }
     {
-        self.version.text()
+        self.version
     }
 
     /// Returns the architecture, which may be `all`.
-    pub fn architecture(&self) -> &[u8]
+    pub fn architecture(&self) -> &'a [u8]
         ensures { result.now ≡ (listed_of self.now).architecture }
     {
-        &self.architecture
+        self.architecture
     }
 
     /// Whether this meets an alternative, by name and by qualifier (Debian Policy 7.1).
@@ -62,8 +65,7 @@ impl Package {
         ensures { result
             ≡ meets_by_name (alternative_of alternative.now) (listed_of self.now) }
     {
-        (self.name.as_slice() == alternative.name()
-            && meets_bound(alternative.bound(), &self.version))
+        (self.name == alternative.name() && meets_bound(alternative.bound(), self.version))
             || self.provisions.meet(alternative)
     }
 
@@ -87,12 +89,12 @@ impl Package {
     /// Whether the architecture for a target is this one: `all` is the target.
     fn is_of(&self, target: &[u8], architecture: &[u8]) -> bool
         ensures { result
-            ≡ bytes_eq (effective target.now self.now.architecture.items) architecture.now }
+            ≡ bytes_eq (effective target.now self.now.architecture.now) architecture.now }
     {
-        if self.architecture.as_slice() == b"all".as_slice() {
+        if self.architecture == b"all".as_slice() {
             target == architecture
         } else {
-            self.architecture.as_slice() == architecture
+            self.architecture == architecture
         }
     }
 

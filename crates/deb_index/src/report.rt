@@ -22,7 +22,7 @@ use std::alloc::{AllocError, Global};
 #[derive(Clone, Copy, Debug)]
 pub struct Found<'a> {
     pub(crate) number: u64,
-    pub(crate) package: &'a Package,
+    pub(crate) package: Package<'a>,
 }
 
 impl<'a> Found<'a> {
@@ -34,8 +34,8 @@ impl<'a> Found<'a> {
     }
 
     /// Returns what the index keeps of it.
-    pub fn package(&self) -> &'a Package
-        ensures { listed_of result.now ≡ (found_of self.now).1 }
+    pub fn package(&self) -> Package<'a>
+        ensures { listed_of result ≡ (found_of self.now).1 }
     {
         self.package
     }

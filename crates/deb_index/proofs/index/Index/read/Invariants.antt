@@ -1,7 +1,7 @@
-use Rattle.std.proofs.Common.{◌≡◌, ℕ, List, None, Some, map}
+use Rattle.std.proofs.Common.{◌≡◌, ℕ, List, None, Some}
 use Rattle.deb_base.specs.declared.doc.Doc.TheVariants.{Packages}
 use Rattle.deb_control.specs.CheckedStates.{checked_state}
-use Rattle.deb_index.specs.Kept.{listed_of}
+use Rattle.deb_index.specs.Stores.{IsStore, listed_in}
 use Rattle.deb_index.proofs.Indexed.{HasListed}
 use Rattle.deb_index.proofs.index.Index.read.Given as goal
 
@@ -11,5 +11,6 @@ invariant-loop-count g l = record {
   fault : (checked_state l.checked).fault ≡ None;
   reads : g.R.Source.failures l.reader ≡ g.R.Source.failures l.initial.reader;
   count : (checked_state l.checked).count ≡ l.count;
-  text : (text : List ℕ) → g.R.Source.left l.initial.reader ≡ Some text → HasListed text (checked_state l.checked) (g.R.Source.left l.reader) (map listed_of l.packages.items);
+  kept : IsStore l.store;
+  text : (text : List ℕ) → g.R.Source.left l.initial.reader ≡ Some text → HasListed text (checked_state l.checked) (g.R.Source.left l.reader) (listed_in l.store);
 }

@@ -1,4 +1,4 @@
-use Rattle.std.proofs.Common.{◌≡◌, ◌&&◌, cond, map, sym, ap, ◌∙◌}
+use Rattle.std.proofs.Common.{◌&&◌, cond, sym, ap, ◌∙◌}
 use Rattle.std.specs.List.{list_any}
 use Rattle.deb_relation.specs.Applying.{applies}
 use Rattle.deb_relation.specs.Environments.{environment_of}

@@ -2,7 +2,7 @@ use Rattle.std.proofs.Common.{◌≡◌, false, codes}
 use Rattle.deb_field.specs.RelationSpelled.{relation_meaning}
 use Rattle.deb_field.specs.Values.{RelationMeans}
 use Rattle.deb_index.proofs.PackageBuilder.{is_under, keeps-still, not-same}
-use Rattle.deb_index.proofs.paragraph.PackageBuilder.keep_provisions.Goals as goal
+use Rattle.deb_index.proofs.paragraph.PackageBuilder.keep_provides.Goals as goal
 
 pub returns-then-not-same_name : goal.returns-then-not-same_name
 returns-then-not-same_name c = λ shown before.

@@ -1,0 +1,98 @@
+-- No comma stands in the canonical text of a group.
+use Rattle.std.proofs.Common.{◌≡◌, ℕ, ◌==◌, Bool, true, false, not, List, [], ◌∷◌, ◌++◌, map, IsTrue, Option, Some, None, IfSome, refl, ap, codes}
+use Rattle.std.specs.List.{AllByRecursion}
+use Rattle.deb_base.specs.PackageNames.{is_package_byte, is_arch_name, is_profile_name}
+use Rattle.deb_base.proofs.AllElements.{All-append, All-weaker}
+use Rattle.deb_version.specs.Parts.{Meaning as Version}
+use Rattle.deb_version.specs.Grammar.{SpellsVersion}
+use Rattle.deb_version.specs.Canonical.{version_text}
+use Rattle.deb_version.proofs.VersionBytes.{is_version_byte, version_bytes}
+use Rattle.deb_relation.specs.declared.operator.Op.{Op}
+use Rattle.deb_relation.specs.declared.operator.Op.TheVariants.{Earlier, EarlierEqual, Equal, LaterEqual, Later}
+use Rattle.deb_relation.specs.Meaning.{Restrictions, Alternative, Group}
+use Rattle.deb_relation.specs.Texts.{joined, separated, operator_text, signed_text, item_text, restrictions_text, qualifier_text, bound_text, architectures_text, formula_text, alternative_text, group_text}
+use Rattle.deb_relation.proofs.Bytes.{arch_bytes, other, package_bytes, profile_bytes}
+use Rattle.deb_relation.proofs.Regular.{IsNames, IsItems, IsRegular, IsRegularGroup}
+use Rattle.deb_relation.proofs.Runs.{Passes}
+
+abbrev pub is_other : ℕ → ℕ → Bool
+is_other byte b = not (b == byte)
+
+-- none of the bytes is this one
+abbrev pub Lacks : ℕ → List ℕ → Type 0
+Lacks byte text = Passes (is_other byte) text
+
+pub name_lacks : (byte : ℕ) → is_package_byte byte ≡ false → (name : List ℕ) → Passes is_package_byte name → Lacks byte name
+name_lacks byte absent name all = All-weaker _ _ (λ b h. ap not (other is_package_byte byte absent b h)) name all
+
+pub version_lacks : (byte : ℕ) → is_version_byte byte ≡ false → (text : List ℕ) (version : Version) → SpellsVersion text version → Lacks byte text
+version_lacks byte absent text version spells = All-weaker _ _ (λ b h. ap not (other is_version_byte byte absent b h)) text (version_bytes text version spells)
+
+abbrev Plain : List ℕ → Type 0
+Plain text = Lacks 44 text
+
+append : (xs ys : List ℕ) → Plain xs → Plain ys → Plain (xs ++ ys)
+append xs ys p q = All-append (λ b. IsTrue (is_other 44 b)) xs ys p q
+
+module _ {A : Type 0} (separator : List ℕ) (sep : Plain separator) (text : A → List ℕ) where
+  plain-separated : (xs : List A) → AllByRecursion (λ x. Plain (text x)) xs → Plain (separated separator (map text xs))
+  plain-separated [] all = tt
+  plain-separated (x ∷ xs) all = append separator (text x ++ separated separator (map text xs)) sep (append (text x) (separated separator (map text xs)) all.0 (plain-separated xs all.1))
+
+  plain-joined : (xs : List A) → AllByRecursion (λ x. Plain (text x)) xs → Plain (joined separator (map text xs))
+  plain-joined [] all = tt
+  plain-joined (x ∷ xs) all = append (text x) (separated separator (map text xs)) all.0 (plain-separated xs all.1)
+
+name_plain : (name : List ℕ) → Passes is_package_byte name → Plain name
+name_plain name all = name_lacks 44 refl name all
+
+signed_plain : (negated : Bool) (name : List ℕ) → Passes is_package_byte name → Plain (signed_text negated name)
+signed_plain true name all = (refl, name_plain name all)
+signed_plain false name all = name_plain name all
+
+qualifier_plain : (q : Option (List ℕ)) → IfSome q (λ q. IsTrue (is_arch_name q)) → Plain (qualifier_text q)
+qualifier_plain None is = tt
+qualifier_plain (Some q) is = (refl, name_plain q (arch_bytes q is))
+
+operator_plain : (operator : Op) → Plain (operator_text operator)
+operator_plain Earlier = (refl, (refl, tt))
+operator_plain EarlierEqual = (refl, (refl, tt))
+operator_plain Equal = (refl, tt)
+operator_plain LaterEqual = (refl, (refl, tt))
+operator_plain Later = (refl, (refl, tt))
+
+bound_plain : (bound : Option (Op × Version)) → IfSome bound (λ b. SpellsVersion (version_text b.1) b.1) → Plain (bound_text bound)
+bound_plain None is = tt
+bound_plain (Some bound) is =
+    let version = version_text bound.1 in
+    (refl, (refl, append (operator_text bound.0) (32 ∷ (version ++ 41 ∷ [])) (operator_plain bound.0) (refl, append version (41 ∷ []) (version_lacks 44 refl version bound.1 is) (refl, tt))))
+
+list_plain : (list : Option (Bool × List (List ℕ))) → IfSome list (λ list. IsNames list.1) → Plain (architectures_text list)
+list_plain None is = tt
+list_plain (Some list) is = (
+  refl,
+  (
+    refl,
+    append (joined (codes " ") (map (signed_text list.0) list.1)) (93 ∷ [])
+        (plain-joined (codes " ") (refl, tt) (signed_text list.0) list.1 (All-weaker _ _ (λ name is. signed_plain list.0 name (arch_bytes name is)) list.1 is.are_names)) (refl, tt),
+  ),
+)
+
+restrictions_plain : (list : Restrictions) → IsItems list → Plain (restrictions_text list)
+restrictions_plain list is = (
+  refl,
+  append (joined (codes " ") (map item_text list)) (62 ∷ [])
+      (plain-joined (codes " ") (refl, tt) item_text list (All-weaker _ _ (λ item is. signed_plain item.0 item.1 (profile_bytes item.1 is)) list is.are_profiles)) (refl, tt),
+)
+
+alternative_plain : (a : Alternative) → IsRegular a → Plain (alternative_text a)
+alternative_plain a is =
+    let lists = plain-separated (codes " ") (refl, tt) restrictions_text a.formula (All-weaker IsItems _ restrictions_plain a.formula is.lists) in
+    append a.name _ (name_plain a.name (package_bytes a.name is.name))
+    (append (qualifier_text a.qualifier) _ (qualifier_plain a.qualifier is.qualifier)
+    (append (bound_text a.bound) _ (bound_plain a.bound is.bound)
+    (append (architectures_text a.architectures) (formula_text a.formula) (list_plain a.architectures is.architectures) lists)))
+
+pub group_lacks_comma : (group : Group) → IsRegularGroup group → Lacks 44 (group_text group)
+unfolding group_text
+group_lacks_comma group is = plain-joined (codes " | ") (refl, (refl, (refl, tt))) alternative_text group (All-weaker IsRegular _ alternative_plain group is.each)

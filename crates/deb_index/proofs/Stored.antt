@@ -1,0 +1,190 @@
+-- What a store keeps of one package more, and of those before it.
+use Rattle.std.proofs.Common.{◌≡◌, ℕ, ◌+◌, ◌-◌, ◌≤◌, List, [], ◌∷◌, ◌++◌, length, map, take, None, refl, sym, ap, ◌∙◌, subst, arith, append_assoc}
+use Rattle.std.specs.List.{All, AllByRecursion, AllPairs}
+use Rattle.std.proofs.lemmas.List.{length-append, map-append}
+use Rattle.std.proofs.lemmas.List.Elements.{All-append, All-from_recursion, All-weaker, recursion_from_All}
+use Rattle.std.proofs.lemmas.Simd.{map-map}
+use Rattle.deb_version.specs.Canonical.{version_text}
+use Rattle.deb_version.specs.Faults.{first_fault}
+use Rattle.deb_version.specs.Parts.{Meaning as Version}
+use Rattle.deb_version.specs.Places.{version_in}
+use Rattle.deb_version.proofs.FaultLemmas.{no_fault-from_spells}
+use Rattle.deb_version.proofs.KeptVersions.{version_in-spelled}
+use Rattle.deb_relation.specs.Meaning.{Relation}
+use Rattle.deb_relation.specs.Regular.{IsRegularRelation}
+use Rattle.deb_field.specs.declared.flag.MultiArch.{MultiArch}
+use Rattle.std.proofs.Common.{Option}
+use Rattle.deb_index.specs.Entries.{AppendsEntries, IsFaultless, Places, entry_name, provision_at}
+use Rattle.deb_index.specs.Listed.{Listed, Provision, provisions_of}
+use Rattle.deb_index.specs.PackageBuilder.{KeepsPackage}
+use Rattle.deb_index.specs.ProvidedNames.{IsNotAfter}
+use Rattle.deb_index.specs.Spans.{part}
+use Rattle.deb_index.specs.Stores.{AreEntries, IsKept, IsStore, IsVersionKept, KeepsOneMore, architecture_by, entries_by, listed_by, listed_in, name_by, provides_by, version_by}
+use Rattle.deb_index.specs.declared.paragraph.PackageBuilder.{PackageBuilder}
+use Rattle.deb_index.specs.declared.store.Record.{Record}
+use Rattle.deb_index.specs.declared.store.Store.{Store}
+use Rattle.deb_index.proofs.Parts.{part-append, part-behind}
+use Rattle.deb_index.proofs.ProvidedOrder.{names_in, provided_ascend}
+
+listed-same : (n m : List ℕ) (v w : Version) (a b : List ℕ) (x y : Option MultiArch) (ps qs : List Provision) → n ≡ m → v ≡ w → a ≡ b → x ≡ y → ps ≡ qs
+    → ◌≡◌ {A = Listed} (record { name = n; version = v; architecture = a; multi_arch = x; provisions = ps }) (record { name = m; version = w; architecture = b; multi_arch = y; provisions = qs })
+listed-same n m v w a b x y ps qs e f g h i = rw (e, f, g, h, i) refl
+
+-- more bytes and entries leave a package as it is
+module _ (bytes more : List ℕ) (entries others : List Places) (r : Record) (kept : IsKept bytes entries r) where
+  name_stays : name_by (bytes ++ more) r ≡ name_by bytes r
+  name_stays = part-append r.start r.name_end bytes more kept.name_end
+
+  version_stays : version_by (bytes ++ more) r ≡ version_by bytes r
+  version_stays = part-append r.name_end r.version_end bytes more kept.version_end
+
+  architecture_stays : architecture_by (bytes ++ more) r ≡ architecture_by bytes r
+  architecture_stays = part-append r.version_end r.architecture_end bytes more kept.architecture_end
+
+  provides_stays : provides_by (bytes ++ more) r ≡ provides_by bytes r
+  provides_stays = part-append r.architecture_end r.end bytes more kept.end
+
+  entries_stay : entries_by (entries ++ others) r ≡ entries_by entries r
+  entries_stay = part-append r.first r.behind entries others kept.behind
+
+  stays-kept : IsKept (bytes ++ more) (entries ++ others) r
+  stays-kept =
+      let long = length-append bytes more in
+      record {
+        name_end = omega (arith, kept.name_end, long);
+        version_end = omega (arith, kept.version_end, long);
+        architecture_end = omega (arith, kept.architecture_end, long);
+        end = omega (arith, kept.end, long);
+        behind = omega (arith, kept.behind, length-append entries others);
+        version = subst IsVersionKept (sym version_stays) kept.version;
+        provides = subst (AreEntries (provides_by (bytes ++ more) r)) (sym entries_stay) (subst (λ t. AreEntries t (entries_by entries r)) (sym provides_stays) kept.provides);
+      }
+
+  stays-listed : listed_by (bytes ++ more) (entries ++ others) r ≡ listed_by bytes entries r
+  stays-listed =
+      listed-same _ _ _ _ _ _ _ _ _ _ name_stays (ap version_in version_stays) architecture_stays refl
+      (ap (λ t. map (provision_at t) (entries_by (entries ++ others) r)) provides_stays ∙ ap (map (provision_at (provides_by bytes r))) entries_stay)
+
+-- so all of them stay
+all-listed : (bytes more : List ℕ) (entries others : List Places) (records : List Record) → All (IsKept bytes entries) records → map (listed_by (bytes ++ more) (entries ++ others)) records ≡ map (listed_by bytes entries) records
+all-listed bytes more entries others records all = go records (recursion_from_All (IsKept bytes entries) records all)
+  where
+    go : (records : List Record) → AllByRecursion (IsKept bytes entries) records → map (listed_by (bytes ++ more) (entries ++ others)) records ≡ map (listed_by bytes entries) records
+    go [] all = refl
+    go (r ∷ records) all = ap (λ p. p ∷ map (listed_by (bytes ++ more) (entries ++ others)) records) (stays-listed bytes more entries others r all.0) ∙ ap (λ ps. listed_by bytes entries r ∷ ps) (go records all.1)
+
+-- the texts of one package more, one behind another
+abbrev pub bytes_with : List ℕ → PackageBuilder → List ℕ
+bytes_with bytes kept = (((bytes ++ kept.name.items) ++ kept.version.items) ++ kept.architecture.items) ++ kept.provides.items
+
+abbrev pub record_with : List ℕ → PackageBuilder → ℕ → ℕ → Record
+record_with bytes kept first behind =
+    record {
+      start = length bytes;
+      name_end = length (bytes ++ kept.name.items);
+      version_end = length ((bytes ++ kept.name.items) ++ kept.version.items);
+      architecture_end = length (((bytes ++ kept.name.items) ++ kept.version.items) ++ kept.architecture.items);
+      end = length (bytes_with bytes kept);
+      first = first;
+      behind = behind;
+      multi_arch = kept.multi_arch;
+    }
+
+long-append : {A : Type 0} (xs ys : List A) → length xs ≤ length (xs ++ ys)
+long-append xs ys = omega (arith, length-append xs ys)
+
+module _ (bytes : List ℕ) (entries new : List Places) (kept : PackageBuilder) (p : Listed) (keeps : KeepsPackage kept p) (cut : AppendsEntries kept.provides.items entries new (provisions_of keeps.relation)) where
+  abbrev one : List ℕ
+  one = bytes ++ kept.name.items
+
+  abbrev two : List ℕ
+  two = one ++ kept.version.items
+
+  abbrev three : List ℕ
+  three = two ++ kept.architecture.items
+
+  abbrev four : List ℕ
+  four = three ++ kept.provides.items
+
+  abbrev r : Record
+  r = record_with bytes kept (length entries) (length new)
+
+  name_is : name_by four r ≡ kept.name.items
+  name_is =
+      part-append (length bytes) (length one) three kept.provides.items (omega (arith, long-append one kept.version.items, long-append two kept.architecture.items))
+      ∙ part-append (length bytes) (length one) two kept.architecture.items (long-append one kept.version.items)
+      ∙ part-append (length bytes) (length one) one kept.version.items (omega arith)
+      ∙ part-behind bytes kept.name.items
+
+  version_is : version_by four r ≡ kept.version.items
+  version_is =
+      part-append (length one) (length two) three kept.provides.items (long-append two kept.architecture.items)
+      ∙ part-append (length one) (length two) two kept.architecture.items (omega arith)
+      ∙ part-behind one kept.version.items
+
+  architecture_is : architecture_by four r ≡ kept.architecture.items
+  architecture_is = part-append (length two) (length three) three kept.provides.items (omega arith) ∙ part-behind two kept.architecture.items
+
+  provides_is : provides_by four r ≡ kept.provides.items
+  provides_is = part-behind three kept.provides.items
+
+  entries_are : entries_by new r ≡ cut.more
+  entries_are = ap (λ all. part (length entries) (length all) all) cut.appended ∙ part-behind entries cut.more
+
+  version_good : IsVersionKept kept.version.items
+  version_good =
+      let same : version_in kept.version.items ≡ p.version = ap version_in keeps.version ∙ version_in-spelled (version_text p.version) p.version keeps.spelled in
+      record {
+        faultless = ap first_fault keeps.version ∙ no_fault-from_spells (version_text p.version) p.version keeps.spelled;
+        canonical = ap version_text same ∙ sym keeps.version;
+      }
+
+  entries_good : AreEntries kept.provides.items cut.more
+  entries_good =
+      let names : names_in (provisions_of keeps.relation) ≡ map (entry_name kept.provides.items) cut.more = ap names_in (sym cut.provides) ∙ map-map (λ q. q.name) (provision_at kept.provides.items) cut.more in
+      record { ascend = subst (AllPairs IsNotAfter) names (provided_ascend keeps.relation keeps.regular); faultless = cut.faultless }
+
+  new-kept : IsKept four new r
+  new-kept =
+      record {
+        name_end = omega (arith, long-append one kept.version.items, long-append two kept.architecture.items, long-append three kept.provides.items);
+        version_end = omega (arith, long-append two kept.architecture.items, long-append three kept.provides.items);
+        architecture_end = long-append three kept.provides.items;
+        end = omega arith;
+        behind = omega arith;
+        version = subst IsVersionKept (sym version_is) version_good;
+        provides = subst (AreEntries (provides_by four r)) (sym entries_are) (subst (λ t. AreEntries t cut.more) (sym provides_is) entries_good);
+      }
+
+  new-listed : listed_by four new r ≡ p
+  new-listed =
+      let version : version_in kept.version.items ≡ p.version = ap version_in keeps.version ∙ version_in-spelled (version_text p.version) p.version keeps.spelled in
+      let provisions : map (provision_at kept.provides.items) cut.more ≡ p.provisions = cut.provides ∙ sym keeps.provisions in
+      listed-same _ _ _ _ _ _ _ _ _ _
+      (name_is ∙ keeps.name) (ap version_in version_is ∙ version) (architecture_is ∙ keeps.architecture) keeps.multi_arch
+      (ap (λ t. map (provision_at t) (entries_by new r)) provides_is ∙ ap (map (provision_at kept.provides.items)) entries_are ∙ provisions)
+
+  -- the store with the package
+  pub keeps_one_more : (old store : Store) → old.bytes.items ≡ bytes → old.entries.items ≡ entries → store.bytes.items ≡ four → store.entries.items ≡ new → store.records.items ≡ old.records.items ++ r ∷ [] → IsStore old → KeepsOneMore old store p
+  keeps_one_more old store b e is_bytes is_entries is_records is =
+      let more : List ℕ = kept.name.items ++ (kept.version.items ++ (kept.architecture.items ++ kept.provides.items)) in
+      let grown : four ≡ old.bytes.items ++ more = reordered bytes kept.name.items kept.version.items kept.architecture.items kept.provides.items ∙ ap (λ l. l ++ more) (sym b) in
+      let grown_entries : new ≡ old.entries.items ++ cut.more = cut.appended ∙ ap (λ l. l ++ cut.more) (sym e) in
+      record {
+        kept =
+            subst (λ rs. All (IsKept store.bytes.items store.entries.items) rs) (sym is_records)
+            (All-append (IsKept store.bytes.items store.entries.items) old.records.items (r ∷ [])
+            (subst (λ l. All (IsKept l store.entries.items) old.records.items) (sym (is_bytes ∙ grown)) (subst (λ l. All (IsKept (old.bytes.items ++ more) l) old.records.items) (sym (is_entries ∙ grown_entries))
+            (All-weaker (IsKept old.bytes.items old.entries.items) (IsKept (old.bytes.items ++ more) (old.entries.items ++ cut.more)) (λ q k. stays-kept old.bytes.items more old.entries.items cut.more q k) old.records.items is)))
+            (All-from_recursion (IsKept store.bytes.items store.entries.items) (r ∷ []) (subst (λ l. IsKept l store.entries.items r) (sym is_bytes) (subst (λ l. IsKept four l r) (sym is_entries) new-kept), tt)));
+        listed =
+            ap (map (listed_by store.bytes.items store.entries.items)) is_records
+            ∙ map-append (listed_by store.bytes.items store.entries.items) old.records.items (r ∷ [])
+            ∙ ap (λ l. l ++ listed_by store.bytes.items store.entries.items r ∷ [])
+            (ap (λ l. map (listed_by l store.entries.items) old.records.items) (is_bytes ∙ grown) ∙ ap (λ l. map (listed_by (old.bytes.items ++ more) l) old.records.items) (is_entries ∙ grown_entries)
+            ∙ all-listed old.bytes.items more old.entries.items cut.more old.records.items is)
+            ∙ ap (λ q. listed_in old ++ q ∷ []) (ap (λ l. listed_by l store.entries.items r) is_bytes ∙ ap (λ l. listed_by four l r) is_entries ∙ new-listed);
+      }
+    where
+      reordered : (b n v a p : List ℕ) → (((b ++ n) ++ v) ++ a) ++ p ≡ b ++ (n ++ (v ++ (a ++ p)))
+      reordered b n v a p = simp append_assoc refl

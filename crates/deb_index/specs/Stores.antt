@@ -1,0 +1,72 @@
+-- The packages that a store keeps.
+use Rattle.std.specs.Prelude.{◌≡◌, ◌≤◌, ℕ, None, List, [], ◌∷◌, ◌++◌, length, map}
+use Rattle.std.specs.List.{All, AllPairs}
+use Rattle.deb_version.specs.Canonical.{version_text}
+use Rattle.deb_version.specs.Faults.{first_fault}
+use Rattle.deb_version.specs.Places.{version_in}
+use Rattle.deb_index.specs.Entries.{IsFaultless, Places, entry_name, provision_at}
+use Rattle.deb_index.specs.Listed.{Listed}
+use Rattle.deb_index.specs.ProvidedNames.{IsNotAfter}
+use Rattle.deb_index.specs.Spans.{part}
+use Rattle.deb_index.specs.declared.store.Record.{Record}
+use Rattle.deb_index.specs.declared.store.Store.{Store}
+
+-- the texts of a package in the buffer, and its entries in their list
+abbrev pub name_by : List ℕ → Record → List ℕ
+name_by bytes r = part r.start r.name_end bytes
+
+abbrev pub version_by : List ℕ → Record → List ℕ
+version_by bytes r = part r.name_end r.version_end bytes
+
+abbrev pub architecture_by : List ℕ → Record → List ℕ
+architecture_by bytes r = part r.version_end r.architecture_end bytes
+
+abbrev pub provides_by : List ℕ → Record → List ℕ
+provides_by bytes r = part r.architecture_end r.end bytes
+
+abbrev pub entries_by : List Places → Record → List Places
+entries_by entries r = part r.first r.behind entries
+
+-- the package of a record
+abbrev pub listed_by : List ℕ → List Places → Record → Listed
+listed_by bytes entries r =
+    record {
+      name = name_by bytes r;
+      version = version_in (version_by bytes r);
+      architecture = architecture_by bytes r;
+      multi_arch = r.multi_arch;
+      provisions = map (provision_at (provides_by bytes r)) (entries_by entries r);
+    }
+
+-- the packages of a store
+abbrev pub listed_in : Store → List Listed
+listed_in store = map (listed_by store.bytes.items store.entries.items) store.records.items
+
+-- A version's text is one, and canonical.
+pub record IsVersionKept (version : List ℕ) : Type 0 where
+  pub faultless : first_fault version ≡ None
+  pub canonical : version_text (version_in version) ≡ version
+
+-- Entries are in the order of their names, and their versions are versions.
+pub record AreEntries (text : List ℕ) (entries : List Places) : Type 0 where
+  pub ascend : AllPairs IsNotAfter (map (entry_name text) entries)
+  pub faultless : All (IsFaultless text) entries
+
+-- A record is that of a package: its places are within the lists, its version is one, and its
+-- entries are entries.
+pub record IsKept (bytes : List ℕ) (entries : List Places) (r : Record) : Type 0 where
+  pub name_end : r.name_end ≤ length bytes
+  pub version_end : r.version_end ≤ length bytes
+  pub architecture_end : r.architecture_end ≤ length bytes
+  pub end : r.end ≤ length bytes
+  pub behind : r.behind ≤ length entries
+  pub version : IsVersionKept (version_by bytes r)
+  pub provides : AreEntries (provides_by bytes r) (entries_by entries r)
+
+abbrev pub IsStore : Store → Type 0
+IsStore store = All (IsKept store.bytes.items store.entries.items) store.records.items
+
+-- one package more
+pub record KeepsOneMore (old new : Store) (p : Listed) : Type 0 where
+  pub kept : IsStore new
+  pub listed : listed_in new ≡ listed_in old ++ p ∷ []

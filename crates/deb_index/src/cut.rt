@@ -1,0 +1,124 @@
+//! Cuts the canonical text of Provides into the entries that provide a name.
+
+ghost use Rattle.std.specs.Prelude.{◌≡◌, ◌≤◌, ◌==◌, ◌&&◌, not, length, IfSome, OnOk};
+ghost use Rattle.std.specs.List.{prefix_len};
+ghost use Rattle.std.specs.Option.{option_map};
+ghost use Rattle.deb_relation.specs.Meaning.{Alternative, Group, Relation};
+ghost use Rattle.deb_relation.specs.Regular.{IsRegular, IsRegularGroup, IsRegularRelation};
+ghost use Rattle.deb_relation.specs.Texts.{group_text, relation_text};
+ghost use Rattle.deb_index.specs.Entries.{AppendsEntries, BehindName, HasNoFault, IsEntry, IsVersionPlace};
+ghost use Rattle.deb_index.specs.Listed.{provided_by, provisions_of};
+ghost use Rattle.deb_index.specs.Spans.{part};
+
+use crate::entry::Entry;
+use crate::span::part;
+use std::alloc::AllocError;
+
+/// How many bytes come before the first one that is this byte.
+fn before(text: &[u8], byte: u8) -> usize
+    ensures value { result ≡ prefix_len (λ b. not (b == byte)) text.now }
+    ensures bound { result ≤ length text.now }
+{
+    text.iter().take_while(|other| **other != byte).count()
+}
+
+/// How many bytes the name has that an alternative begins with.
+fn name_len(text: &[u8]) -> usize
+    ensures value { result ≡ prefix_len (λ b. not (b == 32) && not (b == 58)) text.now }
+    ensures bound { result ≤ length text.now }
+{
+    text.iter()
+        .take_while(|byte| **byte != b' ' && **byte != b':')
+        .count()
+}
+
+/// Where the version stands in what follows the name of an alternative, if that is nothing or a
+/// bound alone. Of nothing it is the empty place at the start.
+fn version_place(behind: &[u8]) -> Option<(usize, usize)>
+    ensures within { IfSome result (λ p. (p.0 ≤ p.1) × (p.1 ≤ length behind.now)) }
+    ensures place { (a : Alternative) (others : Group) → IsRegular a
+        → BehindName a others behind.now → IsVersionPlace a others behind.now result }
+    ensures faultless { (a : Alternative) (others : Group) → IsRegular a
+        → BehindName a others behind.now
+        → IfSome result (λ p. HasNoFault (part p.0 p.1 behind.now)) }
+{
+    if behind.is_empty() {
+        return Some((0, 0));
+    }
+    if behind.len() < 2 {
+        return None;
+    }
+    let open = before(behind, b'(');
+    if open != 1 {
+        return None;
+    }
+    let rest = &behind[2..];
+    let close = before(rest, b')');
+    if close + 1 != rest.len() {
+        return None;
+    }
+    let space = before(rest, b' ');
+    if space < close {
+        Some((space + 3, close + 2))
+    } else {
+        None
+    }
+}
+
+/// The entry that stands between two places of a text, if it is a name alone or with a version.
+fn plain_entry(text: &[u8], start: usize, end: usize) -> Option<Entry>
+    requires in_order { start ≤ end }
+    requires within { end ≤ length text.now }
+    ensures { (group : Group) → IsRegularGroup group → part start end text.now ≡ group_text group
+        → IsEntry text.now result (provided_by group) }
+{
+    let group = part(text, start, end);
+    let (name, behind) = group.split_at(name_len(group));
+    match version_place(behind) {
+        Some((from, to)) => Some(Entry {
+            start,
+            name_end: start + name.len(),
+            version: start + name.len() + from,
+            end: start + name.len() + to,
+        }),
+        None => None,
+    }
+}
+
+/// Appends the entry that stands between two places of a text, if it is a name alone or with a
+/// version.
+fn append_entry(
+    text: &[u8],
+    start: usize,
+    end: usize,
+    entries: &mut Vec<Entry>,
+) -> Result<(), AllocError>
+    requires in_order { start ≤ end }
+    requires within { end ≤ length text.now }
+    ensures { (group : Group) → IsRegularGroup group → part start end text.now ≡ group_text group
+        → OnOk result (AppendsEntries text.now entries.old.items entries.new.items
+        (provided_by group)) }
+{
+    match plain_entry(text, start, end) {
+        Some(entry) => {
+            entries.push(entry)?;
+            Ok(())
+        }
+        None => Ok(()),
+    }
+}
+
+/// Appends the entries of a canonical relation that are a name alone or with a version.
+pub(crate) fn append_entries(text: &[u8], entries: &mut Vec<Entry>) -> Result<(), AllocError>
+    ensures { (m : Relation) → IsRegularRelation m → text.now ≡ relation_text m
+        → OnOk result (AppendsEntries text.now entries.old.items entries.new.items
+        (provisions_of m)) }
+{
+    let mut start = 0;
+    while start < text.len() {
+        let end = start + before(&text[start..], b',');
+        append_entry(text, start, end, entries)?;
+        start = end + 2;
+    }
+    Ok(())
+}

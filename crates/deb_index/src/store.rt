@@ -1,0 +1,123 @@
+//! What an index keeps of its packages: bytes, entries of Provides and records, in three lists.
+
+ghost use Rattle.std.specs.Prelude.{◌≡◌, ◌-◌, ◌<◌, ◌++◌, ◌∷◌, [], length, Some, OnOk};
+ghost use Rattle.std.specs.List.{slice_get};
+ghost use Rattle.deb_index.specs.Kept.{listed_of};
+ghost use Rattle.deb_index.specs.Listed.{Listed};
+ghost use Rattle.deb_index.specs.PackageBuilder.{KeepsPackage};
+ghost use Rattle.deb_index.specs.Spans.{part};
+ghost use Rattle.deb_index.specs.Stores.{IsStore, KeepsOneMore, listed_in};
+
+use crate::cut::append_entries;
+use crate::entry::Entry;
+use crate::package::Package;
+use crate::paragraph::PackageBuilder;
+use crate::provisions::Provisions;
+use crate::span::part;
+use deb_field::MultiArch;
+use std::alloc::{AllocError, Global};
+
+/// A package: where its texts and the entries of its Provides end in the lists of the store.
+#[derive(Clone, Copy, Debug)]
+pub(crate) struct Record {
+    pub(crate) start: usize,
+    pub(crate) name_end: usize,
+    pub(crate) version_end: usize,
+    pub(crate) architecture_end: usize,
+    pub(crate) end: usize,
+    pub(crate) first: usize,
+    pub(crate) behind: usize,
+    pub(crate) multi_arch: Option<MultiArch>,
+}
+
+/// The packages of an index, one after another. Of each the texts of the name, the version, the
+/// architecture and Provides stand in one buffer, in this order.
+#[derive(Debug, Drop)]
+pub(crate) struct Store {
+    pub(crate) bytes: Vec<u8>,
+    pub(crate) entries: Vec<Entry>,
+    pub(crate) records: Vec<Record>,
+}
+
+impl Store {
+    /// No package.
+    pub(crate) fn new(alloc: Global) -> Store
+        ensures { result.records.items ≡ [] }
+    {
+        Store {
+            bytes: Vec::new(alloc),
+            entries: Vec::new(alloc),
+            records: Vec::new(alloc),
+        }
+    }
+
+    /// Appends a package.
+    pub(crate) fn push(&mut self, kept: &PackageBuilder) -> Result<(), AllocError>
+        ensures { (p : Listed) → KeepsPackage kept.now p → IsStore self.old
+            → OnOk result (KeepsOneMore self.old self.new p) }
+    {
+        let start = self.bytes.len();
+        self.bytes.extend_from_slice(&kept.name)?;
+        let name_end = self.bytes.len();
+        self.bytes.extend_from_slice(&kept.version)?;
+        let version_end = self.bytes.len();
+        self.bytes.extend_from_slice(&kept.architecture)?;
+        let architecture_end = self.bytes.len();
+        self.bytes.extend_from_slice(&kept.provides)?;
+        let first = self.entries.len();
+        append_entries(&kept.provides, &mut self.entries)?;
+        self.records.push(Record {
+            start,
+            name_end,
+            version_end,
+            architecture_end,
+            end: self.bytes.len(),
+            first,
+            behind: self.entries.len(),
+            multi_arch: kept.multi_arch,
+        })?;
+        Ok(())
+    }
+
+    /// The name of a package.
+    pub(crate) fn name(&self, of: &Record) -> &[u8]
+        ensures { result.now ≡ part of.now.start of.now.name_end self.now.bytes.items }
+    {
+        part(&self.bytes, of.start, of.name_end)
+    }
+
+    /// The canonical text of the Provides of a package.
+    pub(crate) fn provides(&self, of: &Record) -> &[u8]
+        ensures { result.now
+            ≡ part of.now.architecture_end of.now.end self.now.bytes.items }
+    {
+        part(&self.bytes, of.architecture_end, of.end)
+    }
+
+    /// The entries of the Provides of a package.
+    pub(crate) fn entries(&self, of: &Record) -> &[Entry]
+        ensures { result.now ≡ part of.now.first of.now.behind self.now.entries.items }
+    {
+        part(&self.entries, of.first, of.behind)
+    }
+
+    /// A package, by its place.
+    pub(crate) fn package(&self, index: usize) -> Package<'_>
+        requires kept { IsStore self.now }
+        requires within { index < length self.now.records.items }
+        ensures { slice_get (listed_in self.now) index ≡ Some (listed_of result) }
+    {
+        let record = &self.records[index];
+        let bytes = self.bytes.as_slice();
+        Package {
+            name: self.name(record),
+            version: part(bytes, record.name_end, record.version_end),
+            architecture: part(bytes, record.version_end, record.architecture_end),
+            multi_arch: record.multi_arch,
+            provisions: Provisions {
+                text: self.provides(record),
+                entries: self.entries(record),
+            },
+        }
+    }
+}
