@@ -1,8 +1,8 @@
 //! Explains why a file of Debian control data is refused: which field is wrong or missing, and what
 //! is wrong in a value and where (Debian Policy 5.1, 5.3 to 5.6 and 7.1).
 //!
-//! - [`explain`] checks a file as `deb_control::check` does, and returns more about the same refusal
-//!   than its code and line.
+//! - [`explain`] checks a file as `deb_control::check` does, and returns more about the same
+//!   refusal than its code and line.
 //! - [`Explanation::write`] writes that in lines `key: value`.
 //! - [`explain_word`] finds what is wrong in a relation or a version from the command line, and
 //!   [`write_refused_word`] writes that in such lines.

@@ -19,8 +19,8 @@ use deb_field::{Doc, required};
 use deb_syntax::{Raw, RawField};
 use std::alloc::{AllocError, Global};
 
-/// What the refusal of a file is about, by the line that has its number and by the paragraph that is
-/// refused, where its lines are not.
+/// What the refusal of a file is about, by the line that has its number and by the paragraph that
+/// is refused, where its lines are not.
 pub(crate) fn subject_of(
     alloc: Global,
     doc: Doc,

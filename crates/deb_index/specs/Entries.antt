@@ -90,6 +90,7 @@ worked-provisions = (refl, refl)
 
 -- no version, and what is none
 worked-kept : (version_kept [] ≡ None) × (version_kept (codes "2") ≡ Some (version_in (codes "2")))
-    × (fault_kept [] ≡ None) × (fault_kept (codes "2") ≡ None) × (fault_kept (codes ":2") ≡ first_fault (codes ":2"))
+    × (fault_kept [] ≡ None) × (fault_kept (codes "2") ≡ None)
+    × (fault_kept (codes ":2") ≡ first_fault (codes ":2"))
 unfolding first_fault
 worked-kept = (refl, refl, refl, refl, refl)

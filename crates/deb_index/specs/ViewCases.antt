@@ -3,9 +3,10 @@
 use Rattle.std.specs.Prelude.{◌≡◌, ℕ, ◌^◌, nat_lt, true, List, [], ◌∷◌, length, map, None, Some, Vec, codes, refl}
 use Rattle.std.specs.Global.{Global}
 use Rattle.std.specs.Option.{option_map_or}
+use Rattle.std.specs.List.{All, AllPairs}
 use Rattle.std.specs.Map.{lookup}
 use Rattle.std.specs.Str.{bytes_eq}
-use Rattle.std.proofs.Common.{ap, arith, ◌∙◌}
+use Rattle.std.proofs.Common.{ap, arith}
 use Rattle.std.proofs.lemmas.Bool.{ltb-true}
 use denote.RawPtr.{null_ptr}
 use denote.Ref.{Bor}
@@ -13,11 +14,12 @@ use Rattle.deb_version.specs.Canonical.{version_text}
 use Rattle.deb_version.specs.Faults.{first_fault}
 use Rattle.deb_version.specs.Places.{version_in}
 use Rattle.deb_field.specs.declared.flag.MultiArch.TheVariants.{Foreign}
-use Rattle.deb_index.specs.Entries.{Places, provision_at}
+use Rattle.deb_index.specs.Entries.{IsFaultless, Places, entry_name, provision_at}
 use Rattle.deb_index.specs.Indexes.{packages_of}
 use Rattle.deb_index.specs.Kept.{listed_of}
 use Rattle.deb_index.specs.Listed.{Listed, Provision}
 use Rattle.deb_index.specs.PackageBuilder.{itself}
+use Rattle.deb_index.specs.ProvidedNames.{IsNotAfter}
 use Rattle.deb_index.specs.Maps.{numbers_under}
 use Rattle.deb_index.specs.Reported.{answer_of, found_of, report_of}
 use Rattle.deb_index.specs.Stores.{listed_by}
@@ -72,6 +74,19 @@ abbrev provided : List Places
 provided = record { start = 0; name_end = 2; version = 2; end = 2 }
     ∷ record { start = 4; name_end = 6; version = 10; end = 11 } ∷ []
 
+abbrev provides : List ℕ
+provides = codes "vv, ww (= 2)"
+
+abbrev lent_provisions : AllPairs IsNotAfter (map (entry_name provides) provided)
+    → All (IsFaultless provides) provided → Provisions
+lent_provisions ascend faultless =
+    record {
+      text = lent provides;
+      entries = lent provided;
+      ascend = ascend;
+      faultless = faultless;
+    }
+
 abbrev foreign : List Provision → Listed
 foreign provisions =
     record {
@@ -86,13 +101,11 @@ abbrev two : List Provision
 two = record { name = codes "vv"; version = None }
     ∷ record { name = codes "ww"; version = Some (version_in (codes "2")) } ∷ []
 
-worked-package : (provisions : Provisions) (faultless : first_fault (codes "1.0") ≡ None)
+worked-package : (ascend : AllPairs IsNotAfter (map (entry_name provides) provided))
+    (faultless : All (IsFaultless provides) provided) (own : first_fault (codes "1.0") ≡ None)
     (canonical : version_text (version_in (codes "1.0")) ≡ codes "1.0")
-    → provisions.text.now ≡ codes "vv, ww (= 2)" → provisions.entries.now ≡ provided
-    → listed_of (listed provisions faultless canonical) ≡ foreign two
-worked-package provisions faultless canonical text entries =
-    ap (λ t. foreign (map (provision_at t) provisions.entries.now)) text
-    ∙ ap (λ es. foreign (map (provision_at (codes "vv, ww (= 2)")) es)) entries
+    → listed_of (listed (lent_provisions ascend faultless) own canonical) ≡ foreign two
+worked-package ascend faultless own canonical = refl
 
 -- the same package behind another one in a store
 abbrev second : Record

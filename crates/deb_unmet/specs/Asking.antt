@@ -42,7 +42,8 @@ PutsLines asks number values (Ok is_empty) old new =
 PutsLines asks number values (Err (Refused refusal)) old new = ⊥
 PutsLines asks number values (Err Memory) old new = old ≡ new
 PutsLines asks number values (Err Read) old new = ⊥
-PutsLines asks number values (Err Write) old new = AppendsFront old new (lines_of asks number values)
+PutsLines asks number values (Err Write) old new =
+    AppendsFront old new (lines_of asks number values)
 
 -- out of memory or a failed write
 abbrev pub IsWritersFault : {T : Type 0} → Result T Fault → Type 0

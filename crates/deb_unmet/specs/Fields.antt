@@ -1,6 +1,6 @@
--- The lines of one paragraph, by its values. Debian Policy 5.6, 7.2 and 7.7; the form of the lines is
--- this project's own.
-use Rattle.std.specs.Prelude.{◌≡◌, ℕ, false, cond, ◌&&◌, List, [], ◌∷◌, map, Option, Some, None, codes, refl}
+-- The lines of one paragraph, by its values. Debian Policy 5.6, 7.2 and 7.7; the form of the lines
+-- is this project's own.
+use Rattle.std.specs.Prelude.{◌≡◌, ℕ, false, cond, ◌&&◌, List, [], ◌∷◌, ◌++◌, map, Option, Some, None, codes, refl}
 use Rattle.std.specs.FinMap.{find}
 use Rattle.std.specs.Fmt.{decimal, digits}
 use Rattle.std.specs.List.{concat, flat_map}
@@ -155,7 +155,8 @@ worked-all = refl
 
 worked-recommends : paragraph_lines (Packages Recommends) environment packages 7
     (binary (codes "all"))
-    ≡ codes "unmet 7 xx 1.0 all Pre-Depends cc\nunmet 7 xx 1.0 all Depends bb\nunmet 7 xx 1.0 all Recommends dd\n"
+    ≡ codes "unmet 7 xx 1.0 all Pre-Depends cc\nunmet 7 xx 1.0 all Depends bb\n"
+    ++ codes "unmet 7 xx 1.0 all Recommends dd\n"
 unfolding group_text digits
 worked-recommends = refl
 
@@ -188,12 +189,14 @@ source =
     ∷ (codes "Version", VersionMeans (version_in (codes "2"))) ∷ []
 
 worked-sources : paragraph_lines Sources environment packages 1 source
-    ≡ codes "unmet 1 xx 2 source Build-Depends bb\nunsure 1 xx 2 source Build-Depends-Arch cc [linux-any]\n"
+    ≡ codes "unmet 1 xx 2 source Build-Depends bb\n"
+    ++ codes "unsure 1 xx 2 source Build-Depends-Arch cc [linux-any]\n"
 unfolding group_text digits
 worked-sources = refl
 
 worked-source : paragraph_lines Source environment packages 1 source
-    ≡ codes "unmet 1 yy 2 source Build-Depends bb\nunsure 1 yy 2 source Build-Depends-Arch cc [linux-any]\n"
+    ≡ codes "unmet 1 yy 2 source Build-Depends bb\n"
+    ++ codes "unsure 1 yy 2 source Build-Depends-Arch cc [linux-any]\n"
 unfolding group_text digits
 worked-source = refl
 

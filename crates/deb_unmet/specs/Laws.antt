@@ -1,5 +1,5 @@
--- Laws of lines: canonical text changes none, and a group has one by its readings. Debian Policy 5.1,
--- 7.1 and 11.1; the canonical text is this project's own.
+-- Laws of lines: canonical text changes none, and a group has one by its readings. Debian Policy
+-- 5.1, 7.1 and 11.1; the canonical text is this project's own.
 use Rattle.std.specs.Prelude.{◌≡◌, ℕ, Bool, true, false, List, [], ◌∷◌, map, Option, None, Some, codes, refl}
 use Rattle.std.specs.List.{list_any}
 use Rattle.std.specs.Str.{bytes_eq}

@@ -25,7 +25,8 @@ pub(crate) enum Applies {
 
 /// Returns whether an alternative applies to an environment.
 pub(crate) fn applies_by(alternative: &Alternative<'_>, environment: &Env) -> Applies
-    ensures { result ≡ applies_by (environment_of environment.now) (alternative_of alternative.now) }
+    ensures { result
+        ≡ applies_by (environment_of environment.now) (alternative_of alternative.now) }
 {
     if alternative.formula_applies(environment) {
         list_applies(alternative.architectures(), environment.target())

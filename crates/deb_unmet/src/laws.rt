@@ -8,8 +8,8 @@ pub fn canonical_text_changes_no_line()
     ensures { CanonicalTextChangesNoLine }
 {}
 
-/// A group can be unmet exactly if some reading of its architecture lists makes it unmet, and it can
-/// be met or ignored exactly if some reading does.
+/// A group can be unmet exactly if some reading of its architecture lists makes it unmet, and it
+/// can be met or ignored exactly if some reading does.
 pub fn readings_decide()
     ensures { ReadingsDecide }
 {}

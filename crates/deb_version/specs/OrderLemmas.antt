@@ -183,7 +183,8 @@ HaveTexts-from_cuts : (cut : Cut) (cuts : List Cut) → AreCuts (cut ∷ cuts)
 HaveTexts-from_cuts cut [] are = tt
 HaveTexts-from_cuts cut (next ∷ cuts) are = (are.3, HaveTexts-from_cuts next cuts are.4)
 
-pub component_of_text : (text : List ℕ) (parts : List Part) → HasParts text parts → IsComponent parts
+pub component_of_text : (text : List ℕ) (parts : List Part) → HasParts text parts
+    → IsComponent parts
 component_of_text text parts h = of_cuts h.0 h.1 h.3
   where
     of_cuts : (cuts : List Cut) → AreCuts cuts → parts ≡ map part_of cuts → IsComponent parts

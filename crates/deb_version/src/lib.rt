@@ -17,8 +17,8 @@
 //! [`Version::parse`] accepts exactly the texts that spell a version (Debian Policy 5.6.12), and
 //! returns the first fault of any other. The order is Debian's (deb-version(7)); it is total, and a
 //! run of digits may have any length. Two versions are equal in it exactly if they have the same
-//! canonical text, which spells them, and exactly if they have the same key ([`Version::key_into`]).
-//! The order of the bytes of keys is that of the versions.
+//! canonical text, which spells them, and exactly if they have the same key
+//! ([`Version::key_into`]). The order of the bytes of keys is that of the versions.
 #![tactic(auto)]
 
 mod canonical;
