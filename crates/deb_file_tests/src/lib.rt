@@ -14,3 +14,5 @@ mod devices;
 mod index;
 #[cfg(test)]
 mod syntax;
+#[cfg(test)]
+mod unmet;
