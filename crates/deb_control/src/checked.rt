@@ -51,7 +51,7 @@ impl Checked {
     ghost use Rattle.deb_control.specs.CheckedStates.{refused_last};
     ghost use Rattle.deb_control.specs.Calls.{IfRefused};
     ghost use Rattle.deb_control.specs.Refused.{lines_behind};
-    ghost use Rattle.deb_syntax.specs.CheckedView.{line_judged};
+    ghost use Rattle.deb_syntax.specs.Judged.{line_judged};
     ghost use Rattle.deb_syntax.specs.Meaning.{Entries};
 
     /// Returns a reader of checked paragraphs that has read nothing: the file is what its source
