@@ -388,7 +388,7 @@ unmet_of_files rows dependents =
       wanted = finds_unmet (word_in (codes "arch") rows)
           (profiles_asked (first_of (codes "profiles") rows)) dependents;
       first = Some (word_in (codes "index") rows);
-      second = first_of (codes "path") rows;
+      second = Some (file_asked rows);
     })
 
 -- `unmet` of a kind that an index hasn't: with a file of that kind
@@ -407,9 +407,15 @@ unmet_of_sources rows dependents =
 abbrev pub strength_in : List Row → Strength
 strength_in rows = strength_asked (flag_asked (first_of (codes "recommends") rows))
 
+-- the packages whose groups `unmet` tries: those of the index where no other file is given
+abbrev pub packages_in : List Row → Dependents
+packages_in rows =
+    if is_some (first_of (codes "path") rows) then dependents.Packages (strength_in rows)
+    else dependents.Index (strength_in rows)
+
 -- `unmet` of files of this kind
 abbrev pub unmet_of_kind : List Row → Doc → Asked
-unmet_of_kind rows Packages = unmet_of_files rows (dependents.Packages (strength_in rows))
+unmet_of_kind rows Packages = unmet_of_files rows (packages_in rows)
 unmet_of_kind rows Binary = unmet_of_path rows (dependents.Binary (strength_in rows))
 unmet_of_kind rows Sources = unmet_of_sources rows dependents.Sources
 unmet_of_kind rows Source = unmet_of_sources rows dependents.Source

@@ -257,33 +257,38 @@ abbrev unmet_line : List Text → List Text
 unmet_line words = line (codes "unmet" ∷ codes "--arch" ∷ codes "amd64" ∷ words)
 
 -- what is asked of the index `x`, and of another file
-abbrev asks_unmet : Dependents → Option Text → Option Asked
+abbrev asks_unmet : Dependents → Text → Option Asked
 asks_unmet dependents path =
     Some (asks (record {
       wanted = finds_unmet (codes "amd64") [] dependents;
       first = Some (codes "x");
-      second = path;
+      second = Some path;
     }))
 
 unmet_of_an_index : asked_of (unmet_line (codes "x" ∷ []))
-    ≡ asks_unmet (dependents.Packages Depends) None
+    ≡ asks_unmet (dependents.Index Depends) (codes "x")
 unfolding clap_on_literals kind_asked
 unmet_of_an_index = refl
 
+unmet_of_another_index : asked_of (unmet_line (codes "x" ∷ codes "y" ∷ []))
+    ≡ asks_unmet (dependents.Packages Depends) (codes "y")
+unfolding clap_on_literals kind_asked
+unmet_of_another_index = refl
+
 unmet_with_recommends : asked_of
     (unmet_line (codes "x" ∷ codes "--recommends" ∷ codes "y" ∷ codes "-kbinary" ∷ []))
-    ≡ asks_unmet (dependents.Binary Recommends) (Some (codes "y"))
+    ≡ asks_unmet (dependents.Binary Recommends) (codes "y")
 unfolding clap_on_literals kind_asked
 unmet_with_recommends = refl
 
 unmet_of_sources_in_input : asked_of
     (unmet_line (codes "--kind" ∷ codes "sources" ∷ codes "x" ∷ codes "-" ∷ []))
-    ≡ asks_unmet dependents.Sources (Some (codes "-"))
+    ≡ asks_unmet dependents.Sources (codes "-")
 unfolding clap_on_literals kind_asked
 unmet_of_sources_in_input = refl
 
 unmet_of_a_source : asked_of (unmet_line (codes "--kind=source" ∷ codes "x" ∷ codes "y" ∷ []))
-    ≡ asks_unmet dependents.Source (Some (codes "y"))
+    ≡ asks_unmet dependents.Source (codes "y")
 unfolding clap_on_literals kind_asked
 unmet_of_a_source = refl
 
@@ -310,7 +315,7 @@ standard_input_for_index_and_file = refl
 kinds_of_an_index : map (λ kind. asked_of (unmet_line (codes "--kind" ∷ kind ∷ codes "x" ∷ [])))
     (codes "packages" ∷ codes "binary" ∷ codes "sources" ∷ codes "source" ∷ codes "any"
     ∷ codes "foo" ∷ [])
-    ≡ asks_unmet (dependents.Packages Depends) None ∷ Some kind_of_path ∷ Some kind_of_path
+    ≡ asks_unmet (dependents.Index Depends) (codes "x") ∷ Some kind_of_path ∷ Some kind_of_path
     ∷ Some kind_of_path ∷ Some no_relations ∷ Some unknown_kind ∷ []
 unfolding clap_on_literals kind_asked
 kinds_of_an_index = refl
@@ -319,7 +324,7 @@ kinds_of_an_index = refl
 kinds_with_recommends : map (λ kind. asked_of
     (unmet_line (codes "--recommends" ∷ codes "--kind" ∷ kind ∷ codes "x" ∷ codes "y" ∷ [])))
     (codes "packages" ∷ codes "sources" ∷ codes "source" ∷ codes "any" ∷ [])
-    ≡ asks_unmet (dependents.Packages Recommends) (Some (codes "y")) ∷ Some no_recommends
+    ≡ asks_unmet (dependents.Packages Recommends) (codes "y") ∷ Some no_recommends
     ∷ Some no_recommends ∷ Some no_relations ∷ []
 unfolding clap_on_literals kind_asked
 kinds_with_recommends = refl

@@ -51,7 +51,8 @@ queries_with_profiles : (arch relation one other : String Global) (detail : Deta
     ≡ queries (string_bytes arch) (string_bytes one ∷ string_bytes other ∷ [])
     (string_bytes relation) detail
 queries_with_profiles arch relation one other detail profiles are =
-    ap (λ named. queries (string_bytes arch) (map string_bytes named) (string_bytes relation) detail)
+    ap
+    (λ named. queries (string_bytes arch) (map string_bytes named) (string_bytes relation) detail)
     are
 
 queries_from_a_file : (arch one other : String Global) (detail : Detail)

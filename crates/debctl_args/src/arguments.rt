@@ -13,7 +13,8 @@ use crate::commands::{
 };
 use crate::found_arguments::{
     all_given, detail_in, end_in, file_in, flag_in, given, index_in, is_standard_input_twice,
-    kind_in, names_file, owned_texts, path_in, profiles_in, strength_in, versions_in, word_in,
+    kind_in, names_file, owned_texts, packages_in, path_in, profiles_in, strength_in, versions_in,
+    word_in,
 };
 use crate::jobs::{Audit, Call, Dependents, Explain, Files, Job, Task};
 use crate::operator_argument::operator_named;
@@ -75,9 +76,9 @@ impl From<AllocError> for UsageFault {
 /// PATH` ask for a task. `help [COMMAND]`, `--help` and `--version` ask for help.
 ///
 /// The profiles of `query` and `unmet` are the texts between the commas of P,P; without the option
-/// there are none. A version, an architecture, a profile or a relation may be any text here: the job
-/// checks it. `-k` is short for `--kind`, and `-0` for `--null`. The path `-` is returned as it is;
-/// the program reads standard input for it. N is the number of an error code, from 1 to 23, in
+/// there are none. A version, an architecture, a profile or a relation may be any text here: the
+/// job checks it. `-k` is short for `--kind`, and `-0` for `--null`. The path `-` is returned as it
+/// is; the program reads standard input for it. N is the number of an error code, from 1 to 23, in
 /// decimal.
 ///
 /// # Errors
@@ -87,13 +88,13 @@ impl From<AllocError> for UsageFault {
 ///   COMMAND or an N that isn't known; `usage: standard input twice` for `same - -`, for an audit
 ///   with two paths `-`, for a query whose relation and index are both standard input, and for an
 ///   `unmet` that reads standard input twice; `usage: explain takes one file, code, relation or
-///   version` for an `explain` with two of these, where a kind or a path names a file; `usage: audit
-///   takes paths, or --files0-from` for an audit with neither paths nor a list, or with both;
-///   `usage: query takes a relation, or --relation-from` for a query with neither or with both;
-///   `usage: unmet takes no --kind any`; `usage: unmet takes --recommends only for binary packages`
-///   for the kinds `sources` and `source` with `--recommends`; `usage: unmet takes another --kind
-///   only with a second path` for a kind other than `packages` without PATH; otherwise that of
-///   `clap`.
+///   version` for an `explain` with two of these, where a kind or a path names a file;
+///   `usage: audit takes paths, or --files0-from` for an audit with neither paths nor a list, or
+///   with both; `usage: query takes a relation, or --relation-from` for a query with neither or with
+///   both; `usage: unmet takes no --kind any`; `usage: unmet takes --recommends only for binary
+///   packages` for the kinds `sources` and `source` with `--recommends`; `usage: unmet takes another
+///   --kind only with a second path` for a kind other than `packages` without PATH; otherwise that
+///   of `clap`.
 /// - `UsageFault::Help`: the arguments ask for help or for the version.
 /// - `UsageFault::Memory`: a growth of memory was refused.
 pub fn job_of(alloc: Global, words: &[String]) -> Result<Task, UsageFault>
@@ -403,7 +404,7 @@ fn unmet_task(alloc: Global, found: &ArgMatches<'_>) -> Result<Task, UsageFault>
     ensures { Answers (unmet_asked (rows_of (found_of found.now))) result }
 {
     match kind_in(alloc, found)? {
-        Doc::Packages => unmet_of_files(alloc, found, Dependents::Packages(strength_in(found))),
+        Doc::Packages => unmet_of_files(alloc, found, packages_in(found)),
         Doc::Binary => unmet_of_path(alloc, found, Dependents::Binary(strength_in(found))),
         Doc::Sources => unmet_of_sources(alloc, found, Dependents::Sources),
         Doc::Source => unmet_of_sources(alloc, found, Dependents::Source),
@@ -454,6 +455,7 @@ fn unmet_of_files(
     let arch = String::from_str(alloc, word_in(found, "arch"))?;
     let profiles = profiles_in(alloc, found)?;
     let first = String::from_str(alloc, index)?;
+    let second = String::from_str(alloc, file_in(found))?;
     Ok(Task::Run(Call {
         job: Job::Unmet {
             arch,
@@ -461,7 +463,7 @@ fn unmet_of_files(
             dependents,
         },
         first: Some(first),
-        second: path_in(alloc, found)?,
+        second: Some(second),
     }))
 }
 

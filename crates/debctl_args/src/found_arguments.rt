@@ -2,10 +2,10 @@
 
 ghost use Rattle.std.specs.Prelude.{◌≡◌, nat_lt, count_by, map, codes, string_bytes, option_map, IfOk, option_copied};
 ghost use Rattle.clap.specs.Words.{all_of, first_of, found_of, rows_of};
-ghost use Rattle.debctl_args.specs.Asked.{comma_pieces, detail_asked, end_asked, file_asked, flag_asked, index_asked, is_standard_input, kind_asked, names_file, profiles_asked, strength_asked, texts_asked, word_in, MeansKind};
+ghost use Rattle.debctl_args.specs.Asked.{comma_pieces, detail_asked, end_asked, file_asked, flag_asked, index_asked, is_standard_input, kind_asked, names_file, packages_in, profiles_asked, strength_in, texts_asked, word_in, MeansKind};
 
 use crate::arguments::{UsageFault, usage};
-use crate::jobs::{Detail, LineEnd, Strength};
+use crate::jobs::{Dependents, Detail, LineEnd, Strength};
 use clap::ArgMatches;
 use deb_base::Doc;
 use std::alloc::{AllocError, Global};
@@ -61,13 +61,23 @@ pub(crate) fn detail_in(found: &ArgMatches<'_>) -> Detail
 
 /// Which fields of binary packages `unmet` tries: Recommends too if `--recommends` is given.
 pub(crate) fn strength_in(found: &ArgMatches<'_>) -> Strength
-    ensures { result
-        ≡ strength_asked (flag_asked (first_of (codes "recommends") (rows_of (found_of found.now)))) }
+    ensures { result ≡ strength_in (rows_of (found_of found.now)) }
 {
     if flag_in(found, "recommends") {
         Strength::Recommends
     } else {
         Strength::Depends
+    }
+}
+
+/// The packages whose groups `unmet` tries: those of the index if no other file is given.
+pub(crate) fn packages_in(found: &ArgMatches<'_>) -> Dependents
+    ensures { result ≡ packages_in (rows_of (found_of found.now)) }
+{
+    if given(found, "path").is_some() {
+        Dependents::Packages(strength_in(found))
+    } else {
+        Dependents::Index(strength_in(found))
     }
 }
 

@@ -65,7 +65,7 @@ pub enum Job {
         detail: Detail,
     },
     /// `unmet`: find the groups of a whole file that no package of an index meets. The index is the
-    /// first file. The second is the file with the groups; without it the index is read again.
+    /// first file, and the file with the groups is the second.
     Unmet {
         arch: String,
         profiles: Vec<String>,
@@ -82,10 +82,12 @@ pub enum Detail {
     Reasons,
 }
 
-/// The kind of the file whose groups `unmet` tries, and which of their fields.
+/// The file whose groups `unmet` tries, and which of its fields.
 #[derive(Clone, Copy, Debug, PartialEq, Eq)]
 pub enum Dependents {
-    /// An index of binary packages.
+    /// The index itself, which is read again.
+    Index(Strength),
+    /// Another index of binary packages.
     Packages(Strength),
     /// The control file of a binary package.
     Binary(Strength),
@@ -106,9 +108,9 @@ pub enum Strength {
 
 /// A command and the paths of the files that it reads.
 ///
-/// If `check`, `normalise`, `sort` or `query` has no path, the file is standard input. `same` and
-/// `query --relation-from` have both paths. `unmet` has the first, and may have the second; no other
-/// job has a second one.
+/// If `check`, `normalise`, `sort` or `query` has no path, the file is standard input. `same`,
+/// `query --relation-from` and `unmet` have both paths, and no other job has a second one. Those of
+/// an `unmet` of the index itself are the same.
 #[derive(Debug, PartialEq, Eq, Drop)]
 pub struct Call {
     pub job: Job,
