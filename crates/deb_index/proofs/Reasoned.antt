@@ -1,11 +1,10 @@
 -- Reasons, and the lines that say them.
-use Rattle.std.proofs.Common.{◌≡◌, ℕ, ◌+◌, ◌-◌, ◌==◌, Bool, true, false, cond, ◌&&◌, ◌||◌, List, [], ◌∷◌, ◌++◌, length, map, Option, None, Some, append-nil, refl, sym, ap, ◌∙◌}
-use Rattle.std.specs.List.{filter, flat_map, list_any, slice_get}
-use Rattle.std.specs.Option.{is_none, option_map_or}
+use Rattle.std.proofs.Common.{◌≡◌, ℕ, ◌+◌, ◌==◌, Bool, true, false, cond, ◌&&◌, ◌||◌, List, [], ◌∷◌, length, map, None, Some, refl, sym, ap, ◌∙◌}
+use Rattle.std.specs.List.{filter, flat_map, list_any}
+use Rattle.std.specs.Option.{is_none}
 use Rattle.std.proofs.lemmas.Bool.{false≢true}
-use Rattle.std.proofs.lemmas.Grind.{flat_map-append}
 use Rattle.deb_relation.specs.Applying.{Environment}
-use Rattle.deb_relation.specs.Meaning.{Alternative, Relation}
+use Rattle.deb_relation.specs.Meaning.{Alternative}
 use Rattle.deb_relation.specs.Texts.{alternative_text}
 use Rattle.deb_relation.proofs.Joining.{nil_of}
 use Rattle.deb_index.specs.Laws.{ReasonUnlessMet, ReasonsChangeNoAnswer}
@@ -13,8 +12,8 @@ use Rattle.deb_index.specs.Listed.{Listed}
 use Rattle.deb_index.specs.Meeting.{meets_by_name, meets_qualifier}
 use Rattle.deb_index.specs.Named.{numbers_from, numbers_of}
 use Rattle.deb_index.specs.Reasons.{has_version, reason_of_bound, reason_of_qualifier}
-use Rattle.deb_index.specs.Reports.{Numbered, answer, passing_from, report}
-use Rattle.deb_index.specs.Why.{answer_in, asked_lines, detailed, has_or_provides, lines_of, nameless_line, package_reason}
+use Rattle.deb_index.specs.Reports.{Numbered, answer, passing_from}
+use Rattle.deb_index.specs.Why.{asked_lines, has_or_provides, lines_of, nameless_line, package_reason}
 use Rattle.deb_index.specs.declared.reason.Reason.{Reason}
 use Rattle.deb_index.proofs.Picked.{picked, picked-all}
 

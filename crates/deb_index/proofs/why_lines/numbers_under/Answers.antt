@@ -1,5 +1,5 @@
 -- The sort moves what was joined, and `dedup` keeps one of each.
-use Rattle.std.proofs.Common.{◌≡◌, ◌++◌, ◌||◌, ap, ◌∙◌, sym, eqb}
+use Rattle.std.proofs.Common.{◌≡◌, ◌++◌, ap, ◌∙◌, sym, eqb}
 use Rattle.std.proofs.lemmas.List.Filters.{dedup_is}
 use Rattle.std.proofs.lemmas.List.Folds.{list_any-append}
 use Rattle.deb_index.specs.Indexes.{packages_of}
