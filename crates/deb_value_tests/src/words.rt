@@ -16,7 +16,7 @@ fn words(alloc: Global, line: &str) -> Result<Vec<String>, AllocError> {
 }
 
 /// A command line, and the task or the fault that it has.
-const LINES: [(&str, &str); 20] = [
+const LINES: [(&str, &str); 26] = [
     (
         "check",
         "Ok(Run(Call { job: Check(Packages), first: None, second: None }))",
@@ -48,7 +48,34 @@ const LINES: [(&str, &str); 20] = [
     (
         "query --arch amd64 --profiles a,,b aa x",
         "Ok(Run(Call { job: Query { arch: \"amd64\", profiles: [\"a\", \"\", \"b\"], \
-        relation: \"aa\" }, first: Some(\"x\"), second: None }))",
+        relation: \"aa\", detail: Verdicts }, first: Some(\"x\"), second: None }))",
+    ),
+    (
+        "query --arch amd64 --why --relation-from f x",
+        "Ok(Run(Call { job: QueryFrom { arch: \"amd64\", profiles: [], detail: Reasons }, \
+        first: Some(\"f\"), second: Some(\"x\") }))",
+    ),
+    (
+        "version-key 1 2",
+        "Ok(Run(Call { job: VersionKey([\"1\", \"2\"]), first: None, second: None }))",
+    ),
+    (
+        "unmet --arch amd64 --recommends x",
+        "Ok(Run(Call { job: Unmet { arch: \"amd64\", profiles: [], \
+        dependents: Index(Recommends) }, first: Some(\"x\"), second: Some(\"x\") }))",
+    ),
+    (
+        "unmet --arch amd64 --kind sources x -",
+        "Ok(Run(Call { job: Unmet { arch: \"amd64\", profiles: [], dependents: Sources }, \
+        first: Some(\"x\"), second: Some(\"-\") }))",
+    ),
+    (
+        "unmet --arch amd64 -k source x",
+        "Err(Usage(\"usage: unmet takes another --kind only with a second path\"))",
+    ),
+    (
+        "unmet --arch amd64 --kind any x y",
+        "Err(Usage(\"usage: unmet takes no --kind any\"))",
     ),
     ("compare 1 xx 2", "Err(Usage(\"usage: unknown operator\"))"),
     ("check --kind foo", "Err(Usage(\"usage: unknown kind\"))"),

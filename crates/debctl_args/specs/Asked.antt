@@ -9,15 +9,19 @@ use Rattle.clap.specs.Simple.{subcommand_of}
 use Rattle.clap.specs.Walk.{Row, Text, all_of, first_of}
 use Rattle.clap.specs.declared.error.kind.ErrorKind.{ErrorKind}
 use Rattle.clap.specs.declared.error.kind.ErrorKind.TheVariants.{DisplayHelp, DisplayVersion, OutOfMemory}
-use Rattle.debctl_args.specs.Commands.{debctl_app, audit_word, check_word, explain_word, normalise_word, same_word, compare_word, canon_version_word, sort_word, query_word, help_word}
+use Rattle.debctl_args.specs.Commands.{debctl_app, audit_word, check_word, explain_word, normalise_word, same_word, compare_word, canon_version_word, version_key_word, sort_word, query_word, unmet_word, help_word}
 use Rattle.deb_base.specs.Codes.{number_of}
 use Rattle.deb_base.specs.declared.code.Code.{Code}
 use Rattle.deb_base.specs.declared.code.Code.TheVariants as code
 use Rattle.deb_base.specs.Docs.{doc_named}
 use Rattle.deb_base.specs.declared.doc.Doc.{Doc}
-use Rattle.deb_base.specs.declared.doc.Doc.TheVariants.{Packages}
+use Rattle.deb_base.specs.declared.doc.Doc.TheVariants.{Packages, Binary, Sources, Source, Any}
 use Rattle.debctl_args.specs.declared.jobs.Cmp.{Cmp}
 use Rattle.debctl_args.specs.declared.jobs.Cmp.TheVariants as cmp
+use Rattle.debctl_args.specs.declared.jobs.Dependents.{Dependents}
+use Rattle.debctl_args.specs.declared.jobs.Dependents.TheVariants as dependents
+use Rattle.debctl_args.specs.declared.jobs.Detail.{Detail}
+use Rattle.debctl_args.specs.declared.jobs.Detail.TheVariants.{Verdicts, Reasons}
 use Rattle.debctl_args.specs.declared.jobs.Explain.TheVariants as explain
 use Rattle.debctl_args.specs.declared.jobs.Files.{Files}
 use Rattle.debctl_args.specs.declared.jobs.Files.TheVariants as files
@@ -25,6 +29,8 @@ use Rattle.debctl_args.specs.declared.jobs.Job.{Job}
 use Rattle.debctl_args.specs.declared.jobs.Job.TheVariants as job
 use Rattle.debctl_args.specs.declared.jobs.LineEnd.{LineEnd}
 use Rattle.debctl_args.specs.declared.jobs.LineEnd.TheVariants.{Newline, Nul}
+use Rattle.debctl_args.specs.declared.jobs.Strength.{Strength}
+use Rattle.debctl_args.specs.declared.jobs.Strength.TheVariants.{Depends, Recommends}
 use Rattle.debctl_args.specs.declared.jobs.Task.{Task}
 use Rattle.debctl_args.specs.declared.jobs.Task.TheVariants as task
 use Rattle.debctl_args.specs.declared.arguments.UsageFault.{UsageFault}
@@ -86,6 +92,20 @@ abbrev pub end_asked : Bool → LineEnd
 end_asked false = Newline
 end_asked true = Nul
 
+-- what a query prints of each group: reasons too where that is asked for
+abbrev pub detail_asked : Bool → Detail
+detail_asked false = Verdicts
+detail_asked true = Reasons
+
+-- which fields of binary packages are tried: Recommends too where that is asked for
+abbrev pub strength_asked : Bool → Strength
+strength_asked false = Depends
+strength_asked true = Recommends
+
+-- the texts that are given for an argument that takes any number
+abbrev pub texts_asked : Option (List Text) → List Text
+texts_asked given = unwrap_or given []
+
 -- the word names a command
 abbrev pub is_command : Text → Bool
 is_command word =
@@ -96,8 +116,10 @@ is_command word =
     else if bytes_eq word same_word then true
     else if bytes_eq word compare_word then true
     else if bytes_eq word canon_version_word then true
+    else if bytes_eq word version_key_word then true
     else if bytes_eq word sort_word then true
     else if bytes_eq word query_word then true
+    else if bytes_eq word unmet_word then true
     else bytes_eq word help_word
 
 -- ---- requests
@@ -114,9 +136,11 @@ pub data Wanted : Type 0 where
   compares_files : Doc → Wanted
   compares : Text → Cmp → Text → Wanted
   canonicalises : Text → Wanted
+  keys : List Text → Wanted
   sorts : Bool → Wanted
-  queries : Text → List Text → Text → Wanted
-  queries_from : Text → List Text → Wanted
+  queries : Text → List Text → Text → Detail → Wanted
+  queries_from : Text → List Text → Detail → Wanted
+  finds_unmet : Text → List Text → Dependents → Wanted
   explains : Doc → Wanted
   explains_rule : Code → Wanted
   explains_relation : Text → Wanted
@@ -136,11 +160,14 @@ wanted_of (job.Same kind) = compares_files kind
 wanted_of (job.Compare left operator right) =
     compares (string_bytes left) operator (string_bytes right)
 wanted_of (job.CanonVersion version) = canonicalises (string_bytes version)
+wanted_of (job.VersionKey versions) = keys (map string_bytes versions.items)
 wanted_of (job.Sort reverse) = sorts reverse
-wanted_of (job.Query arch profiles relation) =
-    queries (string_bytes arch) (map string_bytes profiles.items) (string_bytes relation)
-wanted_of (job.QueryFrom arch profiles) =
-    queries_from (string_bytes arch) (map string_bytes profiles.items)
+wanted_of (job.Query arch profiles relation detail) =
+    queries (string_bytes arch) (map string_bytes profiles.items) (string_bytes relation) detail
+wanted_of (job.QueryFrom arch profiles detail) =
+    queries_from (string_bytes arch) (map string_bytes profiles.items) detail
+wanted_of (job.Unmet arch profiles dependents) =
+    finds_unmet (string_bytes arch) (map string_bytes profiles.items) dependents
 
 abbrev pub audited_of : Files → Audited
 audited_of (files.Paths given) = paths (map string_bytes given.items)
@@ -183,6 +210,9 @@ pub data Asked : Type 0 where
   explain_takes_one : Asked
   paths_or_list : Asked
   relation_or_file : Asked
+  no_relations : Asked
+  no_recommends : Asked
+  kind_of_path : Asked
 
 -- a word that a command has to have; `clap` refuses words without it
 abbrev pub word_in : Text → List Row → Text
@@ -291,6 +321,15 @@ canon_version_asked rows =
       second = None;
     })
 
+-- `version-key`, with its versions
+abbrev pub version_key_asked : List Row → Asked
+version_key_asked rows =
+    asks (record {
+      wanted = keys (texts_asked (all_of (codes "version") rows));
+      first = None;
+      second = None;
+    })
+
 -- `sort`, by its order
 abbrev pub sort_asked : List Row → Asked
 sort_asked rows =
@@ -305,7 +344,8 @@ abbrev pub query_of_word : List Row → Text → Asked
 query_of_word rows relation =
     asks (record {
       wanted = queries (word_in (codes "arch") rows)
-          (profiles_asked (first_of (codes "profiles") rows)) relation;
+          (profiles_asked (first_of (codes "profiles") rows)) relation
+          (detail_asked (flag_asked (first_of (codes "why") rows)));
       first = first_of (codes "path") rows;
       second = None;
     })
@@ -323,7 +363,8 @@ query_of_file rows path =
     then standard_input_twice
     else asks (record {
       wanted = queries_from (word_in (codes "arch") rows)
-          (profiles_asked (first_of (codes "profiles") rows));
+          (profiles_asked (first_of (codes "profiles") rows))
+          (detail_asked (flag_asked (first_of (codes "why") rows)));
       first = Some path;
       second = Some (index_asked rows);
     })
@@ -333,6 +374,57 @@ abbrev pub query_asked : List Row → Asked
 query_asked rows =
     option_map_or (query_of_file rows) (first_of (codes "relation-from") rows)
     (option_map_or (query_of_word rows) (first_of (codes "relation") rows) relation_or_file)
+
+-- the file whose groups `unmet` tries: the index where no other is given
+abbrev pub file_asked : List Row → Text
+file_asked rows = unwrap_or (first_of (codes "path") rows) (word_in (codes "index") rows)
+
+-- `unmet` of a file, or of the index, which is read twice: not both are standard input
+abbrev pub unmet_of_files : List Row → Dependents → Asked
+unmet_of_files rows dependents =
+    if is_standard_input (word_in (codes "index") rows) && is_standard_input (file_asked rows)
+    then standard_input_twice
+    else asks (record {
+      wanted = finds_unmet (word_in (codes "arch") rows)
+          (profiles_asked (first_of (codes "profiles") rows)) dependents;
+      first = Some (word_in (codes "index") rows);
+      second = Some (file_asked rows);
+    })
+
+-- `unmet` of a kind that an index hasn't: with a file of that kind
+abbrev pub unmet_of_path : List Row → Dependents → Asked
+unmet_of_path rows dependents =
+    if not (is_some (first_of (codes "path") rows)) then kind_of_path
+    else unmet_of_files rows dependents
+
+-- `unmet` of source packages, which have no Recommends
+abbrev pub unmet_of_sources : List Row → Dependents → Asked
+unmet_of_sources rows dependents =
+    if flag_asked (first_of (codes "recommends") rows) then no_recommends
+    else unmet_of_path rows dependents
+
+-- which fields of binary packages `unmet` tries
+abbrev pub strength_in : List Row → Strength
+strength_in rows = strength_asked (flag_asked (first_of (codes "recommends") rows))
+
+-- the packages whose groups `unmet` tries: those of the index where no other file is given
+abbrev pub packages_in : List Row → Dependents
+packages_in rows =
+    if is_some (first_of (codes "path") rows) then dependents.Packages (strength_in rows)
+    else dependents.Index (strength_in rows)
+
+-- `unmet` of files of this kind
+abbrev pub unmet_of_kind : List Row → Doc → Asked
+unmet_of_kind rows Packages = unmet_of_files rows (packages_in rows)
+unmet_of_kind rows Binary = unmet_of_path rows (dependents.Binary (strength_in rows))
+unmet_of_kind rows Sources = unmet_of_sources rows dependents.Sources
+unmet_of_kind rows Source = unmet_of_sources rows dependents.Source
+unmet_of_kind rows Any = no_relations
+
+-- `unmet`
+abbrev pub unmet_asked : List Row → Asked
+unmet_asked rows =
+    option_map_or (unmet_of_kind rows) (kind_asked (first_of (codes "kind") rows)) unknown_kind
 
 abbrev pub help_asked : Option Text → Asked
 help_asked None = asks_help
@@ -348,8 +440,10 @@ asked_by name rows =
     else if bytes_eq name same_word then same_asked rows
     else if bytes_eq name compare_word then compare_asked rows
     else if bytes_eq name canon_version_word then canon_version_asked rows
+    else if bytes_eq name version_key_word then version_key_asked rows
     else if bytes_eq name sort_word then sort_asked rows
     else if bytes_eq name query_word then query_asked rows
+    else if bytes_eq name unmet_word then unmet_asked rows
     else help_asked (first_of (codes "command") rows)
 
 -- what the command that `clap` met asks
@@ -373,6 +467,10 @@ IsUsage explain_takes_one text =
     text ≡ codes "usage: explain takes one file, code, relation or version"
 IsUsage paths_or_list text = text ≡ codes "usage: audit takes paths, or --files0-from"
 IsUsage relation_or_file text = text ≡ codes "usage: query takes a relation, or --relation-from"
+IsUsage no_relations text = text ≡ codes "usage: unmet takes no --kind any"
+IsUsage no_recommends text = text ≡ codes "usage: unmet takes --recommends only for binary packages"
+IsUsage kind_of_path text =
+    text ≡ codes "usage: unmet takes another --kind only with a second path"
 IsUsage (asks _) text = ⊥
 IsUsage asks_help text = ⊥
 

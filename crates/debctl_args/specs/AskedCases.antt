@@ -6,12 +6,16 @@ use Rattle.clap.specs.Faults.{fault_of}
 use Rattle.clap.specs.Takes.{takes}
 use Rattle.clap.specs.Walk.{Text}
 use Rattle.clap.specs.declared.error.kind.ErrorKind.TheVariants as kind
-use Rattle.debctl_args.specs.Asked.{asked_of, asks, asks_help, audits, code_named, explain_takes_one, explains, explains_relation, explains_version, listed, paths, paths_or_list, explains_rule, unknown_code, canonicalises, checks, comma_pieces, compares, kind_asked, normalises, profiles_asked, queries, queries_from, relation_or_file, sorts, compares_files, unknown_command, unknown_kind, unknown_operator, standard_input_twice, operator_named, Asked}
+use Rattle.debctl_args.specs.Asked.{asked_of, asks, asks_help, audits, code_named, explain_takes_one, explains, explains_relation, explains_version, listed, paths, paths_or_list, explains_rule, unknown_code, canonicalises, checks, comma_pieces, compares, finds_unmet, keys, kind_asked, kind_of_path, no_recommends, no_relations, normalises, profiles_asked, queries, queries_from, relation_or_file, sorts, compares_files, unknown_command, unknown_kind, unknown_operator, standard_input_twice, operator_named, Asked}
 use Rattle.debctl_args.specs.Commands.{debctl_app}
 use Rattle.deb_base.specs.declared.code.Code.TheVariants as code
 use Rattle.deb_base.specs.declared.doc.Doc.TheVariants.{Any, Binary, Packages, Source, Sources}
 use Rattle.debctl_args.specs.declared.jobs.Cmp.TheVariants as cmp
+use Rattle.debctl_args.specs.declared.jobs.Dependents.{Dependents}
+use Rattle.debctl_args.specs.declared.jobs.Dependents.TheVariants as dependents
+use Rattle.debctl_args.specs.declared.jobs.Detail.TheVariants.{Verdicts, Reasons}
 use Rattle.debctl_args.specs.declared.jobs.LineEnd.TheVariants.{Newline, Nul}
+use Rattle.debctl_args.specs.declared.jobs.Strength.TheVariants.{Depends, Recommends}
 
 -- words behind the program's name
 abbrev line : List Text → List Text
@@ -155,7 +159,7 @@ query_line words = line (codes "query" ∷ codes "--arch" ∷ codes "amd64" ∷ 
 abbrev asks_of_aa : List Text → Option Text → Option Asked
 asks_of_aa profiles path =
     Some (asks (record {
-      wanted = queries (codes "amd64") profiles (codes "aa");
+      wanted = queries (codes "amd64") profiles (codes "aa") Verdicts;
       first = path;
       second = None;
     }))
@@ -188,7 +192,7 @@ query_without_path = refl
 abbrev asks_of_file : List Text → Text → Text → Option Asked
 asks_of_file profiles path index =
     Some (asks (record {
-      wanted = queries_from (codes "amd64") profiles;
+      wanted = queries_from (codes "amd64") profiles Verdicts;
       first = Some path;
       second = Some index;
     }))
@@ -226,6 +230,122 @@ standard_input_for_relation_and_index = refl
 query_of_nothing : asked_of (query_line []) ≡ Some relation_or_file
 unfolding clap_on_literals
 query_of_nothing = refl
+
+query_with_reasons : asked_of (query_line (codes "aa" ∷ codes "--why" ∷ []))
+    ≡ Some (asks (record {
+      wanted = queries (codes "amd64") [] (codes "aa") Reasons;
+      first = None;
+      second = None;
+    }))
+unfolding clap_on_literals
+query_with_reasons = refl
+
+query_of_a_file_with_reasons : asked_of
+    (query_line (codes "--why" ∷ codes "--relation-from" ∷ codes "f" ∷ codes "x" ∷ []))
+    ≡ Some (asks (record {
+      wanted = queries_from (codes "amd64") [] Reasons;
+      first = Some (codes "f");
+      second = Some (codes "x");
+    }))
+unfolding clap_on_literals
+query_of_a_file_with_reasons = refl
+
+-- ---- `unmet`
+
+-- words of `unmet` behind its architecture
+abbrev unmet_line : List Text → List Text
+unmet_line words = line (codes "unmet" ∷ codes "--arch" ∷ codes "amd64" ∷ words)
+
+-- what is asked of the index `x`, and of another file
+abbrev asks_unmet : Dependents → Text → Option Asked
+asks_unmet dependents path =
+    Some (asks (record {
+      wanted = finds_unmet (codes "amd64") [] dependents;
+      first = Some (codes "x");
+      second = Some path;
+    }))
+
+unmet_of_an_index : asked_of (unmet_line (codes "x" ∷ []))
+    ≡ asks_unmet (dependents.Index Depends) (codes "x")
+unfolding clap_on_literals kind_asked
+unmet_of_an_index = refl
+
+unmet_of_another_index : asked_of (unmet_line (codes "x" ∷ codes "y" ∷ []))
+    ≡ asks_unmet (dependents.Packages Depends) (codes "y")
+unfolding clap_on_literals kind_asked
+unmet_of_another_index = refl
+
+unmet_with_recommends : asked_of
+    (unmet_line (codes "x" ∷ codes "--recommends" ∷ codes "y" ∷ codes "-kbinary" ∷ []))
+    ≡ asks_unmet (dependents.Binary Recommends) (codes "y")
+unfolding clap_on_literals kind_asked
+unmet_with_recommends = refl
+
+unmet_of_sources_in_input : asked_of
+    (unmet_line (codes "--kind" ∷ codes "sources" ∷ codes "x" ∷ codes "-" ∷ []))
+    ≡ asks_unmet dependents.Sources (codes "-")
+unfolding clap_on_literals kind_asked
+unmet_of_sources_in_input = refl
+
+unmet_of_a_source : asked_of (unmet_line (codes "--kind=source" ∷ codes "x" ∷ codes "y" ∷ []))
+    ≡ asks_unmet dependents.Source (codes "y")
+unfolding clap_on_literals kind_asked
+unmet_of_a_source = refl
+
+unmet_with_profiles : asked_of
+    (unmet_line (codes "--profiles" ∷ codes "a,b" ∷ codes "-" ∷ codes "y" ∷ []))
+    ≡ Some (asks (record {
+      wanted = finds_unmet (codes "amd64") (codes "a" ∷ codes "b" ∷ [])
+          (dependents.Packages Depends);
+      first = Some (codes "-");
+      second = Some (codes "y");
+    }))
+unfolding clap_on_literals kind_asked
+unmet_with_profiles = refl
+
+-- an index that is standard input can't be read twice
+standard_input_for_index_and_file : map (λ words. asked_of (unmet_line words))
+    ((codes "-" ∷ []) ∷ (codes "-" ∷ codes "-" ∷ [])
+    ∷ (codes "-" ∷ codes "-" ∷ codes "--kind=sources" ∷ []) ∷ [])
+    ≡ Some standard_input_twice ∷ Some standard_input_twice ∷ Some standard_input_twice ∷ []
+unfolding clap_on_literals kind_asked
+standard_input_for_index_and_file = refl
+
+-- an index is of packages; another kind is that of another file
+kinds_of_an_index : map (λ kind. asked_of (unmet_line (codes "--kind" ∷ kind ∷ codes "x" ∷ [])))
+    (codes "packages" ∷ codes "binary" ∷ codes "sources" ∷ codes "source" ∷ codes "any"
+    ∷ codes "foo" ∷ [])
+    ≡ asks_unmet (dependents.Index Depends) (codes "x") ∷ Some kind_of_path ∷ Some kind_of_path
+    ∷ Some kind_of_path ∷ Some no_relations ∷ Some unknown_kind ∷ []
+unfolding clap_on_literals kind_asked
+kinds_of_an_index = refl
+
+-- source packages have no Recommends
+kinds_with_recommends : map (λ kind. asked_of
+    (unmet_line (codes "--recommends" ∷ codes "--kind" ∷ kind ∷ codes "x" ∷ codes "y" ∷ [])))
+    (codes "packages" ∷ codes "sources" ∷ codes "source" ∷ codes "any" ∷ [])
+    ≡ asks_unmet (dependents.Packages Recommends) (codes "y") ∷ Some no_recommends
+    ∷ Some no_recommends ∷ Some no_relations ∷ []
+unfolding clap_on_literals kind_asked
+kinds_with_recommends = refl
+
+-- ---- `version-key`
+
+keys_in_order : asked_of
+    (line (codes "version-key" ∷ codes "2" ∷ codes "1" ∷ codes "2" ∷ []))
+    ≡ Some (asks (record {
+      wanted = keys (codes "2" ∷ codes "1" ∷ codes "2" ∷ []);
+      first = None;
+      second = None;
+    }))
+unfolding clap_on_literals
+keys_in_order = refl
+
+key_of_a_version_with_hyphen : asked_of
+    (line (codes "version-key" ∷ codes "--" ∷ codes "-1-1" ∷ []))
+    ≡ Some (asks (record { wanted = keys (codes "-1-1" ∷ []); first = None; second = None }))
+unfolding clap_on_literals
+key_of_a_version_with_hyphen = refl
 
 -- ---- `explain`
 
@@ -535,8 +655,10 @@ unfolding clap_on_literals
 help_on_help = refl
 
 help_on_each_command : map (λ word. asked_of (line (codes "help" ∷ word ∷ [])))
-    (codes "normalise" ∷ codes "same" ∷ codes "compare" ∷ codes "canon-version" ∷ codes "sort" ∷ [])
-    ≡ Some asks_help ∷ Some asks_help ∷ Some asks_help ∷ Some asks_help ∷ Some asks_help ∷ []
+    (codes "normalise" ∷ codes "same" ∷ codes "compare" ∷ codes "canon-version" ∷ codes "sort"
+    ∷ codes "version-key" ∷ codes "unmet" ∷ [])
+    ≡ Some asks_help ∷ Some asks_help ∷ Some asks_help ∷ Some asks_help ∷ Some asks_help
+    ∷ Some asks_help ∷ Some asks_help ∷ []
 unfolding clap_on_literals
 help_on_each_command = refl
 
@@ -544,6 +666,25 @@ missing_version : fault_of debctl_app (line (codes "canon-version" ∷ []))
     ≡ kind.MissingRequiredArgument ∷ []
 unfolding clap_on_literals
 missing_version = refl
+
+missing_versions : fault_of debctl_app (line (codes "version-key" ∷ []))
+    ≡ kind.MissingRequiredArgument ∷ []
+unfolding clap_on_literals
+missing_versions = refl
+
+missing_index : fault_of debctl_app (unmet_line []) ≡ kind.MissingRequiredArgument ∷ []
+unfolding clap_on_literals
+missing_index = refl
+
+unmet_without_architecture : fault_of debctl_app (line (codes "unmet" ∷ codes "x" ∷ []))
+    ≡ kind.MissingRequiredArgument ∷ []
+unfolding clap_on_literals
+unmet_without_architecture = refl
+
+third_file : fault_of debctl_app (unmet_line (codes "x" ∷ codes "y" ∷ codes "z" ∷ []))
+    ≡ kind.UnknownArgument ∷ []
+unfolding clap_on_literals
+third_file = refl
 
 no_short_reverse : fault_of debctl_app (line (codes "sort" ∷ codes "-r" ∷ []))
     ≡ kind.UnknownArgument ∷ []

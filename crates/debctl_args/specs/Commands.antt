@@ -25,6 +25,16 @@ abbrev pub profiles_rule : Rule
 profiles_rule =
     record (new_rule (codes "profiles")) { long = Some (codes "profiles"); value_names = 1 }
 
+-- `--why`, which takes no value
+abbrev pub why_rule : Rule
+why_rule = record (new_rule (codes "why")) { long = Some (codes "why"); action = Some SetTrue }
+
+-- `--recommends`, which takes no value
+abbrev pub recommends_rule : Rule
+recommends_rule =
+    record (new_rule (codes "recommends"))
+    { long = Some (codes "recommends"); action = Some SetTrue }
+
 -- `--relation-from PATH`
 abbrev pub relation_file_rule : Rule
 relation_file_rule =
@@ -64,6 +74,14 @@ paths_rule = record (new_rule (codes "path")) {
   value_names = 1;
 }
 
+-- versions, of which there is at least one
+abbrev pub versions_rule : Rule
+versions_rule = record (new_rule (codes "version")) {
+  range = Some (record { start_inclusive = 1; end_inclusive = usize_max });
+  value_names = 1;
+  required = true;
+}
+
 -- `--reverse`, which takes no value
 abbrev pub reverse_rule : Rule
 reverse_rule =
@@ -97,11 +115,17 @@ compare_word = codes "compare"
 abbrev pub canon_version_word : Text
 canon_version_word = codes "canon-version"
 
+abbrev pub version_key_word : Text
+version_key_word = codes "version-key"
+
 abbrev pub sort_word : Text
 sort_word = codes "sort"
 
 abbrev pub query_word : Text
 query_word = codes "query"
+
+abbrev pub unmet_word : Text
+unmet_word = codes "unmet"
 
 abbrev pub help_word : Text
 help_word = codes "help"
@@ -139,16 +163,27 @@ compare_app =
 abbrev pub canon_version_app : App
 canon_version_app = with_rule (new_app canon_version_word) (required_rule (codes "version"))
 
+-- `version-key V ..`
+abbrev pub version_key_app : App
+version_key_app = with_rule (new_app version_key_word) versions_rule
+
 -- `sort [--reverse] [PATH]`
 abbrev pub sort_app : App
 sort_app = with_rule (with_rule (new_app sort_word) reverse_rule) (optional_rule (codes "path"))
 
--- `query --arch A [--profiles P,P] RELATION [PATH]` and
--- `query --arch A [--profiles P,P] --relation-from PATH [PATH]`
+-- `query --arch A [--profiles P,P] [--why] RELATION [PATH]` and
+-- `query --arch A [--profiles P,P] [--why] --relation-from PATH [PATH]`
 abbrev pub query_app : App
 query_app =
-    with_rule (with_rule (with_rule (with_rule (with_rule (new_app query_word) arch_rule)
-    profiles_rule) relation_file_rule) (optional_rule (codes "relation")))
+    with_rule (with_rule (with_rule (with_rule (with_rule (with_rule (new_app query_word) arch_rule)
+    profiles_rule) why_rule) relation_file_rule) (optional_rule (codes "relation")))
+    (optional_rule (codes "path"))
+
+-- `unmet --arch A [--profiles P,P] [--kind K] [--recommends] INDEX [PATH]`
+abbrev pub unmet_app : App
+unmet_app =
+    with_rule (with_rule (with_rule (with_rule (with_rule (with_rule (new_app unmet_word) arch_rule)
+    profiles_rule) kind_rule) recommends_rule) (required_rule (codes "index")))
     (optional_rule (codes "path"))
 
 -- `help [COMMAND]`
@@ -166,10 +201,11 @@ bare_app =
 abbrev pub debctl_app : App
 debctl_app =
     with_subcommand (with_subcommand (with_subcommand (with_subcommand (with_subcommand
-    (with_subcommand (with_subcommand (with_subcommand (with_subcommand (with_subcommand bare_app
+    (with_subcommand (with_subcommand (with_subcommand (with_subcommand (with_subcommand
+    (with_subcommand (with_subcommand bare_app
     (document_app check_word).top) explain_app.top) audit_app.top)
     (document_app normalise_word).top) same_app.top) compare_app.top) canon_version_app.top)
-    sort_app.top) query_app.top) help_app.top
+    version_key_app.top) sort_app.top) query_app.top) unmet_app.top) help_app.top
 
 -- the command is what `clap` reads so, and none of its arguments is global
 pub record IsShaped (app : App) (command : Command) : Type 0 where

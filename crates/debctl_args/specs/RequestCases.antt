@@ -7,8 +7,10 @@ use Rattle.clap.specs.declared.error.kind.ErrorKind.TheVariants as kind
 use Rattle.clap.specs.Walk.{Text}
 use Rattle.deb_base.specs.declared.code.Code.TheVariants as code
 use Rattle.deb_base.specs.declared.doc.Doc.{Doc}
-use Rattle.debctl_args.specs.Asked.{asks, asks_help, audited_of, audits, canonicalises, checks, compares, explain_takes_one, explains, explains_relation, explains_version, has_mistake, has_request, is_request_kind, listed, normalises, paths, paths_or_list, queries, queries_from, relation_or_file, request_of, sorts, standard_input_twice, explains_rule, compares_files, unknown_code, unknown_command, unknown_kind, unknown_operator, wanted_of, IsHelp, IsUsage, MeansKind, Request, FitsKind, UsesText}
+use Rattle.debctl_args.specs.Asked.{asks, asks_help, audited_of, audits, canonicalises, checks, compares, explain_takes_one, explains, explains_relation, explains_version, finds_unmet, has_mistake, has_request, is_request_kind, keys, kind_of_path, listed, no_recommends, no_relations, normalises, paths, paths_or_list, queries, queries_from, relation_or_file, request_of, sorts, standard_input_twice, explains_rule, compares_files, unknown_code, unknown_command, unknown_kind, unknown_operator, wanted_of, IsHelp, IsUsage, MeansKind, Request, FitsKind, UsesText}
 use Rattle.debctl_args.specs.declared.jobs.Cmp.{Cmp}
+use Rattle.debctl_args.specs.declared.jobs.Dependents.{Dependents}
+use Rattle.debctl_args.specs.declared.jobs.Detail.{Detail}
 use Rattle.debctl_args.specs.declared.jobs.Explain.TheVariants as explain
 use Rattle.debctl_args.specs.declared.jobs.Files.{Files}
 use Rattle.debctl_args.specs.declared.jobs.Files.TheVariants as files
@@ -38,20 +40,34 @@ canonical_versions text = refl
 orders : (wanted_of (job.Sort true) ≡ sorts true) × (wanted_of (job.Sort false) ≡ sorts false)
 orders = (refl, refl)
 
-queries_with_profiles : (arch relation one other : String Global)
-    (profiles : Vec (String Global) Global) → profiles.items ≡ one ∷ other ∷ []
-    → wanted_of (job.Query arch profiles relation)
-    ≡ queries (string_bytes arch) (string_bytes one ∷ string_bytes other ∷ [])
-    (string_bytes relation)
-queries_with_profiles arch relation one other profiles are =
-    ap (λ named. queries (string_bytes arch) (map string_bytes named) (string_bytes relation)) are
+keys_of_versions : (one other : String Global) (versions : Vec (String Global) Global)
+    → versions.items ≡ one ∷ other ∷ []
+    → wanted_of (job.VersionKey versions) ≡ keys (string_bytes one ∷ string_bytes other ∷ [])
+keys_of_versions one other versions are = ap (λ named. keys (map string_bytes named)) are
 
-queries_from_a_file : (arch one other : String Global)
+queries_with_profiles : (arch relation one other : String Global) (detail : Detail)
     (profiles : Vec (String Global) Global) → profiles.items ≡ one ∷ other ∷ []
-    → wanted_of (job.QueryFrom arch profiles)
-    ≡ queries_from (string_bytes arch) (string_bytes one ∷ string_bytes other ∷ [])
-queries_from_a_file arch one other profiles are =
-    ap (λ named. queries_from (string_bytes arch) (map string_bytes named)) are
+    → wanted_of (job.Query arch profiles relation detail)
+    ≡ queries (string_bytes arch) (string_bytes one ∷ string_bytes other ∷ [])
+    (string_bytes relation) detail
+queries_with_profiles arch relation one other detail profiles are =
+    ap
+    (λ named. queries (string_bytes arch) (map string_bytes named) (string_bytes relation) detail)
+    are
+
+queries_from_a_file : (arch one other : String Global) (detail : Detail)
+    (profiles : Vec (String Global) Global) → profiles.items ≡ one ∷ other ∷ []
+    → wanted_of (job.QueryFrom arch profiles detail)
+    ≡ queries_from (string_bytes arch) (string_bytes one ∷ string_bytes other ∷ []) detail
+queries_from_a_file arch one other detail profiles are =
+    ap (λ named. queries_from (string_bytes arch) (map string_bytes named) detail) are
+
+groups_of_a_file : (arch one other : String Global) (dependents : Dependents)
+    (profiles : Vec (String Global) Global) → profiles.items ≡ one ∷ other ∷ []
+    → wanted_of (job.Unmet arch profiles dependents)
+    ≡ finds_unmet (string_bytes arch) (string_bytes one ∷ string_bytes other ∷ []) dependents
+groups_of_a_file arch one other dependents profiles are =
+    ap (λ named. finds_unmet (string_bytes arch) (map string_bytes named) dependents) are
 
 -- ---- the files of an audit
 
@@ -165,7 +181,10 @@ texts_of_mistakes : IsUsage unknown_kind (codes "usage: unknown kind")
     (codes "usage: explain takes one file, code, relation or version")
     × IsUsage paths_or_list (codes "usage: audit takes paths, or --files0-from")
     × IsUsage relation_or_file (codes "usage: query takes a relation, or --relation-from")
-texts_of_mistakes = (refl, refl, refl, refl, refl, refl, refl, refl)
+    × IsUsage no_relations (codes "usage: unmet takes no --kind any")
+    × IsUsage no_recommends (codes "usage: unmet takes --recommends only for binary packages")
+    × IsUsage kind_of_path (codes "usage: unmet takes another --kind only with a second path")
+texts_of_mistakes = (refl, refl, refl, refl, refl, refl, refl, refl, refl, refl, refl)
 
 no_mistakes : (request : Request) (text : Text)
     → (IsUsage (asks request) text ≡ ⊥) × (IsUsage asks_help text ≡ ⊥)

@@ -2,23 +2,25 @@
 
 ghost use Rattle.std.specs.Prelude.{◌≡◌, [], Some, None, map, true, string_bytes, IfOk, IfErr, option_copied};
 ghost use Rattle.clap.specs.Words.{fault_of, found_of, has_subcommand, kind_of, rows_of, subcommand_rows_of, takes};
-ghost use Rattle.debctl_args.specs.Asked.{asked_by, asked_in, asked_of, asks, audit_asked, canon_version_asked, checks, compare_asked, document_asked, explain_asked, help_asked, normalises, query_asked, query_of_file, query_of_word, relation_asked, request_of, rule_asked, same_asked, sort_asked, text_asked, version_asked, word_in, Answers, AnswersError, AnswersMet, IsHelp, MeansError, Request, FitsKind, UsesText};
+ghost use Rattle.debctl_args.specs.Asked.{asked_by, asked_in, asked_of, asks, audit_asked, canon_version_asked, checks, compare_asked, document_asked, explain_asked, help_asked, normalises, query_asked, query_of_file, query_of_word, relation_asked, request_of, rule_asked, same_asked, sort_asked, text_asked, unmet_asked, unmet_of_files, unmet_of_path, unmet_of_sources, version_asked, version_key_asked, word_in, Answers, AnswersError, AnswersMet, IsHelp, MeansError, Request, FitsKind, UsesText};
 ghost use Rattle.debctl_args.specs.Commands.{debctl_app};
 
 use crate::code_argument::code_named;
 use crate::commands::{
     audit_command, canon_version_command, check_command, compare_command, debctl_command,
     explain_command, help_command, kinds_help, normalise_command, query_command, same_command,
-    sort_command,
+    sort_command, unmet_command, version_key_command,
 };
 use crate::found_arguments::{
-    end_in, flag_in, given, index_in, is_standard_input_twice, kind_in, names_file, owned_paths,
-    path_in, paths_in, profiles_in, word_in,
+    all_given, detail_in, end_in, file_in, flag_in, given, index_in, is_standard_input_twice,
+    kind_in, names_file, owned_texts, packages_in, path_in, profiles_in, strength_in, versions_in,
+    word_in,
 };
-use crate::jobs::{Audit, Call, Explain, Files, Job, Task};
+use crate::jobs::{Audit, Call, Dependents, Explain, Files, Job, Task};
 use crate::operator_argument::operator_named;
 use clap::error::{Error, ErrorKind};
 use clap::{ArgMatches, Command};
+use deb_base::Doc;
 use std::alloc::{AllocError, Global};
 
 /// The text for an `explain` of two things.
@@ -29,6 +31,15 @@ const PATHS_OR_LIST: &str = "usage: audit takes paths, or --files0-from";
 
 /// The text for a query with neither a relation nor its file, and for one with both.
 const RELATION_OR_FILE: &str = "usage: query takes a relation, or --relation-from";
+
+/// The text for an `unmet` of files whose relations have no meaning.
+const NO_RELATIONS: &str = "usage: unmet takes no --kind any";
+
+/// The text for Recommends of source packages.
+const NO_RECOMMENDS: &str = "usage: unmet takes --recommends only for binary packages";
+
+/// The text for an `unmet` of another kind of file without that file.
+const KIND_OF_PATH: &str = "usage: unmet takes another --kind only with a second path";
 
 /// Why there is no task. A text has no newline at its end.
 #[derive(Debug, PartialEq, Eq, Drop, thiserror::Error)]
@@ -58,15 +69,16 @@ impl From<AllocError> for UsageFault {
 ///
 /// `check [--kind K] [PATH]`, `explain [--kind K] [PATH]`, `explain --code N`, `explain --relation
 /// TEXT`, `explain --version-text TEXT`, `normalise [--kind K] [PATH]`, `same [--kind K] PATH
-/// PATH`, `compare V OP V`, `canon-version V`, `sort [--reverse] [PATH]`, `query --arch A
-/// [--profiles P,P] RELATION [PATH]`, `query --arch A [--profiles P,P] --relation-from PATH
-/// [PATH]`, `audit [--kind K] [--null] PATH ..` and `audit [--kind K] [--null] --files0-from PATH`
-/// ask for a task. `help [COMMAND]`, `--help` and `--version` ask for help.
+/// PATH`, `compare V OP V`, `canon-version V`, `version-key V ..`, `sort [--reverse] [PATH]`,
+/// `query --arch A [--profiles P,P] [--why] RELATION [PATH]`, `query --arch A [--profiles P,P]
+/// [--why] --relation-from PATH [PATH]`, `unmet --arch A [--profiles P,P] [--kind K] [--recommends]
+/// INDEX [PATH]`, `audit [--kind K] [--null] PATH ..` and `audit [--kind K] [--null] --files0-from
+/// PATH` ask for a task. `help [COMMAND]`, `--help` and `--version` ask for help.
 ///
-/// The profiles of `query` are the texts between the commas of its P,P; without the option there
-/// are none. A version, an architecture, a profile or a relation may be any text here: the job
-/// checks it. `-k` is short for `--kind`, and `-0` for `--null`. The path `-` is returned as it is;
-/// the program reads standard input for it. N is the number of an error code, from 1 to 23, in
+/// The profiles of `query` and `unmet` are the texts between the commas of P,P; without the option
+/// there are none. A version, an architecture, a profile or a relation may be any text here: the
+/// job checks it. `-k` is short for `--kind`, and `-0` for `--null`. The path `-` is returned as it
+/// is; the program reads standard input for it. N is the number of an error code, from 1 to 23, in
 /// decimal.
 ///
 /// # Errors
@@ -74,11 +86,15 @@ impl From<AllocError> for UsageFault {
 /// - `UsageFault::Usage`: an argument is wrong or missing. The text is `usage: unknown kind`,
 ///   `usage: unknown operator`, `usage: unknown command` or `usage: unknown code` for a K, an OP, a
 ///   COMMAND or an N that isn't known; `usage: standard input twice` for `same - -`, for an audit
-///   with two paths `-`, and for a query whose relation and index are both standard input; `usage:
-///   explain takes one file, code, relation or version` for an `explain` with two of these, where a
-///   kind or a path names a file; `usage: audit takes paths, or --files0-from` for an audit with
-///   neither paths nor a list, or with both; `usage: query takes a relation, or --relation-from`
-///   for a query with neither or with both; otherwise that of `clap`.
+///   with two paths `-`, for a query whose relation and index are both standard input, and for an
+///   `unmet` that reads standard input twice; `usage: explain takes one file, code, relation or
+///   version` for an `explain` with two of these, where a kind or a path names a file;
+///   `usage: audit takes paths, or --files0-from` for an audit with neither paths nor a list, or
+///   with both; `usage: query takes a relation, or --relation-from` for a query with neither or with
+///   both; `usage: unmet takes no --kind any`; `usage: unmet takes --recommends only for binary
+///   packages` for the kinds `sources` and `source` with `--recommends`; `usage: unmet takes another
+///   --kind only with a second path` for a kind other than `packages` without PATH; otherwise that
+///   of `clap`.
 /// - `UsageFault::Help`: the arguments ask for help or for the version.
 /// - `UsageFault::Memory`: a growth of memory was refused.
 pub fn job_of(alloc: Global, words: &[String]) -> Result<Task, UsageFault>
@@ -152,8 +168,10 @@ fn task_by(alloc: Global, name: &str, found: &ArgMatches<'_>) -> Result<Task, Us
         "same" => same_task(alloc, found),
         "compare" => compare_task(alloc, found),
         "canon-version" => canon_version_task(alloc, found),
+        "version-key" => version_key_task(alloc, found),
         "sort" => sort_task(alloc, found),
         "query" => query_task(alloc, found),
+        "unmet" => unmet_task(alloc, found),
         _ => Err(help_on(alloc, given(found, "command"))),
     }
 }
@@ -233,11 +251,11 @@ fn audit_task(alloc: Global, found: &ArgMatches<'_>) -> Result<Task, UsageFault>
     ensures { Answers (audit_asked (rows_of (found_of found.now))) result }
 {
     let doc = kind_in(alloc, found)?;
-    let files = match (paths_in(found), given(found, "files0-from")) {
+    let files = match (all_given(found, "path"), given(found, "files0-from")) {
         (Some(paths), None) if is_standard_input_twice(paths) => {
             return Err(usage(alloc, "usage: standard input twice"));
         }
-        (Some(paths), None) => Files::Paths(owned_paths(alloc, paths)?),
+        (Some(paths), None) => Files::Paths(owned_texts(alloc, paths)?),
         (None, Some(path)) => Files::Listed(String::from_str(alloc, path)?),
         (None, None) => return Err(usage(alloc, PATHS_OR_LIST)),
         (Some(_), Some(_)) => return Err(usage(alloc, PATHS_OR_LIST)),
@@ -303,6 +321,17 @@ fn canon_version_task(alloc: Global, found: &ArgMatches<'_>) -> Result<Task, Usa
     }))
 }
 
+fn version_key_task(alloc: Global, found: &ArgMatches<'_>) -> Result<Task, UsageFault>
+    ensures { Answers (version_key_asked (rows_of (found_of found.now))) result }
+{
+    let versions = versions_in(alloc, found)?;
+    Ok(Task::Run(Call {
+        job: Job::VersionKey(versions),
+        first: None,
+        second: None,
+    }))
+}
+
 fn sort_task(alloc: Global, found: &ArgMatches<'_>) -> Result<Task, UsageFault>
     ensures { Answers (sort_asked (rows_of (found_of found.now))) result }
 {
@@ -338,6 +367,7 @@ fn query_of_word(alloc: Global, found: &ArgMatches<'_>, relation: &str) -> Resul
             arch,
             profiles,
             relation,
+            detail: detail_in(found),
         },
         first: path_in(alloc, found)?,
         second: None,
@@ -360,7 +390,78 @@ fn query_of_file(alloc: Global, found: &ArgMatches<'_>, path: &str) -> Result<Ta
     let first = String::from_str(alloc, path)?;
     let second = String::from_str(alloc, index)?;
     Ok(Task::Run(Call {
-        job: Job::QueryFrom { arch, profiles },
+        job: Job::QueryFrom {
+            arch,
+            profiles,
+            detail: detail_in(found),
+        },
+        first: Some(first),
+        second: Some(second),
+    }))
+}
+
+fn unmet_task(alloc: Global, found: &ArgMatches<'_>) -> Result<Task, UsageFault>
+    ensures { Answers (unmet_asked (rows_of (found_of found.now))) result }
+{
+    match kind_in(alloc, found)? {
+        Doc::Packages => unmet_of_files(alloc, found, packages_in(found)),
+        Doc::Binary => unmet_of_path(alloc, found, Dependents::Binary(strength_in(found))),
+        Doc::Sources => unmet_of_sources(alloc, found, Dependents::Sources),
+        Doc::Source => unmet_of_sources(alloc, found, Dependents::Source),
+        Doc::Any => Err(usage(alloc, NO_RELATIONS)),
+    }
+}
+
+/// `unmet` of source packages, which have no Recommends.
+fn unmet_of_sources(
+    alloc: Global,
+    found: &ArgMatches<'_>,
+    dependents: Dependents,
+) -> Result<Task, UsageFault>
+    ensures { Answers (unmet_of_sources (rows_of (found_of found.now)) dependents) result }
+{
+    if flag_in(found, "recommends") {
+        return Err(usage(alloc, NO_RECOMMENDS));
+    }
+    unmet_of_path(alloc, found, dependents)
+}
+
+/// `unmet` of a file that isn't the index.
+fn unmet_of_path(
+    alloc: Global,
+    found: &ArgMatches<'_>,
+    dependents: Dependents,
+) -> Result<Task, UsageFault>
+    ensures { Answers (unmet_of_path (rows_of (found_of found.now)) dependents) result }
+{
+    if given(found, "path").is_none() {
+        return Err(usage(alloc, KIND_OF_PATH));
+    }
+    unmet_of_files(alloc, found, dependents)
+}
+
+/// `unmet` of a file, or of the index itself.
+fn unmet_of_files(
+    alloc: Global,
+    found: &ArgMatches<'_>,
+    dependents: Dependents,
+) -> Result<Task, UsageFault>
+    ensures { Answers (unmet_of_files (rows_of (found_of found.now)) dependents) result }
+{
+    let index = word_in(found, "index");
+    if index == "-" && file_in(found) == "-" {
+        return Err(usage(alloc, "usage: standard input twice"));
+    }
+    let arch = String::from_str(alloc, word_in(found, "arch"))?;
+    let profiles = profiles_in(alloc, found)?;
+    let first = String::from_str(alloc, index)?;
+    let second = String::from_str(alloc, file_in(found))?;
+    Ok(Task::Run(Call {
+        job: Job::Unmet {
+            arch,
+            profiles,
+            dependents,
+        },
         first: Some(first),
         second: Some(second),
     }))
@@ -393,8 +494,10 @@ fn help_with(alloc: Global, word: Option<&str>, kinds: &str) -> UsageFault
             canon_version_command(alloc),
             "debctl canon-version",
         ),
+        Some("version-key") => help_of(alloc, version_key_command(alloc), "debctl version-key"),
         Some("sort") => help_of(alloc, sort_command(alloc), "debctl sort"),
         Some("query") => help_of(alloc, query_command(alloc), "debctl query"),
+        Some("unmet") => help_of(alloc, unmet_command(alloc), "debctl unmet"),
         Some("help") => help_of(alloc, help_command(alloc), "debctl help"),
         Some(_) => usage(alloc, "usage: unknown command"),
     }

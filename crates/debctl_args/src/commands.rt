@@ -3,12 +3,13 @@
 ghost use Rattle.std.specs.Prelude.{◌≡◌, IfOk, false};
 ghost use Rattle.clap.specs.Simple.{App, with_subcommand};
 ghost use Rattle.clap.specs.Words.{rule_of};
-ghost use Rattle.debctl_args.specs.Commands.{arch_rule, audit_app, bare_app, code_rule, explain_app, list_rule, paths_rule, canon_version_app, check_word, normalise_word, compare_app, debctl_app, document_app, help_app, kind_rule, null_rule, optional_rule, profiles_rule, query_app, relation_file_rule, relation_rule, required_rule, reverse_rule, same_app, sort_app, version_rule, IsShaped};
+ghost use Rattle.debctl_args.specs.Commands.{arch_rule, audit_app, bare_app, code_rule, explain_app, list_rule, paths_rule, canon_version_app, check_word, normalise_word, compare_app, debctl_app, document_app, help_app, kind_rule, null_rule, optional_rule, profiles_rule, query_app, relation_file_rule, relation_rule, required_rule, reverse_rule, same_app, sort_app, recommends_rule, unmet_app, version_key_app, version_rule, versions_rule, why_rule, IsShaped};
 
 use crate::helps::{
     ARCH_HELP, AUDIT_HELP, CANON_VERSION_HELP, CHECK_HELP, CODE_HELP, COMPARE_HELP, DEBCTL_HELP,
     EXPLAIN_HELP, FILES_HELP, NORMALISE_HELP, OPERATORS_HELP, PROFILES_HELP, QUERY_HELP,
-    RELATION_FILE_HELP, RELATION_HELP, SAME_HELP, SORT_HELP,
+    RELATION_FILE_HELP, RELATION_HELP, SAME_HELP, SORT_HELP, UNMET_HELP, UNMET_INDEX_HELP,
+    UNMET_KIND_HELP, UNMET_PATH_HELP, VERSION_KEY_HELP, WHY_HELP,
 };
 use clap::{Arg, ArgAction, Command};
 use deb_base::{Doc, is_single};
@@ -40,9 +41,11 @@ pub(crate) fn debctl_command<'a>(alloc: Global, kinds: &'a str) -> Result<Comman
     let with_same = with_command(with_normalise, same_command(alloc, kinds));
     let with_compare = with_command(with_same, compare_command(alloc));
     let with_canon_version = with_command(with_compare, canon_version_command(alloc));
-    let with_sort = with_command(with_canon_version, sort_command(alloc));
+    let with_version_key = with_command(with_canon_version, version_key_command(alloc));
+    let with_sort = with_command(with_version_key, sort_command(alloc));
     let with_query = with_command(with_sort, query_command(alloc));
-    with_command(with_query, help_command(alloc))
+    let with_unmet = with_command(with_query, unmet_command(alloc));
+    with_command(with_unmet, help_command(alloc))
 }
 
 /// A command with one more below it, if both were made. It takes `Result`s, so that its caller
@@ -200,6 +203,16 @@ pub(crate) fn canon_version_command<'a>(alloc: Global) -> Result<Command<'a>, Al
         .arg(required_word(alloc, "version", "V", "A version"))
 }
 
+/// `version-key V ..`
+pub(crate) fn version_key_command<'a>(alloc: Global) -> Result<Command<'a>, AllocError>
+    ensures { IfOk result (IsShaped version_key_app) }
+{
+    Command::new(alloc, "version-key")
+        .about("Prints keys whose byte order is the order of their versions")
+        .after_help(VERSION_KEY_HELP)
+        .arg(versions(alloc))
+}
+
 /// `sort [--reverse] [PATH]`
 pub(crate) fn sort_command<'a>(alloc: Global) -> Result<Command<'a>, AllocError>
     ensures { IfOk result (IsShaped sort_app) }
@@ -216,8 +229,8 @@ pub(crate) fn sort_command<'a>(alloc: Global) -> Result<Command<'a>, AllocError>
         ))
 }
 
-/// `query --arch A [--profiles P,P] RELATION [PATH]` and
-/// `query --arch A [--profiles P,P] --relation-from PATH [PATH]`
+/// `query --arch A [--profiles P,P] [--why] RELATION [PATH]` and
+/// `query --arch A [--profiles P,P] [--why] --relation-from PATH [PATH]`
 pub(crate) fn query_command<'a>(alloc: Global) -> Result<Command<'a>, AllocError>
     ensures { IfOk result (IsShaped query_app) }
 {
@@ -226,6 +239,7 @@ pub(crate) fn query_command<'a>(alloc: Global) -> Result<Command<'a>, AllocError
         .after_help(QUERY_HELP)
         .arg(arch_option(alloc))?
         .arg(profiles_option(alloc))?
+        .arg(why_option(alloc))?
         .arg(relation_file_option(alloc))?
         .arg(optional_word(alloc, "relation", "RELATION", RELATION_HELP))?
         .arg(optional_word(
@@ -234,6 +248,21 @@ pub(crate) fn query_command<'a>(alloc: Global) -> Result<Command<'a>, AllocError
             "PATH",
             "The index, of kind `packages`; standard input if it is `-` or missing",
         ))
+}
+
+/// `unmet --arch A [--profiles P,P] [--kind K] [--recommends] INDEX [PATH]`
+pub(crate) fn unmet_command<'a>(alloc: Global) -> Result<Command<'a>, AllocError>
+    ensures { IfOk result (IsShaped unmet_app) }
+{
+    Command::new(alloc, "unmet")
+        .about("Finds the dependencies of a whole file that no package of an index meets")
+        .after_help(UNMET_HELP)
+        .arg(arch_option(alloc))?
+        .arg(profiles_option(alloc))?
+        .arg(kind_option(alloc, UNMET_KIND_HELP))?
+        .arg(recommends_option(alloc))?
+        .arg(required_word(alloc, "index", "INDEX", UNMET_INDEX_HELP))?
+        .arg(optional_word(alloc, "path", "PATH", UNMET_PATH_HELP))
 }
 
 /// `help [COMMAND]`
@@ -329,6 +358,18 @@ fn paths<'a>(alloc: Global) -> Arg<'a>
         .help("A file; `-` is standard input and may be given once")
 }
 
+/// `V ..`
+fn versions<'a>(alloc: Global) -> Arg<'a>
+    ensures rule { rule_of result ≡ versions_rule }
+    ensures local { result.global ≡ false }
+{
+    Arg::new(alloc, "version")
+        .value_name("V")
+        .num_args(1..)
+        .help("A version")
+        .required(true)
+}
+
 /// `--reverse`
 fn reverse_option<'a>(alloc: Global) -> Arg<'a>
     ensures rule { rule_of result ≡ reverse_rule }
@@ -361,6 +402,28 @@ fn profiles_option<'a>(alloc: Global) -> Arg<'a>
         .long("profiles")
         .value_name("P,P")
         .help(PROFILES_HELP)
+}
+
+/// `--why`
+fn why_option<'a>(alloc: Global) -> Arg<'a>
+    ensures rule { rule_of result ≡ why_rule }
+    ensures local { result.global ≡ false }
+{
+    Arg::new(alloc, "why")
+        .long("why")
+        .help(WHY_HELP)
+        .action(ArgAction::SetTrue)
+}
+
+/// `--recommends`
+fn recommends_option<'a>(alloc: Global) -> Arg<'a>
+    ensures rule { rule_of result ≡ recommends_rule }
+    ensures local { result.global ≡ false }
+{
+    Arg::new(alloc, "recommends")
+        .long("recommends")
+        .help("Try the groups of Recommends too")
+        .action(ArgAction::SetTrue)
 }
 
 /// `--relation-from PATH`

@@ -2,10 +2,10 @@
 
 ghost use Rattle.std.specs.Prelude.{◌≡◌, nat_lt, count_by, map, codes, string_bytes, option_map, IfOk, option_copied};
 ghost use Rattle.clap.specs.Words.{all_of, first_of, found_of, rows_of};
-ghost use Rattle.debctl_args.specs.Asked.{comma_pieces, end_asked, flag_asked, index_asked, is_standard_input, kind_asked, names_file, profiles_asked, word_in, MeansKind};
+ghost use Rattle.debctl_args.specs.Asked.{comma_pieces, detail_asked, end_asked, file_asked, flag_asked, index_asked, is_standard_input, kind_asked, names_file, packages_in, profiles_asked, strength_in, texts_asked, word_in, MeansKind};
 
 use crate::arguments::{UsageFault, usage};
-use crate::jobs::LineEnd;
+use crate::jobs::{Dependents, Detail, LineEnd, Strength};
 use clap::ArgMatches;
 use deb_base::Doc;
 use std::alloc::{AllocError, Global};
@@ -44,6 +44,40 @@ pub(crate) fn end_in(found: &ArgMatches<'_>) -> LineEnd
         LineEnd::Nul
     } else {
         LineEnd::Newline
+    }
+}
+
+/// What a query prints of each group: reasons too if `--why` is given.
+pub(crate) fn detail_in(found: &ArgMatches<'_>) -> Detail
+    ensures { result
+        ≡ detail_asked (flag_asked (first_of (codes "why") (rows_of (found_of found.now)))) }
+{
+    if flag_in(found, "why") {
+        Detail::Reasons
+    } else {
+        Detail::Verdicts
+    }
+}
+
+/// Which fields of binary packages `unmet` tries: Recommends too if `--recommends` is given.
+pub(crate) fn strength_in(found: &ArgMatches<'_>) -> Strength
+    ensures { result ≡ strength_in (rows_of (found_of found.now)) }
+{
+    if flag_in(found, "recommends") {
+        Strength::Recommends
+    } else {
+        Strength::Depends
+    }
+}
+
+/// The packages whose groups `unmet` tries: those of the index if no other file is given.
+pub(crate) fn packages_in(found: &ArgMatches<'_>) -> Dependents
+    ensures { result ≡ packages_in (rows_of (found_of found.now)) }
+{
+    if given(found, "path").is_some() {
+        Dependents::Packages(strength_in(found))
+    } else {
+        Dependents::Index(strength_in(found))
     }
 }
 
@@ -100,12 +134,34 @@ pub(crate) fn index_in<'a>(found: &ArgMatches<'a>) -> &'a str
     }
 }
 
-/// Returns the paths of a command that takes any number, if there is one.
-pub(crate) fn paths_in<'m, 'a>(found: &'m ArgMatches<'a>) -> Option<&'m [&'a str]>
-    ensures { option_map (λ paths. map (λ path. path.now) paths.now) result
-        ≡ all_of (codes "path") (rows_of (found_of found.now)) }
+/// Returns the path of the file whose groups `unmet` tries: the index if no other is given.
+pub(crate) fn file_in<'a>(found: &ArgMatches<'a>) -> &'a str
+    ensures { result.now ≡ file_asked (rows_of (found_of found.now)) }
 {
-    found.get_strs("path")
+    match given(found, "path") {
+        Some(path) => path,
+        None => word_in(found, "index"),
+    }
+}
+
+/// Returns the texts that are given for the versions of a command that takes any number.
+pub(crate) fn versions_in(alloc: Global, found: &ArgMatches<'_>) -> Result<Vec<String>, AllocError>
+    ensures { IfOk result
+        (λ versions. map string_bytes versions.items
+        ≡ texts_asked (all_of (codes "version") (rows_of (found_of found.now)))) }
+{
+    match all_given(found, "version") {
+        Some(versions) => owned_texts(alloc, versions),
+        None => Ok(Vec::new(alloc)),
+    }
+}
+
+/// Returns the texts that are given for an argument that takes any number, if there is one.
+pub(crate) fn all_given<'m, 'a>(found: &'m ArgMatches<'a>, id: &str) -> Option<&'m [&'a str]>
+    ensures { option_map (λ texts. map (λ text. text.now) texts.now) result
+        ≡ all_of id.now (rows_of (found_of found.now)) }
+{
+    found.get_strs(id)
 }
 
 /// Whether two of the paths or more are standard input.
@@ -116,14 +172,14 @@ pub(crate) fn is_standard_input_twice(paths: &[&str]) -> bool
     paths.iter().filter(|path| **path == "-").count() > 1
 }
 
-/// The paths, as texts of their own.
-pub(crate) fn owned_paths(alloc: Global, paths: &[&str]) -> Result<Vec<String>, AllocError>
+/// The same texts, each as a value of its own.
+pub(crate) fn owned_texts(alloc: Global, texts: &[&str]) -> Result<Vec<String>, AllocError>
     ensures { IfOk result
-        (λ owned. map string_bytes owned.items ≡ map (λ path. path.now) paths.now) }
+        (λ owned. map string_bytes owned.items ≡ map (λ text. text.now) texts.now) }
 {
     let mut owned = Vec::new(alloc);
-    for path in paths {
-        owned.push(String::from_str(alloc, path)?)?;
+    for text in texts {
+        owned.push(String::from_str(alloc, text)?)?;
     }
     Ok(owned)
 }

@@ -4,11 +4,11 @@
 pub(crate) const DEBCTL_HELP: &str = "\
 Exit statuses:
   0  success, or the answer is yes
-  1  the answer is no; for `query`: a group of the relation is unmet
+  1  the answer is no; for `query` and `unmet`: a group isn't met
   2  a file, a version, a relation, an architecture or a profile is rejected:
      standard error has `line N: CODE NAME`. Line 0 means a command-line
-     argument. `same` writes `first: ` or `second: ` before the line. `explain`
-     and `audit` report the error on standard output
+     argument. `same` and `unmet` write `first: ` or `second: ` before the line
+     of a file. `explain` and `audit` report the error on standard output
   3  wrong arguments, out of memory, or a failed read or write
 
 Put `--` before a version or a path that begins with a hyphen:
@@ -177,6 +177,28 @@ Put `--` before a version that begins with a hyphen:
   $ debctl canon-version -- -1-1
   -1-1";
 
+pub(crate) const VERSION_KEY_HELP: &str = "\
+Prints a line for each version, in the order given: its key in hexadecimal. The byte
+order of keys, and of these lines, is Debian's order of versions. Two versions are
+equal in Debian's order exactly if their keys are the same. So a database can store,
+compare and index keys. The encoding doesn't change.
+
+Exit statuses:
+  0  the keys are printed
+  2  an argument isn't a version: standard error has `line 0: 18 BadVersion`, and
+     nothing is printed
+  3  wrong arguments, out of memory, or a failed write
+
+Example:
+  $ debctl version-key 1.10 1.9 1.0~rc1
+  0100020131ae0202313002020002
+  0100020131ae02013902020002
+  0100020131ae020001726302013102020002
+
+Put `--` before the arguments if a version begins with a hyphen:
+  $ debctl version-key -- -1-1
+  0100ad0201310202013102";
+
 pub(crate) const SORT_HELP: &str = "\
 Each line of the file is a version. The lines keep their spelling, and lines of
 equal versions keep their order. The whole file is held in memory, and nothing is
@@ -241,6 +263,55 @@ Which packages have this name, or provide it?
   met c-compiler
    1 gcc 12.2 amd64
    2 tcc 0.9 amd64";
+
+pub(crate) const UNMET_HELP: &str = "\
+Finds each group of dependencies in a file that no package of INDEX meets. It tries
+Pre-Depends and Depends of binary packages; Build-Depends, Build-Depends-Arch and
+Build-Depends-Indep of source packages. It prints one line for each such group, in
+the order of the paragraphs, then of these fields, then of the groups' texts:
+  unmet NUMBER PACKAGE VERSION ARCHITECTURE FIELD GROUP
+  unsure NUMBER PACKAGE VERSION ARCHITECTURE FIELD GROUP
+NUMBER is the position of the paragraph in the file, from 1. ARCHITECTURE is `source`
+for a source package. `query` says when a package meets a group, and when a group is
+ignored. The target architecture of a binary package is its own, or A if its own is
+`all`; that of a source package is A.
+
+Architecture wildcards aren't expanded. A wildcard in an architecture list, or another
+name with a hyphen such as `linux-amd64`, may mean the target or not. `unsure` means
+that the group is unmet in one of these readings, but not in another; `unmet` means
+that it is unmet in each.
+
+Without PATH the file is INDEX, which is opened and read twice. A pipe can't be read
+twice: INDEX can be `-` only if PATH is another file.
+
+Exit statuses:
+  0  nothing is printed: each group is met or ignored
+  1  a group is unmet or unsure
+  2  the architecture, a profile or a file is rejected: standard error has
+     `line 0: 23 BadEnvironment`, `first: line N: CODE NAME` for INDEX or
+     `second: line N: CODE NAME` for PATH. The lines of the paragraphs of PATH
+     before the error are printed
+  3  wrong arguments, out of memory, or a failed read or write
+
+Example: which packages of this index can't be installed from it?
+  $ printf 'Package: aa\\nVersion: 1\\nArchitecture: all\\nDepends: bb | cc, dd\\n' > index
+  $ printf '\\nPackage: cc\\nVersion: 2\\nArchitecture: amd64\\n' >> index
+  $ debctl unmet --arch amd64 index; echo $?
+  unmet 1 aa 1 all Depends dd
+  1";
+
+pub(crate) const UNMET_KIND_HELP: &str = "\
+The kind of PATH: packages (the default), binary, sources or source.
+INDEX is always an index of binary packages";
+
+pub(crate) const UNMET_INDEX_HELP: &str =
+    "The index, of kind `packages`; standard input if it is `-`";
+
+pub(crate) const UNMET_PATH_HELP: &str =
+    "The file with the dependencies; INDEX if it is missing, standard input if it is `-`";
+
+pub(crate) const WHY_HELP: &str =
+    "Print below each unmet group why each listed package of that name doesn't meet it";
 
 pub(crate) const ARCH_HELP: &str = "The target architecture, such as amd64";
 

@@ -43,6 +43,8 @@ pub enum Job {
     Compare(String, Cmp, String),
     /// `canon-version`: print the canonical text of a version.
     CanonVersion(String),
+    /// `version-key`: print the keys of versions. There is at least one version.
+    VersionKey(Vec<String>),
     /// `sort`: write the lines of a file, each a version, in Debian's order or in reverse order.
     Sort {
         reverse: bool,
@@ -53,19 +55,62 @@ pub enum Job {
         arch: String,
         profiles: Vec<String>,
         relation: String,
+        detail: Detail,
     },
     /// `query --relation-from`: the same, for the relation that the first file contains. The index
     /// is the second file.
     QueryFrom {
         arch: String,
         profiles: Vec<String>,
+        detail: Detail,
     },
+    /// `unmet`: find the groups of a whole file that no package of an index meets. The index is the
+    /// first file, and the file with the groups is the second.
+    Unmet {
+        arch: String,
+        profiles: Vec<String>,
+        dependents: Dependents,
+    },
+}
+
+/// What `query` prints of each group.
+#[derive(Clone, Copy, Debug, PartialEq, Eq)]
+pub enum Detail {
+    /// Its verdict, and the packages that meet it.
+    Verdicts,
+    /// `--why`: also why no package meets it.
+    Reasons,
+}
+
+/// The file whose groups `unmet` tries, and which of its fields.
+#[derive(Clone, Copy, Debug, PartialEq, Eq)]
+pub enum Dependents {
+    /// The index itself, which is read again.
+    Index(Strength),
+    /// Another index of binary packages.
+    Packages(Strength),
+    /// The control file of a binary package.
+    Binary(Strength),
+    /// An index of source packages.
+    Sources,
+    /// The description of a source package.
+    Source,
+}
+
+/// The fields of a binary package whose groups `unmet` tries.
+#[derive(Clone, Copy, Debug, PartialEq, Eq)]
+pub enum Strength {
+    /// Pre-Depends and Depends.
+    Depends,
+    /// `--recommends`: also Recommends.
+    Recommends,
 }
 
 /// A command and the paths of the files that it reads.
 ///
-/// If `check`, `normalise`, `sort` or `query` has no path, the file is standard input. `same` and
-/// `query --relation-from` have both paths, and no other job has a second one.
+/// If `check`, `normalise`, `sort` or `query` has no path, the file is standard input. `same`,
+/// `query --relation-from` and `unmet` have both paths, and no other job has a second one. Those of
+/// an `unmet` of the index itself are the same.
 #[derive(Debug, PartialEq, Eq, Drop)]
 pub struct Call {
     pub job: Job,

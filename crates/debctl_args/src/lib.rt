@@ -21,4 +21,6 @@ mod jobs;
 mod operator_argument;
 
 pub use arguments::{UsageFault, job_of};
-pub use jobs::{Audit, Call, Cmp, Explain, Files, Job, LineEnd, Task};
+pub use jobs::{
+    Audit, Call, Cmp, Dependents, Detail, Explain, Files, Job, LineEnd, Strength, Task,
+};
