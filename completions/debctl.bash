@@ -45,7 +45,7 @@ _debctl() {
         explain) options='--kind --code --relation --version-text --help' ;;
         audit) options='--kind --files0-from --null --help' ;;
         sort) options='--reverse --help' ;;
-        query) options='--arch --profiles --relation-from --help' ;;
+        query) options='--arch --profiles --why --relation-from --help' ;;
     esac
     if [[ -z $ended && $cur == -* ]]; then
         mapfile -t COMPREPLY < <(compgen -W "$options" -- "$cur")

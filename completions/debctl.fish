@@ -69,4 +69,5 @@ complete -c debctl -n '__debctl_command sort' -l reverse -d 'Sort the latest ver
 complete -c debctl -n '__debctl_at 1 compare' -a 'lt le eq ne ge gt'
 complete -c debctl -n '__debctl_command query' -l arch -x -a '(dpkg-architecture -L 2>/dev/null)' -d 'Target architecture'
 complete -c debctl -n '__debctl_command query' -l profiles -x -d 'Active build profiles'
+complete -c debctl -n '__debctl_command query' -l why -d 'Say why groups are unmet or ignored'
 complete -c debctl -n '__debctl_command query' -l relation-from -r -F -d 'File that contains the relation'
