@@ -72,6 +72,6 @@ complete -c debctl -n '__debctl_command sort' -l reverse -d 'Sort the latest ver
 complete -c debctl -n '__debctl_at 1 compare' -a 'lt le eq ne ge gt'
 complete -c debctl -n '__debctl_command query unmet' -l arch -x -a '(dpkg-architecture -L 2>/dev/null)' -d 'Target architecture'
 complete -c debctl -n '__debctl_command query unmet' -l profiles -x -d 'Active build profiles'
+complete -c debctl -n '__debctl_command query' -l why -d 'Say why groups are unmet or ignored'
 complete -c debctl -n '__debctl_command query' -l relation-from -r -F -d 'File that contains the relation'
-complete -c debctl -n '__debctl_command query' -l why -d 'Print why packages do not meet a group'
 complete -c debctl -n '__debctl_command unmet' -l recommends -d 'Try the groups of Recommends too'

@@ -18,4 +18,5 @@ pub mod ProvidedOrder
 pub mod VersionPlaces
 pub mod Cutting
 pub mod SomeMeets
+pub mod Reasoned
 pub mod Stored

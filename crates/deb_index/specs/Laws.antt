@@ -1,16 +1,21 @@
--- Laws of what a file lists, and of what is told of a relation: canonical text changes neither.
+-- Laws of what a file lists, and of what is told of a relation: canonical text changes neither. Laws
+-- of reasons.
 -- Debian Policy 5.1 and 7.1; the canonical text is this project's own.
-use Rattle.std.specs.Prelude.{◌≡◌, ℕ, List}
+use Rattle.std.specs.Prelude.{◌≡◌, ℕ, List, map}
+use Rattle.std.specs.Option.{is_none}
 use Rattle.deb_relation.specs.Applying.{Environment}
 use Rattle.deb_relation.specs.Grammar.{SpellsRelation}
-use Rattle.deb_relation.specs.Meaning.{Relation}
+use Rattle.deb_relation.specs.Meaning.{Alternative, Relation}
 use Rattle.deb_relation.specs.Tests.{some_wildcard}
 use Rattle.deb_relation.specs.Texts.{relation_text}
 use Rattle.deb_base.specs.declared.doc.Doc.TheVariants.{Packages}
 use Rattle.deb_control.specs.Documents.{Meaning, Accepted, canonical_text}
 use Rattle.deb_index.specs.Listed.{Listed}
 use Rattle.deb_index.specs.Listing.{ListsAll}
+use Rattle.deb_index.specs.Meeting.{meets}
+use Rattle.deb_index.specs.Reasons.{reason}
 use Rattle.deb_index.specs.Reports.{report}
+use Rattle.deb_index.specs.Why.{answer_in, detailed_report}
 
 -- A file lists one list of packages at most.
 abbrev pub ListsOnce : Type 0
@@ -41,3 +46,16 @@ pub record CanonicalTextChangesNoAnswer : Type 0 where
       (m n : Relation) → Accepted Packages file meaning → ListsAll file packages
       → ListsAll (canonical_text meaning) others → SpellsRelation text m
       → SpellsRelation (relation_text m) n → ReportAlike packages others m n
+
+-- There is no reason exactly if a package meets an alternative.
+abbrev pub ReasonUnlessMet : Type 0
+ReasonUnlessMet =
+    (environment : Environment) (a : Alternative) (p : Listed)
+    → is_none (reason environment a p) ≡ meets environment a p
+
+-- The answers of the report with reasons are those of the report.
+abbrev pub ReasonsChangeNoAnswer : Type 0
+ReasonsChangeNoAnswer =
+    (packages : List Listed) (relation : Relation) (environment : Environment)
+    → map answer_in (detailed_report packages relation environment)
+    ≡ report packages relation environment

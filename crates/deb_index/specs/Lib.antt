@@ -3,6 +3,8 @@ pub mod Listed
 pub mod Meeting
 pub mod Reports
 pub mod ReportText
+pub mod Reasons
+pub mod Why
 pub mod Spans
 pub mod Entries
 pub mod ProvidedNames
@@ -16,5 +18,6 @@ pub mod Indexes
 pub mod Reported
 pub mod Questions
 pub mod Asked
+pub mod Detailed
 pub mod Laws
 pub mod ViewCases

@@ -1,6 +1,6 @@
 //! Laws of indexes. Each function does nothing; its contract is the law.
 
-ghost use Rattle.deb_index.specs.Laws.{ListsOnce, CanonicalTextLists, CanonicalTextChangesNoAnswer};
+ghost use Rattle.deb_index.specs.Laws.{ListsOnce, CanonicalTextLists, CanonicalTextChangesNoAnswer, ReasonUnlessMet, ReasonsChangeNoAnswer};
 
 /// A file lists at most one list of packages.
 pub fn a_file_lists_one_list()
@@ -16,4 +16,14 @@ pub fn canonical_text_lists_the_same()
 /// file, the relation or both are replaced by their canonical text.
 pub fn canonical_text_changes_no_answer()
     ensures { CanonicalTextChangesNoAnswer }
+{}
+
+/// There is a reason exactly if a package doesn't meet an alternative.
+pub fn a_reason_unless_met()
+    ensures { ReasonUnlessMet }
+{}
+
+/// The answers of a report with reasons are those of the report.
+pub fn reasons_change_no_answer()
+    ensures { ReasonsChangeNoAnswer }
 {}

@@ -61,7 +61,7 @@ impl<'a> Package<'a> {
     }
 
     /// Whether this has the name in a version that meets the bound, or provides it so (7.5).
-    fn meets_by_name(&self, alternative: &Alternative<'_>) -> bool
+    pub(crate) fn meets_by_name(&self, alternative: &Alternative<'_>) -> bool
         ensures { result
             ≡ meets_by_name (alternative_of alternative.now) (listed_of self.now) }
     {
@@ -70,7 +70,7 @@ impl<'a> Package<'a> {
     }
 
     /// Whether this is of the architecture that a qualifier asks, or of a Multi-Arch that serves.
-    fn meets_qualifier(&self, qualifier: Option<&[u8]>, target: &[u8]) -> bool
+    pub(crate) fn meets_qualifier(&self, qualifier: Option<&[u8]>, target: &[u8]) -> bool
         ensures { result
             ≡ meets_qualifier target.now (option_copied qualifier.entry) (listed_of self.now) }
     {

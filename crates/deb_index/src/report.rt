@@ -73,7 +73,7 @@ impl<'a> Answer<'a> {
     }
 
     /// Returns the answer for a group, over the packages of an index.
-    fn of(
+    pub(crate) fn of(
         alloc: Global,
         index: &'a Index,
         group: &Group<'_>,

@@ -46,8 +46,9 @@ fn write_answers<W: Sink>(answers: &[Answer<'_>], out: &mut W) -> Result<(), Fau
     Ok(())
 }
 
+/// Writes the line of a group, and those of the packages that meet it.
 #[tactic(auto, using(deb_base::proofs::Writes::puts))]
-fn write_answer<W: Sink>(answer: &Answer<'_>, out: &mut W) -> Result<(), Fault>
+pub(crate) fn write_answer<W: Sink>(answer: &Answer<'_>, out: &mut W) -> Result<(), Fault>
     ensures written { Puts (W.held out.old) (W.held out.new) result
         (answer_text (answer_of answer.now)) }
     ensures fault { IfErr result (λ fault. fault ≡ Fault.Write) }

@@ -1,6 +1,6 @@
 //! An alternative of a group: a package name with its conditions.
 
-ghost use Rattle.std.specs.Prelude.{◌≡◌, ◌++◌, OnOk, map};
+ghost use Rattle.std.specs.Prelude.{◌≡◌, ◌++◌, IfOk, OnOk, map};
 ghost use Rattle.std.specs.List.{list_all, list_any};
 ghost use Rattle.std.specs.Str.{bytes_eq};
 ghost use Rattle.deb_base.specs.PackageNames.{is_wildcard};
@@ -101,6 +101,20 @@ impl<'a> Alternative<'a> {
             (environment_of environment.now).profiles }
     {
         formula_applies(&self.formula, environment)
+    }
+
+    /// Returns the canonical text: the name, the qualifier, the bound, the architecture list and the
+    /// formula.
+    ///
+    /// # Errors
+    ///
+    /// Out of memory.
+    pub fn text(&self, alloc: Global) -> Result<Vec<u8>, AllocError>
+        ensures { IfOk result (λ text. text.items ≡ alternative_text (alternative_of self.now)) }
+    {
+        let mut text = Vec::new(alloc);
+        self.append_to(&mut text)?;
+        Ok(text)
     }
 
     /// Whether the architecture list contains a wildcard.

@@ -226,6 +226,11 @@ After each `met` line there is a line ` NUMBER PACKAGE VERSION ARCHITECTURE` for
 each package that meets the group; NUMBER is its position in the index, from 1.
 In a relation, the former operators `<` and `>` mean `<=` and `>=`.
 
+With `--why` there are lines ` ALTERNATIVE: ..` below each `unmet` or `ignored` line.
+Of an alternative that applies they say for each package that has or provides its
+name why it doesn't meet the alternative. Of one that doesn't apply they report each
+item of its list that names an architecture with its system, such as `linux-amd64`.
+
 `--relation-from PATH` reads the relation from a file of at most 16,777,216 bytes;
 the system takes no argument of more than 131,071. The only other argument is then
 the index.
@@ -262,7 +267,13 @@ Which packages have this name, or provide it?
   $ debctl query --arch amd64 c-compiler index
   met c-compiler
    1 gcc 12.2 amd64
-   2 tcc 0.9 amd64";
+   2 tcc 0.9 amd64
+
+Why does no package meet this group?
+  $ debctl query --arch amd64 --why 'gcc (>= 13) | make' index
+  unmet gcc (>= 13) | make
+   gcc (>= 13): 1 gcc 12.2 amd64 is earlier
+   make: no package has this name";
 
 pub(crate) const UNMET_HELP: &str = "\
 Finds each group of dependencies in a file that no package of INDEX meets. It tries
@@ -310,8 +321,7 @@ pub(crate) const UNMET_INDEX_HELP: &str =
 pub(crate) const UNMET_PATH_HELP: &str =
     "The file with the dependencies; INDEX if it is missing, standard input if it is `-`";
 
-pub(crate) const WHY_HELP: &str =
-    "Print below each unmet group why each listed package of that name doesn't meet it";
+pub(crate) const WHY_HELP: &str = "Say below each unmet or ignored group why it is";
 
 pub(crate) const ARCH_HELP: &str = "The target architecture, such as amd64";
 

@@ -12,6 +12,7 @@ use Rattle.deb_base.specs.declared.code.Code.TheVariants.{ParagraphTooLong}
 use Rattle.deb_base.specs.declared.fault.Fault.{Fault}
 use Rattle.deb_base.specs.declared.refusal.Refusal.{Refusal}
 use Rattle.deb_index.specs.Questions.{Question, RefusesQuery}
+use Rattle.debctl_args.specs.declared.jobs.Detail.{Detail}
 use Rattle.debctl_commands.specs.JobDevices.{ReaderOfJob, WriterOfJob, ReportsFaultOn, ReportsOn}
 use Rattle.debctl_commands.specs.QueryJob.{AreRefused, IsQueryRefusal, QueriesFile, WritesReport}
 use Rattle.debctl_commands.specs.VersionJobs.{verdict_status}
@@ -41,11 +42,11 @@ pub record RefusesLong (left : Option (List ℕ)) (refusal : Refusal) : Type 0 w
 -- file, and `other` that of the index, where they are known.
 
 -- Exactly the report was written, and the answer is whether no group is unmet.
-abbrev pub WritesReportFrom : (List ℕ → Question) → Option (List ℕ) → Option (List ℕ)
+abbrev pub WritesReportFrom : Detail → (List ℕ → Question) → Option (List ℕ) → Option (List ℕ)
     → Option (List ℕ) → Option (List ℕ) → Bool → Type 0
-WritesReportFrom ask left other old new met =
+WritesReportFrom detail ask left other old new met =
     (relation text : List ℕ) → left ≡ Some relation → other ≡ Some text
-    → (length relation ≤ paragraph_limit) × WritesReport (ask relation) text old new met
+    → (length relation ≤ paragraph_limit) × WritesReport detail (ask relation) text old new met
 
 -- The file of the relation is too long, or the query of its relation is refused.
 abbrev pub RefusesFrom : (List ℕ → Question) → List ℕ → List ℕ → Refusal → Type 0
@@ -75,14 +76,15 @@ pub record ReportsRefusalFrom (ask : List ℕ → Question) (left other : Option
   pub reported : Appends err err_after (refusal_line refusal)
 
 -- A relation was read, and the query of it has an answer, which is reported.
-pub record ReportsReadFrom {W E : Type 0} (ask : List ℕ → Question) (first second : ReaderOfJob)
-    (out : WriterOfJob W) (err : WriterOfJob E) (status : ℕ) : Type 0 where
+pub record ReportsReadFrom {W E : Type 0} (detail : Detail) (ask : List ℕ → Question)
+    (first second : ReaderOfJob) (out : WriterOfJob W) (err : WriterOfJob E) (status : ℕ)
+    : Type 0 where
   pub relation : List ℕ
   pub read : IsRead first.text relation
   pub unfailed : first.failures_after ≡ first.failures
   pub answer : Result Bool Fault
-  pub queries : QueriesFile (ask relation) second.text second.failures second.failures_after
-      out.held out.failures out.old out.new answer
+  pub queries : QueriesFile detail (ask relation) second.text second.failures
+      second.failures_after out.held out.failures out.old out.new answer
   pub reported : ReportsOn err verdict_status answer status
 
 -- No relation was read, since the file is too long, memory was refused or a read failed, which is
@@ -96,10 +98,11 @@ pub record ReportsUnreadFrom {W E : Type 0} (first second : ReaderOfJob)
   pub unwritten : out.new ≡ out.old
   pub reported : ReportsFaultOn err fault ended
 
-abbrev pub ReportsFrom : {W E : Type 0} → (List ℕ → Question) → ReaderOfJob → ReaderOfJob
-    → WriterOfJob W → WriterOfJob E → ℕ → Type 0
-ReportsFrom ask first second out err status =
-    ReportsReadFrom ask first second out err status ⊎ ReportsUnreadFrom first second out err status
+abbrev pub ReportsFrom : {W E : Type 0} → Detail → (List ℕ → Question) → ReaderOfJob
+    → ReaderOfJob → WriterOfJob W → WriterOfJob E → ℕ → Type 0
+ReportsFrom detail ask first second out err status =
+    ReportsReadFrom detail ask first second out err status
+    ⊎ ReportsUnreadFrom first second out err status
 
 line_of_long_relation : refusal_line long_relation ≡ codes "line 0: 8 ParagraphTooLong\n"
 unfolding digits

@@ -17,9 +17,13 @@ use Rattle.deb_control.specs.Calls.{IfRefused, IfWriteFailed}
 use Rattle.deb_control.specs.Checking.{IsRefusalOfDocument}
 use Rattle.deb_index.specs.Listed.{Listed}
 use Rattle.deb_index.specs.Questions.{IsGood, IsReported, Question, RefusesQuery, RefusesWords}
-use Rattle.deb_index.specs.Questions.{bad_environment, bad_relation, has_environment, wildcard}
+use Rattle.deb_index.specs.Questions.{bad_environment, bad_relation, environment_in}
+use Rattle.deb_index.specs.Questions.{has_environment, wildcard}
 use Rattle.deb_index.specs.Reports.{Answer, all_met, report}
 use Rattle.deb_index.specs.ReportText.{report_text}
+use Rattle.deb_index.specs.Why.{detailed_report, detailed_text}
+use Rattle.debctl_args.specs.declared.jobs.Detail.{Detail}
+use Rattle.debctl_args.specs.declared.jobs.Detail.TheVariants.{Reasons, Verdicts}
 use Rattle.debctl_commands.specs.DocumentJobs.{IfNotWritten}
 
 -- ---- refusals
@@ -37,31 +41,44 @@ IsQueryRefusal q refusal =
 
 -- ---- the answer
 
+-- what is written of a relation over packages: the report, or with `--why` the report with reasons
+abbrev pub detail_text : Detail → List Listed → Relation → Environment → List ℕ
+detail_text Verdicts packages relation environment =
+    report_text (report packages relation environment)
+detail_text Reasons packages relation environment =
+    detailed_text (detailed_report packages relation environment)
+
+-- what is written for a question that has these answers
+abbrev pub text_reported : Detail → {q : Question} → {text : List ℕ} → {answers : List Answer}
+    → IsReported q text answers → List ℕ
+text_reported detail {q} reported =
+    detail_text detail reported.packages reported.good.relation (environment_in q)
+
 -- Exactly the report was written, and the answer is whether no group is unmet; or a prefix of it
 -- was, before a write failed.
-pub record WritesReport (q : Question) (text : List ℕ) (old new : Option (List ℕ))
-    (met : Bool) : Type 0 where
+pub record WritesReport (detail : Detail) (q : Question) (text : List ℕ)
+    (old new : Option (List ℕ)) (met : Bool) : Type 0 where
   pub answers : List Answer
   pub reported : IsReported q text answers
   pub met_is : met ≡ all_met answers
-  pub written : Appends old new (report_text answers)
+  pub written : Appends old new (text_reported detail reported)
 
-pub record WritesFrontOfReport (q : Question) (text : List ℕ) (old new : Option (List ℕ))
-    : Type 0 where
+pub record WritesFrontOfReport (detail : Detail) (q : Question) (text : List ℕ)
+    (old new : Option (List ℕ)) : Type 0 where
   pub answers : List Answer
   pub reported : IsReported q text answers
-  pub written : AppendsFront old new (report_text answers)
+  pub written : AppendsFront old new (text_reported detail reported)
 
 -- The answer to `query`, and what it wrote: by the reader's text, its count of failed calls before
 -- and after, and the writer before and after.
-pub record QueriesFile {W : Type 0} (q : Question) (left : Option (List ℕ))
+pub record QueriesFile {W : Type 0} (detail : Detail) (q : Question) (left : Option (List ℕ))
     (count count_after : ℕ) (held : W → Option (List ℕ)) (failures : W → ℕ) (old new : W)
     (answer : Result Bool Fault) : Type 0 where
   pub ok : (text : List ℕ) → left ≡ Some text →
-      IfOk answer (WritesReport q text (held old) (held new))
+      IfOk answer (WritesReport detail q text (held old) (held new))
   pub refused : (text : List ℕ) → left ≡ Some text → IfRefused answer (RefusesQuery q text)
   pub write : (text : List ℕ) → left ≡ Some text →
-      IfWriteFailed answer (WritesFrontOfReport q text (held old) (held new))
+      IfWriteFailed answer (WritesFrontOfReport detail q text (held old) (held new))
   pub refusal : IfRefused answer (IsQueryRefusal q)
   pub unwritten : IfNotWritten answer (new ≡ old)
   pub reads : count_after ≡ read_failures_after count answer
@@ -71,17 +88,17 @@ pub record QueriesFile {W : Type 0} (q : Question) (left : Option (List ℕ))
 
 -- What is written of a relation over the packages of an index: the report, or a prefix of it before
 -- a write failed; nothing, where a list of the relation holds a wildcard or out of memory.
-pub record ReportsOver {W : Type 0} (packages : List Listed) (relation : Relation)
-    (environment : Environment) (held : W → Option (List ℕ)) (failures : W → ℕ) (old new : W)
+pub record ReportsOver {W : Type 0} (detail : Detail) (packages : List Listed)
+    (relation : Relation) (environment : Environment) (held : W → Option (List ℕ)) (failures : W → ℕ) (old new : W)
     (answer : Result Bool Fault) : Type 0 where
   pub ok : IfOk answer (λ met. IsFalse (some_wildcard relation)
       × (met ≡ all_met (report packages relation environment))
-      × Appends (held old) (held new) (report_text (report packages relation environment)))
+      × Appends (held old) (held new) (detail_text detail packages relation environment))
   pub fault : IfErr answer (λ fault. MatchFault fault
       (λ refusal. IsTrue (some_wildcard relation) × (refusal ≡ wildcard) × (new ≡ old))
       (new ≡ old) ⊥
       (IsFalse (some_wildcard relation) × AppendsFront (held old) (held new)
-      (report_text (report packages relation environment))))
+      (detail_text detail packages relation environment)))
   pub writes : failures new ≡ write_failures_after (failures old) answer
 
 -- ---- reporting
@@ -104,3 +121,11 @@ line_of_bad_environment = refl
 line_of_wildcard : refusal_line wildcard ≡ codes "line 0: 22 Wildcard\n"
 unfolding digits
 line_of_wildcard = refl
+
+-- with reasons and without
+worked-texts : (packages : List Listed) (relation : Relation) (environment : Environment)
+    → (detail_text Verdicts packages relation environment
+    ≡ report_text (report packages relation environment))
+    × (detail_text Reasons packages relation environment
+    ≡ detailed_text (detailed_report packages relation environment))
+worked-texts packages relation environment = (refl, refl)

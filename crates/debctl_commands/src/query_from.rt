@@ -12,6 +12,7 @@ ghost use Rattle.debctl_commands.specs.Taking.{TakesFile};
 use crate::query_job::run_query;
 use crate::reporting::report_fault;
 use deb_base::{Code, Fault, PARAGRAPH_LIMIT, Refusal, Sink, Source, read_text};
+use debctl_args::Detail;
 use std::alloc::Global;
 
 /// Writes to `out` which packages of an index, which `second` reads, meet the relation that `first`
@@ -24,17 +25,18 @@ pub(crate) fn run_query_from<R: Source, S: Source, W: Sink, E: Sink>(
     alloc: Global,
     target: &str,
     profiles: &[String],
+    detail: Detail,
     first: &mut R,
     second: &mut S,
     out: &mut W,
     err: &mut E,
 ) -> u8
     ensures yes { result ≡ 0 → (err.new ≡ err.old)
-        × WritesReportFrom
+        × WritesReportFrom detail
         (λ relation. question target.now (map string_bytes profiles.now) relation)
         (R.left first.old) (S.left second.old) (W.held out.old) (W.held out.new) true }
     ensures no { result ≡ 1 → (err.new ≡ err.old)
-        × WritesReportFrom
+        × WritesReportFrom detail
         (λ relation. question target.now (map string_bytes profiles.now) relation)
         (R.left first.old) (S.left second.old) (W.held out.old) (W.held out.new) false }
     ensures refused { result ≡ 2 → (out.new ≡ out.old)
@@ -55,7 +57,7 @@ pub(crate) fn run_query_from<R: Source, S: Source, W: Sink, E: Sink>(
     ensures status_3_if_err_failed { E.failures err.old < E.failures err.new → result ≡ 3 }
 
     // Whatever the status: there is an answer, and that is reported.
-    ensures reports_answer { ReportsFrom
+    ensures reports_answer { ReportsFrom detail
         (λ relation. question target.now (map string_bytes profiles.now) relation)
         (reader_of (R.left first.old) (R.failures first.old) (R.failures first.new))
         (reader_of (S.left second.old) (S.failures second.old) (S.failures second.new))
@@ -68,6 +70,7 @@ pub(crate) fn run_query_from<R: Source, S: Source, W: Sink, E: Sink>(
             target,
             profiles,
             relation.as_slice(),
+            detail,
             second,
             out,
             err,

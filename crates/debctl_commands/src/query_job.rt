@@ -17,9 +17,11 @@ ghost use Rattle.debctl_commands.specs.VersionJobs.{verdict_status};
 use crate::reporting::report_fault;
 use deb_base::{Fault, Sink, Source};
 use deb_index::{Index, Question};
+use debctl_args::Detail;
 use std::alloc::{AllocError, Global};
 
-/// Writes to `out` which packages of an index meet a relation, and returns the status.
+/// Writes to `out` which packages of an index meet a relation, with reasons if these are asked for,
+/// and returns the status.
 ///
 /// - 0 and 1: the report was written, and nothing to `err`. No group is unmet, or some group is.
 /// - 2: the relation, the target or a profile, the index, or a wildcard in an architecture list is
@@ -32,17 +34,18 @@ pub(crate) fn run_query<R: Source, W: Sink, E: Sink>(
     target: &str,
     profiles: &[String],
     relation: &[u8],
+    detail: Detail,
     first: &mut R,
     out: &mut W,
     err: &mut E,
 ) -> u8
     ensures yes { result ≡ 0 → (err.new ≡ err.old)
         × ((text : List ℕ) → R.left first.old ≡ Some text
-        → WritesReport (question target.now (map string_bytes profiles.now) relation.now) text
+        → WritesReport detail (question target.now (map string_bytes profiles.now) relation.now) text
         (W.held out.old) (W.held out.new) true) }
     ensures no { result ≡ 1 → (err.new ≡ err.old)
         × ((text : List ℕ) → R.left first.old ≡ Some text
-        → WritesReport (question target.now (map string_bytes profiles.now) relation.now) text
+        → WritesReport detail (question target.now (map string_bytes profiles.now) relation.now) text
         (W.held out.old) (W.held out.new) false) }
     ensures refused { result ≡ 2 → (out.new ≡ out.old)
         × ReportsQueryRefusal (question target.now (map string_bytes profiles.now) relation.now)
@@ -59,12 +62,12 @@ pub(crate) fn run_query<R: Source, W: Sink, E: Sink>(
 
     // Whatever the status: there is an answer, and that is reported.
     ensures reports_answer { (answer : Result Bool Fault)
-        × QueriesFile (question target.now (map string_bytes profiles.now) relation.now)
+        × QueriesFile detail (question target.now (map string_bytes profiles.now) relation.now)
         (R.left first.old) (R.failures first.old) (R.failures first.new)
         W.held W.failures out.old out.new answer
         × Reports verdict_status E.held E.failures err.old err.new answer result }
 {
-    match write_report(alloc, target, profiles, relation, first, out) {
+    match write_report(alloc, target, profiles, relation, detail, first, out) {
         Ok(true) => 0,
         Ok(false) => 1,
         Err(fault) => report_fault(&fault, err),
@@ -77,10 +80,11 @@ fn write_report<R: Source, W: Sink>(
     target: &str,
     profiles: &[String],
     relation: &[u8],
+    detail: Detail,
     first: &mut R,
     out: &mut W,
 ) -> Result<bool, Fault>
-    ensures queries { QueriesFile
+    ensures queries { QueriesFile detail
         (question target.now (map string_bytes profiles.now) relation.now)
         (R.left first.old) (R.failures first.old) (R.failures first.new)
         W.held W.failures out.old out.new result }
@@ -90,7 +94,7 @@ fn write_report<R: Source, W: Sink>(
         → first.new ≡ first.old }
 {
     let question = parse_question(alloc, target, profiles, relation)?;
-    write_answer(alloc, &question, first, out)
+    write_answer(alloc, &question, detail, first, out)
 }
 
 /// Parses the question that the command-line arguments ask.
@@ -126,29 +130,64 @@ pub(crate) fn names_of<'a>(alloc: Global, words: &'a [String]) -> Result<Vec<&'a
 fn write_answer<R: Source, W: Sink>(
     alloc: Global,
     question: &Question<'_>,
+    detail: Detail,
     first: &mut R,
     out: &mut W,
 ) -> Result<bool, Fault>
     ensures queries { (words : Words) → Asks words question.now
-        → QueriesFile words (R.left first.old) (R.failures first.old) (R.failures first.new)
+        → QueriesFile detail words (R.left first.old) (R.failures first.old) (R.failures first.new)
         W.held W.failures out.old out.new result }
     ensures reads_at_most { TakesFile (R.left first.old) (R.left first.new) }
 {
     let index = Index::read(alloc, first)?;
-    write_over(alloc, &index, question, out)
+    write_over(alloc, &index, question, detail, out)
 }
 
-/// Writes the report of a question to an index, and returns whether no group is unmet.
+/// Writes the report of a question to an index, with or without reasons, and returns whether no
+/// group is unmet.
 fn write_over<W: Sink>(
+    alloc: Global,
+    index: &Index,
+    question: &Question<'_>,
+    detail: Detail,
+    out: &mut W,
+) -> Result<bool, Fault>
+    ensures { ReportsOver detail (packages_of index.now) (relation_asked question.now)
+        (environment_asked question.now) W.held W.failures out.old out.new result }
+{
+    match detail {
+        Detail::Verdicts => write_verdicts(alloc, index, question, out),
+        Detail::Reasons => write_reasons(alloc, index, question, out),
+    }
+}
+
+/// Writes the report, and returns whether no group is unmet.
+fn write_verdicts<W: Sink>(
     alloc: Global,
     index: &Index,
     question: &Question<'_>,
     out: &mut W,
 ) -> Result<bool, Fault>
-    ensures { ReportsOver (packages_of index.now) (relation_asked question.now)
+    ensures { ReportsOver Detail.Verdicts (packages_of index.now) (relation_asked question.now)
         (environment_asked question.now) W.held W.failures out.old out.new result }
 {
     let report = index.ask(alloc, question)?;
+    report.write(out)?;
+    Ok(report.all_met())
+}
+
+/// Writes the report with reasons, and returns whether no group is unmet.
+#[tactic(auto, using(deb_index::proofs::Reasoned::change_no_answer))]
+fn write_reasons<W: Sink>(
+    alloc: Global,
+    index: &Index,
+    question: &Question<'_>,
+    out: &mut W,
+) -> Result<bool, Fault>
+    ensures { ReportsOver Detail.Reasons (packages_of index.now) (relation_asked question.now)
+        (environment_asked question.now) W.held W.failures out.old out.new result }
+{
+    let report = index.ask_why(alloc, question)?;
     report.write(out)?;
     Ok(report.all_met())
 }

@@ -1,0 +1,271 @@
+//! The lines with the reasons for which a group is unmet or ignored.
+
+ghost use Rattle.std.specs.Prelude.{◌≡◌, ◌++◌, map, IfOk, OnOk};
+ghost use Rattle.std.specs.List.{flat_map, list_any};
+ghost use Rattle.std.specs.Option.{option_map};
+ghost use Rattle.std.specs.Str.{bytes_eq};
+ghost use Rattle.deb_relation.specs.Applying.{is_among};
+ghost use Rattle.deb_relation.specs.Environments.{environment_of};
+ghost use Rattle.deb_relation.specs.Groups.{group_of};
+ghost use Rattle.deb_relation.specs.Views.{alternative_of, lent_list_of, name_key, names_of};
+ghost use Rattle.deb_index.specs.Indexes.{packages_of};
+ghost use Rattle.deb_index.specs.Named.{numbers_of};
+ghost use Rattle.deb_index.specs.Reported.{found_of};
+ghost use Rattle.deb_index.specs.Why.{alternative_lines, asked_lines, has_or_provides, line_unless_met, list_lines, lines_below, names_system, nameless_line, system_line, system_lines};
+
+use crate::index::Index;
+use crate::reason::Reason;
+use crate::report::Found;
+use crate::verdict::Verdict;
+use deb_relation::{Alternative, Env, Group};
+use itoa::Buffer;
+use std::alloc::{AllocError, Global};
+
+/// The lines below that of a group with a verdict.
+pub(crate) fn lines_below(
+    alloc: Global,
+    index: &Index,
+    group: &Group<'_>,
+    environment: &Env,
+    verdict: Verdict,
+) -> Result<Vec<u8>, AllocError>
+    ensures { IfOk result (λ lines. lines.items
+        ≡ lines_below (environment_of environment.now) (packages_of index.now)
+        (group_of group.now) verdict) }
+{
+    let mut lines = Vec::new(alloc);
+    if !matches!(verdict, Verdict::Met) {
+        append_all(alloc, index, group.alternatives(), environment, &mut lines)?;
+    }
+    Ok(lines)
+}
+
+/// Appends the lines of alternatives.
+fn append_all(
+    alloc: Global,
+    index: &Index,
+    group: &[Alternative<'_>],
+    environment: &Env,
+    out: &mut Vec<u8>,
+) -> Result<(), AllocError>
+    ensures { OnOk result (out.new.items
+        ≡ out.old.items ++ flat_map
+        (alternative_lines (environment_of environment.now) (packages_of index.now))
+        (map alternative_of group.now)) }
+{
+    for alternative in group {
+        append_alternative(alloc, index, alternative, environment, out)?;
+    }
+    Ok(())
+}
+
+/// Appends the lines of an alternative.
+fn append_alternative(
+    alloc: Global,
+    index: &Index,
+    alternative: &Alternative<'_>,
+    environment: &Env,
+    out: &mut Vec<u8>,
+) -> Result<(), AllocError>
+    ensures { OnOk result (out.new.items
+        ≡ out.old.items ++ alternative_lines (environment_of environment.now)
+        (packages_of index.now) (alternative_of alternative.now)) }
+{
+    if alternative.applies(environment) {
+        append_asked(alloc, index, alternative, environment, out)
+    } else {
+        append_systems(alloc, alternative, environment.target(), out)
+    }
+}
+
+/// Appends a line for each package that has or provides the name of an alternative and doesn't
+/// meet it, or the line that no package has this name.
+fn append_asked(
+    alloc: Global,
+    index: &Index,
+    alternative: &Alternative<'_>,
+    environment: &Env,
+    out: &mut Vec<u8>,
+) -> Result<(), AllocError>
+    ensures { OnOk result (out.new.items
+        ≡ out.old.items ++ asked_lines (environment_of environment.now) (packages_of index.now)
+        (alternative_of alternative.now)) }
+{
+    let text = alternative.text(alloc)?;
+    let numbers = numbers_under(alloc, index, alternative.name())?;
+    if numbers.is_empty() {
+        return append_nameless(&text, out);
+    }
+    for &number in &numbers {
+        let package = index.numbered(number);
+        let reason = package.reason(alternative, environment);
+        append_reason(&text, &Found { number, package }, reason, out)?;
+    }
+    Ok(())
+}
+
+/// The numbers of the packages that have a name or provide it, in ascending order and each once.
+fn numbers_under(alloc: Global, index: &Index, name: &[u8]) -> Result<Vec<u64>, AllocError>
+    ensures { IfOk result (λ numbers. numbers.items
+        ≡ numbers_of (has_or_provides name.now) (packages_of index.now)) }
+{
+    let mut numbers = Vec::from_slice(alloc, index.packages(name))?;
+    numbers.extend_from_slice(index.providers(name))?;
+    numbers.sort_unstable();
+    numbers.dedup();
+    Ok(numbers)
+}
+
+/// Appends the line that no package has the name of an alternative with this text.
+fn append_nameless(text: &[u8], out: &mut Vec<u8>) -> Result<(), AllocError>
+    ensures { OnOk result (out.new.items ≡ out.old.items ++ nameless_line text.now) }
+{
+    append_pieces(&[b" ", text, b": no package has this name\n"], out)
+}
+
+/// Appends the line of a package that doesn't meet an alternative with this text; nothing if there
+/// is no reason.
+fn append_reason(
+    text: &[u8],
+    found: &Found<'_>,
+    reason: Option<Reason>,
+    out: &mut Vec<u8>,
+) -> Result<(), AllocError>
+    ensures { OnOk result (out.new.items
+        ≡ out.old.items ++ line_unless_met text.now (found_of found.now) reason) }
+{
+    let Some(reason) = reason else {
+        return Ok(());
+    };
+    let mut number = Buffer::new();
+    let package = found.package;
+    append_pieces(
+        &[
+            b" ",
+            text,
+            b": ",
+            number.format(found.number).as_bytes(),
+            b" ",
+            package.name(),
+            b" ",
+            package.version(),
+            b" ",
+            package.architecture(),
+            b" ",
+            reason.words(),
+            b"\n",
+        ],
+        out,
+    )
+}
+
+/// Appends a line for each item that names an architecture with its system, if the architecture
+/// list has no `!` and doesn't contain the target.
+fn append_systems(
+    alloc: Global,
+    alternative: &Alternative<'_>,
+    target: &[u8],
+    out: &mut Vec<u8>,
+) -> Result<(), AllocError>
+    ensures { OnOk result (out.new.items
+        ≡ out.old.items ++ system_lines target.now (alternative_of alternative.now)) }
+{
+    let text = alternative.text(alloc)?;
+    append_list(&text, target, alternative.architectures(), out)
+}
+
+/// Appends the lines of an architecture list, for an alternative with this text.
+fn append_list(
+    text: &[u8],
+    target: &[u8],
+    list: Option<(bool, &[&[u8]])>,
+    out: &mut Vec<u8>,
+) -> Result<(), AllocError>
+    ensures { OnOk result (out.new.items
+        ≡ out.old.items ++ list_lines text.now target.now (option_map lent_list_of list.entry)) }
+{
+    let Some((negated, names)) = list else {
+        return Ok(());
+    };
+    if negated {
+        return Ok(());
+    }
+    if is_among(target, names) {
+        return Ok(());
+    }
+    append_names(text, target, names, out)
+}
+
+/// Appends a line for each of these names that names a system.
+fn append_names(
+    text: &[u8],
+    target: &[u8],
+    names: &[&[u8]],
+    out: &mut Vec<u8>,
+) -> Result<(), AllocError>
+    ensures { OnOk result (out.new.items
+        ≡ out.old.items ++ flat_map (system_line text.now target.now) (names_of names.now)) }
+{
+    for name in names {
+        append_system(text, target, name, out)?;
+    }
+    Ok(())
+}
+
+/// Appends the line of a name that names a system; nothing for another name.
+fn append_system(
+    text: &[u8],
+    target: &[u8],
+    name: &[u8],
+    out: &mut Vec<u8>,
+) -> Result<(), AllocError>
+    ensures { OnOk result (out.new.items
+        ≡ out.old.items ++ system_line text.now target.now name.now) }
+{
+    if !names_system(name) {
+        return Ok(());
+    }
+    append_pieces(
+        &[
+            b" ",
+            text,
+            b": ",
+            name,
+            b" isn't the target ",
+            target,
+            b"\n",
+        ],
+        out,
+    )
+}
+
+/// Whether the name of an architecture contains a hyphen.
+fn names_system(name: &[u8]) -> bool
+    ensures { result ≡ names_system name.now }
+{
+    name.iter().any(|byte| *byte == b'-')
+}
+
+/// Whether a name is among names.
+fn is_among(name: &[u8], names: &[&[u8]]) -> bool
+    ensures { result ≡ is_among name.now (names_of names.now) }
+{
+    some_is(names, name)
+}
+
+fn some_is(names: &[&[u8]], name: &[u8]) -> bool
+    ensures { result ≡ list_any (λ other. bytes_eq (name_key other) name.now) names.now }
+{
+    names.iter().any(|other| *other == name)
+}
+
+/// Appends the pieces.
+fn append_pieces(pieces: &[&[u8]], out: &mut Vec<u8>) -> Result<(), AllocError>
+    ensures { OnOk result
+        (out.new.items ≡ out.old.items ++ flat_map (λ piece. piece.now) pieces.now) }
+{
+    for piece in pieces {
+        out.extend_from_slice(piece)?;
+    }
+    Ok(())
+}
