@@ -8,6 +8,7 @@ pub mod Numbers
 pub mod ListedOnce
 pub mod WrittenParts
 pub mod Lookups
+pub mod PutLast
 pub mod Counted
 pub mod Merged
 pub mod Picked

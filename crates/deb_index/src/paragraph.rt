@@ -39,6 +39,7 @@ impl PackageBuilder {
     }
 
     /// Keeps what is needed from the value of the field with a name.
+    #[inline(never)]
     fn keep(&mut self, name: &[u8], value: &Value<'_>) -> Result<(), AllocError>
         ensures { KeepsMore self.old self.new result name.now (value_meaning value.now) }
     {
@@ -132,6 +133,14 @@ impl FieldVisitor for PackageBuilder {
     }
 
     fn visit(&mut self, field: &RawField<'_>, value: &Value<'_>) -> Result<(), AllocError> {
-        self.keep(field.name, value)
+        // Most values are of other kinds, and cost no call.
+        match value {
+            Value::Name(_)
+            | Value::Version(_)
+            | Value::Architecture(_)
+            | Value::MultiArch(_)
+            | Value::Relation(_) => self.keep(field.name, value),
+            _ => Ok(()),
+        }
     }
 }

@@ -5,7 +5,11 @@ use Rattle.deb_index.proofs.Counted.{numbers_step}
 use Rattle.deb_index.proofs.names.Names.provided.Goals as goal
 
 pub loop-index-preserved : goal.loop-index-preserved
-loop-index-preserved c = λ name.
+loop-index-preserved c =
     let store = c.args.store.now in
-    numbers_step (listed_by store.bytes.items store.entries.items) (provides name) c.deref-record-items.result.now store.records.items c.loop-index.index _ _ _ c.loop-index-test.true
-    c.deref-record-items.ensures.value (c.loop-index.invariant name) (rw (c.provides-text.ensures, c.entries.ensures) at c.in_ok-put_provided.ensures name)
+    record {
+      lists = c.in_ok-put_provided.ensures.lists;
+      numbers = λ name.
+          numbers_step (listed_by store.bytes.items store.entries.items) (provides name) c.deref-record-items.result.now store.records.items c.loop-index.index _ _ _ c.loop-index-test.true
+          c.deref-record-items.ensures.value (c.loop-index.invariant.numbers name) (rw (c.provides-text.ensures, c.entries.ensures) at c.in_ok-put_provided.ensures.put name);
+    }
