@@ -1,12 +1,12 @@
 -- A look-up by bytes among keys that own theirs, after a change at one of them.
-use Rattle.std.proofs.Common.{◌≡◌, ℕ, Bool, true, false, cond, List, Option, Some, option_map, refl, sym, ap, ◌∙◌, inl, inr}
+use Rattle.std.proofs.Common.{◌≡◌, ℕ, Bool, true, false, cond, List, [], ◌∷◌, ◌++◌, Option, None, Some, option_map, refl, sym, ap, ◌∙◌, inl, inr}
 use Rattle.std.specs.Map.{lookup, KeepsOthers}
 use Rattle.std.specs.Prelude.{Vec}
 use Rattle.std.specs.Str.{bytes_eq}
 use Rattle.std.proofs.lemmas.Bool.{cases_Bool}
 use Rattle.std.proofs.lemmas.Slice.Eq.{bytes_eq-Decides}
 use Rattle.indexmap.specs.IndexMap.{IndexMap, UpdatesBy, get_by}
-use Rattle.deb_index.specs.Maps.{list_under}
+use Rattle.deb_index.specs.Maps.{list_under, numbers_with}
 
 module _ {A X : Type 0} where
   -- the value at other bytes stays
@@ -55,3 +55,13 @@ list_updated {A} {B} bs m n w xs updates are cs = ap (option_map (λ v. v.items)
     go : (e : Bool) (o : Option (Vec ℕ B)) → option_map (λ v. v.items) (cond e (Some w) o) ≡ cond e (Some xs) (option_map (λ v. v.items) o)
     go true o = ap Some are
     go false o = refl
+
+-- the same after a list of two numbers was put under a name that had none
+pub list_begun : {A B S : Type 0} (bs name : List ℕ) (m old n : IndexMap (Vec ℕ A) (Vec ℕ B) S) (w : Vec ℕ B) (before number : ℕ) → m ≡ old → bs ≡ name → None ≡ get_by (λ k. bytes_eq name k.items) old
+    → UpdatesBy (λ x y. bytes_eq x.items y.items) (λ k. bytes_eq bs k.items) m n (Some w) → w.items ≡ before ∷ number ∷ []
+    → (cs : List ℕ) → list_under n cs ≡ cond (bytes_eq name cs) (Some (numbers_with (list_under old name) (Some before) ++ number ∷ [])) (list_under old cs)
+list_begun bs name m old n w before number same key none updates are cs =
+    let now = numbers_with (list_under old name) (Some before) ++ number ∷ [] in
+    list_updated bs m n w now updates (are ∙ ap (λ o. numbers_with (option_map (λ v. v.items) o) (Some before) ++ number ∷ []) none) cs
+    ∙ ap (λ l. cond (bytes_eq l cs) (Some now) (list_under m cs)) key
+    ∙ ap (λ x. cond (bytes_eq name cs) (Some now) (list_under x cs)) same

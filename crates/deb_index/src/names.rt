@@ -140,7 +140,8 @@ fn append_number(
 fn push(numbers: &mut Vec<u64>, number: u64) -> Result<(), AllocError>
     ensures { OnOk result (numbers.new.items ≡ numbers.old.items ++ number ∷ []) }
 {
-    numbers.push(number)
+    numbers.push(number)?;
+    Ok(())
 }
 
 /// The list of two numbers.

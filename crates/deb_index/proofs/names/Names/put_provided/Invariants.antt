@@ -10,5 +10,5 @@ abbrev pub invariant-loop-entry : goal.invariant-loop-entry
 invariant-loop-entry l = record {
   lists : EndInLast l.self;
   numbers : (name : List ℕ) → numbers_under l.self name
-  ≡ cond (list_any (λ p. bytes_eq p.name name) (map (provision_at l.text) (take l.entry-index l.entries))) (put_last l.number (numbers_under l.initial.self name)) (numbers_under l.initial.self name);
+      ≡ cond (list_any (λ p. bytes_eq p.name name) (map (provision_at l.text) (take l.entry-index l.entries))) (put_last l.number (numbers_under l.initial.self name)) (numbers_under l.initial.self name);
 }
