@@ -35,7 +35,7 @@ impl Names {
             → numbers_under names name
             ≡ numbers_of (has_name name) (listed_in store.now)) }
     {
-        let mut names = Names::new(alloc);
+        let mut names = Names::with_capacity(alloc, store.records.len())?;
         for (index, record) in store.records.iter().enumerate() {
             names.put(alloc, store.name(record), index as u64 + 1)?;
         }
@@ -48,7 +48,7 @@ impl Names {
             → numbers_under names name
             ≡ numbers_of (provides name) (listed_in store.now)) }
     {
-        let mut names = Names::new(alloc);
+        let mut names = Names::with_capacity(alloc, store.entries.len())?;
         for (index, record) in store.records.iter().enumerate() {
             let text = store.provides(record);
             names.put_provided(alloc, text, store.entries(record), index as u64 + 1)?;
@@ -69,14 +69,16 @@ impl Names {
         }
     }
 
-    fn new(alloc: Global) -> Names
-        ensures none { (name : List ℕ) → numbers_under result name ≡ [] }
-        ensures lists { EndInLast result }
+    /// No number is under any name, and there is room for as many names.
+    fn with_capacity(alloc: Global, count: usize) -> Result<Names, AllocError>
+        ensures none { IfOk result (λ names. (name : List ℕ) → numbers_under names name ≡ []) }
+        ensures lists { IfOk result EndInLast }
     {
-        Names {
-            last: IndexMap::new(alloc),
+        let last = IndexMap::with_capacity(alloc, count)?;
+        Ok(Names {
+            last,
             lists: IndexMap::new(alloc),
-        }
+        })
     }
 
     /// Puts a number under each of these provided names.
