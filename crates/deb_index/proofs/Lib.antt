@@ -1,5 +1,6 @@
 pub mod Parts
 pub mod Commas
+pub mod KeptFields
 pub mod PackageBuilder
 pub mod ShownValues
 pub mod ListedValues
