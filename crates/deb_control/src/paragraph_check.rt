@@ -158,6 +158,7 @@ fn visit_as_kind<V: FieldVisitor>(
 
 /// Visits a field with this value, and returns the length of its canonical text, or `u64::MAX` if
 /// it is greater.
+#[inline(always)]
 fn visit_value<V: FieldVisitor>(
     field: &RawField<'_>,
     value: &Value<'_>,

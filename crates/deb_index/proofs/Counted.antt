@@ -78,7 +78,7 @@ numbers_at view test xs i d within =
     ∙ ap (numbers_of test) (map-append view (take i xs) (get_or xs i d ∷ []))
     ∙ numbers_put i test (map view (take i xs)) (view (get_or xs i d)) long
 
-appended_last : (n : ℕ) (xs : List ℕ) → is_last n (xs ++ n ∷ []) ≡ true
+pub appended_last : (n : ℕ) (xs : List ℕ) → is_last n (xs ++ n ∷ []) ≡ true
 appended_last n xs =
     let long : length (xs ++ n ∷ []) ≡ length xs + 1 = omega (arith, length-append xs (n ∷ [])) in
     let place : length (xs ++ n ∷ []) - 1 ≡ length xs = omega (arith, long) in

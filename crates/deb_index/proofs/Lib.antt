@@ -1,5 +1,6 @@
 pub mod Parts
 pub mod Commas
+pub mod KeptFields
 pub mod PackageBuilder
 pub mod ShownValues
 pub mod ListedValues
@@ -8,6 +9,7 @@ pub mod Numbers
 pub mod ListedOnce
 pub mod WrittenParts
 pub mod Lookups
+pub mod PutLast
 pub mod Counted
 pub mod Merged
 pub mod Picked

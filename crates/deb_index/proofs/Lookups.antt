@@ -1,13 +1,12 @@
 -- A look-up by bytes among keys that own theirs, after a change at one of them.
-use Rattle.std.proofs.Common.{◌≡◌, ℕ, true, false, cond, List, [], Some, sym, ap, ◌∙◌, inl, inr}
+use Rattle.std.proofs.Common.{◌≡◌, ℕ, Bool, true, false, cond, List, [], ◌∷◌, ◌++◌, Option, None, Some, option_map, refl, sym, ap, ◌∙◌, inl, inr}
 use Rattle.std.specs.Map.{lookup, KeepsOthers}
-use Rattle.std.specs.Option.{option_map_or}
 use Rattle.std.specs.Prelude.{Vec}
 use Rattle.std.specs.Str.{bytes_eq}
 use Rattle.std.proofs.lemmas.Bool.{cases_Bool}
 use Rattle.std.proofs.lemmas.Slice.Eq.{bytes_eq-Decides}
 use Rattle.indexmap.specs.IndexMap.{IndexMap, UpdatesBy, get_by}
-use Rattle.deb_index.specs.Maps.{put_last}
+use Rattle.deb_index.specs.Maps.{list_under, numbers_with}
 
 module _ {A X : Type 0} where
   -- the value at other bytes stays
@@ -34,20 +33,35 @@ same_bytes bs cs =
           ]
     ]
 
--- the numbers that a map has under a name
-abbrev under : {A B S : Type 0} → IndexMap (Vec ℕ A) (Vec ℕ B) S → List ℕ → List ℕ
-under m name = option_map_or (λ v. v.items) (get_by (λ k. bytes_eq name k.items) m) []
-
--- a number is appended to those under a name, and those under other names stay
-pub put_under : {A B S : Type 0} (bs : List ℕ) (number : ℕ) (m n : IndexMap (Vec ℕ A) (Vec ℕ B) S) (w : Vec ℕ B) → UpdatesBy (λ x y. bytes_eq x.items y.items) (λ k. bytes_eq bs k.items) m n (Some w)
-    → w.items ≡ put_last number (under m bs) → (cs : List ℕ) → under n cs ≡ cond (bytes_eq bs cs) (put_last number (under m cs)) (under m cs)
-put_under bs number m n w updates items cs =
+-- the value at each name after one was put under a name
+pub updated : {A X S : Type 0} (bs : List ℕ) (m n : IndexMap (Vec ℕ A) X S) (w : X) → UpdatesBy (λ x y. bytes_eq x.items y.items) (λ k. bytes_eq bs k.items) m n (Some w)
+    → (cs : List ℕ) → get_by (λ k. bytes_eq cs k.items) n ≡ cond (bytes_eq bs cs) (Some w) (get_by (λ k. bytes_eq cs k.items) m)
+updated bs m n w updates cs =
     elim (cases_Bool (bytes_eq bs cs)) [
       | inl equal ↦
           let same : bs ≡ cs = (bytes_eq-Decides bs cs).0 equal in
-          ap (under n) (sym same) ∙ ap (λ o. option_map_or (λ v. v.items) o []) updates.1 ∙ items ∙ ap (λ l. put_last number (under m l)) same
-          ∙ ap (λ v. cond v (put_last number (under m cs)) (under m cs)) (sym equal)
+          ap (λ l. get_by (λ k. bytes_eq l k.items) n) (sym same) ∙ updates.1
+          ∙ ap (λ v. cond v (Some w) (get_by (λ k. bytes_eq cs k.items) m)) (sym equal)
       | inr apart ↦
-          ap (λ o. option_map_or (λ v. v.items) o []) (lookup_other bs cs m.entries n.entries updates.3 (same_bytes cs bs ∙ apart))
-          ∙ ap (λ v. cond v (put_last number (under m cs)) (under m cs)) (sym apart)
+          lookup_other bs cs m.entries n.entries updates.3 (same_bytes cs bs ∙ apart)
+          ∙ ap (λ v. cond v (Some w) (get_by (λ k. bytes_eq cs k.items) m)) (sym apart)
     ]
+
+-- the list at each name after one was put under a name
+pub list_updated : {A B S : Type 0} (bs : List ℕ) (m n : IndexMap (Vec ℕ A) (Vec ℕ B) S) (w : Vec ℕ B) (xs : List ℕ) → UpdatesBy (λ x y. bytes_eq x.items y.items) (λ k. bytes_eq bs k.items) m n (Some w) → w.items ≡ xs
+    → (cs : List ℕ) → list_under n cs ≡ cond (bytes_eq bs cs) (Some xs) (list_under m cs)
+list_updated {A} {B} bs m n w xs updates are cs = ap (option_map (λ v. v.items)) (updated bs m n w updates cs) ∙ go (bytes_eq bs cs) (get_by (λ k. bytes_eq cs k.items) m)
+  where
+    go : (e : Bool) (o : Option (Vec ℕ B)) → option_map (λ v. v.items) (cond e (Some w) o) ≡ cond e (Some xs) (option_map (λ v. v.items) o)
+    go true o = ap Some are
+    go false o = refl
+
+-- the same after a list of two numbers was put under a name that had none
+pub list_begun : {A B S : Type 0} (bs name : List ℕ) (m old n : IndexMap (Vec ℕ A) (Vec ℕ B) S) (w : Vec ℕ B) (before number : ℕ) → m ≡ old → bs ≡ name → None ≡ get_by (λ k. bytes_eq name k.items) old
+    → UpdatesBy (λ x y. bytes_eq x.items y.items) (λ k. bytes_eq bs k.items) m n (Some w) → w.items ≡ before ∷ number ∷ []
+    → (cs : List ℕ) → list_under n cs ≡ cond (bytes_eq name cs) (Some (numbers_with (list_under old name) (Some before) ++ number ∷ [])) (list_under old cs)
+list_begun bs name m old n w before number same key none updates are cs =
+    let now = numbers_with (list_under old name) (Some before) ++ number ∷ [] in
+    list_updated bs m n w now updates (are ∙ ap (λ o. numbers_with (option_map (λ v. v.items) o) (Some before) ++ number ∷ []) none) cs
+    ∙ ap (λ l. cond (bytes_eq l cs) (Some now) (list_under m cs)) key
+    ∙ ap (λ x. cond (bytes_eq name cs) (Some now) (list_under x cs)) same

@@ -37,7 +37,7 @@ among-dedup k (x ∷ xs) = among-dedup_from k x xs
 less : (x y : ℕ) → nat_cmp x y ≡ Less → x < y
 less x y h = grind (arith, h)
 
-eqb-itself : (k : ℕ) → eqb k k ≡ true
+pub eqb-itself : (k : ℕ) → eqb k k ≡ true
 eqb-itself k = grind arith
 
 eqb-apart : (j k : ℕ) → j < k → eqb j k ≡ false

@@ -104,3 +104,8 @@ keeps-others kept name v shown a b c d e before =
 pub visits-more : {T E : Type 0} (old new : PackageBuilder) (result : Result T E) (visit : Visit) → KeepsMore old new result visit.0.name visit.1 → (visited : List Visit) → KeepsVisited old visited → OnOk result (KeepsVisited new (visited ++ visit ∷ []))
 visits-more old new result visit more visited keeps =
     subst (λ shown. OnOk result (KeepsFields new shown)) (sym (fold-append (λ shown v. shown_with v.0.name v.1 shown) none_shown visited (visit ∷ []))) (more (shown_of visited) keeps)
+
+-- a field that changes nothing of what is kept
+pub visits-other : (kept : PackageBuilder) (visit : Visit) → ((shown : ShownValues) → KeepsFields kept shown → KeepsFields kept (shown_with visit.0.name visit.1 shown)) → (visited : List Visit) → KeepsVisited kept visited → KeepsVisited kept (visited ++ visit ∷ [])
+visits-other kept visit still visited keeps =
+    subst (KeepsFields kept) (sym (fold-append (λ shown v. shown_with v.0.name v.1 shown) none_shown visited (visit ∷ []))) (still (shown_of visited) keeps)

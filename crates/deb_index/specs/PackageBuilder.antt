@@ -1,6 +1,6 @@
 -- What is kept of a paragraph of an index of packages while it is checked. Debian Policy 5.3,
 -- 5.6.1, 5.6.8, 5.6.12 and 7.5; Multi-Arch is that of deb-control(5).
-use Rattle.std.specs.Prelude.{◌≡◌, List, [], ◌∷◌, ℕ, Option, None, Some, Result, OnOk, cond, codes, refl}
+use Rattle.std.specs.Prelude.{◌≡◌, List, [], ◌∷◌, ℕ, Option, None, Some, Result, OnOk, cond, codes, map, refl}
 use Rattle.std.specs.List.{fold}
 use Rattle.std.specs.Option.{option_map}
 use Rattle.std.specs.Str.{bytes_eq}
@@ -13,7 +13,17 @@ use Rattle.deb_relation.specs.Texts.{relation_text}
 use Rattle.deb_field.specs.Values.{ValueMeaning, NameMeans, TextMeans, VersionMeans, ArchitectureMeans, MultiArchMeans, RelationMeans}
 use Rattle.deb_control.specs.Visiting.{Visit}
 use Rattle.deb_index.specs.Listed.{Listed, provisions_of}
+use Rattle.deb_index.specs.declared.paragraph.KeptField.{KeptField}
+use Rattle.deb_index.specs.declared.paragraph.KeptField.TheVariants as fields
 use Rattle.deb_index.specs.declared.paragraph.PackageBuilder.{PackageBuilder}
+
+-- the name of a field that is kept
+abbrev pub kept_name : KeptField → List ℕ
+kept_name fields.Package = codes "Package"
+kept_name fields.Version = codes "Version"
+kept_name fields.Architecture = codes "Architecture"
+kept_name fields.MultiArch = codes "Multi-Arch"
+kept_name fields.Provides = codes "Provides"
 
 -- values by name: the last one under each, without ASCII case
 abbrev pub ShownValues : Type 0
@@ -96,3 +106,10 @@ value_before_another = refl
 worked-texts : (text_or_nothing itself (Some (codes "aa")) ≡ codes "aa")
     × (text_or_nothing {A = List ℕ} itself None ≡ [])
 worked-texts = (refl, refl)
+
+-- each field that is kept
+kept_names : map kept_name
+    (fields.Package ∷ fields.Version ∷ fields.Architecture ∷ fields.MultiArch ∷ fields.Provides ∷ [])
+    ≡ codes "Package" ∷ codes "Version" ∷ codes "Architecture" ∷ codes "Multi-Arch"
+    ∷ codes "Provides" ∷ []
+kept_names = refl

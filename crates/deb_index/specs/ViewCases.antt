@@ -2,11 +2,11 @@
 -- field under its own name, and lists in their order.
 use Rattle.std.specs.Prelude.{◌≡◌, ℕ, ◌^◌, nat_lt, true, List, [], ◌∷◌, length, map, None, Some, Vec, codes, refl}
 use Rattle.std.specs.Global.{Global}
-use Rattle.std.specs.Option.{option_map_or}
+use Rattle.std.specs.Option.{option_map}
 use Rattle.std.specs.List.{All, AllPairs}
 use Rattle.std.specs.Map.{lookup}
 use Rattle.std.specs.Str.{bytes_eq}
-use Rattle.std.proofs.Common.{ap, arith}
+use Rattle.std.proofs.Common.{ap, ◌∙◌, arith}
 use Rattle.std.proofs.lemmas.Bool.{ltb-true}
 use denote.RawPtr.{null_ptr}
 use denote.Ref.{Bor}
@@ -20,7 +20,7 @@ use Rattle.deb_index.specs.Kept.{listed_of}
 use Rattle.deb_index.specs.Listed.{Listed, Provision}
 use Rattle.deb_index.specs.PackageBuilder.{itself}
 use Rattle.deb_index.specs.ProvidedNames.{IsNotAfter}
-use Rattle.deb_index.specs.Maps.{numbers_under}
+use Rattle.deb_index.specs.Maps.{list_under, numbers_under, numbers_with}
 use Rattle.deb_index.specs.Reported.{answer_of, found_of, report_of}
 use Rattle.deb_index.specs.Stores.{listed_by}
 use Rattle.deb_index.specs.declared.index.Index.{Index}
@@ -134,15 +134,22 @@ worked-packages index p q are =
 
 -- aa under 1 and 3, and vv under 2: names that are there, a prefix of one, and another one
 worked-numbers : (alloc : Global) (names : Names)
-    → names.map.entries
-    ≡ (text alloc (codes "aa") refl, vector alloc (1 ∷ 3 ∷ []) refl)
-    ∷ (text alloc (codes "vv") refl, vector alloc (2 ∷ []) refl) ∷ []
+    → names.last.entries
+    ≡ (text alloc (codes "aa") refl, 3) ∷ (text alloc (codes "vv") refl, 2) ∷ []
+    → names.lists.entries ≡ (text alloc (codes "aa") refl, vector alloc (1 ∷ 3 ∷ []) refl) ∷ []
     → map (numbers_under names) (codes "aa" ∷ codes "vv" ∷ codes "a" ∷ codes "ww" ∷ [])
     ≡ (1 ∷ 3 ∷ []) ∷ (2 ∷ []) ∷ [] ∷ [] ∷ []
-worked-numbers alloc names are =
+worked-numbers alloc names last lists =
     ap (λ entries. map
-    (λ name. option_map_or (λ v. v.items) (lookup (λ k. bytes_eq name k.items) entries) [])
-    (codes "aa" ∷ codes "vv" ∷ codes "a" ∷ codes "ww" ∷ [])) are
+    (λ name. numbers_with (list_under names.lists name)
+    (lookup (λ k. bytes_eq name k.items) entries))
+    (codes "aa" ∷ codes "vv" ∷ codes "a" ∷ codes "ww" ∷ [])) last
+    ∙ ap (λ entries. map
+    (λ name. numbers_with
+    (option_map (λ v. v.items) (lookup (λ k. bytes_eq name k.items) entries))
+    (lookup (λ k. bytes_eq name k.items)
+    ((text alloc (codes "aa") refl, 3) ∷ (text alloc (codes "vv") refl, 2) ∷ [])))
+    (codes "aa" ∷ codes "vv" ∷ codes "a" ∷ codes "ww" ∷ [])) lists
 
 -- the packages p and q of an index, with their numbers there
 abbrev found : ℕ → Package → Found

@@ -32,7 +32,7 @@ pub(crate) fn packages_meeting<'a>(
         (packages_of index.now)) }
 {
     let numbers = numbers_meeting(alloc, index, group, environment)?;
-    let mut found = Vec::new(alloc);
+    let mut found = Vec::with_capacity(alloc, numbers.len())?;
     for &number in &numbers {
         let package = index.numbered(number);
         found.push(Found { number, package })?;

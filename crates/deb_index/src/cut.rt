@@ -1,6 +1,6 @@
 //! Cuts the canonical text of Provides into the entries that provide a name.
 
-ghost use Rattle.std.specs.Prelude.{◌≡◌, ◌≤◌, ◌==◌, ◌&&◌, not, length, IfSome, OnOk};
+ghost use Rattle.std.specs.Prelude.{◌≡◌, ◌<◌, ◌≤◌, ◌^◌, ◌==◌, ◌&&◌, not, length, IfSome, OnOk};
 ghost use Rattle.std.specs.List.{prefix_len};
 ghost use Rattle.std.specs.Option.{option_map};
 ghost use Rattle.deb_relation.specs.Meaning.{Alternative, Group, Relation};
@@ -32,8 +32,8 @@ fn name_len(text: &[u8]) -> usize
         .count()
 }
 
-/// Where the version stands in what follows the name of an alternative, if that is nothing or a
-/// bound alone. Of nothing it is the empty place at the start.
+/// The offsets of the version in what follows the name of an alternative, if that is nothing or a
+/// bound alone. Of nothing they are those of the empty text at the start.
 fn version_place(behind: &[u8]) -> Option<(usize, usize)>
     ensures within { IfSome result (λ p. (p.0 ≤ p.1) × (p.1 ≤ length behind.now)) }
     ensures place { (a : Alternative) (others : Group) → IsRegular a
@@ -65,10 +65,11 @@ fn version_place(behind: &[u8]) -> Option<(usize, usize)>
     }
 }
 
-/// The entry that stands between two places of a text, if it is a name alone or with a version.
+/// The entry between two offsets of a text, if it is a name alone or with a version.
 fn plain_entry(text: &[u8], start: usize, end: usize) -> Option<Entry>
     requires in_order { start ≤ end }
     requires within { end ≤ length text.now }
+    requires short { length text.now < 2 ^ 32 }
     ensures { (group : Group) → IsRegularGroup group → part start end text.now ≡ group_text group
         → IsEntry text.now result (provided_by group) }
 {
@@ -76,17 +77,16 @@ fn plain_entry(text: &[u8], start: usize, end: usize) -> Option<Entry>
     let (name, behind) = group.split_at(name_len(group));
     match version_place(behind) {
         Some((from, to)) => Some(Entry {
-            start,
-            name_end: start + name.len(),
-            version: start + name.len() + from,
-            end: start + name.len() + to,
+            start: start as u32,
+            name_end: (start + name.len()) as u32,
+            version: (start + name.len() + from) as u32,
+            end: (start + name.len() + to) as u32,
         }),
         None => None,
     }
 }
 
-/// Appends the entry that stands between two places of a text, if it is a name alone or with a
-/// version.
+/// Appends the entry between two offsets of a text, if it is a name alone or with a version.
 fn append_entry(
     text: &[u8],
     start: usize,
@@ -95,6 +95,7 @@ fn append_entry(
 ) -> Result<(), AllocError>
     requires in_order { start ≤ end }
     requires within { end ≤ length text.now }
+    requires short { length text.now < 2 ^ 32 }
     ensures { (group : Group) → IsRegularGroup group → part start end text.now ≡ group_text group
         → OnOk result (AppendsEntries text.now entries.old.items entries.new.items
         (provided_by group)) }
@@ -108,12 +109,16 @@ fn append_entry(
     }
 }
 
-/// Appends the entries of a canonical relation that are a name alone or with a version.
+/// Appends the entries of a canonical relation that are a name alone or with a version. Out of memory
+/// is also returned if an entry can't hold the offsets of the text.
 pub(crate) fn append_entries(text: &[u8], entries: &mut Vec<Entry>) -> Result<(), AllocError>
     ensures { (m : Relation) → IsRegularRelation m → text.now ≡ relation_text m
         → OnOk result (AppendsEntries text.now entries.old.items entries.new.items
         (provisions_of m)) }
 {
+    if text.len() > u32::MAX as usize {
+        return Err(AllocError);
+    }
     let mut start = 0;
     while start < text.len() {
         let end = start + before(&text[start..], b',');

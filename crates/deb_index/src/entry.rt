@@ -1,4 +1,4 @@
-//! The entries of Provides that provide a name, as places in the canonical text of the field.
+//! The entries of Provides that provide a name, as offsets in the canonical text of the field.
 
 ghost use Rattle.std.specs.Prelude.{◌≡◌, None};
 ghost use Rattle.std.specs.Option.{option_map};
@@ -15,14 +15,15 @@ use deb_relation::{Alternative, Op};
 use deb_version::Version;
 use std::cmp::Ordering;
 
-/// Where the name and the version of an entry of Provides stand in the canonical text of the field
-/// (Debian Policy 7.5). The version is empty if the entry has none.
+/// The offsets at which the name and the version of an entry of Provides are in the canonical text of
+/// the field (Debian Policy 7.5), which is shorter than 2^32. The version is empty if the entry has
+/// none.
 #[derive(Clone, Copy, Debug)]
 pub(crate) struct Entry {
-    pub(crate) start: usize,
-    pub(crate) name_end: usize,
-    pub(crate) version: usize,
-    pub(crate) end: usize,
+    pub(crate) start: u32,
+    pub(crate) name_end: u32,
+    pub(crate) version: u32,
+    pub(crate) end: u32,
 }
 
 impl Entry {
@@ -30,14 +31,14 @@ impl Entry {
     pub(crate) fn name<'a>(&self, text: &'a [u8]) -> &'a [u8]
         ensures { result.now ≡ entry_name text.now self.now }
     {
-        part(text, self.start, self.name_end)
+        part(text, self.start as usize, self.name_end as usize)
     }
 
     /// The canonical text of the version; empty if there is none.
     pub(crate) fn version<'a>(&self, text: &'a [u8]) -> &'a [u8]
         ensures { result.now ≡ entry_version text.now self.now }
     {
-        part(text, self.version, self.end)
+        part(text, self.version as usize, self.end as usize)
     }
 
     /// Whether the name is that of an alternative, and meets its bound.

@@ -88,6 +88,9 @@ impl Index {
         let mut store = Store::new(alloc);
         for count in 0..u64::MAX {
             if !checked.advance(&mut builder, reader)? {
+                // The room of the last paragraph is for the names.
+                drop(checked);
+                drop(builder);
                 return Ok(Index::of(alloc, store)?);
             }
             store.push(&builder)?;

@@ -1,10 +1,10 @@
 //! A map from names to the numbers of packages.
 
-ghost use Rattle.std.specs.Prelude.{◌≡◌, [], ℕ, List, map, if◌then◌else◌, IfOk, OnOk};
+ghost use Rattle.std.specs.Prelude.{◌≡◌, ◌++◌, [], ◌∷◌, ℕ, List, map, Some, if◌then◌else◌, IfOk, OnOk};
 ghost use Rattle.std.specs.List.{list_any};
 ghost use Rattle.std.specs.Str.{bytes_eq};
 ghost use Rattle.deb_index.specs.Entries.{provision_at};
-ghost use Rattle.deb_index.specs.Maps.{numbers_under, put_last};
+ghost use Rattle.deb_index.specs.Maps.{EndInLast, PutsLast, list_under, numbers_under, numbers_with, put_last};
 ghost use Rattle.deb_index.specs.Named.{has_name, numbers_of, provides};
 ghost use Rattle.deb_index.specs.Stores.{listed_in};
 
@@ -12,11 +12,20 @@ use crate::entry::Entry;
 use crate::store::Store;
 use indexmap::IndexMap;
 use std::alloc::{AllocError, Global};
+use std::slice;
+
+/// Lists of numbers under names, each of at least two.
+type Lists = IndexMap<Vec<u8>, Vec<u64>>;
 
 /// The numbers of packages under names: under each name in ascending order and each once.
+///
+/// Most names have one number, which takes no list.
 #[derive(Debug, Drop)]
 pub(crate) struct Names {
-    map: IndexMap<Vec<u8>, Vec<u64>>,
+    /// The last number under each name.
+    last: IndexMap<Vec<u8>, u64>,
+    /// All numbers under the names that have several.
+    lists: Lists,
 }
 
 impl Names {
@@ -26,7 +35,7 @@ impl Names {
             → numbers_under names name
             ≡ numbers_of (has_name name) (listed_in store.now)) }
     {
-        let mut names = Names::new(alloc);
+        let mut names = Names::with_capacity(alloc, store.records.len())?;
         for (index, record) in store.records.iter().enumerate() {
             names.put(alloc, store.name(record), index as u64 + 1)?;
         }
@@ -39,7 +48,7 @@ impl Names {
             → numbers_under names name
             ≡ numbers_of (provides name) (listed_in store.now)) }
     {
-        let mut names = Names::new(alloc);
+        let mut names = Names::with_capacity(alloc, store.entries.len())?;
         for (index, record) in store.records.iter().enumerate() {
             let text = store.provides(record);
             names.put_provided(alloc, text, store.entries(record), index as u64 + 1)?;
@@ -51,18 +60,25 @@ impl Names {
     pub(crate) fn of(&self, name: &[u8]) -> &[u64]
         ensures { result.now ≡ numbers_under self.now name.now }
     {
-        match self.map.get(name) {
-            Some(numbers) => numbers.as_slice(),
+        if let Some(numbers) = self.lists.get(name) {
+            return numbers.as_slice();
+        }
+        match self.last.get(name) {
+            Some(number) => slice::from_ref(number),
             None => &[],
         }
     }
 
-    fn new(alloc: Global) -> Names
-        ensures { (name : List ℕ) → numbers_under result name ≡ [] }
+    /// No number is under any name, and there is room for as many names.
+    fn with_capacity(alloc: Global, count: usize) -> Result<Names, AllocError>
+        ensures none { IfOk result (λ names. (name : List ℕ) → numbers_under names name ≡ []) }
+        ensures lists { IfOk result EndInLast }
     {
-        Names {
-            map: IndexMap::new(alloc),
-        }
+        let last = IndexMap::with_capacity(alloc, count)?;
+        Ok(Names {
+            last,
+            lists: IndexMap::new(alloc),
+        })
     }
 
     /// Puts a number under each of these provided names.
@@ -73,7 +89,9 @@ impl Names {
         entries: &[Entry],
         number: u64,
     ) -> Result<(), AllocError>
-        ensures { OnOk result ((name : List ℕ) → numbers_under self.new name
+        requires { EndInLast self.old }
+        ensures lists { OnOk result (EndInLast self.new) }
+        ensures put { OnOk result ((name : List ℕ) → numbers_under self.new name
             ≡ (if list_any (λ p. bytes_eq p.name name) (map (provision_at text.now) entries.now)
             then put_last number (numbers_under self.old name)
             else numbers_under self.old name)) }
@@ -86,27 +104,51 @@ impl Names {
 
     /// Appends a number to those under a name, unless it is the last of them.
     fn put(&mut self, alloc: Global, name: &[u8], number: u64) -> Result<(), AllocError>
-        ensures { OnOk result ((other : List ℕ) → numbers_under self.new other
-            ≡ (if bytes_eq name.now other then put_last number (numbers_under self.old other)
-            else numbers_under self.old other)) }
+        requires { EndInLast self.old }
+        ensures { OnOk result (PutsLast name.now number self.old self.new) }
     {
-        if let Some(numbers) = self.map.get_mut(name) {
-            push_unless_last(numbers, number)?;
+        let key = Vec::from_slice(alloc, name)?;
+        let before = self.last.insert(key, number)?.unwrap_or(number);
+        if before == number {
             return Ok(());
         }
-        let mut numbers = Vec::new(alloc);
-        numbers.push(number)?;
-        self.map.insert(Vec::from_slice(alloc, name)?, numbers)?;
-        Ok(())
+        append_number(alloc, &mut self.lists, name, before, number)
     }
 }
 
-/// Appends a number to others, unless it is the last of them.
-fn push_unless_last(numbers: &mut Vec<u64>, number: u64) -> Result<(), AllocError>
-    ensures { OnOk result (numbers.new.items ≡ put_last number numbers.old.items) }
+/// Appends a number to the list under a name. If there is none, it is begun with the number before.
+fn append_number(
+    alloc: Global,
+    lists: &mut Lists,
+    name: &[u8],
+    before: u64,
+    number: u64,
+) -> Result<(), AllocError>
+    ensures { OnOk result ((other : List ℕ) → list_under lists.new other
+        ≡ (if bytes_eq name.now other
+        then Some (numbers_with (list_under lists.old name.now) (Some before) ++ number ∷ [])
+        else list_under lists.old other)) }
 {
-    if numbers.last() != Some(&number) {
-        numbers.push(number)?;
+    if let Some(numbers) = lists.get_mut(name) {
+        push(numbers, number)?;
+        return Ok(());
     }
+    let numbers = pair(alloc, before, number)?;
+    lists.insert(Vec::from_slice(alloc, name)?, numbers)?;
     Ok(())
+}
+
+/// Appends a number to others.
+fn push(numbers: &mut Vec<u64>, number: u64) -> Result<(), AllocError>
+    ensures { OnOk result (numbers.new.items ≡ numbers.old.items ++ number ∷ []) }
+{
+    numbers.push(number)?;
+    Ok(())
+}
+
+/// The list of two numbers.
+fn pair(alloc: Global, first: u64, second: u64) -> Result<Vec<u64>, AllocError>
+    ensures { IfOk result (λ numbers. numbers.items ≡ first ∷ second ∷ []) }
+{
+    Vec::from_slice(alloc, &[first, second])
 }

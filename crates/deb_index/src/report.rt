@@ -133,7 +133,7 @@ impl<'a> Report<'a> {
             (λ reported. report_of reported ≡ map (answer (environment_of environment.now)
             (packages_of index.now)) (map group_of groups.now)) }
     {
-        let mut answers = Vec::new(alloc);
+        let mut answers = Vec::with_capacity(alloc, groups.len())?;
         for group in groups {
             answers.push(Answer::of(alloc, index, group, environment)?)?;
         }

@@ -1,6 +1,6 @@
 //! What an index keeps of its packages: bytes, entries of Provides and records, in three lists.
 
-ghost use Rattle.std.specs.Prelude.{◌≡◌, ◌-◌, ◌<◌, ◌++◌, ◌∷◌, [], length, Some, OnOk};
+ghost use Rattle.std.specs.Prelude.{◌≡◌, ◌-◌, ◌<◌, ◌++◌, ◌∷◌, [], length, Some, IfOk, OnOk};
 ghost use Rattle.std.specs.List.{slice_get};
 ghost use Rattle.deb_index.specs.Kept.{listed_of};
 ghost use Rattle.deb_index.specs.Listed.{Listed};
@@ -17,21 +17,22 @@ use crate::span::part;
 use deb_field::MultiArch;
 use std::alloc::{AllocError, Global};
 
-/// A package: where its texts and the entries of its Provides end in the lists of the store.
+/// A package: the offsets at which its texts and the entries of its Provides are in the lists of the
+/// store, which are shorter than 2^32.
 #[derive(Clone, Copy, Debug)]
 pub(crate) struct Record {
-    pub(crate) start: usize,
-    pub(crate) name_end: usize,
-    pub(crate) version_end: usize,
-    pub(crate) architecture_end: usize,
-    pub(crate) end: usize,
-    pub(crate) first: usize,
-    pub(crate) behind: usize,
+    pub(crate) start: u32,
+    pub(crate) name_end: u32,
+    pub(crate) version_end: u32,
+    pub(crate) architecture_end: u32,
+    pub(crate) end: u32,
+    pub(crate) first: u32,
+    pub(crate) behind: u32,
     pub(crate) multi_arch: Option<MultiArch>,
 }
 
-/// The packages of an index, one after another. Of each the texts of the name, the version, the
-/// architecture and Provides stand in one buffer, in this order.
+/// The packages of an index, one after another. One buffer contains the texts of each: the name, the
+/// version, the architecture and Provides, in this order.
 #[derive(Debug, Drop)]
 pub(crate) struct Store {
     pub(crate) bytes: Vec<u8>,
@@ -56,24 +57,25 @@ impl Store {
         ensures { (p : Listed) → KeepsPackage kept.now p → IsStore self.old
             → OnOk result (KeepsOneMore self.old self.new p) }
     {
-        let start = self.bytes.len();
+        let start = offset(self.bytes.len())?;
         self.bytes.extend_from_slice(&kept.name)?;
-        let name_end = self.bytes.len();
+        let name_end = offset(self.bytes.len())?;
         self.bytes.extend_from_slice(&kept.version)?;
-        let version_end = self.bytes.len();
+        let version_end = offset(self.bytes.len())?;
         self.bytes.extend_from_slice(&kept.architecture)?;
-        let architecture_end = self.bytes.len();
+        let architecture_end = offset(self.bytes.len())?;
         self.bytes.extend_from_slice(&kept.provides)?;
-        let first = self.entries.len();
+        let end = offset(self.bytes.len())?;
+        let first = offset(self.entries.len())?;
         append_entries(&kept.provides, &mut self.entries)?;
         self.records.push(Record {
             start,
             name_end,
             version_end,
             architecture_end,
-            end: self.bytes.len(),
+            end,
             first,
-            behind: self.entries.len(),
+            behind: offset(self.entries.len())?,
             multi_arch: kept.multi_arch,
         })?;
         Ok(())
@@ -83,7 +85,7 @@ impl Store {
     pub(crate) fn name(&self, of: &Record) -> &[u8]
         ensures { result.now ≡ part of.now.start of.now.name_end self.now.bytes.items }
     {
-        part(&self.bytes, of.start, of.name_end)
+        part(&self.bytes, of.start as usize, of.name_end as usize)
     }
 
     /// The canonical text of the Provides of a package.
@@ -91,17 +93,17 @@ impl Store {
         ensures { result.now
             ≡ part of.now.architecture_end of.now.end self.now.bytes.items }
     {
-        part(&self.bytes, of.architecture_end, of.end)
+        part(&self.bytes, of.architecture_end as usize, of.end as usize)
     }
 
     /// The entries of the Provides of a package.
     pub(crate) fn entries(&self, of: &Record) -> &[Entry]
         ensures { result.now ≡ part of.now.first of.now.behind self.now.entries.items }
     {
-        part(&self.entries, of.first, of.behind)
+        part(&self.entries, of.first as usize, of.behind as usize)
     }
 
-    /// A package, by its place.
+    /// The package at an index.
     pub(crate) fn package(&self, index: usize) -> Package<'_>
         requires kept { IsStore self.now }
         requires within { index < length self.now.records.items }
@@ -111,8 +113,12 @@ impl Store {
         let bytes = self.bytes.as_slice();
         Package {
             name: self.name(record),
-            version: part(bytes, record.name_end, record.version_end),
-            architecture: part(bytes, record.version_end, record.architecture_end),
+            version: part(bytes, record.name_end as usize, record.version_end as usize),
+            architecture: part(
+                bytes,
+                record.version_end as usize,
+                record.architecture_end as usize,
+            ),
             multi_arch: record.multi_arch,
             provisions: Provisions {
                 text: self.provides(record),
@@ -120,4 +126,11 @@ impl Store {
             },
         }
     }
+}
+
+/// The offset that a length is, or out of memory if a record can't hold it.
+fn offset(len: usize) -> Result<u32, AllocError>
+    ensures { IfOk result (λ offset. offset ≡ len) }
+{
+    u32::try_from(len).map_err(|_| AllocError)
 }
