@@ -97,14 +97,14 @@ struct deb_comparison {
     int8_t order;   /* below 0 if the first is earlier, above 0 if it is later, 0 if they are equal */
 };
 
-/* A field of a file, in the tables that deb_fields writes. */
+/* A field of a file, in the tables that deb_fields writes. A file has at most 4,294,967,295 bytes. */
 struct deb_field {
-    uint64_t paragraph;    /* the number of its paragraph in the file, from 1 */
-    uint64_t line;         /* the number of its first line in the file, from 1 */
-    uint64_t name;         /* the offset of its name in `names` */
-    uint64_t name_length;
-    uint64_t value;        /* the offset of its value in `values` */
-    uint64_t value_length;
+    uint32_t paragraph;    /* the number of its paragraph in the file, from 1 */
+    uint32_t line;         /* the number of its first line in the file, from 1 */
+    uint32_t name;         /* the offset of its name in `names` */
+    uint32_t name_length;
+    uint32_t value;        /* the offset of its value in `values` */
+    uint32_t value_length;
 };
 
 /* Compares two versions in Debian's order. Takes no memory.

@@ -4,10 +4,11 @@ import ctypes
 import functools
 import mmap
 import re
+from bisect import bisect_right
 from typing import IO, Any, Dict, Iterator, List, Mapping, NamedTuple, Optional, Sequence, Tuple, Union
 
 from ._library import (
-    NO_MEMORY, NO_ROOM, REFUSED, Answer, Text, answered_file, bytes_of, given, kind_of, lib, text_of,
+    NO_ROOM, Answer, Text, answered_file, bytes_of, given, kind_of, lib, text_of,
 )
 
 _SPAN = 6  # numbers of a field: its paragraph, line, name, name's length, value, value's length
@@ -87,7 +88,7 @@ class _Tables:
         length = len(data)
         rooms = [length // 24 + 16, length // 2 + 64, length + length // 8 + 64]
         while True:
-            tables = [mmap.mmap(-1, size) for size in (8 * _SPAN * rooms[0], rooms[1], rooms[2])]
+            tables = [mmap.mmap(-1, size) for size in (4 * _SPAN * rooms[0], rooms[1], rooms[2])]
             counts = [ctypes.c_size_t() for _ in tables]
             outs: List[Any] = []
             for table, room, count in zip(tables, rooms, counts):
@@ -98,7 +99,7 @@ class _Tables:
             rooms = [max(count.value, 1) for count in counts]
         self.kind = kind
         self.count = counts[0].value
-        self.numbers = memoryview(tables[0]).cast("Q")
+        self.numbers = memoryview(tables[0]).cast("I")
         self.names, self.values = tables[1], tables[2]
 
 
@@ -182,20 +183,16 @@ class Paragraph(Mapping[str, str]):
         return f"<Paragraph at line {self.line}: {', '.join(self._names.in_order)}>"
 
 
-def _end_of(numbers: "memoryview[int]", first: int, count: int) -> int:
-    """Returns the place after the last field of the paragraph whose first field has this place."""
-    number, last = numbers[_SPAN * first], first + 1
-    while last < count and numbers[_SPAN * last] == number:
-        last += 1
-    return last
-
-
 def _paragraphs(tables: _Tables, data: bytes) -> Iterator[Paragraph]:
     """Yields the paragraphs of tables, and raises the exception of their answer, if it has one."""
-    numbers, names, first = tables.numbers, tables.names, 0
+    numbers, names, first, count = tables.numbers, tables.names, 0, tables.count
     known: Dict[bytes, _Names] = {}
-    while first < tables.count:
-        last = _end_of(numbers, first, tables.count)
+    paragraph_of = numbers[: _SPAN * count : _SPAN]
+    while first < count:
+        number = paragraph_of[first]
+        last = bisect_right(paragraph_of, number, first, min(first + 64, count))
+        if last == first + 64:
+            last = bisect_right(paragraph_of, number, last, count)
         at = _SPAN * last - _SPAN
         text = names[numbers[_SPAN * first + 2] : numbers[at + 2] + numbers[at + 3]]
         found = known.get(text)
@@ -206,6 +203,12 @@ def _paragraphs(tables: _Tables, data: bytes) -> Iterator[Paragraph]:
     answered_file(tables.answer, tables.kind, data)
 
 
+def _content(file: Any) -> bytes:
+    """Returns the bytes of a text, or of a file that is open for reading."""
+    read = getattr(file, "read", None)
+    return bytes_of(file if read is None else read())
+
+
 def paragraphs(file: Union[Text, IO[bytes], IO[str]], kind: str = "any") -> Iterator[Paragraph]:
     """Reads a text, or a file that is open for reading, and yields its paragraphs in file order.
 
@@ -213,13 +216,12 @@ def paragraphs(file: Union[Text, IO[bytes], IO[str]], kind: str = "any") -> Iter
     Refused is raised if the file is refused.
 
         >>> import debctl
-        >>> for paragraph in debctl.paragraphs("Package: hello\\nDepends: b, a (>= 1) | c\\n"):
+        >>> for paragraph in debctl.paragraphs("Package: hello\\nDepends: bb, aa (>= 1) | cc\\n"):
         ...     print(paragraph.line, paragraph["package"])
         ...     print([[one.name for one in group] for group in paragraph.relations("Depends")])
         1 hello
-        [['a', 'c'], ['b']]
+        [['aa', 'cc'], ['bb']]
     """
     number = kind_of(kind)
-    read = getattr(file, "read", None)
-    data = bytes_of(read() if read is not None else file)
+    data = _content(file)
     return _paragraphs(_Tables(number, data), data)

@@ -34,7 +34,8 @@ def _buffer() -> Tuple[Any, Any, Any]:
     """Returns a buffer of this thread, its length, and the pointer to that."""
     length = ctypes.c_size_t()
     _local.buffer = ctypes.create_string_buffer(_ROOM), length, ctypes.byref(length)
-    return _local.buffer  # type: ignore[no-any-return]
+    buffer: Tuple[Any, Any, Any] = _local.buffer
+    return buffer
 
 
 def key(version: Text) -> bytes:

@@ -61,7 +61,14 @@ impl Asker {
     {
         let mut sink = VecSink::new(alloc);
         let mut source = SliceSource::new(text);
-        match unmet(alloc, &self.index, &self.environment, asked, &mut source, &mut sink) {
+        match unmet(
+            alloc,
+            &self.index,
+            &self.environment,
+            asked,
+            &mut source,
+            &mut sink,
+        ) {
             Ok(summary) => Ok((summary, sink.into_bytes())),
             Err(Fault::Refused(refusal)) => Err(Fault::Refused(refusal)),
             Err(Fault::Memory | Fault::Write) => Err(Fault::Memory),

@@ -1,28 +1,29 @@
 //! Tables of the fields of a file.
 
-ghost use Rattle.std.specs.Prelude.{◌≡◌, ◌++◌, ◌∷◌, [], ℕ, List, OnOk};
+ghost use Rattle.std.specs.Prelude.{◌≡◌, ◌++◌, ◌∷◌, [], List, IfOk, OnOk};
 ghost use Rattle.deb_control.specs.CheckedStates.{passing_judged};
 ghost use Rattle.deb_syntax.specs.Raw.{field_of};
-ghost use Rattle.debctl_ffi.specs.Fields.{AreTables, Numbered, numbered};
+ghost use Rattle.debctl_ffi.specs.Fields.{Numbered, numbered};
 
 use deb_control::CheckedView;
 use deb_syntax::RawField;
 use std::alloc::{AllocError, Global};
 
-/// Where a field of a file is in the tables of its names and values.
+/// Where a field of a file is in the tables of its names and values. A file is so short that each
+/// number has 32 bits.
 #[repr(C)]
 #[derive(Clone, Copy, Debug, PartialEq, Eq)]
 pub struct FieldSpan {
     /// The number of its paragraph, from 1.
-    pub paragraph: u64,
+    pub paragraph: u32,
     /// The number of its first line in the file, from 1.
-    pub line: u64,
+    pub line: u32,
     /// The offset of its name in the names, and the length of that.
-    pub name: u64,
-    pub name_length: u64,
+    pub name: u32,
+    pub name_length: u32,
     /// The offset of its value in the values, and the length of that.
-    pub value: u64,
-    pub value_length: u64,
+    pub value: u32,
+    pub value_length: u32,
 }
 
 /// The fields of the paragraphs that were read.
@@ -68,13 +69,19 @@ impl Tables {
         ensures { (shown : List Numbered) → HasTables self.old shown
             → OnOk result (HasTables self.new (shown ++ (number, field_of field.now) ∷ [])) }
     {
+        let paragraph = small(number)?;
+        let line = small(field.line)?;
+        let name = small(self.names.len() as u64)?;
+        let name_length = small(field.name.len() as u64)?;
+        let value = small(self.values.len() as u64)?;
+        let value_length = small(field.body.len() as u64)?;
         self.spans.push(FieldSpan {
-            paragraph: number,
-            line: field.line,
-            name: self.names.len() as u64,
-            name_length: field.name.len() as u64,
-            value: self.values.len() as u64,
-            value_length: field.body.len() as u64,
+            paragraph,
+            line,
+            name,
+            name_length,
+            value,
+            value_length,
         })?;
         append_text(&mut self.names, field.name)?;
         append_text(&mut self.values, field.body)?;
@@ -89,4 +96,12 @@ fn append_text(table: &mut Vec<u8>, text: &[u8]) -> Result<(), AllocError>
     table.extend_from_slice(text)?;
     table.push(0)?;
     Ok(())
+}
+
+/// Returns a number that a span can hold, or an error if it can't hold it. A file is too short for
+/// such a number.
+fn small(number: u64) -> Result<u32, AllocError>
+    ensures { IfOk result (λ small. small ≡ number) }
+{
+    u32::try_from(number).map_err(|_| AllocError)
 }
