@@ -4,6 +4,7 @@ import ctypes
 import functools
 import mmap
 import re
+from array import array
 from bisect import bisect_right
 from typing import IO, Any, Dict, Iterator, List, Mapping, NamedTuple, Optional, Sequence, Tuple, Union
 
@@ -99,7 +100,7 @@ class _Tables:
             rooms = [max(count.value, 1) for count in counts]
         self.kind = kind
         self.count = counts[0].value
-        self.numbers = memoryview(tables[0]).cast("I")
+        self.numbers = array("I", tables[0][: 4 * _SPAN * self.count])
         self.names, self.values = tables[1], tables[2]
 
 
@@ -187,7 +188,7 @@ def _paragraphs(tables: _Tables, data: bytes) -> Iterator[Paragraph]:
     """Yields the paragraphs of tables, and raises the exception of their answer, if it has one."""
     numbers, names, first, count = tables.numbers, tables.names, 0, tables.count
     known: Dict[bytes, _Names] = {}
-    paragraph_of = numbers[: _SPAN * count : _SPAN]
+    paragraph_of = numbers[::_SPAN]
     while first < count:
         number = paragraph_of[first]
         last = bisect_right(paragraph_of, number, first, min(first + 64, count))
