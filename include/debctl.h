@@ -31,7 +31,7 @@ extern "C" {
 /* The status of a call. */
 enum deb_status {
     DEB_YES = 0,            /* done, or yes */
-    DEB_NO = 1,             /* deb_same: the files differ; deb_query: a group is unmet */
+    DEB_NO = 1,             /* deb_same: the files differ; deb_query, deb_unmet: a group is unmet */
     DEB_REFUSED = 2,        /* a text is refused, or the first of two */
     DEB_SECOND_REFUSED = 3, /* the first text is accepted, and the second is refused */
     DEB_NO_ROOM = 4,        /* the buffer is too small; its length is what it needs */
@@ -86,8 +86,8 @@ struct deb_answer {
     uint8_t status; /* one of deb_status */
     uint8_t code;   /* one of deb_code, if a text is refused */
     uint64_t line;  /* the line of the refusal in its file; 0 for a text that isn't a file */
-    uint64_t count; /* the number of paragraphs of the file: for DEB_YES of deb_check, deb_normalise
-                     * and deb_explain */
+    uint64_t count; /* the number of paragraphs of the file: for DEB_YES of deb_check, deb_normalise,
+                     * deb_explain and deb_fields, and for DEB_YES and DEB_NO of deb_unmet */
 };
 
 /* The answer of a comparison of two versions. */
@@ -95,6 +95,16 @@ struct deb_comparison {
     uint8_t status; /* DEB_YES, DEB_REFUSED or DEB_SECOND_REFUSED */
     uint8_t code;   /* DEB_BAD_VERSION, if a text isn't a version */
     int8_t order;   /* below 0 if the first is earlier, above 0 if it is later, 0 if they are equal */
+};
+
+/* A field of a file, in the tables that deb_fields writes. A file has at most 4,294,967,295 bytes. */
+struct deb_field {
+    uint32_t paragraph;    /* the number of its paragraph in the file, from 1 */
+    uint32_t line;         /* the number of its first line in the file, from 1 */
+    uint32_t name;         /* the offset of its name in `names` */
+    uint32_t name_length;
+    uint32_t value;        /* the offset of its value in `values` */
+    uint32_t value_length;
 };
 
 /* Compares two versions in Debian's order. Takes no memory.
@@ -107,6 +117,20 @@ struct deb_comparison deb_version_compare(const uint8_t *left, size_t left_lengt
 struct deb_answer deb_version_canonical(const uint8_t *text, size_t text_length,
                                         uint8_t *out, size_t out_size, size_t *length);
 
+/* Writes the key of a version: bytes whose order, as memcmp and databases have it, is Debian's order
+ * of versions; two versions are equal exactly if their keys are the same. A key has at most 8 bytes
+ * more than two for each byte of the text. The encoding doesn't change; docs/FORMAT.md has it.
+ * DEB_YES; DEB_REFUSED: it isn't a version; DEB_NO_ROOM; DEB_NO_MEMORY. */
+struct deb_answer deb_version_key(const uint8_t *text, size_t text_length,
+                                  uint8_t *out, size_t out_size, size_t *length);
+
+/* Writes the canonical text of a relation: its groups, in the order of their texts and with `, `
+ * between them, each with its alternatives and ` | ` between these. Two relations mean the same
+ * exactly if theirs are the same.
+ * DEB_YES; DEB_REFUSED: it isn't a relation; DEB_NO_ROOM; DEB_NO_MEMORY. */
+struct deb_answer deb_relation_canonical(const uint8_t *text, size_t text_length,
+                                         uint8_t *out, size_t out_size, size_t *length);
+
 /* Checks whether a file is accepted as a document of a kind.
  * DEB_YES, with the number of its paragraphs; DEB_REFUSED; DEB_NO_MEMORY; DEB_NO_KIND. */
 struct deb_answer deb_check(uint8_t kind, const uint8_t *text, size_t text_length);
@@ -117,6 +141,19 @@ struct deb_answer deb_check(uint8_t kind, const uint8_t *text, size_t text_lengt
  * DEB_NO_KIND. */
 struct deb_answer deb_normalise(uint8_t kind, const uint8_t *text, size_t text_length,
                                 uint8_t *out, size_t out_size, size_t *length);
+
+/* Writes where the fields of a file are, in file order: to the start of `names` the names as they are
+ * in the file, each with a byte 0 after it, to the start of `values` the values likewise, and to the
+ * start of `fields` the offsets and lengths of both. A value is the text after the colon with the
+ * lines that continue it, without spaces and tabs at both ends; a byte 0 may be in it. Neither name
+ * nor value is canonical. `field_count`, `names_length` and `values_length` are how many there are.
+ * If one of the three has no room, nothing is written to any. Of a refused file the fields are those
+ * of the paragraphs before the one at which it is refused.
+ * DEB_YES, with the number of paragraphs; DEB_REFUSED; DEB_NO_ROOM; DEB_NO_MEMORY; DEB_NO_KIND. */
+struct deb_answer deb_fields(uint8_t kind, const uint8_t *text, size_t text_length,
+                             struct deb_field *fields, size_t fields_size, size_t *field_count,
+                             uint8_t *names, size_t names_size, size_t *names_length,
+                             uint8_t *values, size_t values_size, size_t *values_length);
 
 /* Writes why a file is refused as a document of a kind, in lines `key: value`: those that the
  * program `debctl explain` writes, except for its first, `file`, since a text has no path. The keys
@@ -146,6 +183,22 @@ struct deb_answer deb_query(const uint8_t *target, size_t target_length,
                             const struct deb_text *profiles, size_t profile_count,
                             const uint8_t *relation, size_t relation_length,
                             const uint8_t *index, size_t index_length,
+                            uint8_t *out, size_t out_size, size_t *length);
+
+/* Writes which relations of a file no package of an index meets, for a target architecture and with
+ * these build profiles active: a line for each group that is unmet, or may be. They are the lines
+ * that the program `debctl unmet` writes. `kind` is that of the file: DEB_PACKAGES and DEB_BINARY ask
+ * Pre-Depends and Depends, and Recommends too unless `recommends` is 0; DEB_SOURCES and DEB_SOURCE
+ * ask Build-Depends, Build-Depends-Arch and Build-Depends-Indep, and `recommends` must be 0.
+ * DEB_YES: there is no line; DEB_NO: there is one; both with the number of paragraphs of the file.
+ * DEB_REFUSED: the target or a profile (DEB_BAD_ENVIRONMENT) or the index, in this order;
+ * DEB_SECOND_REFUSED: the file; DEB_NO_ROOM; DEB_NO_MEMORY; DEB_NO_KIND: `kind` is none of these
+ * four, or Recommends is asked of sources. */
+struct deb_answer deb_unmet(uint8_t kind, uint8_t recommends,
+                            const uint8_t *target, size_t target_length,
+                            const struct deb_text *profiles, size_t profile_count,
+                            const uint8_t *index, size_t index_length,
+                            const uint8_t *text, size_t text_length,
                             uint8_t *out, size_t out_size, size_t *length);
 
 #ifdef __cplusplus

@@ -1,5 +1,5 @@
-//! Debian control data: versions, files of control data, why they are refused, and queries of an
-//! index of packages.
+//! Debian control data: versions, files of control data and their fields, why they are refused, and
+//! questions to an index of packages.
 //!
 //! Each function calls one of the library `libdebctl`, whose answers are proved, and adds no rule
 //! of its own. Texts are slices of bytes.
@@ -22,10 +22,15 @@
 //! ```
 
 mod library;
+mod paragraphs;
+mod relations;
+mod versions;
 
 use library::{Answer, Text};
-use std::cmp::Ordering;
+pub use paragraphs::{paragraphs, Field, Iter, Paragraph, Paragraphs};
+pub use relations::{relations, Alternative};
 use std::fmt;
+pub use versions::{canonical, compare, key, Version};
 
 /// A kind of document.
 #[derive(Clone, Copy, Debug, PartialEq, Eq)]
@@ -144,7 +149,7 @@ pub struct Explanation {
     pub text: Vec<u8>,
 }
 
-/// The report on a relation.
+/// The report on relations.
 #[derive(Clone, Debug, PartialEq, Eq)]
 pub struct Report {
     /// Whether no group is unmet.
@@ -198,22 +203,6 @@ fn given(
     Ok((answered(answer)?, text))
 }
 
-/// Compares two versions in Debian's order.
-pub fn compare(left: &[u8], right: &[u8]) -> Result<Ordering, Error> {
-    let answer = library::version_compare(left, right);
-    match error_of(answer.status, answer.code, 0) {
-        Some(error) => Err(error),
-        None => Ok(answer.order.cmp(&0)),
-    }
-}
-
-/// Returns the canonical text of a version: two versions are equal exactly if theirs are the same.
-pub fn canonical(version: &[u8]) -> Result<Vec<u8>, Error> {
-    let call =
-        |out: &mut [u8], length: &mut usize| library::version_canonical(version, out, length);
-    Ok(given(version.len(), call)?.1)
-}
-
 /// Returns the number of paragraphs of a file that is accepted as a document of a kind.
 pub fn check(kind: Kind, text: &[u8]) -> Result<u64, Error> {
     Ok(answered(library::check(kind as u8, text))?.count)
@@ -244,6 +233,53 @@ pub fn explain(kind: Kind, text: &[u8]) -> Result<Explanation, Error> {
 /// Returns whether two files mean the same.
 pub fn same(kind: Kind, text: &[u8], other: &[u8]) -> Result<bool, Error> {
     Ok(answered(library::same(kind as u8, text, other))?.status == library::YES)
+}
+
+/// The kind of a file, and which of its relations are asked.
+#[derive(Clone, Copy, Debug, PartialEq, Eq)]
+pub enum Asked {
+    /// An index of binary packages: Pre-Depends and Depends, and Recommends if that is wanted.
+    Packages {
+        /// Recommends is asked too.
+        recommends: bool,
+    },
+    /// The control file of a binary package: the same fields.
+    Binary {
+        /// Recommends is asked too.
+        recommends: bool,
+    },
+    /// An index of source packages: the three fields Build-Depends.
+    Sources,
+    /// The description of a source package: the same fields.
+    Source,
+}
+
+/// Finds the relations of a file that no package of an index meets, for a target architecture and
+/// with these build profiles active: the lines that the program `debctl unmet` writes. If the file
+/// is refused, the error is [`Error::SecondRefused`].
+pub fn unmet(
+    asked: Asked,
+    target: &[u8],
+    profiles: &[&[u8]],
+    index: &[u8],
+    file: &[u8],
+) -> Result<Report, Error> {
+    let (kind, recommends) = match asked {
+        Asked::Packages { recommends } => (Kind::Packages, recommends),
+        Asked::Binary { recommends } => (Kind::Binary, recommends),
+        Asked::Sources => (Kind::Sources, false),
+        Asked::Source => (Kind::Source, false),
+    };
+    let profiles: Vec<Text> = profiles.iter().map(|profile| Text::of(profile)).collect();
+    let asked = (kind as u8, u8::from(recommends));
+    let call = |out: &mut [u8], length: &mut usize| {
+        library::unmet(asked, target, &profiles, (index, file), out, length)
+    };
+    let (answer, text) = given(4096, call)?;
+    Ok(Report {
+        met: answer.status == library::YES,
+        text,
+    })
 }
 
 /// Finds the packages of an index that meet a relation, for a target architecture and with these

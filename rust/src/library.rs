@@ -23,6 +23,18 @@ pub struct Comparison {
     pub order: i8,
 }
 
+/// A field of a file, in the tables that `deb_fields` writes.
+#[repr(C)]
+#[derive(Clone, Copy, Debug, Default)]
+pub struct Span {
+    pub paragraph: u32,
+    pub line: u32,
+    pub name: u32,
+    pub name_length: u32,
+    pub value: u32,
+    pub value_length: u32,
+}
+
 /// A text among several.
 #[repr(C)]
 pub struct Text<'a> {
@@ -49,6 +61,49 @@ extern "C" {
         right_length: usize,
     ) -> Comparison;
     fn deb_version_canonical(
+        text: *const u8,
+        text_length: usize,
+        out: *mut u8,
+        out_size: usize,
+        length: *mut usize,
+    ) -> Answer;
+    fn deb_version_key(
+        text: *const u8,
+        text_length: usize,
+        out: *mut u8,
+        out_size: usize,
+        length: *mut usize,
+    ) -> Answer;
+    fn deb_relation_canonical(
+        text: *const u8,
+        text_length: usize,
+        out: *mut u8,
+        out_size: usize,
+        length: *mut usize,
+    ) -> Answer;
+    fn deb_fields(
+        kind: u8,
+        text: *const u8,
+        text_length: usize,
+        fields: *mut Span,
+        fields_size: usize,
+        field_count: *mut usize,
+        names: *mut u8,
+        names_size: usize,
+        names_length: *mut usize,
+        values: *mut u8,
+        values_size: usize,
+        values_length: *mut usize,
+    ) -> Answer;
+    fn deb_unmet(
+        kind: u8,
+        recommends: u8,
+        target: *const u8,
+        target_length: usize,
+        profiles: *const Text,
+        profile_count: usize,
+        index: *const u8,
+        index_length: usize,
         text: *const u8,
         text_length: usize,
         out: *mut u8,
@@ -104,6 +159,84 @@ pub fn version_compare(left: &[u8], right: &[u8]) -> Comparison {
 pub fn version_canonical(text: &[u8], out: &mut [u8], length: &mut usize) -> Answer {
     unsafe {
         deb_version_canonical(
+            text.as_ptr(),
+            text.len(),
+            out.as_mut_ptr(),
+            out.len(),
+            length,
+        )
+    }
+}
+
+pub fn version_key(text: &[u8], out: &mut [u8], length: &mut usize) -> Answer {
+    unsafe {
+        deb_version_key(
+            text.as_ptr(),
+            text.len(),
+            out.as_mut_ptr(),
+            out.len(),
+            length,
+        )
+    }
+}
+
+pub fn relation_canonical(text: &[u8], out: &mut [u8], length: &mut usize) -> Answer {
+    unsafe {
+        deb_relation_canonical(
+            text.as_ptr(),
+            text.len(),
+            out.as_mut_ptr(),
+            out.len(),
+            length,
+        )
+    }
+}
+
+/// `lengths` becomes how many fields there are, and the lengths of the names and of the values.
+pub fn fields(
+    kind: u8,
+    text: &[u8],
+    (fields, names, values): (&mut [Span], &mut [u8], &mut [u8]),
+    lengths: &mut [usize; 3],
+) -> Answer {
+    let [field_count, names_length, values_length] = lengths;
+    unsafe {
+        deb_fields(
+            kind,
+            text.as_ptr(),
+            text.len(),
+            fields.as_mut_ptr(),
+            fields.len(),
+            field_count,
+            names.as_mut_ptr(),
+            names.len(),
+            names_length,
+            values.as_mut_ptr(),
+            values.len(),
+            values_length,
+        )
+    }
+}
+
+/// `asked` is the kind of the file, and whether Recommends is asked.
+pub fn unmet(
+    asked: (u8, u8),
+    target: &[u8],
+    profiles: &[Text],
+    (index, text): (&[u8], &[u8]),
+    out: &mut [u8],
+    length: &mut usize,
+) -> Answer {
+    unsafe {
+        deb_unmet(
+            asked.0,
+            asked.1,
+            target.as_ptr(),
+            target.len(),
+            profiles.as_ptr(),
+            profiles.len(),
+            index.as_ptr(),
+            index.len(),
             text.as_ptr(),
             text.len(),
             out.as_mut_ptr(),

@@ -29,6 +29,31 @@ static std::string explained(const std::string &text) {
     return std::to_string(answer.status) + ' ' + std::string(out.begin(), out.end());
 }
 
+static std::string key(const std::string &version) {
+    std::string out(2 * version.size() + 8, '\0');
+    size_t length = 0;
+    deb_version_key(bytes(version), version.size(), reinterpret_cast<uint8_t *>(&out[0]),
+                    out.size(), &length);
+    out.resize(length);
+    return out;
+}
+
+static std::string fields(const std::string &text) {
+    std::vector<deb_field> spans(text.size());
+    std::vector<uint8_t> names(text.size() + 1), values(text.size() + 1);
+    size_t count = 0, names_length = 0, values_length = 0;
+    deb_fields(DEB_ANY, bytes(text), text.size(), spans.data(), spans.size(), &count, names.data(),
+               names.size(), &names_length, values.data(), values.size(), &values_length);
+    std::string out;
+    for (size_t at = 0; at < count; at++) {
+        out += reinterpret_cast<const char *>(names.data()) + spans[at].name;
+        out += '=';
+        out += reinterpret_cast<const char *>(values.data()) + spans[at].value;
+        out += ' ';
+    }
+    return out;
+}
+
 int main() {
     const std::string text = "vERSION: 01.0-0\npackage:hello\nArchitecture: amd64\n";
     int failed = 0;
@@ -39,6 +64,8 @@ int main() {
     failed += explained("Package: aa\nVersion: 1_2\n")
                   .find("2 line: 2\ncode: 18\nname: BadVersion\nfield: Version\nplace: 1\nat: 2:11\n") != 0;
     failed += deb_version_compare(bytes("1"), 1, bytes("2"), 1).order >= 0;
-    std::printf("cpp: %d passed, %d failed\n", 6 - failed, failed);
+    failed += key("1.0~rc1") >= key("1.0") || key("1.0") != key("0:1.00-0");
+    failed += fields("Package: aa\nDepends: bb\n") != "Package=aa Depends=bb ";
+    std::printf("cpp: %d passed, %d failed\n", 8 - failed, failed);
     return failed != 0;
 }

@@ -29,8 +29,20 @@ static const char *index_of_two =
 static const char *refused = "Package: hello\nVersion: 1\nArchitecture: all\n\n"
                              "Package: mailer\nDepends: aa (>= 1), bb cc\n";
 
-static uint8_t out[512];
+static uint8_t out[1024];
 static size_t length;
+
+/* The fields of two paragraphs, in parts of the same buffer. */
+static struct deb_answer fields_of(const char *text) {
+    struct deb_field *fields = (struct deb_field *)(void *)out;
+    size_t count = 0, names_length = 0;
+    struct deb_answer answer =
+        deb_fields(DEB_PACKAGES, bytes(text), strlen(text), fields, 16, &count, out + 512, 256,
+                   &names_length, out + 768, 256, &length);
+    if (answer.status == DEB_NO_MEMORY)
+        length += count + names_length;
+    return answer;
+}
 
 static struct deb_answer call(int which) {
     const uint8_t *text = bytes(index_of_two);
@@ -49,6 +61,18 @@ static struct deb_answer call(int which) {
         return deb_explain(DEB_PACKAGES, bytes(refused), strlen(refused), out, sizeof out, &length);
     case 5:
         return deb_same(DEB_PACKAGES, text, size, text, size);
+    case 6:
+        return deb_version_key(bytes("01:02.030-0004"), 14, out, sizeof out, &length);
+    case 7:
+        return deb_relation_canonical(bytes("bb (>= 01) | cc:any, aa [!amd64] <xx yy>"), 40, out,
+                                      sizeof out, &length);
+    case 8:
+        return fields_of(index_of_two);
+    case 9:
+        return fields_of(refused);
+    case 10:
+        return deb_unmet(DEB_PACKAGES, 1, bytes("amd64"), 5, &profile, 1, text, size, text, size,
+                         out, sizeof out, &length);
     default:
         return deb_query(bytes("amd64"), 5, &profile, 1, bytes("hello (>= 1) | xx, mta"), 22, text,
                          size, out, sizeof out, &length);
@@ -57,9 +81,16 @@ static struct deb_answer call(int which) {
 
 int main(void) {
     static const char *names[] = {"version_canonical", "check",   "normalise", "explain",
-                                  "explain, refused",  "same", "query"};
+                                  "explain, refused",  "same",    "version_key",
+                                  "relation_canonical", "fields", "fields, refused",
+                                  "unmet",             "query"};
+    enum { CALLS = sizeof names / sizeof *names };
+    static const int statuses[CALLS] = {
+        DEB_YES, DEB_YES, DEB_YES, DEB_YES, DEB_REFUSED, DEB_YES,
+        DEB_YES, DEB_YES, DEB_YES, DEB_REFUSED, DEB_NO, DEB_YES,
+    };
     int which, passed = 0, failed = 0;
-    for (which = 0; which < 7; which++) {
+    for (which = 0; which < CALLS; which++) {
         long growth = 0;
         struct deb_answer answer;
         do {
@@ -81,7 +112,7 @@ int main(void) {
             }
         } while (growth++ < 10000);
         until_refused = -1;
-        if (answer.status == (which == 4 ? DEB_REFUSED : DEB_YES) && growth > 0)
+        if (answer.status == statuses[which] && growth > 0)
             passed++;
         else {
             printf("deb_%s: status %d after %ld growths\n", names[which], answer.status, growth);

@@ -33,6 +33,12 @@ static void *run(void *wrong) {
                                    sizeof out, &length)
                                  .status != DEB_YES ||
                          length != 29;
+        *(int *)wrong += deb_version_key(bytes("1.0"), 3, out, sizeof out, &length).status !=
+                             DEB_YES ||
+                         length != 12;
+        *(int *)wrong += deb_unmet(DEB_PACKAGES, 0, bytes("amd64"), 5, NULL, 0, text, size, text,
+                                   size, out, sizeof out, &length)
+                             .status != DEB_YES;
     }
     return NULL;
 }

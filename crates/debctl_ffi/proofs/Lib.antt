@@ -1,3 +1,5 @@
 mod SideFaults
 mod Refusals
 mod Explained
+mod FieldTables
+mod FieldsSoFar

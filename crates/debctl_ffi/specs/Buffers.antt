@@ -3,11 +3,11 @@
 use Rattle.std.specs.Prelude.{◌≡◌, ℕ, ◌<◌, ◌≤◌, List, ◌++◌, codes, drop, length, refl}
 use Rattle.std.proofs.Common.{arith}
 
--- The bytes stand at the front of the buffer, which is else as it was, and their length is told.
-pub record Gives (bytes before after : List ℕ) (len : ℕ) : Type 0 where
-  pub fits : length bytes ≤ length before
-  pub is : after ≡ bytes ++ drop (length bytes) before
-  pub counted : len ≡ length bytes
+-- The items stand at the front of the buffer, which is else as it was, and their number is told.
+pub record Gives {T : Type 0} (items before after : List T) (len : ℕ) : Type 0 where
+  pub fits : length items ≤ length before
+  pub is : after ≡ items ++ drop (length items) before
+  pub counted : len ≡ length items
 
 -- The buffer is too short for the bytes, and as it was, and their length is told.
 pub record LacksRoom (bytes before after : List ℕ) (len : ℕ) : Type 0 where

@@ -4,3 +4,8 @@ pub mod Versions
 pub mod Documents
 pub mod Explaining
 pub mod Queries
+pub mod Unmet
+pub mod Askers
+pub mod Fields
+pub mod Tables
+pub mod Relations

@@ -7,6 +7,8 @@ use Rattle.deb_base.specs.declared.code.Code.TheVariants.{BadVersion}
 use Rattle.deb_base.specs.declared.refusal.Refusal.{Refusal}
 use Rattle.deb_version.specs.Canonical.{version_text}
 use Rattle.deb_version.specs.Grammar.{SpellsVersion}
+use Rattle.deb_version.specs.KeyLaws.{SortsAsItsVersion}
+use Rattle.deb_version.specs.Keys.{version_key}
 use Rattle.deb_version.specs.Order.{version_cmp}
 use Rattle.deb_version.specs.Parts.{Meaning}
 use Rattle.debctl_ffi.specs.Answers.{refusing}
@@ -60,3 +62,16 @@ pub record LacksRoomForCanonical (text before after : List ℕ) (len : ℕ) : Ty
   pub version : Meaning
   pub spelled : SpellsVersion text version
   pub lacks : LacksRoom (version_text version) before after len
+
+-- The text is a version, and its key is given, which sorts as the version does; or there is no room
+-- for the key.
+pub record GivesKey (text before after : List ℕ) (len : ℕ) : Type 0 where
+  pub version : Meaning
+  pub spelled : SpellsVersion text version
+  pub sorts : SortsAsItsVersion version
+  pub gives : Gives (version_key version) before after len
+
+pub record LacksRoomForKey (text before after : List ℕ) (len : ℕ) : Type 0 where
+  pub version : Meaning
+  pub spelled : SpellsVersion text version
+  pub lacks : LacksRoom (version_key version) before after len

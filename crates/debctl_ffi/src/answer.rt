@@ -33,6 +33,16 @@ pub(crate) fn yes(count: u64) -> Answer
     }
 }
 
+/// The answer 1: no. With the number of paragraphs.
+pub(crate) fn some(count: u64) -> Answer
+    ensures { result ≡ counting 1 count }
+{
+    Answer {
+        status: 1,
+        ..yes(count)
+    }
+}
+
 /// The answer 1: no.
 pub(crate) fn no() -> Answer
     ensures { result ≡ plain 1 }

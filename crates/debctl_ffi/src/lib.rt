@@ -13,11 +13,17 @@
 #![tactic(auto)]
 
 mod answer;
+mod asker;
 mod buffer;
 mod documents;
 mod explanation;
+mod field;
+mod fields;
 mod files;
 mod kind;
 mod query;
+mod read_fields;
+mod relations;
 mod report;
+mod unmet;
 mod versions;

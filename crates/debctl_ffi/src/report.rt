@@ -40,7 +40,8 @@ pub(crate) fn report_on(
     Ok((report.all_met(), text))
 }
 
-fn read_index(alloc: Global, text: &[u8]) -> Result<Index, Fault>
+/// Reads an index in memory.
+pub(crate) fn read_index(alloc: Global, text: &[u8]) -> Result<Index, Fault>
     ensures ok { IfOk result (λ index. ListsAll text.now (packages_of index)) }
     ensures fault { IfErr result
         (λ fault. RefusedOrMemory fault

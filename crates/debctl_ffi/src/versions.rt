@@ -3,7 +3,7 @@
 ghost use Rattle.std.specs.Prelude.{◌≡◌, [], ◌∷◌};
 ghost use Rattle.debctl_ffi.specs.Answers.{HasStatus, counting, plain, refusing};
 ghost use Rattle.debctl_ffi.specs.Buffers.{GivesNothing};
-ghost use Rattle.debctl_ffi.specs.Versions.{Compares, GivesCanonical, IsNoVersion, IsVersion, LacksRoomForCanonical, bad_version, comparing};
+ghost use Rattle.debctl_ffi.specs.Versions.{Compares, GivesCanonical, GivesKey, IsNoVersion, IsVersion, LacksRoomForCanonical, LacksRoomForKey, bad_version, comparing};
 
 use crate::answer::{Answer, no_memory, no_room, refused, yes};
 use crate::buffer::give;
@@ -84,10 +84,7 @@ pub extern "C" fn deb_version_canonical(
 {
     *len = 0;
     let Ok(version) = Version::parse(text) else {
-        return refused(&Refusal {
-            code: Code::BadVersion,
-            line: 0,
-        });
+        return not_a_version();
     };
     let mut canonical = Vec::new(alloc);
     if version.canon_into(&mut canonical).is_err() {
@@ -98,4 +95,52 @@ pub extern "C" fn deb_version_canonical(
     } else {
         no_room()
     }
+}
+
+/// Writes the key of a version to the start of `out`, and returns its length: bytes whose order is
+/// Debian's order of versions, and that are the same exactly if the versions are equal
+/// (deb-version(7), "Sorting algorithm"). Status 0: done. 2: the text isn't a version, with the code
+/// 18 and no line. 4: `out` is too small; `len` is the length that it needs. 5: out of memory.
+///
+/// Except for status 0, `out` is unchanged.
+#[unsafe(no_mangle)]
+pub extern "C" fn deb_version_key(
+    alloc: Global,
+    text: &[u8],
+    out: &mut [u8],
+    len: &mut usize,
+) -> Answer
+    ensures done { result.status ≡ 0 → (result ≡ counting 0 0)
+        × GivesKey text.now out.old out.new len.new }
+    ensures refused { result.status ≡ 2 → (result ≡ refusing 2 bad_version)
+        × IsNoVersion text.now × GivesNothing out.old out.new len.new }
+    ensures no_room { result.status ≡ 4 → (result ≡ plain 4)
+        × LacksRoomForKey text.now out.old out.new len.new }
+    ensures no_memory { result.status ≡ 5 → (result ≡ plain 5)
+        × IsVersion text.now × GivesNothing out.old out.new len.new }
+    ensures status { HasStatus result.status (0 ∷ 2 ∷ 4 ∷ 5 ∷ []) }
+{
+    *len = 0;
+    let Ok(version) = Version::parse(text) else {
+        return not_a_version();
+    };
+    let mut key = Vec::new(alloc);
+    if version.key_into(&mut key).is_err() {
+        return no_memory();
+    }
+    if give(&key, out, len) {
+        yes(0)
+    } else {
+        no_room()
+    }
+}
+
+/// The answer 2: a text isn't a version.
+fn not_a_version() -> Answer
+    ensures { result ≡ refusing 2 bad_version }
+{
+    refused(&Refusal {
+        code: Code::BadVersion,
+        line: 0,
+    })
 }

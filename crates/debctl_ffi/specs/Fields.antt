@@ -1,0 +1,199 @@
+-- What is shown to a program in C of the fields of a file: Debian Policy 5.1. The form of the tables
+-- is this project's own.
+use Rattle.std.specs.Prelude.{◌≡◌, ◌⊎◌, ℕ, ◌+◌, ◌<◌, List, [], ◌∷◌, ◌++◌, length, map, Option, Some, None, Ok, codes, refl}
+use Rattle.deb_base.specs.declared.doc.Doc.{Doc}
+use Rattle.deb_base.specs.declared.refusal.Refusal.{Refusal}
+use Rattle.deb_syntax.specs.Answers.{Seen, next_answer}
+use Rattle.deb_syntax.specs.Fields.{Field}
+use Rattle.deb_control.specs.Calls.{HasParagraphs}
+use Rattle.deb_control.specs.Documents.{refusal_of, rules_of}
+use Rattle.deb_control.specs.Refusals.{outcome}
+use Rattle.debctl_ffi.specs.Answers.{counting, refusing}
+use Rattle.debctl_ffi.specs.Buffers.{Gives}
+use Rattle.debctl_ffi.specs.Documents.{kind_number}
+use Rattle.debctl_ffi.specs.declared.answer.Answer.{Answer}
+use Rattle.debctl_ffi.specs.declared.field.FieldSpan.{FieldSpan}
+
+-- ---- the fields of a file
+
+-- a field, with the number of its paragraph
+abbrev pub Numbered : Type 0
+Numbered = ℕ × Field
+
+abbrev pub numbered : ℕ → List Field → List Numbered
+numbered n fields = map (λ field. (n, field)) fields
+
+-- the fields of paragraphs, of which the first has this number
+abbrev pub numbered_from : ℕ → List Seen → List Numbered
+numbered_from n [] = []
+numbered_from n (seen ∷ more) = numbered n seen.fields ++ numbered_from (n + 1) more
+
+-- These are the answers behind the first `n` paragraphs: each is the next paragraph of the file.
+abbrev pub AreNext : List ℕ → ℕ → List Seen → Type 0
+AreNext text n [] = Unit {0}
+AreNext text n (seen ∷ more) =
+    (next_answer text n ≡ Ok (Some seen)) × AreNext text (n + 1) more
+
+-- These are the fields of the paragraphs of the file that pass: of all, or of those before the first
+-- that fails.
+pub record AreFields (doc : Doc) (text : List ℕ) (shown : List Numbered) : Type 0 where
+  pub paragraphs : List Seen
+  pub next : AreNext text 0 paragraphs
+  pub passed : length paragraphs ≡ length (outcome (rules_of doc) text).passed
+  pub fields : shown ≡ numbered_from 1 paragraphs
+
+-- ---- the tables
+
+-- the names of fields, and their values, each with a byte 0 after it
+abbrev pub names_text : List Numbered → List ℕ
+names_text [] = []
+names_text (one ∷ more) = one.1.name ++ 0 ∷ names_text more
+
+abbrev pub values_text : List Numbered → List ℕ
+values_text [] = []
+values_text (one ∷ more) = one.1.body ++ 0 ∷ values_text more
+
+-- the span of a field, with its name at this offset, and its value at that one
+abbrev pub span_at : ℕ → ℕ → Numbered → FieldSpan
+span_at name value one = record {
+  paragraph = one.0;
+  line = one.1.line;
+  name = name;
+  name_length = length one.1.name;
+  value = value;
+  value_length = length one.1.body;
+}
+
+abbrev pub spans_from : ℕ → ℕ → List Numbered → List FieldSpan
+spans_from name value [] = []
+spans_from name value (one ∷ more) =
+    span_at name value one
+    ∷ spans_from (name + length one.1.name + 1) (value + length one.1.body + 1) more
+
+-- the tables of fields
+pub record AreTables (shown : List Numbered) (spans : List FieldSpan) (names values : List ℕ)
+    : Type 0 where
+  pub spans_are : spans ≡ spans_from 0 0 shown
+  pub names_are : names ≡ names_text shown
+  pub values_are : values ≡ values_text shown
+
+-- ---- answers
+
+-- the answer of an accepted file, and of a refused one
+pub record IsAcceptedFile (doc : Doc) (text : List ℕ) (answer : Answer) : Type 0 where
+  pub has : HasParagraphs doc text answer.count
+  pub is : answer ≡ counting 0 answer.count
+
+pub record IsRefusedFile (doc : Doc) (text : List ℕ) (answer : Answer) : Type 0 where
+  pub refusal : Refusal
+  pub refused : refusal_of doc text ≡ Some refusal
+  pub is : answer ≡ refusing 2 refusal
+
+abbrev pub IsAnswer : Doc → List ℕ → Answer → Type 0
+IsAnswer doc text answer = IsAcceptedFile doc text answer ⊎ IsRefusedFile doc text answer
+
+-- what a call leaves in a buffer, and in the number beside it
+pub record Buffer (T : Type 0) : Type 0 where
+  pub before : List T
+  pub after : List T
+  pub len : ℕ
+
+abbrev pub buffer : {T : Type 0} → List T → List T → ℕ → Buffer T
+buffer before after len = record { before = before; after = after; len = len }
+
+-- the buffers of spans, of names and of values
+pub record Room : Type 0 where
+  pub spans : Buffer FieldSpan
+  pub names : Buffer ℕ
+  pub values : Buffer ℕ
+
+abbrev pub room : Buffer FieldSpan → Buffer ℕ → Buffer ℕ → Room
+room spans names values = record { spans = spans; names = names; values = values }
+
+abbrev pub GivesIn : {T : Type 0} → List T → Buffer T → Type 0
+GivesIn items into = Gives items into.before into.after into.len
+
+-- The tables of the fields are given.
+pub record GivesTables (shown : List Numbered) (into : Room) : Type 0 where
+  pub spans : GivesIn (spans_from 0 0 shown) into.spans
+  pub names : GivesIn (names_text shown) into.names
+  pub values : GivesIn (values_text shown) into.values
+
+-- The buffers are as they were, and these are the lengths.
+pub record LeavesRoom (into : Room) (spans names values : ℕ) : Type 0 where
+  pub spans_kept : into.spans.after ≡ into.spans.before
+  pub names_kept : into.names.after ≡ into.names.before
+  pub values_kept : into.values.after ≡ into.values.before
+  pub span_count : into.spans.len ≡ spans
+  pub names_length : into.names.len ≡ names
+  pub values_length : into.values.len ≡ values
+
+abbrev pub IsShort : Room → Type 0
+IsShort into =
+    (length into.spans.before < into.spans.len) ⊎ (length into.names.before < into.names.len)
+    ⊎ (length into.values.before < into.values.len)
+
+-- There is no room for the tables: a buffer is too short.
+pub record LacksTables (shown : List Numbered) (into : Room) : Type 0 where
+  pub leaves : LeavesRoom into (length (spans_from 0 0 shown)) (length (names_text shown))
+      (length (values_text shown))
+  pub short : IsShort into
+
+-- The file is accepted, and the tables of its fields are given; or it is refused, and those of the
+-- fields before its first paragraph that fails are; or there is no room for them.
+pub record ShowsAccepted (kind : ℕ) (text : List ℕ) (into : Room) (answer : Answer) : Type 0
+  where
+    pub doc : Doc
+    pub is_kind : kind ≡ kind_number doc
+    pub accepted : IsAcceptedFile doc text answer
+    pub shown : List Numbered
+    pub are : AreFields doc text shown
+    pub gives : GivesTables shown into
+
+pub record ShowsRefused (kind : ℕ) (text : List ℕ) (into : Room) (answer : Answer) : Type 0
+  where
+    pub doc : Doc
+    pub is_kind : kind ≡ kind_number doc
+    pub refused : IsRefusedFile doc text answer
+    pub shown : List Numbered
+    pub are : AreFields doc text shown
+    pub gives : GivesTables shown into
+
+pub record LacksRoomForFields (kind : ℕ) (text : List ℕ) (into : Room) : Type 0 where
+  pub doc : Doc
+  pub is_kind : kind ≡ kind_number doc
+  pub answer : Answer
+  pub answers : IsAnswer doc text answer
+  pub shown : List Numbered
+  pub are : AreFields doc text shown
+  pub lacks : LacksTables shown into
+
+-- for the worked cases: `A: xy`, and `Bb:` in the next paragraph
+abbrev one_seen : Seen
+one_seen = record {
+  first = 1;
+  fields = record { name = codes "A"; line = 1; body = codes "xy" } ∷ [];
+}
+
+abbrev other_seen : Seen
+other_seen = record {
+  first = 3;
+  fields = record { name = codes "Bb"; line = 3; body = [] } ∷ [];
+}
+
+abbrev two_shown : List Numbered
+two_shown = numbered_from 1 (one_seen ∷ other_seen ∷ [])
+
+worked-fields : two_shown
+    ≡ (1, record { name = codes "A"; line = 1; body = codes "xy" })
+    ∷ (2, record { name = codes "Bb"; line = 3; body = [] }) ∷ []
+worked-fields = refl
+
+worked-texts : (names_text two_shown ≡ codes "A\0Bb\0") × (values_text two_shown ≡ codes "xy\0\0")
+worked-texts = (refl, refl)
+
+worked-spans : spans_from 0 0 two_shown
+    ≡ record { paragraph = 1; line = 1; name = 0; name_length = 1; value = 0; value_length = 2 }
+    ∷ record { paragraph = 2; line = 3; name = 2; name_length = 2; value = 3; value_length = 0 }
+    ∷ []
+worked-spans = refl

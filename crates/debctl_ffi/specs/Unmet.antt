@@ -1,0 +1,161 @@
+-- What is answered to a program in C of the relations of a file that nothing in an index meets:
+-- Debian Policy 7.1, 7.2 and 7.7. The order of refusals and the form of the lines are this
+-- project's own.
+use Rattle.std.specs.Prelude.{◌≡◌, ◌⊎◌, ℕ, ◌≤◌, Bool, true, false, List, [], ◌∷◌, map, length, Some, IsTrue, IsFalse, not, ◌==◌, codes, refl}
+use Rattle.deb_base.specs.declared.doc.Doc.TheVariants.{Packages}
+use Rattle.deb_base.specs.declared.refusal.Refusal.{Refusal}
+use Rattle.deb_relation.specs.Applying.{Environment}
+use Rattle.deb_relation.specs.Environments.{environment_with}
+use Rattle.deb_relation.specs.Targets.{is_environment}
+use Rattle.deb_control.specs.Documents.{Accepted, Meaning, refusal_of}
+use Rattle.deb_index.specs.Listed.{Listed}
+use Rattle.deb_index.specs.Listing.{ListsAll}
+use Rattle.deb_index.specs.Questions.{bad_environment}
+use Rattle.deb_unmet.specs.Asked.{doc_of}
+use Rattle.deb_unmet.specs.Asking.{asks_of}
+use Rattle.deb_unmet.specs.Files.{file_lines, is_nothing}
+use Rattle.deb_unmet.specs.declared.asked.Asked.{Asked}
+use Rattle.deb_unmet.specs.declared.asked.Asked.TheVariants as asked
+use Rattle.deb_unmet.specs.declared.asked.Strength.{Strength}
+use Rattle.deb_unmet.specs.declared.asked.Strength.TheVariants.{Depends, Recommends}
+use Rattle.deb_unmet.specs.declared.asking.Summary.{Summary}
+use Rattle.debctl_ffi.specs.Answers.{counting, refusing}
+use Rattle.debctl_ffi.specs.Buffers.{Gives, LacksRoom}
+use Rattle.debctl_ffi.specs.Documents.{kind_number}
+use Rattle.debctl_ffi.specs.declared.answer.Answer.{Answer}
+
+-- ---- what is asked
+
+-- Recommends is asked too, which only binary packages have
+abbrev pub asks_recommends : Asked → Bool
+asks_recommends (asked.Packages Recommends) = true
+asks_recommends (asked.Packages Depends) = false
+asks_recommends (asked.Binary Recommends) = true
+asks_recommends (asked.Binary Depends) = false
+asks_recommends asked.Sources = false
+asks_recommends asked.Source = false
+
+-- a number of C that says yes unless it is 0
+abbrev pub is_set : ℕ → Bool
+is_set n = not (n == 0)
+
+numbers_of_c : map is_set (0 ∷ 1 ∷ 255 ∷ []) ≡ false ∷ true ∷ true ∷ []
+numbers_of_c = refl
+
+-- The numbers ask this: a kind, and whether Recommends is asked too.
+pub record IsAsked (kind : ℕ) (recommends : Bool) (asks : Asked) : Type 0 where
+  pub kind_is : kind ≡ kind_number (doc_of asks)
+  pub recommends_is : recommends ≡ asks_recommends asks
+
+-- The numbers ask nothing: no kind with relations has this number, or Recommends is asked of
+-- sources.
+abbrev pub AsksNothing : ℕ → Bool → Type 0
+AsksNothing kind recommends = (4 ≤ kind) ⊎ ((2 ≤ kind) × IsTrue recommends)
+
+all_asked : map asks_recommends
+    (asked.Packages Depends ∷ asked.Packages Recommends ∷ asked.Binary Depends
+    ∷ asked.Binary Recommends ∷ asked.Sources ∷ asked.Source ∷ [])
+    ≡ false ∷ true ∷ false ∷ true ∷ false ∷ false ∷ []
+all_asked = refl
+
+-- a target architecture, the profiles that are active, and an index of packages
+pub record Asker : Type 0 where
+  pub target : List ℕ
+  pub profiles : List (List ℕ)
+  pub index : List ℕ
+
+abbrev pub asker : List ℕ → List (List ℕ) → List ℕ → Asker
+asker target profiles index =
+    record { target = target; profiles = profiles; index = index }
+
+abbrev pub environment_in : Asker → Environment
+environment_in by = environment_with by.target by.profiles
+
+environments : environment_in (asker (codes "amd64") (codes "nocheck" ∷ []) [])
+    ≡ record { target = codes "amd64"; profiles = codes "nocheck" ∷ [] }
+environments = refl
+
+-- The environment is good, and the index is accepted, and lists these packages.
+pub record IsGoodAsker (by : Asker) (packages : List Listed) : Type 0 where
+  pub environment : IsTrue (is_environment by.target by.profiles)
+  pub lists : ListsAll by.index packages
+
+-- ---- refusals
+
+-- The target or a profile is refused; or they are good, and the index is refused.
+pub record RefusesEnvironment (by : Asker) (refusal : Refusal) : Type 0 where
+  pub bad : IsFalse (is_environment by.target by.profiles)
+  pub is : refusal ≡ bad_environment
+
+pub record RefusesIndex (by : Asker) (refusal : Refusal) : Type 0 where
+  pub environment : IsTrue (is_environment by.target by.profiles)
+  pub refused : refusal_of Packages by.index ≡ Some refusal
+
+abbrev pub RefusesAsker : Asker → Refusal → Type 0
+RefusesAsker by refusal = RefusesEnvironment by refusal ⊎ RefusesIndex by refusal
+
+pub record IsRefusedAsker (by : Asker) (answer : Answer) : Type 0 where
+  pub refusal : Refusal
+  pub refused : RefusesAsker by refusal
+  pub is : answer ≡ refusing 2 refusal
+
+-- These are good, and the file is refused.
+pub record IsRefusedFile (asks : Asked) (by : Asker) (text : List ℕ) (answer : Answer) : Type 0
+  where
+    pub packages : List Listed
+    pub good : IsGoodAsker by packages
+    pub refusal : Refusal
+    pub refused : refusal_of (doc_of asks) text ≡ Some refusal
+    pub is : answer ≡ refusing 3 refusal
+
+-- ---- lines
+
+-- The file is accepted, these are its lines, and the summary says how many paragraphs it has and
+-- whether there is no line.
+pub record HasLines (asks : Asked) (environment : Environment) (packages : List Listed)
+    (text : List ℕ) (summary : Summary) (bytes : List ℕ) : Type 0 where
+  pub meaning : Meaning
+  pub accepted : Accepted (doc_of asks) text meaning
+  pub count : length meaning ≡ summary.paragraphs
+  pub lines : bytes ≡ file_lines (asks_of asks environment packages) meaning
+  pub is_empty : summary.is_empty ≡ is_nothing bytes
+
+-- All are accepted, and the lines of the file are given, of which there is none, or is one; or
+-- there is no room for them.
+pub record GivesLines (kind : ℕ) (recommends : Bool) (by : Asker) (text : List ℕ) (empty : Bool)
+    (before after : List ℕ) (len : ℕ) (answer : Answer) : Type 0 where
+  pub asks : Asked
+  pub is_asked : IsAsked kind recommends asks
+  pub packages : List Listed
+  pub good : IsGoodAsker by packages
+  pub summary : Summary
+  pub bytes : List ℕ
+  pub has : HasLines asks (environment_in by) packages text summary bytes
+  pub empty_is : summary.is_empty ≡ empty
+  pub gives : Gives bytes before after len
+  pub count : answer.count ≡ summary.paragraphs
+
+pub record LacksRoomForUnmet (kind : ℕ) (recommends : Bool) (by : Asker)
+    (text before after : List ℕ) (len : ℕ) : Type 0 where
+  pub asks : Asked
+  pub is_asked : IsAsked kind recommends asks
+  pub packages : List Listed
+  pub good : IsGoodAsker by packages
+  pub summary : Summary
+  pub bytes : List ℕ
+  pub has : HasLines asks (environment_in by) packages text summary bytes
+  pub lacks : LacksRoom bytes before after len
+
+-- The environment or the index is refused.
+pub record RefusesFirst (kind : ℕ) (recommends : Bool) (by : Asker) (answer : Answer) : Type 0
+  where
+    pub asks : Asked
+    pub is_asked : IsAsked kind recommends asks
+    pub refused : IsRefusedAsker by answer
+
+-- They are accepted, and the file is refused.
+pub record RefusesFile (kind : ℕ) (recommends : Bool) (by : Asker) (text : List ℕ)
+    (answer : Answer) : Type 0 where
+  pub asks : Asked
+  pub is_asked : IsAsked kind recommends asks
+  pub refused : IsRefusedFile asks by text answer

@@ -1,0 +1,113 @@
+"""Files of control data, and questions to an index of packages."""
+
+import functools
+from typing import Iterable, NamedTuple, Optional
+
+from ._library import (
+    NO_KIND, REFUSED, YES, Answer, Text, answered_file, explained, field_in, kind_of, lib,
+    refusal_of, text_of, texts_of, written,
+)
+from ._refusals import Refused
+
+_PACKAGES = 1
+
+
+class Explanation(NamedTuple):
+    """The answer for a file: its refusal, or None if it is accepted, and the text of that."""
+
+    refusal: Optional[Refused]
+    text: bytes
+
+
+class Report(NamedTuple):
+    """The report on relations: whether no group is unmet, and its text."""
+
+    met: bool
+    text: bytes
+
+
+def check(text: Text, kind: str = "packages") -> int:
+    """Returns the number of paragraphs of a file that is accepted as a document of this kind:
+    `packages`, `binary`, `source`, `sources` or `any`.
+
+    Raises Refused if it is refused.
+    """
+    number, (data, length) = kind_of(kind), text_of(text)
+    answer: Answer = lib.deb_check(number, data, length)
+    return answered_file(answer, number, data).count
+
+
+def normalise(text: Text, kind: str = "packages") -> bytes:
+    """Returns the canonical text of a file: two accepted files mean the same exactly if theirs are
+    the same.
+
+    Raises Refused if the file is refused.
+    """
+    number, (data, length) = kind_of(kind), text_of(text)
+    call = functools.partial(lib.deb_normalise, number, data, length)
+    answer, canonical = written(length + 64, call)
+    answered_file(answer, number, data)
+    return canonical
+
+
+def explain(text: Text, kind: str = "packages") -> Explanation:
+    """Returns why a file is refused as a document of this kind, in lines `key: value`: those that
+    the program `debctl explain` writes, except for its first, `file`. For an accepted file of N
+    paragraphs the text is the line `ok N`.
+    """
+    answer, told = explained(kind_of(kind), text_of(text)[0])
+    return Explanation(refusal_of(answer, field_in(told)), told)
+
+
+def same(text: Text, other: Text, kind: str = "packages") -> bool:
+    """Returns whether two files mean the same.
+
+    Raises Refused if one of them is refused; its `second` says which.
+    """
+    number, (data, length), (second, size) = kind_of(kind), text_of(text), text_of(other)
+    answer: Answer = lib.deb_same(number, data, length, second, size)
+    return answered_file(answer, number, data, second).status == YES
+
+
+def query(relation: Text, index: Text, arch: Text, profiles: Iterable[Text] = ()) -> Report:
+    """Finds the packages of an index that meet a relation, for this architecture and these build
+    profiles.
+
+    Raises Refused if one of these is refused, and TypeError if the profiles are a single text.
+    """
+    active, (data, length) = texts_of(profiles), text_of(index)
+    call = functools.partial(
+        lib.deb_query, *text_of(arch), active, len(active), *text_of(relation), data, length
+    )
+    answer, report = written(4096, call)
+    return Report(answered_file(answer, _PACKAGES, data).status == YES, report)
+
+
+def unmet(
+    index: Text,
+    file: Text,
+    arch: Text,
+    profiles: Iterable[Text] = (),
+    kind: str = "packages",
+    recommends: bool = False,
+) -> Report:
+    """Finds the relations of a file that no package of an index meets, for this architecture and
+    these build profiles: the lines that the program `debctl unmet` writes. `kind` is that of the
+    file. Of `packages` and `binary` Pre-Depends and Depends are asked, with `recommends` Recommends
+    too; of `sources` and `source` the three fields Build-Depends.
+
+    Raises Refused if the architecture, a profile, the index or the file is refused; its `second`
+    is true if the file is. Raises ValueError for another kind, or if Recommends is asked of sources.
+    """
+    number, active = kind_of(kind), texts_of(profiles)
+    (data, length), (text, size) = text_of(index), text_of(file)
+    call = functools.partial(
+        lib.deb_unmet, number, bool(recommends), *text_of(arch), active, len(active), data, length,
+        text, size,
+    )
+    answer, lines = written(4096, call)
+    if answer.status == NO_KIND:
+        what = "Recommends of sources" if recommends and kind != "any" else f"relations of {kind!r}"
+        raise ValueError(f"there are no {what}")
+    refused_as = _PACKAGES if answer.status == REFUSED else number
+    return Report(answered_file(answer, refused_as, data, text).status == YES, lines)

@@ -1,0 +1,100 @@
+//! Versions and their keys, relations, unmet relations, and the paragraphs of a file.
+
+use debctl::{
+    compare, key, paragraphs, relations, unmet, Asked, Code, Error, Kind, Refusal, Version,
+};
+use std::collections::HashSet;
+
+/// Ascending; the second is the same version as the first, and so are two others.
+const VERSIONS: &[&str] = &[
+    "0", "00-0", "1~~", "1~", "1", "1-0", "1a", "1+", "1.0~rc1", "1.0", "1.0-1", "1.9", "1.10",
+    "2.0~beta", "2.0", "9:0", "10:0~", "10:0",
+];
+
+#[test]
+fn keys_have_the_order_of_versions() -> Result<(), Error> {
+    for left in VERSIONS {
+        for right in VERSIONS {
+            let order = compare(left.as_bytes(), right.as_bytes())?;
+            assert_eq!(key(left.as_bytes())?.cmp(&key(right.as_bytes())?), order);
+            assert_eq!(Version::new(left.as_bytes())?.cmp(&right.parse()?), order);
+        }
+    }
+    let set: HashSet<Version> = VERSIONS
+        .iter()
+        .map(|version| version.parse())
+        .collect::<Result<_, _>>()?;
+    assert_eq!(set.len(), VERSIONS.len() - 2);
+    let refusal = Refusal {
+        code: Code::BadVersion,
+        line: 0,
+    };
+    assert_eq!(Version::new(b"1_").unwrap_err(), Error::Refused(refusal));
+    assert_eq!(key(&[b'1'; 1000])?.len(), 1010);
+    Ok(())
+}
+
+#[test]
+fn a_relation_has_its_parts() -> Result<(), Error> {
+    let groups = relations(b"bb:any | aa (>> 01) [!amd64 !i386] <!nocheck cross> <aa>, cc")?;
+    assert_eq!(groups.len(), 2);
+    let second = &groups[0][1];
+    assert_eq!(groups[0][0].qualifier.as_deref(), Some("any"));
+    assert_eq!(second.bound, Some((">>".to_owned(), "1".to_owned())));
+    assert_eq!(second.architectures, ["!amd64", "!i386"]);
+    assert_eq!(second.profiles, [vec!["!nocheck", "cross"], vec!["aa"]]);
+    assert_eq!(groups[1][0].name, "cc");
+    assert!(relations(b"")?.is_empty());
+    assert!(relations(b"aa (").is_err());
+    Ok(())
+}
+
+#[test]
+fn unmet_relations_have_lines() -> Result<(), Error> {
+    let index = b"Package: aa\nVersion: 1\nArchitecture: amd64\nDepends: bb\nRecommends: cc\n";
+    let asked = Asked::Packages { recommends: false };
+    let report = unmet(asked, b"amd64", &[], index, index)?;
+    assert!(!report.met);
+    assert_eq!(report.text, b"unmet 1 aa 1 amd64 Depends bb\n");
+    let all = Asked::Packages { recommends: true };
+    let report = unmet(all, b"amd64", &[b"nocheck"], index, index)?;
+    assert!(report.text.ends_with(b"Recommends cc\n"));
+    assert!(unmet(Asked::Sources, b"amd64", &[], index, b"")?.met);
+    let second = unmet(Asked::Source, b"amd64", &[], index, b"x\n");
+    assert!(matches!(second, Err(Error::SecondRefused(it)) if it.line == 1));
+    Ok(())
+}
+
+#[test]
+fn paragraphs_have_fields() -> Result<(), Error> {
+    let text = b"\nPackage: hello \nDepends:\taa,\n bb\n\nx:\n\nbad\n";
+    let all = paragraphs(Kind::Any, text)?;
+    let mut iter = all.iter();
+    let first = iter.next().expect("a paragraph")?;
+    assert_eq!(first.line(), 2);
+    assert_eq!(first.get("pACKAGE"), Some(&b"hello"[..]));
+    assert_eq!(first.get("Version"), None);
+    let names: Vec<&str> = first.fields().map(|field| field.name).collect();
+    assert_eq!(names, ["Package", "Depends"]);
+    assert_eq!(first.field("Depends").map(|field| field.line), Some(3));
+    assert_eq!(
+        first.relations("Depends")?.map(|groups| groups.len()),
+        Some(2)
+    );
+    let second = iter.next().expect("another")?;
+    assert_eq!((second.line(), second.get("x")), (6, Some(&b""[..])));
+    assert!(matches!(iter.next(), Some(Err(Error::Refused(it))) if it.line == 8));
+    assert!(iter.next().is_none());
+    let control = b"Package: hello\nVersion: 01\nArchitecture: all\nDepends: bb,aa(>=1)\n";
+    for paragraph in &paragraphs(Kind::Packages, control)? {
+        let depends = paragraph?.canonical("depends")?;
+        assert_eq!(depends.as_deref(), Some(&b"aa (>= 1), bb"[..]));
+    }
+    assert_eq!(paragraphs(Kind::Any, b"")?.iter().count(), 0);
+    let many: Vec<u8> = (0..999)
+        .flat_map(|at| format!("a{at}:\n").into_bytes())
+        .collect();
+    let all = paragraphs(Kind::Any, &many)?;
+    assert_eq!(all.iter().next().expect("one")?.fields().count(), 999);
+    Ok(())
+}

@@ -1,0 +1,206 @@
+"""The Python module: keys, relations, unmet relations, and paragraphs with their fields."""
+
+import functools
+import io
+import itertools
+import random
+import sys
+import tempfile
+import threading
+from pathlib import Path
+
+import debctl
+from debctl import Refused, Version
+
+# Ascending; the second is the same version as the first, and so are two others.
+VERSIONS = [
+    "0", "00-0", "1~~", "1~", "1", "1-0", "1a", "1+", "1.0~rc1", "1.0", "1.0-1", "1.9", "1.10",
+    "2.0~beta", "2.0", "9:0", "10:0~", "10:0",
+]
+FILE = "\nPackage: hello \nDepends:\taa,\n bb\n\nx:\n"
+CONTROL = "Package: hello\nVersion: 01\nArchitecture: all\nDepends: bb | cc, aa(>=1)\n"
+INDEX = (
+    "Package: aa\nVersion: 1\nArchitecture: amd64\nDepends: bb, cc | dd\nRecommends: ee\n\n"
+    "Package: dd\nVersion: 2\nArchitecture: all\n"
+)
+SOURCE = "Format: 1.0\nSource: ss\nVersion: 01\nBuild-Depends: aa, zz, dd [linux-any]\n"
+
+
+def error(call, *words, **more):
+    """The exception that a call raises, or none."""
+    try:
+        call(*words, **more)
+    except Exception as raised:
+        return raised
+    return None
+
+
+def read(*words, **more):
+    """The paragraphs of a file, each with its line and its fields, and the error after them."""
+    found = []
+    try:
+        for paragraph in debctl.paragraphs(*words, **more):
+            found.append((paragraph.line, dict(paragraph)))
+    except Refused as refused:
+        found.append((refused.line, refused.name, refused.field))
+    return found
+
+
+def keys_have_the_order():
+    """Whether keys, and Version, have the order of `compare`, for each two versions."""
+    sign = lambda left, right: (left > right) - (left < right)
+    return all(
+        debctl.compare(left, right)
+        == sign(debctl.key(left), debctl.key(right))
+        == sign(Version(left), Version(right))
+        and (debctl.compare(left, right) == 0) == (Version(left) == Version(right))
+        and (hash(Version(left)) == hash(Version(right))) >= (Version(left) == Version(right))
+        for left, right in itertools.product(VERSIONS, VERSIONS)
+    )
+
+
+def random_keys_have_the_order():
+    """Whether 3,000 random versions, sorted by key, are in the order of `compare`."""
+    chosen = random.Random(7)
+    letters = "0019~~+.aAz"
+    versions = [
+        f"{chosen.choice(['', '0:', '1:', '10:'])}{chosen.choice('019')}"
+        + "".join(chosen.choices(letters, k=chosen.randrange(12)))
+        + chosen.choice(["", "-0", "-1", "-1~", "-0a"])
+        for _ in range(3000)
+    ]
+    by_compare = sorted(versions, key=functools.cmp_to_key(debctl.compare))
+    return sorted(versions, key=debctl.key) == by_compare == sorted(versions, key=Version)
+
+
+def from_threads():
+    """Whether keys and paragraphs from four threads at once are as from one alone."""
+    answers = []
+
+    def run():
+        for turn in range(200):
+            answers.append(debctl.key(f"1.{turn}") == keys[turn] and read(FILE) == both)
+
+    keys, both = [debctl.key(f"1.{turn}") for turn in range(200)], read(FILE)
+    threads = [threading.Thread(target=run) for _ in range(4)]
+    for thread in threads:
+        thread.start()
+    for thread in threads:
+        thread.join()
+    return len(answers) == 800 and all(answers)
+
+
+def from_files():
+    """Whether an open file is read as its text is, from bytes and from text."""
+    with tempfile.TemporaryDirectory() as folder:
+        path = Path(folder) / "file"
+        path.write_text(FILE)
+        with open(path, "rb") as binary, open(path, encoding="utf-8") as text:
+            return read(binary) == read(text) == read(io.StringIO(FILE)) == read(FILE)
+
+
+def mapping():
+    """Whether a paragraph is a mapping without case, in file order."""
+    first, second = debctl.paragraphs(FILE)
+    return (
+        list(first) == ["Package", "Depends"] and len(first) == 2
+        and first["pACKAGE"] == first["Package"] == "hello" and "DEPENDS" in first
+        and "Version" not in first and 5 not in first and first.get("Version") is None
+        and isinstance(error(lambda: first["Version"]), KeyError)
+        and isinstance(error(lambda: first["pac\u212aage"]), KeyError)
+        and first.bytes("depends") == b"aa,\n bb" and first.line_of("depends") == 3
+        and dict(second) == {"x": ""} and second.line == 6
+        and repr(first) == "<Paragraph at line 2: Package, Depends>"
+    )
+
+
+def canonical():
+    """Whether the canonical texts of values are those of the canonical file, of each kind."""
+    binary = next(debctl.paragraphs(CONTROL, "binary"))
+    source = next(debctl.paragraphs(SOURCE, "source"))
+    return (
+        [binary.canonical(name) for name in ("version", "Depends")] == ["1", "aa (>= 1), bb | cc"]
+        and source.canonical("Build-Depends") == "aa, dd [linux-any], zz"
+        and next(debctl.paragraphs(FILE)).canonical("depends") == "aa,\n bb"
+        and isinstance(error(binary.canonical, "Nothing"), KeyError)
+    )
+
+
+def alternatives():
+    """Whether the parts of alternatives are found."""
+    text = "aa:any (<< 1~1) [!amd64 !i386] <!nocheck cross> <aa> | bb, cc"
+    groups = debctl.relations(text)
+    first = groups[0][0]
+    return (
+        first == ("aa", "any", "<<", "1~1", ("!amd64", "!i386"), (("!nocheck", "cross"), ("aa",)))
+        and ", ".join(" | ".join(map(str, group)) for group in groups) == text
+        and groups[1] == [("cc", None, None, None, (), ())]
+        and debctl.relations("") == debctl.relations(b" ") == []
+        and error(debctl.relations, "aa (").code == debctl.Code.BadRelation
+    )
+
+
+def unmet(**more):
+    """The lines of the unmet relations of the index in itself."""
+    return debctl.unmet(INDEX, INDEX, "amd64", **more).text.decode().splitlines()
+
+
+BB, CC, EE = (
+    f"unmet 1 aa 1 amd64 {it}" for it in ("Depends bb", "Depends cc | dd", "Recommends ee")
+)
+many = "\n".join(f"a{at}:{at}\nb:{at}\n" for at in range(5000))
+second = error(debctl.unmet, INDEX, "\nx", "amd64")
+TESTS = {
+    "order of keys": keys_have_the_order(),
+    "order of random keys": random_keys_have_the_order(),
+    "key": debctl.key("1.0~rc1").hex() == "0100020131ae0200017263020131020200" + "02",
+    "key of Version": Version("01.0").key() == debctl.key(b"1.0-0"),
+    "long key": debctl.key("1" * 1000) == b"\1\0\2\xf1\3\xe8" + b"1" * 1000 + b"\2\2\0\2",
+    "no key": error(debctl.key, "1_").code == debctl.Code.BadVersion,
+    "canonical of Version": Version("01.0").canonical == b"1.0",
+    "unmet": unmet() == [BB] and debctl.unmet(INDEX, INDEX, "amd64").met is False,
+    "unmet with Recommends": unmet(recommends=True) == [BB, EE],
+    "unmet in nothing": debctl.unmet("", INDEX, "amd64").text.decode().splitlines() == [BB, CC],
+    "unmet of a source": debctl.unmet(INDEX, SOURCE, "amd64", kind="source").text
+    == b"unmet 1 ss 1 source Build-Depends zz\n",
+    "nothing is unmet": debctl.unmet(INDEX, "", "amd64", ["nocheck"], kind="sources")
+    == (True, b""),
+    "unmet of any": isinstance(error(debctl.unmet, INDEX, INDEX, "amd64", kind="any"), ValueError),
+    "unmet of sources, with Recommends": isinstance(
+        error(debctl.unmet, INDEX, "", "amd64", kind="sources", recommends=True), ValueError
+    ),
+    "unmet, index refused": (error(debctl.unmet, "x", "x", "amd64").second, second.second)
+    == (False, True) and second.line == 2,
+    "unmet, no target": error(debctl.unmet, INDEX, INDEX, "any").line == 0,
+    "paragraphs": read(FILE)
+    == [(2, {"Package": "hello", "Depends": "aa,\n bb"}), (6, {"x": ""})],
+    "no paragraphs": read("") == read("\n \n") == [],
+    "refused in the third": read(FILE + "\nbad\n")[2:] == [(8, "NoColon", None)],
+    "refused value": read(CONTROL + "\n" + CONTROL.replace("01", "1-"), "packages")[1:]
+    == [(7, "BadVersion", "Version")],
+    "unknown kind": isinstance(error(debctl.paragraphs, FILE, "foo"), ValueError),
+    "no text": isinstance(error(debctl.paragraphs, 5), TypeError),
+    "surrogates": isinstance(error(debctl.paragraphs, "a: \udcff\n"), UnicodeEncodeError),
+    "many paragraphs": sum(map(len, debctl.paragraphs(many))) == 10000,
+    "many fields": list(map(len, debctl.paragraphs("".join(f"a{at}:\n" for at in range(9999)))))
+    == [9999],
+    "zero bytes": read("a: x\0y\n") == [(1, {"a": "x\0y"})],
+    "files": from_files(),
+    "mapping": mapping(),
+    "canonical values": canonical(),
+    "alternatives": alternatives(),
+    "relations of a field": [
+        [one.name for one in group]
+        for group in next(debctl.paragraphs(CONTROL)).relations("DEPENDS")
+    ] == [["aa"], ["bb", "cc"]],
+    "no relation": isinstance(error(next(debctl.paragraphs("a: b c\n")).relations, "a"), Refused),
+    "field of a refusal": error(debctl.check, "Package: aa\nVersion: 1-\n").field == "Version",
+    "field of no value": error(debctl.check, "bad\n").field is None,
+    "threads": from_threads(),
+}
+
+failed = [name for name, passed in TESTS.items() if not passed]
+for name in failed:
+    print(f"paragraphs.py: {name}")
+print(f"paragraphs.py: {len(TESTS) - len(failed)} passed, {len(failed)} failed")
+sys.exit(bool(failed))

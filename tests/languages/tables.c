@@ -1,0 +1,248 @@
+/* Keys of versions, canonical relations, unmet relations, and the tables of fields. */
+#include "debctl.h"
+
+#include <stdio.h>
+#include <stdlib.h>
+#include <string.h>
+
+static int passed, failed;
+
+#define IS(what) \
+    ((what) ? (void)passed++ : (void)(failed++, printf("tables.c:%d: %s\n", __LINE__, #what)))
+
+static const uint8_t *bytes(const char *text) { return (const uint8_t *)text; }
+
+static int is(struct deb_answer answer, int status, int code, uint64_t line, uint64_t count) {
+    return answer.status == status && answer.code == code && answer.line == line &&
+           answer.count == count;
+}
+
+/* Whether the bytes are all 7, as before a call. */
+static int untouched(const void *buffer, size_t size) {
+    const uint8_t *at = buffer;
+    for (; size > 0; size--)
+        if (*at++ != 7)
+            return 0;
+    return 1;
+}
+
+/* ---- keys */
+
+/* Ascending; the second is the same version as the first, and so are two others. */
+static const char *const versions[] = {
+    "0",     "00-0",  "1~~",     "1~",    "1",      "1-0",    "1a",       "1+",  "1.0~rc1",
+    "1.0",   "1.0-1", "1.0-1.1", "1.9",   "1.10",   "1.10.0", "2.0~beta", "2.0", "9:0",
+    "10:0~", "10:0",
+};
+
+static size_t key_of(const char *version, uint8_t *key, size_t room) {
+    size_t length = 0;
+    struct deb_answer answer =
+        deb_version_key(bytes(version), strlen(version), key, room, &length);
+    IS(is(answer, DEB_YES, 0, 0, 0));
+    return length;
+}
+
+static void try_order_of_keys(void) {
+    size_t count = sizeof versions / sizeof *versions, at, other;
+    for (at = 0; at < count; at++)
+        for (other = 0; other < count; other++) {
+            uint8_t left[64], right[64];
+            size_t left_length = key_of(versions[at], left, sizeof left);
+            size_t right_length = key_of(versions[other], right, sizeof right);
+            size_t shared = left_length < right_length ? left_length : right_length;
+            int order = memcmp(left, right, shared);
+            struct deb_comparison told =
+                deb_version_compare(bytes(versions[at]), strlen(versions[at]),
+                                    bytes(versions[other]), strlen(versions[other]));
+            if (order == 0)
+                order = (left_length > right_length) - (left_length < right_length);
+            IS((order > 0) - (order < 0) == told.order);
+            IS(at >= other || told.order < 0 ||
+               (told.order == 0 && left_length == right_length));
+        }
+}
+
+static void try_keys(void) {
+    static const uint8_t wanted[] = {1, 0, 2, 1, 0x31, 0xae, 2, 0, 1, 0x72, 0x63, 2, 1, 0x31, 2, 2, 0, 2};
+    size_t room, length;
+    for (room = 0; room < sizeof wanted + 2; room++) {
+        uint8_t *key = malloc(room + 1);
+        struct deb_answer answer;
+        memset(key, 7, room + 1);
+        length = 99;
+        answer = deb_version_key(bytes("1.0~rc1"), 7, key, room, &length);
+        IS(length == sizeof wanted);
+        if (room < sizeof wanted)
+            IS(is(answer, DEB_NO_ROOM, 0, 0, 0) && untouched(key, room + 1));
+        else
+            IS(is(answer, DEB_YES, 0, 0, 0) && memcmp(key, wanted, length) == 0 &&
+               untouched(key + length, room + 1 - length));
+        memset(key, 7, room + 1);
+        answer = deb_version_key(bytes("1_"), 2, key, room, &length);
+        IS(is(answer, DEB_REFUSED, DEB_BAD_VERSION, 0, 0) && length == 0 &&
+           untouched(key, room + 1));
+        free(key);
+    }
+    IS(is(deb_version_key(NULL, 0, NULL, 0, &length), DEB_REFUSED, DEB_BAD_VERSION, 0, 0));
+}
+
+/* ---- relations */
+
+static void try_relation(const char *text, const char *canonical) {
+    size_t whole = canonical ? strlen(canonical) : 0, room, length;
+    for (room = whole ? whole - 1 : 0; room <= whole + 1; room++) {
+        uint8_t *out = malloc(room + 1);
+        struct deb_answer answer;
+        memset(out, 7, room + 1);
+        length = 99;
+        answer = deb_relation_canonical(bytes(text), strlen(text), out, room, &length);
+        IS(length == whole);
+        if (!canonical)
+            IS(is(answer, DEB_REFUSED, DEB_BAD_RELATION, 0, 0) && untouched(out, room + 1));
+        else if (room < whole)
+            IS(is(answer, DEB_NO_ROOM, 0, 0, 0) && untouched(out, room + 1));
+        else
+            IS(is(answer, DEB_YES, 0, 0, 0) && memcmp(out, canonical, whole) == 0 &&
+               untouched(out + whole, room + 1 - whole));
+        free(out);
+    }
+}
+
+/* ---- unmet */
+
+static const char *packages = "Package: aa\nVersion: 1\nArchitecture: amd64\nDepends: bb, cc | dd\n"
+                              "Recommends: ee\n\nPackage: dd\nVersion: 2\nArchitecture: all\n";
+static const char *source = "Format: 1.0\nSource: ss\nVersion: 01\nBuild-Depends: aa, zz, dd [linux-any]\n";
+
+struct asked {
+    int kind, recommends;
+    const char *target, *index, *text;
+    int status, code;
+    uint64_t line, count;
+    const char *lines;
+};
+
+static void try_unmet(void) {
+    const struct asked all[] = {
+        {DEB_PACKAGES, 0, "amd64", packages, packages, DEB_NO, 0, 0, 2,
+         "unmet 1 aa 1 amd64 Depends bb\n"},
+        {DEB_PACKAGES, 1, "amd64", packages, packages, DEB_NO, 0, 0, 2,
+         "unmet 1 aa 1 amd64 Depends bb\nunmet 1 aa 1 amd64 Recommends ee\n"},
+        {DEB_PACKAGES, 255, "amd64", "", packages, DEB_NO, 0, 0, 2,
+         "unmet 1 aa 1 amd64 Depends bb\nunmet 1 aa 1 amd64 Depends cc | dd\n"
+         "unmet 1 aa 1 amd64 Recommends ee\n"},
+        {DEB_SOURCE, 0, "amd64", packages, source, DEB_NO, 0, 0, 1,
+         "unmet 1 ss 1 source Build-Depends zz\n"},
+        {DEB_SOURCES, 0, "amd64", packages, "", DEB_YES, 0, 0, 0, ""},
+        {DEB_BINARY, 0, "amd64", packages, "Package: xx\nVersion: 1\nArchitecture: all\n", DEB_YES,
+         0, 0, 1, ""},
+        {DEB_PACKAGES, 0, "any", "x", "x", DEB_REFUSED, DEB_BAD_ENVIRONMENT, 0, 0, NULL},
+        {DEB_PACKAGES, 0, "amd64", "\nx", "x", DEB_REFUSED, DEB_NO_COLON, 2, 0, NULL},
+        {DEB_PACKAGES, 0, "amd64", packages, "\n\nx", DEB_SECOND_REFUSED, DEB_NO_COLON, 3, 0, NULL},
+        {DEB_ANY, 0, "amd64", packages, packages, DEB_NO_KIND, 0, 0, 0, NULL},
+        {DEB_SOURCE, 1, "amd64", packages, source, DEB_NO_KIND, 0, 0, 0, NULL},
+        {DEB_SOURCES, 1, "amd64", packages, "", DEB_NO_KIND, 0, 0, 0, NULL},
+        {200, 0, "amd64", packages, packages, DEB_NO_KIND, 0, 0, 0, NULL},
+    };
+    size_t at;
+    for (at = 0; at < sizeof all / sizeof *all; at++) {
+        const struct asked *q = &all[at];
+        size_t whole = q->lines ? strlen(q->lines) : 0, room, length;
+        for (room = whole ? whole - 1 : 0; room <= whole + 1; room++) {
+            uint8_t *out = malloc(room + 1);
+            struct deb_answer answer;
+            memset(out, 7, room + 1);
+            length = 99;
+            answer = deb_unmet((uint8_t)q->kind, (uint8_t)q->recommends, bytes(q->target),
+                               strlen(q->target), NULL, 0, bytes(q->index), strlen(q->index),
+                               bytes(q->text), strlen(q->text), out, room, &length);
+            IS(length == whole);
+            if (!q->lines)
+                IS(is(answer, q->status, q->code, q->line, 0) && untouched(out, room + 1));
+            else if (room < whole)
+                IS(is(answer, DEB_NO_ROOM, 0, 0, 0) && untouched(out, room + 1));
+            else
+                IS(is(answer, q->status, 0, 0, q->count) && memcmp(out, q->lines, whole) == 0 &&
+                   untouched(out + whole, room + 1 - whole));
+            free(out);
+        }
+    }
+}
+
+/* ---- fields */
+
+/* A paragraph whose second value has two lines, one with an empty value, and a refused one. */
+static const char *file = "\nPackage: hello \nDepends:\taa,\n bb\n\nx:\n \t\nbad\n";
+
+static void try_fields(void) {
+    static const struct deb_field wanted[] = {
+        {1, 2, 0, 7, 0, 5}, {1, 3, 8, 7, 6, 7}, {2, 6, 16, 1, 14, 0},
+    };
+    static const char names[] = "Package\0Depends\0x", values[] = "hello\0aa,\n bb\0";
+    size_t short_of, count, names_length, values_length, size = strlen(file);
+    for (short_of = 0; short_of < 4; short_of++) {
+        size_t rooms[] = {3, sizeof names, sizeof values};
+        struct deb_field *fields;
+        uint8_t *names_out, *values_out;
+        struct deb_answer answer;
+        if (short_of < 3)
+            rooms[short_of]--;
+        fields = malloc((rooms[0] + 1) * sizeof *fields);
+        names_out = malloc(rooms[1] + 1);
+        values_out = malloc(rooms[2] + 1);
+        memset(fields, 7, (rooms[0] + 1) * sizeof *fields);
+        memset(names_out, 7, rooms[1] + 1);
+        memset(values_out, 7, rooms[2] + 1);
+        answer = deb_fields(DEB_ANY, bytes(file), size - 4, fields, rooms[0], &count, names_out,
+                            rooms[1], &names_length, values_out, rooms[2], &values_length);
+        IS(count == 3 && names_length == sizeof names && values_length == sizeof values);
+        if (short_of < 3) {
+            IS(is(answer, DEB_NO_ROOM, 0, 0, 0));
+            IS(untouched(fields, (rooms[0] + 1) * sizeof *fields));
+            IS(untouched(names_out, rooms[1] + 1) && untouched(values_out, rooms[2] + 1));
+        } else {
+            IS(is(answer, DEB_YES, 0, 0, 2));
+            IS(memcmp(fields, wanted, sizeof wanted) == 0);
+            IS(memcmp(names_out, names, sizeof names) == 0);
+            IS(memcmp(values_out, values, sizeof values) == 0);
+            IS(untouched(fields + 3, sizeof *fields));
+            IS(names_out[rooms[1]] == 7 && values_out[rooms[2]] == 7);
+            IS(strcmp((const char *)values_out + fields[1].value, "aa,\n bb") == 0);
+        }
+        /* the whole file is refused in its third paragraph, after the fields of two */
+        answer = deb_fields(DEB_ANY, bytes(file), size, fields, rooms[0], &count, names_out,
+                            rooms[1], &names_length, values_out, rooms[2], &values_length);
+        IS(count == 3 && names_length == sizeof names && values_length == sizeof values);
+        IS(short_of < 3 ? is(answer, DEB_NO_ROOM, 0, 0, 0)
+                        : is(answer, DEB_REFUSED, DEB_NO_COLON, 8, 0));
+        IS(short_of < 3 || memcmp(fields, wanted, sizeof wanted) == 0);
+        free(fields);
+        free(names_out);
+        free(values_out);
+    }
+    IS(is(deb_fields(DEB_ANY, NULL, 0, NULL, 0, &count, NULL, 0, &names_length, NULL, 0,
+                     &values_length),
+          DEB_YES, 0, 0, 0));
+    IS(count == 0 && names_length == 0 && values_length == 0);
+    IS(is(deb_fields(DEB_BINARY, NULL, 0, NULL, 0, &count, NULL, 0, &names_length, NULL, 0,
+                     &values_length),
+          DEB_REFUSED, DEB_NO_PARAGRAPH, 1, 0));
+    IS(is(deb_fields(5, bytes(file), size, NULL, 0, &count, NULL, 0, &names_length, NULL, 0,
+                     &values_length),
+          DEB_NO_KIND, 0, 0, 0));
+    IS(count == 0 && names_length == 0 && values_length == 0);
+}
+
+int main(void) {
+    try_order_of_keys();
+    try_keys();
+    try_relation("bb|aa , aa(>>01)[ amd64 ]<!nocheck>", "aa (>> 1) [amd64] <!nocheck>, bb | aa");
+    try_relation("aa:any (= 1:1.0-1) <aa bb> <!cc>", "aa:any (= 1:1.0-1) <!cc> <aa bb>");
+    try_relation("", "");
+    try_relation("aa (", NULL);
+    try_unmet();
+    try_fields();
+    printf("tables: %d passed, %d failed\n", passed, failed);
+    return failed != 0;
+}
