@@ -9,7 +9,7 @@ _debctl_files() {
 _debctl() {
     local cur prev words cword split
     _init_completion -s -n : || return
-    local commands='check explain audit normalise same compare canon-version sort query help'
+    local commands='check explain audit normalise same compare canon-version version-key sort query unmet help'
     local command='' given=0 ended='' options='--help' i
     for ((i = 1; i < cword; i++)); do
         if [[ $ended || ${words[i]} != -?* ]]; then
@@ -25,7 +25,9 @@ _debctl() {
     done
     case $ended$prev in
         -k | --kind)
-            mapfile -t COMPREPLY < <(compgen -W 'packages binary source sources any' -- "$cur")
+            local kinds='packages binary source sources'
+            [[ $command == unmet ]] || kinds+=' any'
+            mapfile -t COMPREPLY < <(compgen -W "$kinds" -- "$cur")
             return
             ;;
         --arch)
@@ -46,6 +48,7 @@ _debctl() {
         audit) options='--kind --files0-from --null --help' ;;
         sort) options='--reverse --help' ;;
         query) options='--arch --profiles --why --relation-from --help' ;;
+        unmet) options='--arch --profiles --kind --recommends --help' ;;
     esac
     if [[ -z $ended && $cur == -* ]]; then
         mapfile -t COMPREPLY < <(compgen -W "$options" -- "$cur")
@@ -53,7 +56,9 @@ _debctl() {
     fi
     case $command:$given in
         :0 | help:0) mapfile -t COMPREPLY < <(compgen -W "$commands" -- "$cur") ;;
-        check:0 | explain:0 | audit:* | normalise:0 | same:[01] | sort:0 | query:1) _debctl_files ;;
+        check:0 | explain:0 | audit:* | normalise:0 | same:[01] | sort:0 | query:1 | unmet:[01])
+            _debctl_files
+            ;;
         compare:1) mapfile -t COMPREPLY < <(compgen -W 'lt le eq ne ge gt' -- "$cur") ;;
     esac
 } &&

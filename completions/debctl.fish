@@ -50,15 +50,18 @@ complete -c debctl -n __debctl_command -a normalise -d 'Write the canonical text
 complete -c debctl -n __debctl_command -a same -d 'Check whether two files mean the same'
 complete -c debctl -n __debctl_command -a compare -d 'Compare two versions'
 complete -c debctl -n __debctl_command -a canon-version -d 'Print the canonical text of a version'
+complete -c debctl -n __debctl_command -a version-key -d 'Print keys that sort as their versions do'
 complete -c debctl -n __debctl_command -a sort -d 'Sort the lines of a file, each a version'
 complete -c debctl -n __debctl_command -a query -d 'Find the packages that meet a relation'
+complete -c debctl -n __debctl_command -a unmet -d 'Find dependencies that an index does not meet'
 complete -c debctl -n __debctl_command -a help -d 'Print the help'
 complete -c debctl -n __debctl_command -s V -l version -d 'Print the version'
 complete -c debctl -s h -l help -d 'Print the help'
-complete -c debctl -n '__debctl_at 0 help' -a 'check explain audit normalise same compare canon-version sort query help'
+complete -c debctl -n '__debctl_at 0 help' -a 'check explain audit normalise same compare canon-version version-key sort query unmet help'
 complete -c debctl -n '__debctl_command check explain audit normalise same' -s k -l kind -x -a 'packages binary source sources any' -d 'Kind of file'
-complete -c debctl -n '__debctl_at 0 check explain normalise same sort' -F
-complete -c debctl -n '__debctl_at 1 same query' -F
+complete -c debctl -n '__debctl_command unmet' -s k -l kind -x -a 'packages binary source sources' -d 'Kind of the second file'
+complete -c debctl -n '__debctl_at 0 check explain normalise same sort unmet' -F
+complete -c debctl -n '__debctl_at 1 same query unmet' -F
 complete -c debctl -n '__debctl_command audit' -F
 complete -c debctl -n '__debctl_command explain' -l code -x -d 'Error code'
 complete -c debctl -n '__debctl_command explain' -l relation -x -d 'Relation'
@@ -67,7 +70,8 @@ complete -c debctl -n '__debctl_command audit' -l files0-from -r -F -d 'File tha
 complete -c debctl -n '__debctl_command audit' -s 0 -l null -d 'End each line with a byte 0'
 complete -c debctl -n '__debctl_command sort' -l reverse -d 'Sort the latest version first'
 complete -c debctl -n '__debctl_at 1 compare' -a 'lt le eq ne ge gt'
-complete -c debctl -n '__debctl_command query' -l arch -x -a '(dpkg-architecture -L 2>/dev/null)' -d 'Target architecture'
-complete -c debctl -n '__debctl_command query' -l profiles -x -d 'Active build profiles'
-complete -c debctl -n '__debctl_command query' -l why -d 'Say why groups are unmet or ignored'
+complete -c debctl -n '__debctl_command query unmet' -l arch -x -a '(dpkg-architecture -L 2>/dev/null)' -d 'Target architecture'
+complete -c debctl -n '__debctl_command query unmet' -l profiles -x -d 'Active build profiles'
 complete -c debctl -n '__debctl_command query' -l relation-from -r -F -d 'File that contains the relation'
+complete -c debctl -n '__debctl_command query' -l why -d 'Say why groups are unmet or ignored'
+complete -c debctl -n '__debctl_command unmet' -l recommends -d 'Try the groups of Recommends too'

@@ -2,6 +2,7 @@ pub mod AuditReports
 pub mod DocumentReports
 pub mod ExplainReports
 pub mod JobRefusals
+pub mod KeyLines
 pub mod LastPaths
 pub mod QueryReports
 pub mod RelationFiles
@@ -9,3 +10,4 @@ pub mod SameReports
 pub mod SortReports
 pub mod FaultReports
 pub mod VersionReports
+pub mod UnmetReports

@@ -2,6 +2,7 @@ pub mod AuditJob
 pub mod DocumentJobs
 pub mod ExplainJob
 pub mod JobDevices
+pub mod KeyJob
 pub mod ListedPaths
 pub mod Opening
 pub mod QueryFrom
@@ -11,6 +12,7 @@ pub mod SameJob
 pub mod SortJob
 pub mod Taking
 pub mod Reporting
+pub mod UnmetJob
 pub mod Unopened
 pub mod VersionJobs
 pub mod UsageReporting

@@ -19,7 +19,10 @@ use Rattle.debctl_args.specs.declared.jobs.Call.{Call}
 use Rattle.debctl_args.specs.declared.jobs.Cmp.TheVariants.{Less}
 use Rattle.debctl_args.specs.declared.jobs.Job.{Job}
 use Rattle.debctl_args.specs.declared.jobs.Job.TheVariants.{Check, Normalise, Same, Compare}
+use Rattle.debctl_args.specs.declared.jobs.Dependents.{Dependents}
+use Rattle.debctl_args.specs.declared.jobs.Detail.{Detail}
 use Rattle.debctl_args.specs.declared.jobs.Job.TheVariants.{CanonVersion, Sort, Query, QueryFrom}
+use Rattle.debctl_args.specs.declared.jobs.Job.TheVariants.{Unmet, VersionKey}
 
 -- ---- paths
 
@@ -35,9 +38,11 @@ first_of_job (Normalise doc) path = Some (unwrap_or path standard_input)
 first_of_job (Same doc) path = path
 first_of_job (Compare left operator right) path = None
 first_of_job (CanonVersion version) path = None
+first_of_job (VersionKey versions) path = None
 first_of_job (Sort reverse) path = Some (unwrap_or path standard_input)
-first_of_job (Query arch profiles relation) path = Some (unwrap_or path standard_input)
-first_of_job (QueryFrom arch profiles) path = path
+first_of_job (Query arch profiles relation detail) path = Some (unwrap_or path standard_input)
+first_of_job (QueryFrom arch profiles detail) path = path
+first_of_job (Unmet arch profiles dependents) path = path
 
 -- the path of the first file of a call, and that of the second one, where it has one
 abbrev pub first_path : Call → Option (List ℕ)
@@ -118,20 +123,30 @@ first_of_jobs : (first_of_job (Check Source) None ≡ Some (codes "-"))
     × (first_of_job (Same Source) (Some (codes "a")) ≡ Some (codes "a"))
 first_of_jobs = (refl, refl, refl, refl, refl)
 
-first_of_versions : (version : String Global) (path : List ℕ)
+first_of_versions : (version : String Global) (versions : Vec (String Global) Global)
+    (path : List ℕ)
     → (first_of_job (CanonVersion version) (Some path) ≡ None)
     × (first_of_job (Compare version Less version) (Some path) ≡ None)
-first_of_versions version path = (refl, refl)
+    × (first_of_job (VersionKey versions) (Some path) ≡ None)
+first_of_versions version versions path = (refl, refl, refl)
 
 first_of_query : (arch relation : String Global) (profiles : Vec (String Global) Global)
-    → (first_of_job (Query arch profiles relation) None ≡ Some (codes "-"))
-    × (first_of_job (Query arch profiles relation) (Some (codes "a")) ≡ Some (codes "a"))
-first_of_query arch relation profiles = (refl, refl)
+    (detail : Detail)
+    → (first_of_job (Query arch profiles relation detail) None ≡ Some (codes "-"))
+    × (first_of_job (Query arch profiles relation detail) (Some (codes "a")) ≡ Some (codes "a"))
+first_of_query arch relation profiles detail = (refl, refl)
 
 -- the first file of a query with a relation from a file is that file
 first_of_query_from : (arch : String Global) (profiles : Vec (String Global) Global)
-    → first_of_job (QueryFrom arch profiles) (Some (codes "a")) ≡ Some (codes "a")
-first_of_query_from arch profiles = refl
+    (detail : Detail)
+    → first_of_job (QueryFrom arch profiles detail) (Some (codes "a")) ≡ Some (codes "a")
+first_of_query_from arch profiles detail = refl
+
+-- the first file of `unmet` is the index
+first_of_unmet : (arch : String Global) (profiles : Vec (String Global) Global)
+    (dependents : Dependents)
+    → first_of_job (Unmet arch profiles dependents) (Some (codes "a")) ≡ Some (codes "a")
+first_of_unmet arch profiles dependents = refl
 
 -- the paths of a call are those of its words, in their order
 paths_of_same : (path path_too : String Global)

@@ -1,7 +1,7 @@
 -- What a whole command answers and writes, by its job. The jobs and their statuses are this
 -- project's own.
 use Rattle.std.specs.Prelude.{◌≡◌, ◌⊎◌, ℕ, ⊤, Bool, true, false, List, map, Option, Some, None}
-use Rattle.std.specs.Prelude.{Result, String, Vec, string_bytes, codes, refl}
+use Rattle.std.specs.Prelude.{IsFalse, Result, String, Vec, string_bytes, codes, refl}
 use Rattle.std.specs.Io.KnownBytes.{Appends}
 use Rattle.std.specs.declared.alloc.Global.{Global}
 use Rattle.deb_base.specs.Lines.{refusal_line}
@@ -13,6 +13,7 @@ use Rattle.deb_sort.specs.Files.{SortsFile, WritesSorted}
 use Rattle.debctl_commands.specs.DocumentJobs.{ChecksFile, NormalisesFile, ReportsRefusal}
 use Rattle.debctl_commands.specs.DocumentJobs.{ReportsRefusalBehind, WritesOk}
 use Rattle.deb_index.specs.Questions.{Question, question}
+use Rattle.debctl_commands.specs.KeyJob.{Keys, ReportsNoVersion, WritesKeys}
 use Rattle.debctl_commands.specs.QueryFrom.{AreRefusedFrom, ReportsFrom, ReportsRefusalFrom}
 use Rattle.debctl_commands.specs.QueryFrom.{WritesReportFrom}
 use Rattle.debctl_commands.specs.QueryJob.{AreRefused, QueriesFile, ReportsQueryRefusal}
@@ -20,6 +21,8 @@ use Rattle.debctl_commands.specs.QueryJob.{WritesReport}
 use Rattle.debctl_commands.specs.SameJob.{ComparesFiles, ReportsComparison, ReportsRefusedSide}
 use Rattle.debctl_commands.specs.SameJob.{WritesSame}
 use Rattle.debctl_commands.specs.SortJob.{ReportsLineRefusal}
+use Rattle.debctl_commands.specs.UnmetJob.{AreRefusedBefore, ReportsRefusalOfUnmet, ReportsUnmet}
+use Rattle.debctl_commands.specs.UnmetJob.{Words, WritesUnmetOf, has_environment, words}
 use Rattle.debctl_commands.specs.JobDevices.{ReaderOfJob, WriterOfJob, ReportsOn}
 use Rattle.debctl_commands.specs.Reporting.{done_status}
 use Rattle.debctl_commands.specs.VersionJobs.{bad_version, verdict_status, Canonicalises, Compared}
@@ -27,7 +30,10 @@ use Rattle.debctl_commands.specs.VersionJobs.{Compares, IsNoVersion, WritesLine}
 use Rattle.debctl_args.specs.declared.jobs.Cmp.{Cmp}
 use Rattle.debctl_args.specs.declared.jobs.Job.{Job}
 use Rattle.debctl_args.specs.declared.jobs.Job.TheVariants.{Check, Normalise, Same, Compare}
+use Rattle.debctl_args.specs.declared.jobs.Dependents.{Dependents}
+use Rattle.debctl_args.specs.declared.jobs.Detail.{Detail}
 use Rattle.debctl_args.specs.declared.jobs.Job.TheVariants.{CanonVersion, Sort, Query, QueryFrom}
+use Rattle.debctl_args.specs.declared.jobs.Job.TheVariants.{Unmet, VersionKey}
 
 -- the question that a query's words are
 abbrev pub asked : String Global → Vec (String Global) Global → String Global → Question
@@ -39,11 +45,17 @@ abbrev pub asked_of_file : String Global → Vec (String Global) Global → List
 asked_of_file arch profiles relation =
     question (string_bytes arch) (map string_bytes profiles.items) relation
 
+-- the words of `unmet`
+abbrev pub words_of_unmet : String Global → Vec (String Global) Global → Dependents → Words
+words_of_unmet arch profiles dependents =
+    words (string_bytes arch) (map string_bytes profiles.items) dependents
+
 -- Of the readers of the first file and of the second, `left` and `other` are the texts, where
 -- they are known.
 
 -- Status 0: `ok N` for an accepted file, its canonical text, `same`, yes, a version's canonical
--- text with a newline, the sorted lines of a file, and a report without an unmet group.
+-- text with a newline, the keys of versions, the sorted lines of a file, a report without an unmet
+-- group, and no line of `unmet`.
 abbrev pub Done : {W : Type 0} → Job → Option (List ℕ) → Option (List ℕ) →
     (W → Option (List ℕ)) → (W → ℕ) → W → W → Type 0
 Done (Check doc) left other held failures out new =
@@ -56,15 +68,20 @@ Done (Compare former operator latter) left other held failures out new =
     (new ≡ out) × Compared (string_bytes former) operator (string_bytes latter) true
 Done (CanonVersion version) left other held failures out new =
     WritesLine (string_bytes version) held failures out new
+Done (VersionKey versions) left other held failures out new =
+    WritesKeys (map string_bytes versions.items) held failures out new
 Done (Sort reverse) left other held failures out new =
     (text : List ℕ) → left ≡ Some text → WritesSorted reverse text (held out) (held new)
-Done (Query arch profiles relation) left other held failures out new =
+Done (Query arch profiles relation detail) left other held failures out new =
     (text : List ℕ) → left ≡ Some text
-    → WritesReport (asked arch profiles relation) text (held out) (held new) true
-Done (QueryFrom arch profiles) left other held failures out new =
-    WritesReportFrom (asked_of_file arch profiles) left other (held out) (held new) true
+    → WritesReport detail (asked arch profiles relation) text (held out) (held new) true
+Done (QueryFrom arch profiles detail) left other held failures out new =
+    WritesReportFrom detail (asked_of_file arch profiles) left other (held out) (held new) true
+Done (Unmet arch profiles dependents) left other held failures out new =
+    WritesUnmetOf (words_of_unmet arch profiles dependents) left other (held out) (held new) true
 
--- Status 1: `different`, no, for which nothing was written, and a report with an unmet group.
+-- Status 1: `different`, no, for which nothing was written, a report with an unmet group, and the
+-- lines of `unmet`.
 abbrev pub SaysNo : {W : Type 0} → Job → Option (List ℕ) → Option (List ℕ) →
     (W → Option (List ℕ)) → W → W → Type 0
 SaysNo (Check doc) left other held out new = ⊥
@@ -73,16 +90,19 @@ SaysNo (Same doc) left other held out new = WritesSame doc left other (held out)
 SaysNo (Compare former operator latter) left other held out new =
     (new ≡ out) × Compared (string_bytes former) operator (string_bytes latter) false
 SaysNo (CanonVersion version) left other held out new = ⊥
+SaysNo (VersionKey versions) left other held out new = ⊥
 SaysNo (Sort reverse) left other held out new = ⊥
-SaysNo (Query arch profiles relation) left other held out new =
+SaysNo (Query arch profiles relation detail) left other held out new =
     (text : List ℕ) → left ≡ Some text
-    → WritesReport (asked arch profiles relation) text (held out) (held new) false
-SaysNo (QueryFrom arch profiles) left other held out new =
-    WritesReportFrom (asked_of_file arch profiles) left other (held out) (held new) false
+    → WritesReport detail (asked arch profiles relation) text (held out) (held new) false
+SaysNo (QueryFrom arch profiles detail) left other held out new =
+    WritesReportFrom detail (asked_of_file arch profiles) left other (held out) (held new) false
+SaysNo (Unmet arch profiles dependents) left other held out new =
+    WritesUnmetOf (words_of_unmet arch profiles dependents) left other (held out) (held new) false
 
 -- Status 2: a file or a version is refused, exactly the refusal's line was written on `err`, by
--- `same` behind the side of the file, and nothing on `out` but the canonical text of the paragraphs
--- before the first that fails, by `normalise`.
+-- `same` and `unmet` behind the side of the file, and nothing on `out` but the canonical text or
+-- the lines of the paragraphs before the first that fails, by `normalise` and `unmet`.
 abbrev pub IsRefused : {W : Type 0} → Job → Option (List ℕ) → Option (List ℕ) →
     (W → Option (List ℕ)) → W → W → Option (List ℕ) → Option (List ℕ) → Type 0
 IsRefused (Check doc) left other held out new err err_after =
@@ -97,12 +117,17 @@ IsRefused (Compare former operator latter) left other held out new err err_after
 IsRefused (CanonVersion version) left other held out new err err_after =
     (new ≡ out) × IsNoVersion (string_bytes version)
     × Appends err err_after (refusal_line bad_version)
+IsRefused (VersionKey versions) left other held out new err err_after =
+    (new ≡ out) × ReportsNoVersion (map string_bytes versions.items) err err_after
 IsRefused (Sort reverse) left other held out new err err_after =
     (new ≡ out) × ReportsLineRefusal left err err_after
-IsRefused (Query arch profiles relation) left other held out new err err_after =
+IsRefused (Query arch profiles relation detail) left other held out new err err_after =
     (new ≡ out) × ReportsQueryRefusal (asked arch profiles relation) left err err_after
-IsRefused (QueryFrom arch profiles) left other held out new err err_after =
+IsRefused (QueryFrom arch profiles detail) left other held out new err err_after =
     (new ≡ out) × ReportsRefusalFrom (asked_of_file arch profiles) left other err err_after
+IsRefused (Unmet arch profiles dependents) left other held out new err err_after =
+    ReportsRefusalOfUnmet (words_of_unmet arch profiles dependents) left other held out new err
+    err_after
 
 -- Whatever the status: there is an answer to the job, and it is reported.
 abbrev pub Reported : {W E : Type 0} → Job → ReaderOfJob → ReaderOfJob → WriterOfJob W
@@ -131,18 +156,24 @@ Reported (CanonVersion version) first second out err status =
     (answer : Result ⊤ Fault)
     × Canonicalises (string_bytes version) out.held out.failures out.old out.new answer
     × ReportsOn err done_status answer status
+Reported (VersionKey versions) first second out err status =
+    (answer : Result ⊤ Fault)
+    × Keys (map string_bytes versions.items) out.held out.failures out.old out.new answer
+    × ReportsOn err done_status answer status
 Reported (Sort reverse) first second out err status =
     (answer : Result ⊤ Fault)
     × SortsFile reverse first.text first.failures first.failures_after
     out.held out.failures out.old out.new answer
     × ReportsOn err done_status answer status
-Reported (Query arch profiles relation) first second out err status =
+Reported (Query arch profiles relation detail) first second out err status =
     (answer : Result Bool Fault)
-    × QueriesFile (asked arch profiles relation) first.text first.failures first.failures_after
-    out.held out.failures out.old out.new answer
+    × QueriesFile detail (asked arch profiles relation) first.text first.failures
+    first.failures_after out.held out.failures out.old out.new answer
     × ReportsOn err verdict_status answer status
-Reported (QueryFrom arch profiles) first second out err status =
-    ReportsFrom (asked_of_file arch profiles) first second out err status
+Reported (QueryFrom arch profiles detail) first second out err status =
+    ReportsFrom detail (asked_of_file arch profiles) first second out err status
+Reported (Unmet arch profiles dependents) first second out err status =
+    ReportsUnmet (words_of_unmet arch profiles dependents) first second out err status
 
 -- A job that reads no file leaves the first reader as it was.
 abbrev pub IfUnread : Job → Type 0 → Type 0
@@ -151,9 +182,11 @@ IfUnread (Normalise doc) P = Unit {0}
 IfUnread (Same doc) P = Unit {0}
 IfUnread (Compare former operator latter) P = P
 IfUnread (CanonVersion version) P = P
+IfUnread (VersionKey versions) P = P
 IfUnread (Sort reverse) P = Unit {0}
-IfUnread (Query arch profiles relation) P = Unit {0}
-IfUnread (QueryFrom arch profiles) P = Unit {0}
+IfUnread (Query arch profiles relation detail) P = Unit {0}
+IfUnread (QueryFrom arch profiles detail) P = Unit {0}
+IfUnread (Unmet arch profiles dependents) P = Unit {0}
 
 -- Comparing two versions takes no memory.
 abbrev pub IfCompare : Job → Type 0 → Type 0
@@ -162,37 +195,47 @@ IfCompare (Normalise doc) P = Unit {0}
 IfCompare (Same doc) P = Unit {0}
 IfCompare (Compare former operator latter) P = P
 IfCompare (CanonVersion version) P = Unit {0}
+IfCompare (VersionKey versions) P = Unit {0}
 IfCompare (Sort reverse) P = Unit {0}
-IfCompare (Query arch profiles relation) P = Unit {0}
-IfCompare (QueryFrom arch profiles) P = Unit {0}
+IfCompare (Query arch profiles relation detail) P = Unit {0}
+IfCompare (QueryFrom arch profiles detail) P = Unit {0}
+IfCompare (Unmet arch profiles dependents) P = Unit {0}
 
--- Every job but `same` and `query --relation-from` leaves the second reader as it was.
+-- Every job but `same`, `query --relation-from` and `unmet` leaves the second reader as it was.
 abbrev pub IfSecondUnread : Job → Type 0 → Type 0
 IfSecondUnread (Check doc) P = P
 IfSecondUnread (Normalise doc) P = P
 IfSecondUnread (Same doc) P = Unit {0}
 IfSecondUnread (Compare former operator latter) P = P
 IfSecondUnread (CanonVersion version) P = P
+IfSecondUnread (VersionKey versions) P = P
 IfSecondUnread (Sort reverse) P = P
-IfSecondUnread (Query arch profiles relation) P = P
-IfSecondUnread (QueryFrom arch profiles) P = Unit {0}
+IfSecondUnread (Query arch profiles relation detail) P = P
+IfSecondUnread (QueryFrom arch profiles detail) P = Unit {0}
+IfSecondUnread (Unmet arch profiles dependents) P = Unit {0}
 
--- A query whose words are refused leaves the first reader as it was.
+-- A query or `unmet` whose words are refused leaves the first reader as it was.
 abbrev pub IfRefusedWords : Job → Type 0 → Type 0
 IfRefusedWords (Check doc) P = Unit {0}
 IfRefusedWords (Normalise doc) P = Unit {0}
 IfRefusedWords (Same doc) P = Unit {0}
 IfRefusedWords (Compare former operator latter) P = Unit {0}
 IfRefusedWords (CanonVersion version) P = Unit {0}
+IfRefusedWords (VersionKey versions) P = Unit {0}
 IfRefusedWords (Sort reverse) P = Unit {0}
-IfRefusedWords (Query arch profiles relation) P = AreRefused (asked arch profiles relation) → P
-IfRefusedWords (QueryFrom arch profiles) P = Unit {0}
+IfRefusedWords (Query arch profiles relation detail) P =
+    AreRefused (asked arch profiles relation) → P
+IfRefusedWords (QueryFrom arch profiles detail) P = Unit {0}
+IfRefusedWords (Unmet arch profiles dependents) P =
+    IsFalse (has_environment (words_of_unmet arch profiles dependents)) → P
 
 -- A query whose relation is that of a file leaves the second reader, which is that of the index, as
--- it was, if the words with that relation are refused.
+-- it was, if the words with that relation are refused; `unmet`, if its words or the index are.
 abbrev pub IfRefusedRelation : Job → Option (List ℕ) → Type 0 → Type 0
-IfRefusedRelation (QueryFrom arch profiles) left P =
+IfRefusedRelation (QueryFrom arch profiles detail) left P =
     AreRefusedFrom (asked_of_file arch profiles) left → P
+IfRefusedRelation (Unmet arch profiles dependents) left P =
+    AreRefusedBefore (words_of_unmet arch profiles dependents) left → P
 IfRefusedRelation _ left P = Unit {0}
 
 -- the words of a query are asked in their places
@@ -230,16 +273,16 @@ answers_of_compare : {W : Type 0} (one another : String Global) (operator : Cmp)
     ≡ ((new ≡ out) × Compared (string_bytes one) operator (string_bytes another) false))
 answers_of_compare one another operator left other held failures out new = (refl, refl)
 
-answers_of_query : {W : Type 0} (arch relation : String Global)
+answers_of_query : {W : Type 0} (arch relation : String Global) (detail : Detail)
     (profiles : Vec (String Global) Global) (text : List ℕ) (other : Option (List ℕ))
     (held : W → Option (List ℕ)) (failures : W → ℕ) (out new : W)
-    → (Done (Query arch profiles relation) (Some text) other held failures out new
+    → (Done (Query arch profiles relation detail) (Some text) other held failures out new
     ≡ ((read : List ℕ) → Some text ≡ Some read
-    → WritesReport (asked arch profiles relation) read (held out) (held new) true))
-    × (SaysNo (Query arch profiles relation) (Some text) other held out new
+    → WritesReport detail (asked arch profiles relation) read (held out) (held new) true))
+    × (SaysNo (Query arch profiles relation detail) (Some text) other held out new
     ≡ ((read : List ℕ) → Some text ≡ Some read
-    → WritesReport (asked arch profiles relation) read (held out) (held new) false))
-answers_of_query arch relation profiles text other held failures out new = (refl, refl)
+    → WritesReport detail (asked arch profiles relation) read (held out) (held new) false))
+answers_of_query arch relation detail profiles text other held failures out new = (refl, refl)
 
 -- which jobs leave a reader as it was: the first, and the second
 unread : (doc : Doc) (one another : String Global) (operator : Cmp) (reverse : Bool) (P : Type 0)
@@ -257,35 +300,69 @@ second_unread : (doc : Doc) (one another : String Global) (operator : Cmp) (reve
 second_unread doc one another operator reverse P = (refl, refl, refl, refl, refl, refl)
 
 -- what is said of a query alone, and of a comparison alone
-said_of_query : (arch relation : String Global) (profiles : Vec (String Global) Global) (P : Type 0)
-    → (IfUnread (Query arch profiles relation) P ≡ Unit {0})
-    × (IfSecondUnread (Query arch profiles relation) P ≡ P)
-    × (IfCompare (Query arch profiles relation) P ≡ Unit {0})
-    × (IfRefusedWords (Query arch profiles relation) P
+said_of_query : (arch relation : String Global) (detail : Detail)
+    (profiles : Vec (String Global) Global) (P : Type 0)
+    → (IfUnread (Query arch profiles relation detail) P ≡ Unit {0})
+    × (IfSecondUnread (Query arch profiles relation detail) P ≡ P)
+    × (IfCompare (Query arch profiles relation detail) P ≡ Unit {0})
+    × (IfRefusedWords (Query arch profiles relation detail) P
     ≡ (AreRefused (asked arch profiles relation) → P))
-said_of_query arch relation profiles P = (refl, refl, refl, refl)
+said_of_query arch relation detail profiles P = (refl, refl, refl, refl)
 
-answers_of_query_from : {W : Type 0} (arch : String Global)
+answers_of_query_from : {W : Type 0} (arch : String Global) (detail : Detail)
     (profiles : Vec (String Global) Global) (left other : Option (List ℕ))
     (held : W → Option (List ℕ)) (failures : W → ℕ) (out new : W)
-    → (Done (QueryFrom arch profiles) left other held failures out new
-    ≡ WritesReportFrom (λ relation. question (string_bytes arch)
+    → (Done (QueryFrom arch profiles detail) left other held failures out new
+    ≡ WritesReportFrom detail (λ relation. question (string_bytes arch)
     (map string_bytes profiles.items) relation) left other (held out) (held new) true)
-    × (SaysNo (QueryFrom arch profiles) left other held out new
-    ≡ WritesReportFrom (λ relation. question (string_bytes arch)
+    × (SaysNo (QueryFrom arch profiles detail) left other held out new
+    ≡ WritesReportFrom detail (λ relation. question (string_bytes arch)
     (map string_bytes profiles.items) relation) left other (held out) (held new) false)
-answers_of_query_from arch profiles left other held failures out new = (refl, refl)
+answers_of_query_from arch detail profiles left other held failures out new = (refl, refl)
 
-said_of_query_from : (doc : Doc) (arch : String Global) (profiles : Vec (String Global) Global)
-    (left : Option (List ℕ)) (P : Type 0)
-    → (IfUnread (QueryFrom arch profiles) P ≡ Unit {0})
-    × (IfSecondUnread (QueryFrom arch profiles) P ≡ Unit {0})
-    × (IfCompare (QueryFrom arch profiles) P ≡ Unit {0})
-    × (IfRefusedWords (QueryFrom arch profiles) P ≡ Unit {0})
-    × (IfRefusedRelation (QueryFrom arch profiles) left P
+said_of_query_from : (doc : Doc) (arch : String Global) (detail : Detail)
+    (profiles : Vec (String Global) Global) (left : Option (List ℕ)) (P : Type 0)
+    → (IfUnread (QueryFrom arch profiles detail) P ≡ Unit {0})
+    × (IfSecondUnread (QueryFrom arch profiles detail) P ≡ Unit {0})
+    × (IfCompare (QueryFrom arch profiles detail) P ≡ Unit {0})
+    × (IfRefusedWords (QueryFrom arch profiles detail) P ≡ Unit {0})
+    × (IfRefusedRelation (QueryFrom arch profiles detail) left P
     ≡ (AreRefusedFrom (asked_of_file arch profiles) left → P))
     × (IfRefusedRelation (Same doc) left P ≡ Unit {0})
-said_of_query_from doc arch profiles left P = (refl, refl, refl, refl, refl, refl)
+said_of_query_from doc arch detail profiles left P = (refl, refl, refl, refl, refl, refl)
+
+-- what is said of `unmet`: it reads both files, the second after the words and the index
+said_of_unmet : (arch : String Global) (profiles : Vec (String Global) Global)
+    (dependents : Dependents) (left : Option (List ℕ)) (P : Type 0)
+    → (IfUnread (Unmet arch profiles dependents) P ≡ Unit {0})
+    × (IfSecondUnread (Unmet arch profiles dependents) P ≡ Unit {0})
+    × (IfCompare (Unmet arch profiles dependents) P ≡ Unit {0})
+    × (IfRefusedWords (Unmet arch profiles dependents) P
+    ≡ (IsFalse (has_environment (words_of_unmet arch profiles dependents)) → P))
+    × (IfRefusedRelation (Unmet arch profiles dependents) left P
+    ≡ (AreRefusedBefore (words_of_unmet arch profiles dependents) left → P))
+said_of_unmet arch profiles dependents left P = (refl, refl, refl, refl, refl)
+
+answers_of_unmet : {W : Type 0} (arch : String Global) (profiles : Vec (String Global) Global)
+    (dependents : Dependents) (left other : Option (List ℕ)) (held : W → Option (List ℕ))
+    (failures : W → ℕ) (out new : W)
+    → (Done (Unmet arch profiles dependents) left other held failures out new
+    ≡ WritesUnmetOf (words (string_bytes arch) (map string_bytes profiles.items) dependents) left
+    other (held out) (held new) true)
+    × (SaysNo (Unmet arch profiles dependents) left other held out new
+    ≡ WritesUnmetOf (words (string_bytes arch) (map string_bytes profiles.items) dependents) left
+    other (held out) (held new) false)
+answers_of_unmet arch profiles dependents left other held failures out new = (refl, refl)
+
+-- what is said of keys: no file is read, and status 0 is the only answer
+said_of_keys : {W : Type 0} (versions : Vec (String Global) Global)
+    (left other : Option (List ℕ)) (held : W → Option (List ℕ)) (failures : W → ℕ) (out new : W)
+    (P : Type 0)
+    → (Done (VersionKey versions) left other held failures out new
+    ≡ WritesKeys (map string_bytes versions.items) held failures out new)
+    × (SaysNo (VersionKey versions) left other held out new ≡ ⊥)
+    × (IfUnread (VersionKey versions) P ≡ P) × (IfSecondUnread (VersionKey versions) P ≡ P)
+said_of_keys versions left other held failures out new P = (refl, refl, refl, refl)
 
 said_of_compare : (one another : String Global) (operator : Cmp) (P : Type 0)
     → (IfCompare (Compare one operator another) P ≡ P)

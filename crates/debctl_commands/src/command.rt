@@ -13,7 +13,8 @@ use crate::query_from::run_query_from;
 use crate::query_job::run_query;
 use crate::same_job::run_same;
 use crate::sort_job::run_sort;
-use crate::version_jobs::{run_canon_version, run_compare};
+use crate::unmet_job::{UnmetWords, run_unmet};
+use crate::version_jobs::{run_canon_version, run_compare, run_version_key};
 use deb_base::{Sink, Source};
 use debctl_args::Job;
 use std::alloc::Global;
@@ -21,22 +22,26 @@ use std::alloc::Global;
 /// Runs a job over readers and writers, reports on `err` why it failed, and returns the status.
 ///
 /// `check`, `normalise`, `sort` and `query` read `first`, and `same` reads both. `query` with a
-/// relation from a file reads the relation from `first`, and then the index from `second`. A reader
-/// that a job doesn't use is unchanged, and so is that of the index if the arguments of a `query`,
-/// or the relation that it has read, are refused. At most 4,295,032,831 bytes are read from a
-/// reader: a file of the most bytes, and one piece.
+/// relation from a file reads the relation from `first`, and then the index from `second`. `unmet`
+/// reads the index from `first`, and then the file from `second`. A reader that a job doesn't use
+/// is unchanged. So is that of the index if the arguments of a `query`, or the relation that it has
+/// read, are refused; and so are both of an `unmet` if its arguments are refused, and the second if
+/// the index is. At most 4,295,032,831 bytes are read from a reader: a file of the most bytes, and
+/// one piece.
 ///
 /// - 0: done, or the answer is yes. `out` has `ok N` and a newline, the canonical text of the file,
-///   `same` and a newline, nothing, the canonical version and a newline, the sorted lines, or the
-///   report. Nothing was written to `err`.
-/// - 1: the answer of `same` or `compare` is no, or a group of a `query` is unmet. `out` has
-///   `different` and a newline for `same`, and the report for `query`; nothing else was written.
+///   `same` and a newline, nothing, the canonical version and a newline, the lines of the keys, the
+///   sorted lines, or the report, with `--why` the report with reasons. Nothing was written to `err`.
+/// - 1: the answer of `same` or `compare` is no, a group of a `query` is unmet, or `unmet` has a
+///   line. `out` has `different` and a newline for `same`, the report for `query`, and the lines
+///   for `unmet`; nothing else was written.
 /// - 2: a file or an argument is refused. `err` has the refusal's line, after `first: ` or `second:
-///   ` for `same`. `out` has nothing, except for `normalise`: the canonical text of the paragraphs
-///   before the first that fails.
+///   ` for a file of `same` or `unmet`. `out` has nothing, except for `normalise` and `unmet`: the
+///   canonical text, or the lines, of the paragraphs before the first that fails.
 /// - 3: out of memory, or a read or a write failed; for `compare` only a write to `err`. `err` has
 ///   `fault: memory`, `fault: read` or `fault: write`; if a write to `err` failed, a prefix of its
-///   line.
+///   line. For an `unmet` of the index itself also: its second reading has another number of
+///   paragraphs than the first.
 pub fn run<R: Source, S: Source, W: Sink, E: Sink>(
     alloc: Global,
     job: &Job,
@@ -90,22 +95,52 @@ pub fn run<R: Source, S: Source, W: Sink, E: Sink>(
             run_compare(left.as_str(), *operator, right.as_str(), err)
         }
         Job::CanonVersion(version) => run_canon_version(alloc, version.as_str(), out, err),
+        Job::VersionKey(versions) => run_version_key(alloc, versions, out, err),
         Job::Sort { reverse } => run_sort(alloc, *reverse, first, out, err),
         Job::Query {
             arch,
             profiles,
             relation,
+            detail,
         } => run_query(
             alloc,
             arch.as_str(),
             profiles,
             relation.as_bytes(),
+            *detail,
             first,
             out,
             err,
         ),
-        Job::QueryFrom { arch, profiles } => {
-            run_query_from(alloc, arch.as_str(), profiles, first, second, out, err)
-        }
+        Job::QueryFrom {
+            arch,
+            profiles,
+            detail,
+        } => run_query_from(
+            alloc,
+            arch.as_str(),
+            profiles,
+            *detail,
+            first,
+            second,
+            out,
+            err,
+        ),
+        Job::Unmet {
+            arch,
+            profiles,
+            dependents,
+        } => run_unmet(
+            alloc,
+            &UnmetWords {
+                target: arch.as_str(),
+                profiles,
+                dependents: *dependents,
+            },
+            first,
+            second,
+            out,
+            err,
+        ),
     }
 }

@@ -25,6 +25,7 @@ mod reporting;
 mod same_job;
 mod sort_job;
 mod streams;
+mod unmet_job;
 mod unopened;
 mod version_jobs;
 mod writer;

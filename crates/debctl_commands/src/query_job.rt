@@ -114,7 +114,8 @@ fn parse_question<'a>(
     Question::parse(alloc, target.as_bytes(), &names, relation)
 }
 
-fn names_of<'a>(alloc: Global, words: &'a [String]) -> Result<Vec<&'a [u8]>, AllocError>
+/// Returns the same texts in bytes.
+pub(crate) fn names_of<'a>(alloc: Global, words: &'a [String]) -> Result<Vec<&'a [u8]>, AllocError>
     ensures { IfOk result (λ names. names_of names.items ≡ map string_bytes words.now) }
 {
     let mut names = Vec::new(alloc);

@@ -1,10 +1,11 @@
-//! The jobs on versions: `compare` and `canon-version`.
+//! The jobs on versions: `compare`, `canon-version` and `version-key`.
 
-ghost use Rattle.std.specs.Prelude.{◌≡◌, ◌<◌, ◌⊎◌, true, false, Bool, Result, ⊤};
+ghost use Rattle.std.specs.Prelude.{◌≡◌, ◌<◌, ◌⊎◌, ◌++◌, true, false, map, string_bytes, Bool, Result, ⊤};
 ghost use Rattle.std.specs.Io.KnownBytes.{Appends};
 ghost use Rattle.deb_base.specs.Devices.{one_more};
 ghost use Rattle.deb_base.specs.Lines.{refusal_line};
 ghost use Rattle.deb_base.specs.declared.fault.Fault.{Fault};
+ghost use Rattle.debctl_commands.specs.KeyJob.{GivesKey, GivesKeys, Keys, ReportsNoVersion, WritesKeys};
 ghost use Rattle.debctl_commands.specs.Reporting.{done_status, Reports};
 ghost use Rattle.debctl_commands.specs.VersionJobs.{bad_version, holds, verdict_status, Canonicalises};
 ghost use Rattle.debctl_commands.specs.VersionJobs.{Compared, Compares, GivesLine, IsNoVersion};
@@ -76,6 +77,40 @@ pub(crate) fn run_canon_version<W: Sink, E: Sink>(
     }
 }
 
+/// Writes the keys of versions to `out`, in hexadecimal and in the order given, each with a
+/// newline, and returns the status.
+///
+/// - 0: these lines were written, and nothing to `err`.
+/// - 2: some text is no version. Nothing was written to `out`, and `line 0: 18 BadVersion` on
+///   `err`.
+/// - 3: out of memory, or a write failed. `err` has `fault: memory` or `fault: write`; if a
+///   write to `err` failed, a prefix of its line.
+pub(crate) fn run_version_key<W: Sink, E: Sink>(
+    alloc: Global,
+    versions: &[String],
+    out: &mut W,
+    err: &mut E,
+) -> u8
+    ensures done { result ≡ 0 → (err.new ≡ err.old)
+        × WritesKeys (map string_bytes versions.now) W.held W.failures out.old out.new }
+    ensures refused { result ≡ 2 → (out.new ≡ out.old)
+        × ReportsNoVersion (map string_bytes versions.now) (E.held err.old) (E.held err.new) }
+
+    // Where a write failed, the status is 3.
+    ensures status_3_if_write_failed { W.failures out.old < W.failures out.new → result ≡ 3 }
+    ensures status_3_if_err_failed { E.failures err.old < E.failures err.new → result ≡ 3 }
+
+    // Whatever the status: there is an answer, and that is reported.
+    ensures reports_answer { (answer : Result ⊤ Fault)
+        × Keys (map string_bytes versions.now) W.held W.failures out.old out.new answer
+        × Reports done_status E.held E.failures err.old err.new answer result }
+{
+    match write_keys(alloc, versions, out) {
+        Ok(()) => 0,
+        Err(fault) => report_fault(&fault, err),
+    }
+}
+
 /// Whether two versions compare as the operator asks.
 fn compare_words(left: &str, operator: Cmp, right: &str) -> Result<bool, Fault>
     ensures { Compares left.now operator right.now result }
@@ -100,6 +135,36 @@ fn canonical_line(alloc: Global, version: &str) -> Result<Vec<u8>, Fault>
     let mut line = Vec::new(alloc);
     version.canon_into(&mut line)?;
     line.push(b'\n')?;
+    Ok(line)
+}
+
+/// Writes the lines of the keys of versions.
+fn write_keys<W: Sink>(alloc: Global, versions: &[String], out: &mut W) -> Result<(), Fault>
+    ensures { Keys (map string_bytes versions.now) W.held W.failures out.old out.new result }
+{
+    let lines = key_lines(alloc, versions)?;
+    put_all(out, lines.as_slice())
+}
+
+fn key_lines(alloc: Global, versions: &[String]) -> Result<Vec<u8>, Fault>
+    ensures { GivesKeys (λ lines. lines.items) (map string_bytes versions.now) result }
+{
+    let mut lines = Vec::new(alloc);
+    for version in versions {
+        let line = key_line(alloc, version.as_str())?;
+        lines.extend_from_slice(line.as_bytes())?;
+    }
+    Ok(lines)
+}
+
+fn key_line(alloc: Global, version: &str) -> Result<String, Fault>
+    ensures { GivesKey string_bytes version.now result }
+{
+    let version = parse_word(version)?;
+    let mut key = Vec::new(alloc);
+    version.key_into(&mut key)?;
+    let mut line = hex::encode(alloc, key)?;
+    line.push('\n')?;
     Ok(line)
 }
 

@@ -1,0 +1,291 @@
+-- What the job of `unmet` answers and reports. Its lines are those of `deb_unmet`; the order of
+-- refusals, and what another reading of the index has to give, are this project's own.
+use Rattle.std.specs.Prelude.{◌≡◌, ◌⊎◌, ◌++◌, ◌==◌, ℕ, ⊤, Bool, true, false, List, [], ◌∷◌}
+use Rattle.std.specs.Prelude.{length, map, string_bytes}
+use Rattle.std.specs.Prelude.{Option, Some, Result, Ok, Err, IfOk, IsTrue, IsFalse, codes, refl}
+use Rattle.std.specs.Prelude.{if◌then◌else◌}
+use Rattle.std.specs.Io.KnownBytes.{Appends}
+use Rattle.deb_base.specs.Devices.{read_failures_after, write_failures_after}
+use Rattle.deb_base.specs.Faults.{IsReadersFault, RefusedOrMemory}
+use Rattle.deb_base.specs.Lines.{refusal_line}
+use Rattle.deb_base.specs.declared.code.Code.TheVariants.{NoParagraph}
+use Rattle.deb_base.specs.declared.doc.Doc.TheVariants as docs
+use Rattle.deb_base.specs.declared.fault.Fault.{Fault}
+use Rattle.deb_base.specs.declared.fault.Fault.TheVariants as faults
+use Rattle.deb_base.specs.declared.refusal.Refusal.{Refusal}
+use Rattle.deb_relation.specs.Applying.{Environment}
+use Rattle.deb_relation.specs.Environments.{environment_with}
+use Rattle.deb_relation.specs.Targets.{is_environment}
+use Rattle.deb_control.specs.Calls.{IfCutOff, IfRefused, IfWriteFailed}
+use Rattle.deb_control.specs.Checking.{IsRefusalOfDocument}
+use Rattle.deb_control.specs.Documents.{refusal_of}
+use Rattle.deb_control.specs.declared.side.Side.TheVariants.{First, Second}
+use Rattle.deb_index.specs.Listed.{Listed}
+use Rattle.deb_index.specs.Listing.{ListsAll}
+use Rattle.deb_index.specs.Questions.{bad_environment}
+use Rattle.deb_unmet.specs.Asking.{asks_of}
+use Rattle.deb_unmet.specs.Files.{Asks, WritesRead, WritesRefused, WritesSome, WritesUnmet}
+use Rattle.deb_unmet.specs.declared.asked.Asked.{Asked}
+use Rattle.deb_unmet.specs.declared.asked.Asked.TheVariants as fields
+use Rattle.deb_unmet.specs.declared.asked.Strength.{Strength as Fields}
+use Rattle.deb_unmet.specs.declared.asked.Strength.TheVariants as fields_of
+use Rattle.deb_unmet.specs.declared.asking.Summary.{Summary}
+use Rattle.debctl_args.specs.declared.jobs.Dependents.{Dependents}
+use Rattle.debctl_args.specs.declared.jobs.Dependents.TheVariants.{Index, Packages, Binary, Sources}
+use Rattle.debctl_args.specs.declared.jobs.Dependents.TheVariants.{Source}
+use Rattle.debctl_args.specs.declared.jobs.Strength.{Strength}
+use Rattle.debctl_args.specs.declared.jobs.Strength.TheVariants.{Depends, Recommends}
+use Rattle.debctl_commands.specs.declared.unmet_job.UnmetWords.{UnmetWords}
+use Rattle.debctl_commands.specs.JobDevices.{ReaderOfJob, WriterOfJob, ReportsFaultOn}
+use Rattle.debctl_commands.specs.SameJob.{ReportsSide, side_word}
+use Rattle.debctl_commands.specs.VersionJobs.{verdict_status}
+
+-- ---- the arguments
+
+-- a target architecture, the profiles that are active, and the file whose groups are tried
+pub record Words : Type 0 where
+  pub target : List ℕ
+  pub profiles : List (List ℕ)
+  pub dependents : Dependents
+
+abbrev pub words : List ℕ → List (List ℕ) → Dependents → Words
+words target profiles dependents =
+    record { target = target; profiles = profiles; dependents = dependents }
+
+abbrev pub has_environment : Words → Bool
+has_environment w = is_environment w.target w.profiles
+
+-- which fields of binary packages are tried, and of which kind of file
+abbrev pub fields_tried : Strength → Fields
+fields_tried Depends = fields_of.Depends
+fields_tried Recommends = fields_of.Recommends
+
+abbrev pub asked_of : Dependents → Asked
+asked_of (Index strength) = fields.Packages (fields_tried strength)
+asked_of (Packages strength) = fields.Packages (fields_tried strength)
+asked_of (Binary strength) = fields.Binary (fields_tried strength)
+asked_of Sources = fields.Sources
+asked_of Source = fields.Source
+
+-- the file is the index itself
+abbrev pub is_index : Dependents → Bool
+is_index (Index strength) = true
+is_index (Packages strength) = false
+is_index (Binary strength) = false
+is_index Sources = false
+is_index Source = false
+
+-- what the arguments ask of a file, over the packages of the index
+abbrev pub environment_in : Words → Environment
+environment_in w = environment_with w.target w.profiles
+
+abbrev pub asks_over : Words → List Listed → Asks
+asks_over w packages = asks_of (asked_of w.dependents) (environment_in w) packages
+
+-- the arguments that the code holds
+abbrev pub words_of : UnmetWords → Words
+words_of given = words given.target.now (map string_bytes given.profiles.now) given.dependents
+
+-- ---- the answer
+
+-- The answer to `unmet` over an index, and what it wrote: by the reader's text, its count of failed
+-- calls before and after, and the writer before and after.
+pub record AsksFile {W : Type 0} (asks : Asks) (left : Option (List ℕ))
+    (count count_after : ℕ) (held : W → Option (List ℕ)) (failures : W → ℕ) (old new : W)
+    (answer : Result Summary Fault) : Type 0 where
+  pub ok : (text : List ℕ) → left ≡ Some text →
+      IfOk answer (λ summary. WritesUnmet asks text summary (held old) (held new))
+  pub refused : (text : List ℕ) → left ≡ Some text →
+      IfRefused answer (λ refusal. WritesRefused asks text refusal (held old) (held new))
+  pub cut_off : (text : List ℕ) → left ≡ Some text →
+      IfCutOff answer (WritesRead asks text (held old) (held new))
+  pub write : (text : List ℕ) → left ≡ Some text →
+      IfWriteFailed answer (WritesSome asks text (held old) (held new))
+  pub refusal : IfRefused answer IsRefusalOfDocument
+  pub reads : count_after ≡ read_failures_after count answer
+  pub writes : failures new ≡ write_failures_after (failures old) answer
+
+-- what it comes to: whether no line was written
+abbrev pub is_empty_in : Result Summary Fault → Result Bool Fault
+is_empty_in (Ok summary) = Ok summary.is_empty
+is_empty_in (Err fault) = Err fault
+
+-- A file that is read again has this number of paragraphs, as the first time; else it can't be read
+-- twice, as a pipe.
+abbrev pub again : ℕ → Result Summary Fault → Result Bool Fault
+again count (Ok summary) =
+    if summary.paragraphs == count then Ok summary.is_empty else Err faults.Read
+again count (Err (faults.Refused refusal)) = Err faults.Read
+again count (Err faults.Memory) = Err faults.Memory
+again count (Err faults.Read) = Err faults.Read
+again count (Err faults.Write) = Err faults.Write
+
+-- the answer to the job, over an index of this number of packages
+abbrev pub answer_of : Dependents → ℕ → Result Summary Fault → Result Bool Fault
+answer_of dependents count answer =
+    if is_index dependents then again count answer else is_empty_in answer
+
+-- The environment is good, the files are accepted, exactly the lines of the second were written,
+-- and the answer is whether there is none.
+pub record WritesOver (w : Words) (index text : List ℕ) (old new : Option (List ℕ))
+    (is_empty : Bool) : Type 0 where
+  pub environment : IsTrue (has_environment w)
+  pub packages : List Listed
+  pub lists : ListsAll index packages
+  pub summary : Summary
+  pub written : WritesUnmet (asks_over w packages) text summary old new
+  pub is : summary.is_empty ≡ is_empty
+  pub count : IsTrue (is_index w.dependents) → summary.paragraphs ≡ length packages
+
+-- The same, where the texts of both readers are known.
+abbrev pub WritesUnmetOf : Words → Option (List ℕ) → Option (List ℕ) → Option (List ℕ)
+    → Option (List ℕ) → Bool → Type 0
+WritesUnmetOf w left other old new is_empty =
+    (index text : List ℕ) → left ≡ Some index → other ≡ Some text
+    → WritesOver w index text old new is_empty
+
+-- ---- refusals
+
+-- The target or a profile is refused: nothing was written but that line.
+pub record ReportsRefusedEnvironment {W : Type 0} (w : Words) (old new : W)
+    (err err_after : Option (List ℕ)) : Type 0 where
+  pub bad : IsFalse (has_environment w)
+  pub unwritten : new ≡ old
+  pub reported : Appends err err_after (refusal_line bad_environment)
+
+-- The environment is good, and the index is refused: nothing was written but that line, behind the
+-- side of the index.
+pub record ReportsRefusedIndex {W : Type 0} (w : Words) (left : Option (List ℕ)) (old new : W)
+    (err err_after : Option (List ℕ)) : Type 0 where
+  pub environment : IsTrue (has_environment w)
+  pub refusal : Refusal
+  pub is_refusal : IsRefusalOfDocument refusal
+  pub refused : (text : List ℕ) → left ≡ Some text → refusal_of docs.Packages text ≡ Some refusal
+  pub unwritten : new ≡ old
+  pub reported : Appends err err_after (side_word First ++ refusal_line refusal)
+
+-- The environment is good, the index is accepted, and another file is refused: the lines of its
+-- paragraphs before the first that fails were written, and that line behind the side of the file.
+pub record ReportsRefusedFile (w : Words) (left other old new : Option (List ℕ))
+    (err err_after : Option (List ℕ)) : Type 0 where
+  pub environment : IsTrue (has_environment w)
+  pub is_other : IsFalse (is_index w.dependents)
+  pub packages : List Listed
+  pub lists : (index : List ℕ) → left ≡ Some index → ListsAll index packages
+  pub refusal : Refusal
+  pub is_refusal : IsRefusalOfDocument refusal
+  pub refused : (text : List ℕ) → other ≡ Some text →
+      WritesRefused (asks_over w packages) text refusal old new
+  pub reported : Appends err err_after (side_word Second ++ refusal_line refusal)
+
+abbrev pub ReportsRefusalOfUnmet : {W : Type 0} → Words → Option (List ℕ) → Option (List ℕ)
+    → (W → Option (List ℕ)) → W → W → Option (List ℕ) → Option (List ℕ) → Type 0
+ReportsRefusalOfUnmet w left other held old new err err_after =
+    ReportsRefusedEnvironment w old new err err_after
+    ⊎ ReportsRefusedIndex w left old new err err_after
+    ⊎ ReportsRefusedFile w left other (held old) (held new) err err_after
+
+-- The index is refused, and the environment or the index is.
+abbrev pub IsRefusedIndex : Option (List ℕ) → Type 0
+IsRefusedIndex left =
+    (index : List ℕ) × (refusal : Refusal) × (left ≡ Some index)
+    × (refusal_of docs.Packages index ≡ Some refusal)
+
+abbrev pub AreRefusedBefore : Words → Option (List ℕ) → Type 0
+AreRefusedBefore w left = IsFalse (has_environment w) ⊎ IsRefusedIndex left
+
+-- ---- reporting
+
+-- An answer of the second file is reported by its status, a fault by its line with the side.
+abbrev pub ReportsSecond : {E : Type 0} → WriterOfJob E → Result Bool Fault → ℕ → Type 0
+ReportsSecond err (Ok is_empty) status =
+    (status ≡ verdict_status is_empty) × (err.new ≡ err.old)
+ReportsSecond err (Err fault) status =
+    ReportsSide err.held err.failures err.old err.new (record { side = Second; fault = fault })
+    status
+
+-- The environment is refused, or out of memory: no file was read, and nothing was written to `out`.
+pub record EndsAtEnvironment {W E : Type 0} (w : Words) (first second : ReaderOfJob)
+    (out : WriterOfJob W) (err : WriterOfJob E) (ended : ℕ) : Type 0 where
+  pub fault : Fault
+  pub fault_is : RefusedOrMemory fault
+      (λ refusal. IsFalse (has_environment w) × (refusal ≡ bad_environment))
+  pub first_untouched : first.failures_after ≡ first.failures
+  pub second_untouched : second.failures_after ≡ second.failures
+  pub unwritten : out.new ≡ out.old
+  pub reported : ReportsFaultOn err fault ended
+
+-- The index is refused, can't be read or takes too much memory: the second file wasn't read, and
+-- nothing was written to `out`.
+pub record EndsAtIndex {W E : Type 0} (first second : ReaderOfJob) (out : WriterOfJob W)
+    (err : WriterOfJob E) (ended : ℕ) : Type 0 where
+  pub fault : Fault
+  pub fault_is : IsReadersFault fault IsRefusalOfDocument
+  pub refused : (text : List ℕ) → first.text ≡ Some text →
+      IfRefused {T = ⊤} (Err fault) (λ refusal. refusal_of docs.Packages text ≡ Some refusal)
+  pub counted : first.failures_after ≡ read_failures_after {T = ⊤} first.failures (Err fault)
+  pub second_untouched : second.failures_after ≡ second.failures
+  pub unwritten : out.new ≡ out.old
+  pub reported : ReportsSide err.held err.failures err.old err.new
+      (record { side = First; fault = fault }) ended
+
+-- The second file has an answer over these packages, which is reported.
+pub record EndsOver {W E : Type 0} (dependents : Dependents) (environment : Environment)
+    (packages : List Listed) (second : ReaderOfJob) (out : WriterOfJob W) (err : WriterOfJob E)
+    (ended : ℕ) : Type 0 where
+  pub answer : Result Summary Fault
+  pub asks_file : AsksFile (asks_of (asked_of dependents) environment packages) second.text
+      second.failures second.failures_after out.held out.failures out.old out.new answer
+  pub reported : ReportsSecond err (answer_of dependents (length packages) answer) ended
+
+-- The index was read, and the second file has an answer over its packages.
+pub record EndsAtFile {W E : Type 0} (dependents : Dependents) (environment : Environment)
+    (first second : ReaderOfJob) (out : WriterOfJob W) (err : WriterOfJob E) (ended : ℕ) : Type 0
+  where
+    pub packages : List Listed
+    pub lists : (text : List ℕ) → first.text ≡ Some text → ListsAll text packages
+    pub unfailed : first.failures_after ≡ first.failures
+    pub ends : EndsOver dependents environment packages second out err ended
+
+abbrev pub EndsInEnvironment : {W E : Type 0} → Dependents → Environment → ReaderOfJob
+    → ReaderOfJob → WriterOfJob W → WriterOfJob E → ℕ → Type 0
+EndsInEnvironment dependents environment first second out err status =
+    EndsAtIndex first second out err status
+    ⊎ EndsAtFile dependents environment first second out err status
+
+abbrev pub ReportsUnmet : {W E : Type 0} → Words → ReaderOfJob → ReaderOfJob → WriterOfJob W
+    → WriterOfJob E → ℕ → Type 0
+ReportsUnmet w first second out err status =
+    EndsAtEnvironment w first second out err status
+    ⊎ (IsTrue (has_environment w)
+    × EndsInEnvironment w.dependents (environment_in w) first second out err status)
+
+-- ---- worked cases
+
+-- which fields of which kind of file are tried
+kinds_tried : (asked_of (Index Recommends) ≡ fields.Packages fields_of.Recommends)
+    × (asked_of (Packages Depends) ≡ fields.Packages fields_of.Depends)
+    × (asked_of (Binary Depends) ≡ fields.Binary fields_of.Depends)
+    × (asked_of Sources ≡ fields.Sources) × (asked_of Source ≡ fields.Source)
+kinds_tried = (refl, refl, refl, refl, refl)
+
+-- the index read again: the same number of paragraphs, another, and none, as of a pipe
+readings_of_an_index : (answer_of (Index Depends) 3
+    (Ok (record { paragraphs = 3; is_empty = false })) ≡ Ok false)
+    × (answer_of (Index Depends) 3 (Ok (record { paragraphs = 2; is_empty = true }))
+    ≡ Err faults.Read)
+    × (answer_of (Index Depends) 3
+    (Err (faults.Refused (record { code = NoParagraph; line = 1 }))) ≡ Err faults.Read)
+readings_of_an_index = (refl, refl, refl)
+
+-- another file may have any number of paragraphs, and its refusal is reported
+readings_of_another_file : (answer_of Sources 3
+    (Ok (record { paragraphs = 2; is_empty = true })) ≡ Ok true)
+    × (answer_of (Packages Depends) 3
+    (Err (faults.Refused (record { code = NoParagraph; line = 1 })))
+    ≡ Err (faults.Refused (record { code = NoParagraph; line = 1 })))
+readings_of_another_file = (refl, refl)
+
+words_in_order : words (codes "amd64") (codes "nocheck" ∷ []) Source
+    ≡ record { target = codes "amd64"; profiles = codes "nocheck" ∷ []; dependents = Source }
+words_in_order = refl

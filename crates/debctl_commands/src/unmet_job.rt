@@ -1,0 +1,270 @@
+//! The job on an index and a file whose groups are tried: `unmet`.
+
+ghost use Rattle.std.specs.Prelude.{◌≡◌, ◌<◌, ◌⊎◌, true, false, length, map, string_bytes, Result};
+ghost use Rattle.std.specs.Prelude.{IfErr, IfOk, IsFalse};
+ghost use Rattle.deb_base.specs.declared.fault.Fault.{Fault};
+ghost use Rattle.deb_index.specs.Indexes.{packages_of};
+ghost use Rattle.deb_index.specs.Questions.{MakesEnvironment};
+ghost use Rattle.deb_relation.specs.Environments.{environment_of};
+ghost use Rattle.deb_unmet.specs.Asking.{asks_of};
+ghost use Rattle.deb_unmet.specs.declared.asking.Summary.{Summary};
+ghost use Rattle.debctl_commands.specs.JobDevices.{reader_of, writer_of};
+ghost use Rattle.debctl_commands.specs.Taking.{TakesFile};
+ghost use Rattle.debctl_commands.specs.UnmetJob.{again, answer_of, asked_of, fields_tried, has_environment, is_empty_in};
+ghost use Rattle.debctl_commands.specs.UnmetJob.{AreRefusedBefore, AsksFile, EndsInEnvironment, EndsOver, IsRefusedIndex};
+ghost use Rattle.debctl_commands.specs.UnmetJob.{ReportsRefusalOfUnmet, ReportsUnmet, WritesUnmetOf, words_of};
+
+use crate::query_job::names_of;
+use crate::reporting::{report_fault, report_side};
+use deb_base::{Code, Fault, Refusal, Sink, Source};
+use deb_control::{Side, SideFault};
+use deb_index::Index;
+use deb_relation::{Env, EnvFault};
+use deb_unmet::{Asked, Summary, unmet};
+use debctl_args::{Dependents, Strength};
+use std::alloc::Global;
+
+/// The arguments of `unmet`, except for its files.
+#[derive(Clone, Copy)]
+pub(crate) struct UnmetWords<'a> {
+    pub target: &'a str,
+    pub profiles: &'a [String],
+    pub dependents: Dependents,
+}
+
+/// What they ask: for which environment, and of which file.
+#[derive(Clone, Copy)]
+struct Asking<'a> {
+    environment: &'a Env,
+    dependents: Dependents,
+}
+
+/// Writes to `out` a line for each group of a file that no package of an index meets, or may not
+/// meet, and returns the status. `first` reads the index, and `second` the file.
+///
+/// - 0 and 1: both files are accepted. No line was written, or some were, and nothing to `err`.
+/// - 2: the target or a profile, the index or the file is refused, in this order. `err` has the
+///   refusal's line, after `first: ` or `second: ` for a file. `out` has the lines of the
+///   paragraphs of the file before the first that fails. No reader is asked before the target and
+///   the profiles are good, nor the second before the index is accepted.
+/// - 3: out of memory, a read failed, or a write failed; or the file is the index, and its second
+///   reading has another number of paragraphs than the first, which is reported as a failed read.
+///   `err` has the fault's line; if a write to `err` failed, a prefix of its line.
+pub(crate) fn run_unmet<R: Source, S: Source, W: Sink, E: Sink>(
+    alloc: Global,
+    words: &UnmetWords<'_>,
+    first: &mut R,
+    second: &mut S,
+    out: &mut W,
+    err: &mut E,
+) -> u8
+    ensures yes { result ≡ 0 → (err.new ≡ err.old)
+        × WritesUnmetOf (words_of words.now) (R.left first.old) (S.left second.old)
+        (W.held out.old) (W.held out.new) true }
+    ensures no { result ≡ 1 → (err.new ≡ err.old)
+        × WritesUnmetOf (words_of words.now) (R.left first.old) (S.left second.old)
+        (W.held out.old) (W.held out.new) false }
+    ensures refused { result ≡ 2
+        → ReportsRefusalOfUnmet (words_of words.now) (R.left first.old) (S.left second.old)
+        W.held out.old out.new (E.held err.old) (E.held err.new) }
+    ensures reads_at_most { TakesFile (R.left first.old) (R.left first.new) }
+    ensures second_reads_at_most { TakesFile (S.left second.old) (S.left second.new) }
+    ensures first_untouched_if_refused { IsFalse (has_environment (words_of words.now))
+        → first.new ≡ first.old }
+    ensures second_untouched_if_refused { AreRefusedBefore (words_of words.now) (R.left first.old)
+        → second.new ≡ second.old }
+
+    // Where a call of a device failed, the status is 3.
+    ensures status_3_if_read_failed { R.failures first.old < R.failures first.new → result ≡ 3 }
+    ensures status_3_if_second_read_failed { S.failures second.old < S.failures second.new → result
+        ≡ 3 }
+    ensures status_3_if_write_failed { W.failures out.old < W.failures out.new → result ≡ 3 }
+    ensures status_3_if_err_failed { E.failures err.old < E.failures err.new → result ≡ 3 }
+
+    // Whatever the status: there is an answer, and that is reported.
+    ensures reports_answer { ReportsUnmet (words_of words.now)
+        (reader_of (R.left first.old) (R.failures first.old) (R.failures first.new))
+        (reader_of (S.left second.old) (S.failures second.old) (S.failures second.new))
+        (writer_of W.held W.failures out.old out.new)
+        (writer_of E.held E.failures err.old err.new) result }
+{
+    match parse_environment(alloc, words.target, words.profiles) {
+        Ok(environment) => run_in_environment(
+            alloc,
+            &Asking {
+                environment: &environment,
+                dependents: words.dependents,
+            },
+            first,
+            second,
+            out,
+            err,
+        ),
+        Err(fault) => report_fault(&fault, err),
+    }
+}
+
+/// Parses the environment that the command-line arguments name.
+fn parse_environment(alloc: Global, target: &str, profiles: &[String]) -> Result<Env, Fault>
+    ensures { MakesEnvironment target.now (map string_bytes profiles.now) result }
+{
+    let names = names_of(alloc, profiles)?;
+    match Env::new(alloc, target.as_bytes(), &names) {
+        Ok(environment) => Ok(environment),
+        Err(EnvFault::BadEnvironment) => Err(Fault::Refused(Refusal {
+            code: Code::BadEnvironment,
+            line: 0,
+        })),
+        Err(EnvFault::Memory) => Err(Fault::Memory),
+    }
+}
+
+/// Reads the index, and tries the groups of the file.
+fn run_in_environment<R: Source, S: Source, W: Sink, E: Sink>(
+    alloc: Global,
+    asking: &Asking<'_>,
+    first: &mut R,
+    second: &mut S,
+    out: &mut W,
+    err: &mut E,
+) -> u8
+    ensures ends { EndsInEnvironment asking.now.dependents
+        (environment_of asking.now.environment.now)
+        (reader_of (R.left first.old) (R.failures first.old) (R.failures first.new))
+        (reader_of (S.left second.old) (S.failures second.old) (S.failures second.new))
+        (writer_of W.held W.failures out.old out.new)
+        (writer_of E.held E.failures err.old err.new) result }
+    ensures reads_at_most { TakesFile (R.left first.old) (R.left first.new) }
+    ensures second_reads_at_most { TakesFile (S.left second.old) (S.left second.new) }
+    ensures second_untouched_if_refused { IsRefusedIndex (R.left first.old)
+        → second.new ≡ second.old }
+{
+    match Index::read(alloc, first) {
+        Ok(index) => run_over(alloc, &index, asking, second, out, err),
+        Err(fault) => report_side(
+            SideFault {
+                side: Side::First,
+                fault,
+            },
+            err,
+        ),
+    }
+}
+
+/// Tries the groups of the file over an index.
+fn run_over<S: Source, W: Sink, E: Sink>(
+    alloc: Global,
+    index: &Index,
+    asking: &Asking<'_>,
+    second: &mut S,
+    out: &mut W,
+    err: &mut E,
+) -> u8
+    ensures ends { EndsOver asking.now.dependents (environment_of asking.now.environment.now)
+        (packages_of index.now)
+        (reader_of (S.left second.old) (S.failures second.old) (S.failures second.new))
+        (writer_of W.held W.failures out.old out.new)
+        (writer_of E.held E.failures err.old err.new) result }
+    ensures reads_at_most { TakesFile (S.left second.old) (S.left second.new) }
+{
+    match write_unmet(alloc, index, asking, second, out) {
+        Ok(true) => 0,
+        Ok(false) => 1,
+        Err(fault) => report_side(
+            SideFault {
+                side: Side::Second,
+                fault,
+            },
+            err,
+        ),
+    }
+}
+
+/// Writes the lines of the file, and returns whether there is none.
+fn write_unmet<S: Source, W: Sink>(
+    alloc: Global,
+    index: &Index,
+    asking: &Asking<'_>,
+    second: &mut S,
+    out: &mut W,
+) -> Result<bool, Fault>
+    ensures answers { (answer : Result Summary Fault)
+        × AsksFile (asks_of (asked_of asking.now.dependents)
+        (environment_of asking.now.environment.now) (packages_of index.now))
+        (S.left second.old) (S.failures second.old) (S.failures second.new)
+        W.held W.failures out.old out.new answer
+        × (result ≡ answer_of asking.now.dependents (length (packages_of index.now)) answer) }
+    ensures reads_at_most { TakesFile (S.left second.old) (S.left second.new) }
+{
+    let asked = asked_of(asking.dependents);
+    let answer = unmet(alloc, index, asking.environment, asked, second, out);
+    answer_of(asking.dependents, index.len(), answer)
+}
+
+/// Which fields of which kind of file are tried.
+fn asked_of(dependents: Dependents) -> Asked
+    ensures { result ≡ asked_of dependents }
+{
+    match dependents {
+        Dependents::Index(strength) | Dependents::Packages(strength) => {
+            Asked::Packages(fields_tried(strength))
+        }
+        Dependents::Binary(strength) => Asked::Binary(fields_tried(strength)),
+        Dependents::Sources => Asked::Sources,
+        Dependents::Source => Asked::Source,
+    }
+}
+
+fn fields_tried(strength: Strength) -> deb_unmet::Strength
+    ensures { result ≡ fields_tried strength }
+{
+    match strength {
+        Strength::Depends => deb_unmet::Strength::Depends,
+        Strength::Recommends => deb_unmet::Strength::Recommends,
+    }
+}
+
+/// Returns whether no line was written, after a reading of the file over an index of `count`
+/// packages.
+fn answer_of(
+    dependents: Dependents,
+    count: usize,
+    answer: Result<Summary, Fault>,
+) -> Result<bool, Fault>
+    ensures { result ≡ answer_of dependents count answer }
+{
+    match dependents {
+        Dependents::Index(_) => again(count, answer),
+        Dependents::Packages(_)
+        | Dependents::Binary(_)
+        | Dependents::Sources
+        | Dependents::Source => { is_empty_in(answer) }
+    }
+}
+
+/// The same, where the file is the index: its second reading has as many paragraphs as the first,
+/// or it can't be read twice, as a pipe.
+fn again(count: usize, answer: Result<Summary, Fault>) -> Result<bool, Fault>
+    ensures { result ≡ again count answer }
+{
+    match answer {
+        Ok(summary) => {
+            if summary.paragraphs == count as u64 {
+                Ok(summary.is_empty)
+            } else {
+                Err(Fault::Read)
+            }
+        }
+        Err(Fault::Refused(_)) => Err(Fault::Read),
+        Err(fault) => Err(fault),
+    }
+}
+
+fn is_empty_in(answer: Result<Summary, Fault>) -> Result<bool, Fault>
+    ensures { result ≡ is_empty_in answer }
+{
+    match answer {
+        Ok(summary) => Ok(summary.is_empty),
+        Err(fault) => Err(fault),
+    }
+}
