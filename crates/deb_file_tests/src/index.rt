@@ -4,7 +4,7 @@
 use crate::devices::{Pieces, SIZES, Slow, Then};
 use deb_base::{Code, Fault, Input, Output, Refusal};
 use deb_index::Verdict::{Ignored, Met, Unmet};
-use deb_index::{Index, Report};
+use deb_index::{Index, Question, Report};
 use deb_relation::{Env, Relation};
 use std::alloc::Global;
 use std::io::Write;
@@ -65,6 +65,35 @@ fn is_told(report: &Report<'_>) -> Option<bool> {
             && world.package().version() == b"1.0".as_slice()
             && world.package().architecture() == b"all".as_slice(),
     )
+}
+
+/// A relation whose groups are ignored, unmet and met, and what is written of it with reasons.
+const ASKED: &[u8] = b"world, vv (>= 3) | ww, hello [linux-amd64]";
+
+const REASONS: &[u8] = b"ignored hello [linux-amd64]\n\
+    \x20hello [linux-amd64]: linux-amd64 isn't the target amd64\n\
+    unmet vv (>= 3) | ww\n\
+    \x20vv (>= 3): 1 hello 1 amd64 is provided without a version\n\
+    \x20vv (>= 3): 2 world 1.0 all is earlier\n\
+    \x20ww: no package has this name\n\
+    met world\n 2 world 1.0 all\n";
+
+#[test]
+fn why_groups_are_unmet(rt: HostRuntime) -> Result<(), Fail> {
+    let index = Index::read(rt.alloc(), &mut Input::new(HELLO))?;
+    let question = Question::parse(rt.alloc(), b"amd64", &[], ASKED)?;
+    let report = index.ask_why(rt.alloc(), &question)?;
+    assert!(rt; !report.all_met());
+    let [ignored, unmet, met] = report.answers() else {
+        return Err("other groups".into());
+    };
+    assert!(rt; ignored.answer().verdict() == Ignored && !ignored.reasons().is_empty());
+    assert!(rt; unmet.answer().verdict() == Unmet && unmet.answer().packages().is_empty());
+    assert!(rt; met.answer().verdict() == Met && met.reasons().is_empty());
+    let mut writer = Slow::new(rt.alloc(), 7, 1_000, Then::Fails);
+    assert!(rt; report.write(&mut Output::new(&mut writer)) == Ok(()));
+    assert!(rt; writer.held.as_slice() == REASONS);
+    Ok(())
 }
 
 /// A package that provides its own name in two versions, and vv.

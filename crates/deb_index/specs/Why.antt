@@ -15,7 +15,7 @@ use Rattle.deb_index.specs.Alternatives.{alone, with_bound, with_formula, with_l
 use Rattle.deb_index.specs.Listed.{Listed, Provision}
 use Rattle.deb_index.specs.Named.{has_name, provides}
 use Rattle.deb_index.specs.Reasons.{reason}
-use Rattle.deb_index.specs.Reports.{Answer, Numbered, answer, group_verdict, passing_from}
+use Rattle.deb_index.specs.Reports.{Answer, Numbered, answer, group_verdict, passing_from, report}
 use Rattle.deb_index.specs.ReportText.{answer_text}
 use Rattle.deb_index.specs.declared.reason.Reason.{Reason}
 use Rattle.deb_index.specs.declared.reason.Reason.TheVariants.{IsEarlier, IsLater, IsAnother, IsNotLater, IsNotEarlier, HasNoVersion, IsOfAnotherArchitecture, IsNotAllowed}
@@ -247,3 +247,8 @@ worked-groups = refl
 
 worked-nothing : detailed_text (detailed_report packages [] target) ≡ []
 worked-nothing = refl
+
+-- the answers alone are those of the report
+worked-answers : map answer_in (detailed_report packages ((alone (codes "cc") ∷ []) ∷ []) target)
+    ≡ report packages ((alone (codes "cc") ∷ []) ∷ []) target
+worked-answers = refl

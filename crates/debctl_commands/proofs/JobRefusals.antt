@@ -57,10 +57,10 @@ module _ (job : Job) (arch : String Global) (profiles : Vec (String Global) Glob
 
   -- the answer, and its report
   pub reported_from : {W E : Type 0} (first second : ReaderOfJob) (out : WriterOfJob W) (err : WriterOfJob E) (status : ℕ)
-      → ReportsFrom (λ relation. question target (map string_bytes items) relation) first second out err status → Reported job first second out err status
+      → ReportsFrom detail (λ relation. question target (map string_bytes items) relation) first second out err status → Reported job first second out err status
   reported_from first second out err status reports =
       subst (λ (asked : Job). Reported asked first second out err status) (sym is)
-      (of_words (λ ask. ReportsFrom ask first second out err status) arch profiles target items target_is items_is reports)
+      (of_words (λ ask. ReportsFrom detail ask first second out err status) arch profiles target items target_is items_is reports)
 
 -- what is said of the words of `unmet` is said of those of the job
 of_unmet : (P : Words → Type 0) (arch : String Global) (profiles : Vec (String Global) Global) (dependents : Dependents) (target : List ℕ) (items : List (String Global)) → target ≡ string_bytes arch → items ≡ profiles.items

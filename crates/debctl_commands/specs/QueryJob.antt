@@ -129,3 +129,9 @@ worked-texts : (packages : List Listed) (relation : Relation) (environment : Env
     × (detail_text Reasons packages relation environment
     ≡ detailed_text (detailed_report packages relation environment))
 worked-texts packages relation environment = (refl, refl)
+
+-- of the relation and the environment that are asked
+worked-reported : (q : Question) (text : List ℕ) (answers : List Answer)
+    (reported : IsReported q text answers) → text_reported Verdicts reported
+    ≡ report_text (report reported.packages reported.good.relation (environment_in q))
+worked-reported q text answers reported = refl

@@ -74,9 +74,9 @@ Done (Sort reverse) left other held failures out new =
     (text : List ℕ) → left ≡ Some text → WritesSorted reverse text (held out) (held new)
 Done (Query arch profiles relation detail) left other held failures out new =
     (text : List ℕ) → left ≡ Some text
-    → WritesReport (asked arch profiles relation) text (held out) (held new) true
+    → WritesReport detail (asked arch profiles relation) text (held out) (held new) true
 Done (QueryFrom arch profiles detail) left other held failures out new =
-    WritesReportFrom (asked_of_file arch profiles) left other (held out) (held new) true
+    WritesReportFrom detail (asked_of_file arch profiles) left other (held out) (held new) true
 Done (Unmet arch profiles dependents) left other held failures out new =
     WritesUnmetOf (words_of_unmet arch profiles dependents) left other (held out) (held new) true
 
@@ -94,9 +94,9 @@ SaysNo (VersionKey versions) left other held out new = ⊥
 SaysNo (Sort reverse) left other held out new = ⊥
 SaysNo (Query arch profiles relation detail) left other held out new =
     (text : List ℕ) → left ≡ Some text
-    → WritesReport (asked arch profiles relation) text (held out) (held new) false
+    → WritesReport detail (asked arch profiles relation) text (held out) (held new) false
 SaysNo (QueryFrom arch profiles detail) left other held out new =
-    WritesReportFrom (asked_of_file arch profiles) left other (held out) (held new) false
+    WritesReportFrom detail (asked_of_file arch profiles) left other (held out) (held new) false
 SaysNo (Unmet arch profiles dependents) left other held out new =
     WritesUnmetOf (words_of_unmet arch profiles dependents) left other (held out) (held new) false
 
@@ -167,11 +167,11 @@ Reported (Sort reverse) first second out err status =
     × ReportsOn err done_status answer status
 Reported (Query arch profiles relation detail) first second out err status =
     (answer : Result Bool Fault)
-    × QueriesFile (asked arch profiles relation) first.text first.failures first.failures_after
-    out.held out.failures out.old out.new answer
+    × QueriesFile detail (asked arch profiles relation) first.text first.failures
+    first.failures_after out.held out.failures out.old out.new answer
     × ReportsOn err verdict_status answer status
 Reported (QueryFrom arch profiles detail) first second out err status =
-    ReportsFrom (asked_of_file arch profiles) first second out err status
+    ReportsFrom detail (asked_of_file arch profiles) first second out err status
 Reported (Unmet arch profiles dependents) first second out err status =
     ReportsUnmet (words_of_unmet arch profiles dependents) first second out err status
 
@@ -278,10 +278,10 @@ answers_of_query : {W : Type 0} (arch relation : String Global) (detail : Detail
     (held : W → Option (List ℕ)) (failures : W → ℕ) (out new : W)
     → (Done (Query arch profiles relation detail) (Some text) other held failures out new
     ≡ ((read : List ℕ) → Some text ≡ Some read
-    → WritesReport (asked arch profiles relation) read (held out) (held new) true))
+    → WritesReport detail (asked arch profiles relation) read (held out) (held new) true))
     × (SaysNo (Query arch profiles relation detail) (Some text) other held out new
     ≡ ((read : List ℕ) → Some text ≡ Some read
-    → WritesReport (asked arch profiles relation) read (held out) (held new) false))
+    → WritesReport detail (asked arch profiles relation) read (held out) (held new) false))
 answers_of_query arch relation detail profiles text other held failures out new = (refl, refl)
 
 -- which jobs leave a reader as it was: the first, and the second
@@ -313,10 +313,10 @@ answers_of_query_from : {W : Type 0} (arch : String Global) (detail : Detail)
     (profiles : Vec (String Global) Global) (left other : Option (List ℕ))
     (held : W → Option (List ℕ)) (failures : W → ℕ) (out new : W)
     → (Done (QueryFrom arch profiles detail) left other held failures out new
-    ≡ WritesReportFrom (λ relation. question (string_bytes arch)
+    ≡ WritesReportFrom detail (λ relation. question (string_bytes arch)
     (map string_bytes profiles.items) relation) left other (held out) (held new) true)
     × (SaysNo (QueryFrom arch profiles detail) left other held out new
-    ≡ WritesReportFrom (λ relation. question (string_bytes arch)
+    ≡ WritesReportFrom detail (λ relation. question (string_bytes arch)
     (map string_bytes profiles.items) relation) left other (held out) (held new) false)
 answers_of_query_from arch detail profiles left other held failures out new = (refl, refl)
 

@@ -31,7 +31,7 @@ use std::alloc::Global;
 ///
 /// - 0: done, or the answer is yes. `out` has `ok N` and a newline, the canonical text of the file,
 ///   `same` and a newline, nothing, the canonical version and a newline, the lines of the keys, the
-///   sorted lines, or the report. Nothing was written to `err`.
+///   sorted lines, or the report, with `--why` the report with reasons. Nothing was written to `err`.
 /// - 1: the answer of `same` or `compare` is no, a group of a `query` is unmet, or `unmet` has a
 ///   line. `out` has `different` and a newline for `same`, the report for `query`, and the lines
 ///   for `unmet`; nothing else was written.
@@ -101,12 +101,13 @@ pub fn run<R: Source, S: Source, W: Sink, E: Sink>(
             arch,
             profiles,
             relation,
-            detail: _,
+            detail,
         } => run_query(
             alloc,
             arch.as_str(),
             profiles,
             relation.as_bytes(),
+            *detail,
             first,
             out,
             err,
@@ -114,8 +115,17 @@ pub fn run<R: Source, S: Source, W: Sink, E: Sink>(
         Job::QueryFrom {
             arch,
             profiles,
-            detail: _,
-        } => run_query_from(alloc, arch.as_str(), profiles, first, second, out, err),
+            detail,
+        } => run_query_from(
+            alloc,
+            arch.as_str(),
+            profiles,
+            *detail,
+            first,
+            second,
+            out,
+            err,
+        ),
         Job::Unmet {
             arch,
             profiles,
