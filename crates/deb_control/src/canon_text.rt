@@ -78,6 +78,8 @@ impl FieldVisitor for CanonText {
         self.spans.clear();
     }
 
+    // One call for all kinds of values, whose visits are inlined where the kind is known.
+    #[inline(never)]
     fn visit(&mut self, field: &RawField<'_>, value: &Value<'_>) -> Result<(), AllocError> {
         let start = offset_behind(&self.buffer)?;
         append_name(field, &mut self.buffer)?;

@@ -45,7 +45,7 @@ module _ (bytes more : List ℕ) (entries others : List Places) (r : Record) (ke
   provides_stays = part-append r.architecture_end r.end bytes more kept.end
 
   entries_stay : entries_by (entries ++ others) r ≡ entries_by entries r
-  entries_stay = part-append r.first r.behind entries others kept.behind
+  entries_stay = part-append r.first r.entries_end entries others kept.entries_end
 
   stays-kept : IsKept (bytes ++ more) (entries ++ others) r
   stays-kept =
@@ -55,7 +55,7 @@ module _ (bytes more : List ℕ) (entries others : List Places) (r : Record) (ke
         version_end = omega (arith, kept.version_end, long);
         architecture_end = omega (arith, kept.architecture_end, long);
         end = omega (arith, kept.end, long);
-        behind = omega (arith, kept.behind, length-append entries others);
+        entries_end = omega (arith, kept.entries_end, length-append entries others);
         version = subst IsVersionKept (sym version_stays) kept.version;
         provides = subst (AreEntries (provides_by (bytes ++ more) r)) (sym entries_stay) (subst (λ t. AreEntries t (entries_by entries r)) (sym provides_stays) kept.provides);
       }
@@ -73,12 +73,12 @@ all-listed bytes more entries others records all = go records (recursion_from_Al
     go [] all = refl
     go (r ∷ records) all = ap (λ p. p ∷ map (listed_by (bytes ++ more) (entries ++ others)) records) (stays-listed bytes more entries others r all.0) ∙ ap (λ ps. listed_by bytes entries r ∷ ps) (go records all.1)
 
--- the texts of one package more, one behind another
+-- the texts of one package more, one after another
 abbrev pub bytes_with : List ℕ → PackageBuilder → List ℕ
 bytes_with bytes kept = (((bytes ++ kept.name.items) ++ kept.version.items) ++ kept.architecture.items) ++ kept.provides.items
 
 abbrev pub record_with : List ℕ → PackageBuilder → ℕ → ℕ → Record
-record_with bytes kept first behind =
+record_with bytes kept first entries_end =
     record {
       start = length bytes;
       name_end = length (bytes ++ kept.name.items);
@@ -86,7 +86,7 @@ record_with bytes kept first behind =
       architecture_end = length (((bytes ++ kept.name.items) ++ kept.version.items) ++ kept.architecture.items);
       end = length (bytes_with bytes kept);
       first = first;
-      behind = behind;
+      entries_end = entries_end;
       multi_arch = kept.multi_arch;
     }
 
@@ -151,7 +151,7 @@ module _ (bytes : List ℕ) (entries new : List Places) (kept : PackageBuilder) 
         version_end = omega (arith, long-append two kept.architecture.items, long-append three kept.provides.items);
         architecture_end = long-append three kept.provides.items;
         end = omega arith;
-        behind = omega arith;
+        entries_end = omega arith;
         version = subst IsVersionKept (sym version_is) version_good;
         provides = subst (AreEntries (provides_by four r)) (sym entries_are) (subst (λ t. AreEntries t cut.more) (sym provides_is) entries_good);
       }

@@ -1,4 +1,4 @@
--- What the entries of Provides are that an index keeps: places in the canonical text of the field.
+-- What the entries of Provides are that an index keeps: offsets in the canonical text of the field.
 -- Debian Policy 7.5.
 use Rattle.std.specs.Prelude.{◌≡◌, ℕ, ◌==◌, ◌&&◌, cond, length, List, [], ◌∷◌, ◌++◌, map, Option, None, Some, IfSome, codes, refl}
 use Rattle.std.specs.List.{All}
@@ -54,8 +54,8 @@ BehindName a others text = text ≡ qualifier_text a.qualifier ++ (bound_text a.
     ((architectures_text a.architectures ++ formula_text a.formula) ++
     separated (codes " | ") (map alternative_text others)))
 
--- The place is that of the version of an alternative, or of nothing if it has none; there is a
--- place only if the alternative is plain and no other follows.
+-- The offsets are those of the version of an alternative, or of nothing if it has none; there are
+-- offsets only if the alternative is plain and no other follows.
 abbrev pub IsVersionPlace : Alternative → Group → List ℕ → Option (ℕ × ℕ) → Type 0
 IsVersionPlace a others text place =
     option_map (λ p. version_kept (part p.0 p.1 text)) place

@@ -1,4 +1,4 @@
--- What the packages that an index lends stand for.
+-- The meaning of the packages that an index lends.
 use Rattle.std.specs.Prelude.{map}
 use Rattle.deb_version.specs.Places.{version_in}
 use Rattle.deb_index.specs.Entries.{provision_at}

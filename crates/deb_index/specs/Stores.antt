@@ -25,7 +25,7 @@ abbrev pub provides_by : List ℕ → Record → List ℕ
 provides_by bytes r = part r.architecture_end r.end bytes
 
 abbrev pub entries_by : List Places → Record → List Places
-entries_by entries r = part r.first r.behind entries
+entries_by entries r = part r.first r.entries_end entries
 
 -- the package of a record
 abbrev pub listed_by : List ℕ → List Places → Record → Listed
@@ -52,14 +52,14 @@ pub record AreEntries (text : List ℕ) (entries : List Places) : Type 0 where
   pub ascend : AllPairs IsNotAfter (map (entry_name text) entries)
   pub faultless : All (IsFaultless text) entries
 
--- A record is that of a package: its places are within the lists, its version is one, and its
+-- A record is that of a package: its offsets are within the lists, its version is one, and its
 -- entries are entries.
 pub record IsKept (bytes : List ℕ) (entries : List Places) (r : Record) : Type 0 where
   pub name_end : r.name_end ≤ length bytes
   pub version_end : r.version_end ≤ length bytes
   pub architecture_end : r.architecture_end ≤ length bytes
   pub end : r.end ≤ length bytes
-  pub behind : r.behind ≤ length entries
+  pub entries_end : r.entries_end ≤ length entries
   pub version : IsVersionKept (version_by bytes r)
   pub provides : AreEntries (provides_by bytes r) (entries_by entries r)
 

@@ -107,7 +107,7 @@ worked-package : (ascend : AllPairs IsNotAfter (map (entry_name provides) provid
     → listed_of (listed (lent_provisions ascend faultless) own canonical) ≡ foreign two
 worked-package ascend faultless own canonical = refl
 
--- the same package behind another one in a store
+-- the same package after another one in a store
 abbrev second : Record
 second =
     record {
@@ -117,7 +117,7 @@ second =
       architecture_end = 10;
       end = 22;
       first = 0;
-      behind = 2;
+      entries_end = 2;
       multi_arch = Some Foreign;
     }
 

@@ -34,25 +34,25 @@ fn name_len(text: &[u8]) -> usize
 
 /// The offsets of the version in what follows the name of an alternative, if that is nothing or a
 /// bound alone. Of nothing they are those of the empty text at the start.
-fn version_place(behind: &[u8]) -> Option<(usize, usize)>
-    ensures within { IfSome result (λ p. (p.0 ≤ p.1) × (p.1 ≤ length behind.now)) }
-    ensures place { (a : Alternative) (others : Group) → IsRegular a
-        → BehindName a others behind.now → IsVersionPlace a others behind.now result }
+fn version_offsets(after: &[u8]) -> Option<(usize, usize)>
+    ensures within { IfSome result (λ p. (p.0 ≤ p.1) × (p.1 ≤ length after.now)) }
+    ensures offsets { (a : Alternative) (others : Group) → IsRegular a
+        → BehindName a others after.now → IsVersionPlace a others after.now result }
     ensures faultless { (a : Alternative) (others : Group) → IsRegular a
-        → BehindName a others behind.now
-        → IfSome result (λ p. HasNoFault (part p.0 p.1 behind.now)) }
+        → BehindName a others after.now
+        → IfSome result (λ p. HasNoFault (part p.0 p.1 after.now)) }
 {
-    if behind.is_empty() {
+    if after.is_empty() {
         return Some((0, 0));
     }
-    if behind.len() < 2 {
+    if after.len() < 2 {
         return None;
     }
-    let open = before(behind, b'(');
+    let open = before(after, b'(');
     if open != 1 {
         return None;
     }
-    let rest = &behind[2..];
+    let rest = &after[2..];
     let close = before(rest, b')');
     if close + 1 != rest.len() {
         return None;
@@ -74,8 +74,8 @@ fn plain_entry(text: &[u8], start: usize, end: usize) -> Option<Entry>
         → IsEntry text.now result (provided_by group) }
 {
     let group = part(text, start, end);
-    let (name, behind) = group.split_at(name_len(group));
-    match version_place(behind) {
+    let (name, after) = group.split_at(name_len(group));
+    match version_offsets(after) {
         Some((from, to)) => Some(Entry {
             start: start as u32,
             name_end: (start + name.len()) as u32,

@@ -3,7 +3,7 @@
 ghost use Rattle.std.specs.Prelude.{◌≡◌};
 ghost use Rattle.deb_index.specs.Spans.{part};
 
-/// What stands between two places; less if the slice ends before.
+/// What is between two offsets; less if the slice ends before.
 pub(crate) fn part<T>(all: &[T], start: usize, end: usize) -> &[T]
     ensures { result.now ≡ part start end all.now }
 {

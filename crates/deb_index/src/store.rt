@@ -27,7 +27,7 @@ pub(crate) struct Record {
     pub(crate) architecture_end: u32,
     pub(crate) end: u32,
     pub(crate) first: u32,
-    pub(crate) behind: u32,
+    pub(crate) entries_end: u32,
     pub(crate) multi_arch: Option<MultiArch>,
 }
 
@@ -75,7 +75,7 @@ impl Store {
             architecture_end,
             end,
             first,
-            behind: offset(self.entries.len())?,
+            entries_end: offset(self.entries.len())?,
             multi_arch: kept.multi_arch,
         })?;
         Ok(())
@@ -98,9 +98,9 @@ impl Store {
 
     /// The entries of the Provides of a package.
     pub(crate) fn entries(&self, of: &Record) -> &[Entry]
-        ensures { result.now ≡ part of.now.first of.now.behind self.now.entries.items }
+        ensures { result.now ≡ part of.now.first of.now.entries_end self.now.entries.items }
     {
-        part(&self.entries, of.first as usize, of.behind as usize)
+        part(&self.entries, of.first as usize, of.entries_end as usize)
     }
 
     /// The package at an index.

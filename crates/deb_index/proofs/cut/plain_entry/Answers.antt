@@ -13,7 +13,7 @@ returns-in-Some c = λ group regular is.
     (subst (λ t. k ≤ length t) part_is (subst (λ n. n ≤ length c.part-group.result.now) (sym c.split_at.ensures.front_len) c.name_len.ensures.bound))
     c.in-Some.ensures.within.0 c.in-Some.ensures.within.1
     (c.split_at.ensures.back ∙ ap (λ n. drop n c.part-group.result.now) (sym c.split_at.ensures.front_len) ∙ ap (drop k) part_is)
-    c.in-Some.ensures.place c.in-Some.ensures.faultless
+    c.in-Some.ensures.offsets c.in-Some.ensures.faultless
 
 pub returns-in-None : goal.returns-in-None
 returns-in-None c = λ group regular is.
@@ -22,4 +22,4 @@ returns-in-None c = λ group regular is.
     entry_missing c.args.text.now c.args.start c.args.end k c.split_at.result.1.now group regular is
     (c.split_at.ensures.front_len ∙ c.name_len.ensures.value ∙ ap (prefix_len in_name) part_is)
     (c.split_at.ensures.back ∙ ap (λ n. drop n c.part-group.result.now) (sym c.split_at.ensures.front_len) ∙ ap (drop k) part_is)
-    c.in-None.ensures.place
+    c.in-None.ensures.offsets
