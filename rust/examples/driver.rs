@@ -1,6 +1,8 @@
 //! Calls one function on files, and writes what it answers, as `tests/languages/driver.c` does.
 
-use debctl::{canonical, check, compare, explain, normalise, query, same, Error, Kind};
+use debctl::{
+    canonical, check, compare, explain, key, normalise, query, same, unmet, Asked, Error, Kind,
+};
 use std::env::args_os;
 use std::fs::read;
 use std::io::{stdout, Write};
@@ -30,6 +32,22 @@ fn answer(call: &str, number: usize, files: &[Vec<u8>]) -> Result<Vec<u8>, Error
             Err(error) => told(error).replace(" 0 0\n", " 0\n").into_bytes(),
         },
         "canonical" => text("0 0 0 0\n", canonical(&files[0])?),
+        "key" => text("0 0 0 0\n", key(&files[0])?),
+        "unmet" => {
+            let recommends = number >= 8;
+            let asked = match KINDS[number % 8] {
+                Kind::Binary => Asked::Binary { recommends },
+                Kind::Packages => Asked::Packages { recommends },
+                Kind::Source => Asked::Source,
+                _ => Asked::Sources,
+            };
+            let profiles: Vec<&[u8]> = files[3..].iter().map(Vec::as_slice).collect();
+            let report = unmet(asked, &files[0], &profiles, &files[1], &files[2])?;
+            text(
+                if report.met { "0 0 0 0\n" } else { "1 0 0 0\n" },
+                report.text,
+            )
+        }
         "check" => format!("0 0 0 {}\n", check(KINDS[number], &files[0])?).into_bytes(),
         "normalise" => {
             let count = check(KINDS[number], &files[0])?;

@@ -46,13 +46,20 @@ int main(int count, char **words) {
         printf("%d %d %d\n", order.status, order.code, order.order);
         return 0;
     }
-    for (at = 3; at < kind + 3; at++) { /* of a query: how many profiles */
-        profiles[at - 3].bytes = files[at].bytes;
-        profiles[at - 3].length = files[at].length;
+    for (at = 6; at < count && at < 11; at++) { /* of a query, and of unmet relations */
+        profiles[at - 6].bytes = files[at - 3].bytes;
+        profiles[at - 6].length = files[at - 3].length;
     }
     for (turn = 0; turn < 2; turn++) {
         if (strcmp(call, "canonical") == 0)
             answer = deb_version_canonical(files[0].bytes, files[0].length, out, room, &length);
+        else if (strcmp(call, "key") == 0)
+            answer = deb_version_key(files[0].bytes, files[0].length, out, room, &length);
+        else if (strcmp(call, "unmet") == 0)
+            answer = deb_unmet((uint8_t)(kind % 8), (uint8_t)(kind / 8), files[0].bytes,
+                               files[0].length, profiles, (size_t)(count - 6), files[1].bytes,
+                               files[1].length, files[2].bytes, files[2].length, out, room,
+                               &length);
         else if (strcmp(call, "check") == 0)
             answer = deb_check((uint8_t)kind, files[0].bytes, files[0].length);
         else if (strcmp(call, "normalise") == 0)

@@ -1,16 +1,16 @@
 -- What is known of the fields of a file while it is read, and at its end.
-use Rattle.std.proofs.Common.{◌≡◌, ℕ, ◌+◌, List, [], ◌∷◌, ◌++◌, length, map, Option, Some, None, Ok, Err, refl, sym, ap, ◌∙◌, subst, append_assoc, append-nil, arith}
+use Rattle.std.proofs.Common.{◌≡◌, ℕ, ◌+◌, List, [], ◌∷◌, ◌++◌, length, Option, Some, Ok, Err, refl, sym, ap, ◌∙◌, subst, append_assoc, append-nil, arith}
 use Rattle.std.proofs.lemmas.List.{length_push}
 use Rattle.deb_base.specs.declared.doc.Doc.{Doc}
 use Rattle.deb_base.specs.declared.fault.Fault.{Fault}
 use Rattle.deb_syntax.specs.Answers.{Seen, next_answer}
-use Rattle.deb_control.specs.Calls.{HasParagraphs, IfRefused}
+use Rattle.deb_control.specs.Calls.{IfRefused}
 use Rattle.deb_control.specs.Checking.{AnswersChecked, CheckedState, FitsChecked, HasChecked, GivesPassing, GivesEnd, Passing}
 use Rattle.deb_control.specs.Documents.{rules_of}
 use Rattle.deb_control.specs.Refusals.{outcome}
-use Rattle.deb_control.proofs.CheckedSoFar.{all_checked, refused_behind, refused_then}
+use Rattle.deb_control.proofs.CheckedSoFar.{refused_behind, refused_then}
 use Rattle.deb_control.proofs.FollowedParagraphs.{outcome-from_end}
-use Rattle.debctl_ffi.specs.Fields.{AreFields, AreNext, Numbered, numbered, numbered_from}
+use Rattle.debctl_ffi.specs.Fields.{AreNext, Numbered, numbered, numbered_from}
 use Rattle.debctl_ffi.specs.Tables.{HasTables, ShowFields}
 use Rattle.debctl_ffi.specs.declared.field.Tables.{Tables}
 

@@ -16,10 +16,9 @@ use Rattle.deb_unmet.specs.Asking.{asks_of}
 use Rattle.deb_unmet.specs.Files.{file_lines, is_nothing}
 use Rattle.deb_unmet.specs.declared.asked.Asked.{Asked}
 use Rattle.deb_unmet.specs.declared.asked.Asked.TheVariants as asked
-use Rattle.deb_unmet.specs.declared.asked.Strength.{Strength}
 use Rattle.deb_unmet.specs.declared.asked.Strength.TheVariants.{Depends, Recommends}
 use Rattle.deb_unmet.specs.declared.asking.Summary.{Summary}
-use Rattle.debctl_ffi.specs.Answers.{counting, refusing}
+use Rattle.debctl_ffi.specs.Answers.{refusing}
 use Rattle.debctl_ffi.specs.Buffers.{Gives, LacksRoom}
 use Rattle.debctl_ffi.specs.Documents.{kind_number}
 use Rattle.debctl_ffi.specs.declared.answer.Answer.{Answer}

@@ -1,7 +1,6 @@
-use Rattle.std.proofs.Common.{◌≡◌, ℕ, [], Some, refl, sym, ap, ◌∙◌, subst, arith}
+use Rattle.std.proofs.Common.{◌≡◌, ℕ, Some, refl, ◌∙◌, arith}
 use Rattle.std.proofs.lemmas.Result.{err_from_is_err_and}
-use Rattle.deb_control.specs.Checking.{FitsChecked}
-use Rattle.deb_control.specs.CheckedStates.{checked_state, passing_judged}
+use Rattle.deb_control.specs.CheckedStates.{passing_judged}
 use Rattle.deb_control.proofs.CheckedSoFar.{all_checked, answers_on, counted_on, goes_on, refusal_behind, sound_on}
 use Rattle.debctl_ffi.proofs.FieldsSoFar.{all_shown, none_shown, one_shown, shown_refused}
 use Rattle.debctl_ffi.proofs.read_fields.read_fields.Goals as goal
