@@ -1,6 +1,7 @@
-/* Debian control data for programs in C and C++: versions, files of control data, why they are
- * refused, and which packages of an index meet a relation. The functions return what the program
- * debctl prints, and are proved to return exactly that.
+/* Debian control data for programs in C and C++: versions, files of control data and their fields,
+ * why they are refused, which packages of an index meet a relation, and which relations of a file
+ * nothing meets. The functions return what the program debctl prints, and are proved to return
+ * exactly that.
  *
  * Texts. A text is a pointer to bytes and their number; no NUL is needed after them. The bytes are
  * only read, and only during the call. A pointer may be NULL only if its length is 0. No function

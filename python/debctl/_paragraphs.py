@@ -67,12 +67,12 @@ def relations(relation: Text) -> List[List[Alternative]]:
 
 
 class _Names(Dict[str, int]):
-    """The names of the fields of paragraphs, by which their places are found without case."""
+    """Where the numbers of a paragraph's fields are, by their names without case."""
 
     def __init__(self, names: Sequence[str]) -> None:
-        super().__init__((name, at) for at, name in enumerate(names))
+        super().__init__(zip(names, range(0, _SPAN * len(names), _SPAN)))
         self.in_order = tuple(names)
-        self._folded = {name.lower(): at for at, name in enumerate(names)}
+        self._folded = {name.lower(): at for name, at in self.items()}
 
     def __missing__(self, name: str) -> int:
         if isinstance(name, str) and name.isascii() and name.lower() in self._folded:
@@ -122,12 +122,12 @@ class Paragraph(Mapping[str, str]):
 
         Raises KeyError if there is no such field.
         """
-        tables, at = self._tables, _SPAN * (self._first + self._names[name])
+        tables, at = self._tables, self._first + self._names[name]
         start = tables.numbers[at + 4]
         return tables.values[start : start + tables.numbers[at + 5]]
 
     def __getitem__(self, name: str) -> str:
-        tables, at = self._tables, _SPAN * (self._first + self._names[name])
+        tables, at = self._tables, self._first + self._names[name]
         start = tables.numbers[at + 4]
         return tables.values[start : start + tables.numbers[at + 5]].decode()
 
@@ -147,14 +147,14 @@ class Paragraph(Mapping[str, str]):
     @property
     def line(self) -> int:
         """The line at which the paragraph starts in its file, from 1."""
-        return self._tables.numbers[_SPAN * self._first + 1]
+        return self._tables.numbers[self._first + 1]
 
     def line_of(self, name: str) -> int:
         """Returns the line at which the field with this name starts in its file, from 1.
 
         Raises KeyError if there is no such field.
         """
-        return self._tables.numbers[_SPAN * (self._first + self._names[name]) + 1]
+        return self._tables.numbers[self._first + self._names[name] + 1]
 
     def canonical(self, name: str) -> str:
         """Returns the canonical text of the value of the field with this name: two values mean the
@@ -186,20 +186,20 @@ class Paragraph(Mapping[str, str]):
 
 def _paragraphs(tables: _Tables, data: bytes) -> Iterator[Paragraph]:
     """Yields the paragraphs of tables, and raises the exception of their answer, if it has one."""
-    numbers, names, first, count = tables.numbers, tables.names, 0, tables.count
+    numbers, names, count = tables.numbers, tables.names, tables.count
     known: Dict[bytes, _Names] = {}
-    paragraph_of = numbers[::_SPAN]
+    paragraph_of, first = numbers[::_SPAN], 0
     while first < count:
         number = paragraph_of[first]
         last = bisect_right(paragraph_of, number, first, min(first + 64, count))
         if last == first + 64:
             last = bisect_right(paragraph_of, number, last, count)
-        at = _SPAN * last - _SPAN
-        text = names[numbers[_SPAN * first + 2] : numbers[at + 2] + numbers[at + 3]]
+        begin, end = _SPAN * first, _SPAN * last - _SPAN
+        text = names[numbers[begin + 2] : numbers[end + 2] + numbers[end + 3]]
         found = known.get(text)
         if found is None:
             found = known[text] = _Names(text.decode().split("\0"))
-        yield Paragraph(tables, first, found)
+        yield Paragraph(tables, begin, found)
         first = last
     answered_file(tables.answer, tables.kind, data)
 

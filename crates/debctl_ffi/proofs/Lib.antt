@@ -3,3 +3,4 @@ mod Refusals
 mod Explained
 mod FieldTables
 mod FieldsSoFar
+mod ShownFields

@@ -197,3 +197,14 @@ worked-spans : spans_from 0 0 two_shown
     ∷ record { paragraph = 2; line = 3; name = 2; name_length = 2; value = 3; value_length = 0 }
     ∷ []
 worked-spans = refl
+
+worked-buffer : buffer (codes "xy") (codes "ay") 1
+    ≡ record { before = codes "xy"; after = codes "ay"; len = 1 }
+worked-buffer = refl
+
+abbrev three_buffers : Room
+three_buffers = room (buffer [] [] 2) (buffer [] (codes "a") 3) (buffer (codes "b") [] 4)
+
+worked-room : (three_buffers.spans.len ≡ 2) × (three_buffers.names ≡ buffer [] (codes "a") 3)
+    × (three_buffers.values ≡ buffer (codes "b") [] 4)
+worked-room = (refl, refl, refl)

@@ -9,3 +9,4 @@ pub mod Askers
 pub mod Fields
 pub mod Tables
 pub mod Relations
+pub mod FieldLaws

@@ -21,6 +21,7 @@ mod field;
 mod fields;
 mod files;
 mod kind;
+pub mod laws;
 mod query;
 mod read_fields;
 mod relations;

@@ -1,0 +1,40 @@
+-- Which paragraphs have no line doesn't depend on the heading.
+use Rattle.std.proofs.Common.{◌≡◌, ℕ, List, [], ◌∷◌, ◌++◌, Option, None, Some, refl, sym, ap, ◌∙◌}
+use Rattle.std.specs.List.{flat_map}
+use Rattle.deb_control.specs.ValueFiles.{ValueEntries}
+use Rattle.deb_field.specs.Values.{ValueMeaning}
+use Rattle.deb_relation.specs.Applying.{Environment}
+use Rattle.deb_relation.specs.Meaning.{Group, Relation}
+use Rattle.deb_index.specs.Listed.{Listed}
+use Rattle.deb_unmet.specs.Fields.{field_lines, fields_lines, groups_of, value_under}
+use Rattle.deb_unmet.specs.Troubles.{group_lines, trouble, trouble_line}
+use Rattle.deb_unmet.specs.declared.trouble.Trouble.{Trouble}
+use Rattle.deb_unmet.specs.declared.trouble.Trouble.TheVariants.{Unmet, Unsure}
+
+both_empty : (a b : List ℕ) → a ++ b ≡ [] → (a ≡ []) × (b ≡ [])
+both_empty [] b is = (refl, is)
+both_empty (x ∷ a) b is = absurd cc
+
+empty_both : (a b : List ℕ) → a ≡ [] → b ≡ [] → a ++ b ≡ []
+empty_both a b first second = ap (λ xs. xs ++ b) first ∙ second
+
+line-none : (why : Option Trouble) (heading other field : List ℕ) (group : Group) → trouble_line why heading field group ≡ [] → trouble_line why other field group ≡ []
+line-none None heading other field group is = refl
+line-none (Some Unmet) heading other field group is = absurd cc
+line-none (Some Unsure) heading other field group is = absurd cc
+
+groups-none : (environment : Environment) (packages : List Listed) (heading other field : List ℕ) (groups : Relation) → flat_map (group_lines environment packages heading field) groups ≡ [] → flat_map (group_lines environment packages other field) groups ≡ []
+groups-none environment packages heading other field [] is = refl
+groups-none environment packages heading other field (group ∷ groups) is =
+    let p = both_empty (group_lines environment packages heading field group) (flat_map (group_lines environment packages heading field) groups) is in
+    empty_both (group_lines environment packages other field group) (flat_map (group_lines environment packages other field) groups)
+    (line-none (trouble environment packages group) heading other field group p.0)
+    (groups-none environment packages heading other field groups p.1)
+
+pub fields-none : (environment : Environment) (packages : List Listed) (heading other : List ℕ) (values : ValueEntries ValueMeaning) (fields : List (List ℕ)) → fields_lines environment packages heading values fields ≡ [] → fields_lines environment packages other values fields ≡ []
+fields-none environment packages heading other values [] is = refl
+fields-none environment packages heading other values (field ∷ fields) is =
+    let p = both_empty (field_lines environment packages heading field (value_under field values)) (fields_lines environment packages heading values fields) is in
+    empty_both (field_lines environment packages other field (value_under field values)) (fields_lines environment packages other values fields)
+    (groups-none environment packages heading other field (groups_of (value_under field values)) p.0)
+    (fields-none environment packages heading other values fields p.1)
