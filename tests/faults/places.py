@@ -19,6 +19,8 @@ INSTRUCTION = re.compile(
     r"^ *([0-9a-f]+):\t(?:(?:notrack|bnd|repz?) )?(\S+) *([^#\n]*)", re.M
 )
 MOVES = re.compile(r"\$0x([0-9a-f]+),%rsp")
+# How far a loop goes that puts many pages on the stack, one after another.
+GOES_TO = re.compile(r"(\$0x[0-9a-f]+),%r11")
 # What never takes memory, though its code may: a buffered writer takes its 8 KiB as it is made.
 HAS_ROOM = {"std::io::buffered::BufWriter::write_cold"}
 
@@ -46,6 +48,17 @@ def moved(operation, words):
     number = int(number[1], 16)
     number -= (number >> 63) << 64
     return number if operation == "sub" else -number
+
+
+def with_loops_as_steps(code):
+    """The code, in which a loop that puts many pages on the stack does so in its one step."""
+    code = list(code)
+    for at in range(1, len(code) - 1):
+        goes_to = GOES_TO.fullmatch(code[at][2])
+        if goes_to and code[at][1] == "sub" and code[at - 1][1:] == ("mov", "%rsp,%r11"):
+            address, operation, _ = code[at + 1]
+            code[at + 1] = address, operation, f"{goes_to[1]},%rsp"
+    return code
 
 
 def depths_of(code):
@@ -89,7 +102,7 @@ class Places:
     def read(self, lines):
         """Reads the calls of a function."""
         code = [(int(address, 16), operation, words.strip()) for address, operation, words in lines]
-        depths = depths_of(code)
+        depths = depths_of(with_loops_as_steps(code))
         for (address, operation, words), (behind, *_) in zip(code, code[1:]):
             to = re.match(r"([0-9a-f]+) <(?:(.*)@plt>)?", words)
             if operation == "call" and to:

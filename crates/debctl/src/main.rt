@@ -1,5 +1,6 @@
 //! A program that checks, normalises and compares files of Debian control data, finds the packages
-//! of an index that meet a relation, and compares and sorts versions.
+//! of an index that meet a relation and the dependencies of a file that none meets, and compares
+//! and sorts versions.
 //!
 //! ```text
 //! $ printf 'vERSION: 01.0-0\npackage:hello\nArchitecture: amd64\n' | debctl normalise
