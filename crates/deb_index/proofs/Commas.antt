@@ -1,7 +1,7 @@
 -- No comma stands in the canonical text of a group.
 use Rattle.std.proofs.Common.{◌≡◌, ℕ, ◌==◌, Bool, true, false, not, List, [], ◌∷◌, ◌++◌, map, IsTrue, Option, Some, None, IfSome, refl, ap, codes}
 use Rattle.std.specs.List.{AllByRecursion}
-use Rattle.deb_base.specs.PackageNames.{is_package_byte, is_arch_name, is_profile_name}
+use Rattle.deb_base.specs.PackageNames.{is_package_byte, is_arch_name}
 use Rattle.deb_base.proofs.AllElements.{All-append, All-weaker}
 use Rattle.deb_version.specs.Parts.{Meaning as Version}
 use Rattle.deb_version.specs.Grammar.{SpellsVersion}

@@ -1,5 +1,5 @@
 -- What a store keeps of one package more, and of those before it.
-use Rattle.std.proofs.Common.{◌≡◌, ℕ, ◌+◌, ◌-◌, ◌≤◌, List, [], ◌∷◌, ◌++◌, length, map, take, None, refl, sym, ap, ◌∙◌, subst, arith, append_assoc}
+use Rattle.std.proofs.Common.{◌≡◌, ℕ, ◌≤◌, List, [], ◌∷◌, ◌++◌, length, map, refl, sym, ap, ◌∙◌, subst, arith, append_assoc}
 use Rattle.std.specs.List.{All, AllByRecursion, AllPairs}
 use Rattle.std.proofs.lemmas.List.{length-append, map-append}
 use Rattle.std.proofs.lemmas.List.Elements.{All-append, All-from_recursion, All-weaker, recursion_from_All}
@@ -10,11 +10,9 @@ use Rattle.deb_version.specs.Parts.{Meaning as Version}
 use Rattle.deb_version.specs.Places.{version_in}
 use Rattle.deb_version.proofs.FaultLemmas.{no_fault-from_spells}
 use Rattle.deb_version.proofs.KeptVersions.{version_in-spelled}
-use Rattle.deb_relation.specs.Meaning.{Relation}
-use Rattle.deb_relation.specs.Regular.{IsRegularRelation}
 use Rattle.deb_field.specs.declared.flag.MultiArch.{MultiArch}
 use Rattle.std.proofs.Common.{Option}
-use Rattle.deb_index.specs.Entries.{AppendsEntries, IsFaultless, Places, entry_name, provision_at}
+use Rattle.deb_index.specs.Entries.{AppendsEntries, Places, entry_name, provision_at}
 use Rattle.deb_index.specs.Listed.{Listed, Provision, provisions_of}
 use Rattle.deb_index.specs.PackageBuilder.{KeepsPackage}
 use Rattle.deb_index.specs.ProvidedNames.{IsNotAfter}

@@ -1,16 +1,14 @@
 -- Where the version stands in what follows the name of an alternative.
 use Rattle.std.proofs.Common.{◌≡◌, ◌≢◌, ℕ, suc, ◌+◌, ◌-◌, ◌<◌, ◌≤◌, ◌==◌, ◌&&◌, Bool, true, false, cond, not, List, [], ◌∷◌, ◌++◌, length, take, drop, get_or, map, IsTrue, Option, Some, None, IfSome, is_none, append_assoc, refl, sym, ap, ◌∙◌, subst, arith, codes}
-use Rattle.std.specs.List.{AllByRecursion, prefix_len}
+use Rattle.std.specs.List.{prefix_len}
 use Rattle.std.specs.Option.{option_map}
-use Rattle.std.proofs.lemmas.Bool.{false≢true, ne_eqb}
+use Rattle.std.proofs.lemmas.Bool.{ne_eqb}
 use Rattle.std.proofs.lemmas.List.{length-append}
 use Rattle.std.proofs.Math.Seq.{drop-append_seam, take-append_seam}
 use Rattle.deb_base.proofs.AllElements.{All-append}
 use Rattle.deb_version.specs.Parts.{Meaning as Version}
 use Rattle.deb_version.specs.Grammar.{SpellsVersion}
 use Rattle.deb_version.specs.Canonical.{version_text}
-use Rattle.deb_version.specs.Faults.{first_fault}
-use Rattle.deb_version.specs.Places.{version_in}
 use Rattle.deb_version.proofs.FaultLemmas.{no_fault-from_spells}
 use Rattle.deb_version.proofs.KeptVersions.{version_in-spelled}
 use Rattle.deb_relation.specs.declared.operator.Op.{Op}

@@ -14,7 +14,7 @@ use Rattle.deb_version.specs.Canonical.{version_text}
 use Rattle.deb_version.specs.Faults.{first_fault}
 use Rattle.deb_version.specs.Places.{version_in}
 use Rattle.deb_field.specs.declared.flag.MultiArch.TheVariants.{Foreign}
-use Rattle.deb_index.specs.Entries.{IsFaultless, Places, entry_name, provision_at}
+use Rattle.deb_index.specs.Entries.{IsFaultless, Places, entry_name}
 use Rattle.deb_index.specs.Indexes.{packages_of}
 use Rattle.deb_index.specs.Kept.{listed_of}
 use Rattle.deb_index.specs.Listed.{Listed, Provision}

@@ -1,7 +1,7 @@
-use Rattle.std.proofs.Common.{◌≡◌, ◌+◌, length, take, sym, ap, ◌∙◌, subst, arith}
+use Rattle.std.proofs.Common.{ap, ◌∙◌}
 use Rattle.std.specs.List.{prefix_len}
 use Rattle.deb_index.proofs.Commas.{is_other}
-use Rattle.deb_index.proofs.Cutting.{SoFar, so_far_none, so_far_all, so_far_more}
+use Rattle.deb_index.proofs.Cutting.{so_far_none, so_far_all, so_far_more}
 use Rattle.deb_index.proofs.Neighbours.{rest_from}
 use Rattle.deb_index.proofs.cut.append_entries.Goals as goal
 
