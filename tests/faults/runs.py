@@ -235,6 +235,8 @@ def wanted_of(case: Case, fault: Fault, record):
     if case.words[0] == "explain" and fault.calls in ("open", "stat"):
         told = (b"file: ", case.words[-1].encode(), b"\nfault: read\nreason: ", fault.why, b"\n")
         return Wanted(b"".join(told), line, FAULT_STATUS)
+    if case.words[0] == "unmet":
+        return Wanted(case.out, line, FAULT_STATUS, "whole lines")
     if case.words[0] != "normalise":
         return Wanted(b"", line, FAULT_STATUS)
     most = paragraphs_read(case, record) if fault.calls == "read" else None
@@ -274,12 +276,14 @@ def paragraphs_read(case: Case, record):
 
 def fits(seen, text, rule, most=None):
     """Whether what was written is all of a text, begins with it, is a part of it that lacks some
-    of its end, or is whole paragraphs from its beginning, at most so many, without a separator
-    behind the last."""
+    of its end, or is whole lines from its beginning, or whole paragraphs, at most so many, without a
+    separator behind the last."""
     if rule == "begins":
         return seen.startswith(text)
     if rule == "part":
         return text.startswith(seen) and seen != text
+    if rule == "whole lines":
+        return text.startswith(seen) and (not seen or seen.endswith(b"\n"))
     if rule == "whole paragraphs":
         paragraphs = text[:-1].split(b"\n\n") if text else []
         counts = range(len(paragraphs) + 1 if most is None else min(most, len(paragraphs)) + 1)

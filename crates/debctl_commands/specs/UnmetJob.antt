@@ -1,7 +1,9 @@
 -- What the job of `unmet` answers and reports. Its lines are those of `deb_unmet`; the order of
 -- refusals, and what another reading of the index has to give, are this project's own.
 use Rattle.std.specs.Prelude.{◌≡◌, ◌⊎◌, ◌++◌, ◌==◌, ℕ, ⊤, Bool, true, false, List, [], ◌∷◌}
-use Rattle.std.specs.Prelude.{length, map, string_bytes}
+use Rattle.std.specs.Prelude.{length, map, String, string_bytes}
+use Rattle.std.specs.declared.alloc.Global.{Global}
+use Rattle.std.proofs.Common.{ap}
 use Rattle.std.specs.Prelude.{Option, Some, Result, Ok, Err, IfOk, IsTrue, IsFalse, codes, refl}
 use Rattle.std.specs.Prelude.{if◌then◌else◌}
 use Rattle.std.specs.Io.KnownBytes.{Appends}
@@ -289,3 +291,11 @@ readings_of_another_file = (refl, refl)
 words_in_order : words (codes "amd64") (codes "nocheck" ∷ []) Source
     ≡ record { target = codes "amd64"; profiles = codes "nocheck" ∷ []; dependents = Source }
 words_in_order = refl
+
+-- the arguments that the code holds are those words
+words_of_arguments : (given : UnmetWords) (one other : String Global)
+    → given.profiles.now ≡ one ∷ other ∷ []
+    → words_of given
+    ≡ words given.target.now (string_bytes one ∷ string_bytes other ∷ []) given.dependents
+words_of_arguments given one other are =
+    ap (λ named. words given.target.now (map string_bytes named) given.dependents) are
