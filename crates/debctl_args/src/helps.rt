@@ -227,9 +227,9 @@ each package that meets the group; NUMBER is its position in the index, from 1.
 In a relation, the former operators `<` and `>` mean `<=` and `>=`.
 
 With `--why` there are lines ` ALTERNATIVE: ..` below each `unmet` or `ignored` line.
-Of an alternative that applies they say for each package that has or provides its
-name why it doesn't meet the alternative. Of one that doesn't apply they report each
-item of its list that names an architecture with its system, such as `linux-amd64`.
+For an alternative that applies, they say why each package that has or provides its
+name doesn't meet it. For one that doesn't apply, they report each item of its list
+that names an architecture with its system, such as `linux-amd64`.
 
 `--relation-from PATH` reads the relation from a file of at most 16,777,216 bytes;
 the system takes no argument of more than 131,071. The only other argument is then
