@@ -270,10 +270,11 @@ Which packages have this name, or provide it?
    2 tcc 0.9 amd64
 
 Why does no package meet this group?
-  $ debctl query --arch amd64 --why 'gcc (>= 13) | make' index
+  $ debctl query --arch amd64 --why 'gcc (>= 13) | make' index; echo $?
   unmet gcc (>= 13) | make
    gcc (>= 13): 1 gcc 12.2 amd64 is earlier
-   make: no package has this name";
+   make: no package has this name
+  1";
 
 pub(crate) const UNMET_HELP: &str = "\
 Finds each group of dependencies in a file that no package of INDEX meets. It tries
