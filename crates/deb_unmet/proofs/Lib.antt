@@ -4,3 +4,4 @@ pub mod Meanings
 pub mod Values
 pub mod Groups
 pub mod Decided
+pub mod Headings

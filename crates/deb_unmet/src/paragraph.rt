@@ -1,6 +1,6 @@
 //! Lines of a paragraph.
 
-ghost use Rattle.std.specs.Prelude.{◌≡◌, ◌++◌, IfOk, OnOk, Some};
+ghost use Rattle.std.specs.Prelude.{◌≡◌, ◌++◌, [], ℕ, List, false, IfOk, OnOk, Some};
 ghost use Rattle.std.specs.Option.{option_map};
 ghost use Rattle.deb_control.specs.ValueFiles.{ValueEntries};
 ghost use Rattle.deb_field.specs.ValueMeanings.{value_meaning};
@@ -8,7 +8,7 @@ ghost use Rattle.deb_field.specs.Values.{ValueMeaning};
 ghost use Rattle.deb_relation.specs.Environments.{environment_of};
 ghost use Rattle.deb_relation.specs.Views.{names_of};
 ghost use Rattle.deb_index.specs.Indexes.{packages_of};
-ghost use Rattle.deb_unmet.specs.Fields.{architecture_of, field_lines, fields_lines, heading, own_environment, paragraph_lines, value_under, word_in, word_under};
+ghost use Rattle.deb_unmet.specs.Fields.{architecture_of, field_lines, fields_lines, heading, own_environment, own_or, paragraph_lines, value_under, word_in, word_under};
 ghost use Rattle.deb_unmet.specs.Paragraphs.{HasValues};
 
 use crate::asked::Asked;
@@ -35,24 +35,44 @@ pub(crate) fn append_paragraph(
         number values) }
 {
     let architecture = architecture_of(alloc, asked, paragraph)?;
-    let heading = heading_of(alloc, asked, number, &architecture, paragraph)?;
-    match own_environment(alloc, asked, question.environment, &architecture)? {
-        Some(own) => {
-            let own_question = Question {
-                index: question.index,
-                environment: &own,
-            };
-            append_fields(
-                alloc,
-                out,
-                &own_question,
-                asked.fields(),
-                &heading,
-                paragraph,
-            )
-        }
-        None => append_fields(alloc, out, question, asked.fields(), &heading, paragraph),
+    let own = own_environment(alloc, asked, question.environment, &architecture)?;
+    let own_question = Question {
+        index: question.index,
+        environment: own_or(own.as_ref(), question.environment),
+    };
+    let fields = asked.fields();
+    if !some_line(alloc, &own_question, fields, paragraph)? {
+        return Ok(());
     }
+    let heading = heading_of(alloc, asked, number, &architecture, paragraph)?;
+    append_fields(alloc, out, &own_question, fields, &heading, paragraph)
+}
+
+/// Returns whether some group of these fields has a line. Most paragraphs have none, and need no
+/// heading.
+fn some_line(
+    alloc: Global,
+    question: &Question<'_>,
+    fields: &[&[u8]],
+    paragraph: &CheckedView<'_>,
+) -> Result<bool, AllocError>
+    ensures { (values : ValueEntries ValueMeaning) → HasValues paragraph.now values
+        → IfOk result (λ some. some ≡ false → (heading : List ℕ)
+        → fields_lines (environment_of question.now.environment.now)
+        (packages_of question.now.index.now) heading values (names_of fields.now) ≡ []) }
+{
+    let mut lines = Vec::new(alloc);
+    append_fields(alloc, &mut lines, question, fields, &[], paragraph)?;
+    Ok(!lines.is_empty())
+}
+
+/// Returns the own environment, if there is one, and else the other.
+fn own_or<'a>(own: Option<&'a Env>, environment: &'a Env) -> &'a Env
+    ensures { environment_of result.now
+        ≡ own_or (option_map (λ e. environment_of e.now) own.entry)
+            (environment_of environment.now) }
+{
+    own.unwrap_or(environment)
 }
 
 /// Returns the environment of a binary package's own architecture, if that can be a target.
