@@ -1,5 +1,5 @@
--- Laws of what a file lists, and of what is told of a relation: canonical text changes neither. Laws
--- of reasons.
+-- Laws of what a file lists, of reports on a relation, which canonical text doesn't change, and of
+-- reasons.
 -- Debian Policy 5.1 and 7.1; the canonical text is this project's own.
 use Rattle.std.specs.Prelude.{◌≡◌, ℕ, List, map}
 use Rattle.std.specs.Option.{is_none}

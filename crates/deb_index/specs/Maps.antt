@@ -59,7 +59,8 @@ worked-with : (numbers_with None None ≡ []) × (numbers_with None (Some 3) ≡
 worked-with = (refl, refl, refl)
 
 -- no list, a list of no number, one that ends in the last number, and one that doesn't
-worked-ends : map (λ list. ends_in_last list (Some 3)) (None ∷ Some (1 ∷ 3 ∷ []) ∷ Some (3 ∷ 4 ∷ []) ∷ [])
+worked-ends : map (λ list. ends_in_last list (Some 3))
+    (None ∷ Some (1 ∷ 3 ∷ []) ∷ Some (3 ∷ 4 ∷ []) ∷ [])
     ≡ true ∷ true ∷ false ∷ []
 worked-ends = refl
 

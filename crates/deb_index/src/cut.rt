@@ -109,8 +109,8 @@ fn append_entry(
     }
 }
 
-/// Appends the entries of a canonical relation that are a name alone or with a version. Out of memory
-/// is also returned if an entry can't hold the offsets of the text.
+/// Appends the entries of a canonical relation that are a name alone or with a version. Out of
+/// memory is also returned if an entry can't hold the offsets of the text.
 pub(crate) fn append_entries(text: &[u8], entries: &mut Vec<Entry>) -> Result<(), AllocError>
     ensures { (m : Relation) → IsRegularRelation m → text.now ≡ relation_text m
         → OnOk result (AppendsEntries text.now entries.old.items entries.new.items

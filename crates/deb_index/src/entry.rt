@@ -15,9 +15,9 @@ use deb_relation::{Alternative, Op};
 use deb_version::Version;
 use std::cmp::Ordering;
 
-/// The offsets at which the name and the version of an entry of Provides are in the canonical text of
-/// the field (Debian Policy 7.5), which is shorter than 2^32. The version is empty if the entry has
-/// none.
+/// The offsets at which the name and the version of an entry of Provides are in the canonical text
+/// of the field (Debian Policy 7.5), which is shorter than 2^32. The version is empty if the entry
+/// has none.
 #[derive(Clone, Copy, Debug)]
 pub(crate) struct Entry {
     pub(crate) start: u32,

@@ -17,8 +17,8 @@ use crate::span::part;
 use deb_field::MultiArch;
 use std::alloc::{AllocError, Global};
 
-/// A package: the offsets at which its texts and the entries of its Provides are in the lists of the
-/// store, which are shorter than 2^32.
+/// A package: the offsets at which its texts and the entries of its Provides are in the lists of
+/// the store, which are shorter than 2^32.
 #[derive(Clone, Copy, Debug)]
 pub(crate) struct Record {
     pub(crate) start: u32,
@@ -31,8 +31,8 @@ pub(crate) struct Record {
     pub(crate) multi_arch: Option<MultiArch>,
 }
 
-/// The packages of an index, one after another. One buffer contains the texts of each: the name, the
-/// version, the architecture and Provides, in this order.
+/// The packages of an index, one after another. One buffer contains the texts of each: the name,
+/// the version, the architecture and Provides, in this order.
 #[derive(Debug, Drop)]
 pub(crate) struct Store {
     pub(crate) bytes: Vec<u8>,

@@ -70,7 +70,7 @@ fn some_line(
 fn own_or<'a>(own: Option<&'a Env>, environment: &'a Env) -> &'a Env
     ensures { environment_of result.now
         ≡ own_or (option_map (λ e. environment_of e.now) own.entry)
-            (environment_of environment.now) }
+        (environment_of environment.now) }
 {
     own.unwrap_or(environment)
 }

@@ -101,7 +101,7 @@ SaysNo (Unmet arch profiles dependents) left other held out new =
     WritesUnmetOf (words_of_unmet arch profiles dependents) left other (held out) (held new) false
 
 -- Status 2: a file or a version is refused, exactly the refusal's line was written on `err`, by
--- `same` and `unmet` behind the side of the file, and nothing on `out` but the canonical text or
+-- `same` and `unmet` after the side of the file, and nothing on `out` but the canonical text or
 -- the lines of the paragraphs before the first that fails, by `normalise` and `unmet`.
 abbrev pub IsRefused : {W : Type 0} → Job → Option (List ℕ) → Option (List ℕ) →
     (W → Option (List ℕ)) → W → W → Option (List ℕ) → Option (List ℕ) → Type 0

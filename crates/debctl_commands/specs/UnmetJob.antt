@@ -155,7 +155,7 @@ pub record ReportsRefusedEnvironment {W : Type 0} (w : Words) (old new : W)
   pub unwritten : new ≡ old
   pub reported : Appends err err_after (refusal_line bad_environment)
 
--- The environment is good, and the index is refused: nothing was written but that line, behind the
+-- The environment is good, and the index is refused: nothing was written but that line, after the
 -- side of the index.
 pub record ReportsRefusedIndex {W : Type 0} (w : Words) (left : Option (List ℕ)) (old new : W)
     (err err_after : Option (List ℕ)) : Type 0 where
@@ -167,7 +167,7 @@ pub record ReportsRefusedIndex {W : Type 0} (w : Words) (left : Option (List ℕ
   pub reported : Appends err err_after (side_word First ++ refusal_line refusal)
 
 -- The environment is good, the index is accepted, and another file is refused: the lines of its
--- paragraphs before the first that fails were written, and that line behind the side of the file.
+-- paragraphs before the first that fails were written, and that line after the side of the file.
 pub record ReportsRefusedFile (w : Words) (left other old new : Option (List ℕ))
     (err err_after : Option (List ℕ)) : Type 0 where
   pub environment : IsTrue (has_environment w)

@@ -29,9 +29,10 @@ use std::alloc::Global;
 /// the index is. At most 4,295,032,831 bytes are read from a reader: a file of the most bytes, and
 /// one piece.
 ///
-/// - 0: done, or the answer is yes. `out` has `ok N` and a newline, the canonical text of the file,
-///   `same` and a newline, nothing, the canonical version and a newline, the lines of the keys, the
-///   sorted lines, or the report, with `--why` the report with reasons. Nothing was written to `err`.
+/// - 0: done, or the answer is yes. `out` has `ok N` and a newline, the canonical text of the
+///   file, `same` and a newline, nothing, the canonical version and a newline, the lines of the
+///   keys, the sorted lines, or the report, with `--why` the report with reasons. Nothing was
+///   written to `err`.
 /// - 1: the answer of `same` or `compare` is no, a group of a `query` is unmet, or `unmet` has a
 ///   line. `out` has `different` and a newline for `same`, the report for `query`, and the lines
 ///   for `unmet`; nothing else was written.

@@ -3,7 +3,7 @@
 use Rattle.std.specs.Prelude.{◌≡◌, ℕ, ◌<◌, ◌≤◌, List, ◌++◌, codes, drop, length, refl}
 use Rattle.std.proofs.Common.{arith}
 
--- The items stand at the front of the buffer, which is else as it was, and their number is told.
+-- The buffer starts with the items and is else as it was, and their number is returned.
 pub record Gives {T : Type 0} (items before after : List T) (len : ℕ) : Type 0 where
   pub fits : length items ≤ length before
   pub is : after ≡ items ++ drop (length items) before

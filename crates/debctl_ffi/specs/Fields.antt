@@ -1,5 +1,5 @@
--- What is shown to a program in C of the fields of a file: Debian Policy 5.1. The form of the tables
--- is this project's own.
+-- What is shown to a program in C of the fields of a file: Debian Policy 5.1. The form of the
+-- tables is this project's own.
 use Rattle.std.specs.Prelude.{◌≡◌, ◌⊎◌, ℕ, ◌+◌, ◌<◌, List, [], ◌∷◌, ◌++◌, length, map, Some, Ok, codes, refl}
 use Rattle.deb_base.specs.declared.doc.Doc.{Doc}
 use Rattle.deb_base.specs.declared.refusal.Refusal.{Refusal}
@@ -28,14 +28,14 @@ abbrev pub numbered_from : ℕ → List Seen → List Numbered
 numbered_from n [] = []
 numbered_from n (seen ∷ more) = numbered n seen.fields ++ numbered_from (n + 1) more
 
--- These are the answers behind the first `n` paragraphs: each is the next paragraph of the file.
+-- These are the answers after the first `n` paragraphs: each is the next paragraph of the file.
 abbrev pub AreNext : List ℕ → ℕ → List Seen → Type 0
 AreNext text n [] = Unit {0}
 AreNext text n (seen ∷ more) =
     (next_answer text n ≡ Ok (Some seen)) × AreNext text (n + 1) more
 
--- These are the fields of the paragraphs of the file that pass: of all, or of those before the first
--- that fails.
+-- These are the fields of the paragraphs of the file that pass: of all, or of those before the
+-- first that fails.
 pub record AreFields (doc : Doc) (text : List ℕ) (shown : List Numbered) : Type 0 where
   pub paragraphs : List Seen
   pub next : AreNext text 0 paragraphs

@@ -15,12 +15,12 @@ use deb_field::Doc;
 use std::alloc::{AllocError, Global};
 
 /// Writes where the fields of a file are, in file order: to the start of `names` the names, each
-/// with a byte 0 after it, to the start of `values` the values likewise, and to the start of `spans`
-/// for each field its paragraph, its line, and the offsets and lengths of its name and its value
-/// (Debian Policy 5.1). Returns how many there are of each. Status 0: the file is accepted, with the
-/// number of its paragraphs. 2: it is refused, with its first refusal; the fields are those of the
-/// paragraphs before the one that fails. 4: one of the three is too small; the numbers are what they
-/// need. 5: out of memory. 6: no such kind.
+/// with a byte 0 after it, to the start of `values` the values likewise, and to the start of
+/// `spans` for each field its paragraph, its line, and the offsets and lengths of its name and its
+/// value (Debian Policy 5.1). Returns how many there are of each. Status 0: the file is accepted,
+/// with the number of its paragraphs. 2: it is refused, with its first refusal; the fields are
+/// those of the paragraphs before the one that fails. 4: one of the three is too small; the
+/// numbers are what they need. 5: out of memory. 6: no such kind.
 ///
 /// Except for status 0 and 2, the three are unchanged.
 #[unsafe(no_mangle)]

@@ -14,10 +14,10 @@ use deb_relation::{Relation, RelationFault};
 use std::alloc::Global;
 
 /// Writes the canonical text of a relation to the start of `out`, and returns its length (Debian
-/// Policy 7.1): its groups with a comma and a space between them, in the order of their texts, each
-/// with its alternatives in the order of the relation, and ` | ` between them. Status 0: done. 2: the
-/// text isn't a relation, with the code 19 and no line. 4: `out` is too small; `len` is the length
-/// that it needs. 5: out of memory.
+/// Policy 7.1): its groups with a comma and a space between them, in the order of their texts,
+/// each with its alternatives in the order of the relation, and ` | ` between them. Status 0:
+/// done. 2: the text isn't a relation, with the code 19 and no line. 4: `out` is too small; `len`
+/// is the length that it needs. 5: out of memory.
 ///
 /// Except for status 0, `out` is unchanged.
 #[unsafe(no_mangle)]

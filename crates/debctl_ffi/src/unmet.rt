@@ -16,7 +16,8 @@ use std::alloc::Global;
 /// with these build profiles active, to the start of `out`, and returns the length of these lines
 /// (Debian Policy 7.1, 7.2 and 7.7). Status 0: there is none. 1: there is one. With the number of
 /// the file's paragraphs. 4: `out` is too small; `len` is the length that it needs. 5: out of
-/// memory. 6: no kind with relations has this number, or Recommends is asked of sources: it is asked if `recommends` isn't 0.
+/// memory. 6: no kind with relations has this number, or Recommends is asked of sources: it is
+/// asked if `recommends` isn't 0.
 ///
 /// Status 2, refused: the target or a profile, with the code 23 and the line 0; else the index,
 /// with its first refusal. 3: these are accepted and the file is refused, with its first refusal.

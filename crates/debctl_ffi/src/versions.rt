@@ -99,8 +99,9 @@ pub extern "C" fn deb_version_canonical(
 
 /// Writes the key of a version to the start of `out`, and returns its length: bytes whose order is
 /// Debian's order of versions, and that are the same exactly if the versions are equal
-/// (deb-version(7), "Sorting algorithm"). Status 0: done. 2: the text isn't a version, with the code
-/// 18 and no line. 4: `out` is too small; `len` is the length that it needs. 5: out of memory.
+/// (deb-version(7), "Sorting algorithm"). Status 0: done. 2: the text isn't a version, with the
+/// code 18 and no line. 4: `out` is too small; `len` is the length that it needs. 5: out of
+/// memory.
 ///
 /// Except for status 0, `out` is unchanged.
 #[unsafe(no_mangle)]
