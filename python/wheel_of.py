@@ -35,11 +35,12 @@ def _library():
         return (Path(folder) / "libdebctl.so").read_bytes()
 
 
-def _metadata():
+def metadata():
+    """What an installed package says of itself."""
     return (
         f"Metadata-Version: 2.1\nName: {NAME}\nVersion: {_value('version')}\n"
         f"Summary: {_value('description')}\nRequires-Python: {_value('requires-python')}\n"
-    ).encode()
+    )
 
 
 def _files():
@@ -51,7 +52,7 @@ def _files():
         if path.suffix == ".py" or path.name == "py.typed"
     }
     files[f"{NAME}/libdebctl.so"] = _library()
-    files[f"{info}/METADATA"] = _metadata()
+    files[f"{info}/METADATA"] = metadata().encode()
     files[f"{info}/WHEEL"] = (
         f"Wheel-Version: 1.0\nGenerator: debctl\nRoot-Is-Purelib: false\nTag: {TAG}\n".encode()
     )
