@@ -1,7 +1,9 @@
 -- What the job of `query` answers and reports. The line of a refusal is this project's own; the
 -- question, its refusals and its answers are those of `deb_index`.
-use Rattle.std.specs.Prelude.{◌≡◌, ◌⊎◌, ℕ, Bool, List, Option, Some, Result, IfOk, IfErr}
-use Rattle.std.specs.Prelude.{IsTrue, IsFalse, codes, refl}
+use Rattle.std.specs.Prelude.{◌≡◌, ◌⊎◌, ℕ, Bool, List, [], ◌∷◌, map, Option, Some, Result, IfOk, IfErr}
+use Rattle.std.specs.Prelude.{IsTrue, IsFalse, String, string_bytes, codes, refl}
+use Rattle.std.specs.declared.alloc.Global.{Global}
+use Rattle.std.proofs.Common.{ap}
 use Rattle.std.specs.Fmt.{digits}
 use Rattle.std.specs.Io.KnownBytes.{Appends}
 use Rattle.deb_base.specs.Devices.{AppendsFront, read_failures_after, write_failures_after}
@@ -18,13 +20,18 @@ use Rattle.deb_control.specs.Checking.{IsRefusalOfDocument}
 use Rattle.deb_index.specs.Listed.{Listed}
 use Rattle.deb_index.specs.Questions.{IsGood, IsReported, Question, RefusesQuery, RefusesWords}
 use Rattle.deb_index.specs.Questions.{bad_environment, bad_relation, environment_in}
-use Rattle.deb_index.specs.Questions.{has_environment, wildcard}
+use Rattle.deb_index.specs.Questions.{has_environment, question, wildcard}
 use Rattle.deb_index.specs.Reports.{Answer, all_met, report}
 use Rattle.deb_index.specs.ReportText.{report_text}
 use Rattle.deb_index.specs.Why.{detailed_report, detailed_text}
 use Rattle.debctl_args.specs.declared.jobs.Detail.{Detail}
 use Rattle.debctl_args.specs.declared.jobs.Detail.TheVariants.{Reasons, Verdicts}
 use Rattle.debctl_commands.specs.DocumentJobs.{IfNotWritten}
+use Rattle.debctl_commands.specs.declared.query_job.QueryWords.{QueryWords}
+
+-- the question that the arguments which the code holds ask about a relation
+abbrev pub question_of : QueryWords → List ℕ → Question
+question_of given relation = question given.target.now (map string_bytes given.profiles.now) relation
 
 -- ---- refusals
 
@@ -135,3 +142,11 @@ worked-reported : (q : Question) (text : List ℕ) (answers : List Answer)
     (reported : IsReported q text answers) → text_reported Verdicts reported
     ≡ report_text (report reported.packages reported.good.relation (environment_in q))
 worked-reported q text answers reported = refl
+
+-- the arguments that the code holds are those of the question
+question_of_arguments : (given : QueryWords) (relation : List ℕ) (one other : String Global)
+    → given.profiles.now ≡ one ∷ other ∷ []
+    → question_of given relation
+    ≡ question given.target.now (string_bytes one ∷ string_bytes other ∷ []) relation
+question_of_arguments given relation one other are =
+    ap (λ named. question given.target.now (map string_bytes named) relation) are

@@ -10,7 +10,7 @@ ghost use Rattle.debctl_commands.specs.Taking.{TakesFile};
 
 use crate::document_jobs::{run_check, run_normalise};
 use crate::query_from::run_query_from;
-use crate::query_job::run_query;
+use crate::query_job::{QueryWords, run_query};
 use crate::same_job::run_same;
 use crate::sort_job::run_sort;
 use crate::unmet_job::{UnmetWords, run_unmet};
@@ -103,45 +103,37 @@ pub fn run<R: Source, S: Source, W: Sink, E: Sink>(
             profiles,
             relation,
             detail,
-        } => run_query(
-            alloc,
-            arch.as_str(),
-            profiles,
-            relation.as_bytes(),
-            *detail,
-            first,
-            out,
-            err,
-        ),
+        } => {
+            let words = QueryWords {
+                target: arch.as_str(),
+                profiles,
+                detail: *detail,
+            };
+            run_query(alloc, &words, relation.as_bytes(), first, out, err)
+        }
         Job::QueryFrom {
             arch,
             profiles,
             detail,
-        } => run_query_from(
-            alloc,
-            arch.as_str(),
-            profiles,
-            *detail,
-            first,
-            second,
-            out,
-            err,
-        ),
+        } => {
+            let words = QueryWords {
+                target: arch.as_str(),
+                profiles,
+                detail: *detail,
+            };
+            run_query_from(alloc, &words, first, second, out, err)
+        }
         Job::Unmet {
             arch,
             profiles,
             dependents,
-        } => run_unmet(
-            alloc,
-            &UnmetWords {
+        } => {
+            let words = UnmetWords {
                 target: arch.as_str(),
                 profiles,
                 dependents: *dependents,
-            },
-            first,
-            second,
-            out,
-            err,
-        ),
+            };
+            run_unmet(alloc, &words, first, second, out, err)
+        }
     }
 }

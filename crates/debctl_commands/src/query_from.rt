@@ -1,18 +1,17 @@
 //! The job on an index and a relation that a file contains: `query --relation-from`.
 
-ghost use Rattle.std.specs.Prelude.{◌≡◌, ◌<◌, true, false, map, string_bytes, IfErr, IfOk};
+ghost use Rattle.std.specs.Prelude.{◌≡◌, ◌<◌, true, false, IfErr, IfOk};
 ghost use Rattle.deb_base.specs.Devices.{read_failures_after};
 ghost use Rattle.deb_base.specs.Faults.{IsReadersFault};
-ghost use Rattle.deb_index.specs.Questions.{question};
 ghost use Rattle.debctl_commands.specs.JobDevices.{reader_of, writer_of};
 ghost use Rattle.debctl_commands.specs.QueryFrom.{AreRefusedFrom, IsRead, RefusesLong, ReportsFrom};
 ghost use Rattle.debctl_commands.specs.QueryFrom.{ReportsRefusalFrom, WritesReportFrom};
+ghost use Rattle.debctl_commands.specs.QueryJob.{question_of};
 ghost use Rattle.debctl_commands.specs.Taking.{TakesFile};
 
-use crate::query_job::run_query;
+use crate::query_job::{QueryWords, run_query};
 use crate::reporting::report_fault;
 use deb_base::{Code, Fault, PARAGRAPH_LIMIT, Refusal, Sink, Source, read_text};
-use debctl_args::Detail;
 use std::alloc::Global;
 
 /// Writes to `out` which packages of an index, which `second` reads, meet the relation that `first`
@@ -23,30 +22,28 @@ use std::alloc::Global;
 /// index isn't read.
 pub(crate) fn run_query_from<R: Source, S: Source, W: Sink, E: Sink>(
     alloc: Global,
-    target: &str,
-    profiles: &[String],
-    detail: Detail,
+    words: &QueryWords<'_>,
     first: &mut R,
     second: &mut S,
     out: &mut W,
     err: &mut E,
 ) -> u8
     ensures yes { result ≡ 0 → (err.new ≡ err.old)
-        × WritesReportFrom detail
-        (λ relation. question target.now (map string_bytes profiles.now) relation)
+        × WritesReportFrom words.now.detail
+        (question_of words.now)
         (R.left first.old) (S.left second.old) (W.held out.old) (W.held out.new) true }
     ensures no { result ≡ 1 → (err.new ≡ err.old)
-        × WritesReportFrom detail
-        (λ relation. question target.now (map string_bytes profiles.now) relation)
+        × WritesReportFrom words.now.detail
+        (question_of words.now)
         (R.left first.old) (S.left second.old) (W.held out.old) (W.held out.new) false }
     ensures refused { result ≡ 2 → (out.new ≡ out.old)
         × ReportsRefusalFrom
-        (λ relation. question target.now (map string_bytes profiles.now) relation)
+        (question_of words.now)
         (R.left first.old) (S.left second.old) (E.held err.old) (E.held err.new) }
     ensures reads_at_most { TakesFile (R.left first.old) (R.left first.new) }
     ensures second_reads_at_most { TakesFile (S.left second.old) (S.left second.new) }
     ensures second_untouched_if_refused { AreRefusedFrom
-        (λ relation. question target.now (map string_bytes profiles.now) relation)
+        (question_of words.now)
         (R.left first.old) → second.new ≡ second.old }
 
     // Where a call of a device failed, the status is 3.
@@ -57,24 +54,15 @@ pub(crate) fn run_query_from<R: Source, S: Source, W: Sink, E: Sink>(
     ensures status_3_if_err_failed { E.failures err.old < E.failures err.new → result ≡ 3 }
 
     // Whatever the status: there is an answer, and that is reported.
-    ensures reports_answer { ReportsFrom detail
-        (λ relation. question target.now (map string_bytes profiles.now) relation)
+    ensures reports_answer { ReportsFrom words.now.detail
+        (question_of words.now)
         (reader_of (R.left first.old) (R.failures first.old) (R.failures first.new))
         (reader_of (S.left second.old) (S.failures second.old) (S.failures second.new))
         (writer_of W.held W.failures out.old out.new)
         (writer_of E.held E.failures err.old err.new) result }
 {
     match read_relation(alloc, first) {
-        Ok(relation) => run_query(
-            alloc,
-            target,
-            profiles,
-            relation.as_slice(),
-            detail,
-            second,
-            out,
-            err,
-        ),
+        Ok(relation) => run_query(alloc, words, relation.as_slice(), second, out, err),
         Err(fault) => report_fault(&fault, err),
     }
 }

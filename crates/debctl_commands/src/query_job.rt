@@ -7,9 +7,9 @@ ghost use Rattle.deb_base.specs.declared.fault.Fault.{Fault};
 ghost use Rattle.deb_relation.specs.Views.{names_of};
 ghost use Rattle.deb_index.specs.Asked.{environment_asked, relation_asked, Asks};
 ghost use Rattle.deb_index.specs.Indexes.{packages_of};
-ghost use Rattle.deb_index.specs.Questions.{question, Question as Words, RefusesWords};
+ghost use Rattle.deb_index.specs.Questions.{Question as Words, RefusesWords};
 ghost use Rattle.debctl_commands.specs.QueryJob.{AreRefused, QueriesFile, ReportsOver};
-ghost use Rattle.debctl_commands.specs.QueryJob.{ReportsQueryRefusal, WritesReport};
+ghost use Rattle.debctl_commands.specs.QueryJob.{ReportsQueryRefusal, WritesReport, question_of};
 ghost use Rattle.debctl_commands.specs.Reporting.{Reports};
 ghost use Rattle.debctl_commands.specs.Taking.{TakesFile};
 ghost use Rattle.debctl_commands.specs.VersionJobs.{verdict_status};
@@ -19,6 +19,14 @@ use deb_base::{Fault, Sink, Source};
 use deb_index::{Index, Question};
 use debctl_args::Detail;
 use std::alloc::{AllocError, Global};
+
+/// The arguments of `query`, except for the relation and the files.
+#[derive(Clone, Copy)]
+pub(crate) struct QueryWords<'a> {
+    pub target: &'a str,
+    pub profiles: &'a [String],
+    pub detail: Detail,
+}
 
 /// Writes to `out` which packages of an index meet a relation, with reasons if these are asked for,
 /// and returns the status.
@@ -31,28 +39,26 @@ use std::alloc::{AllocError, Global};
 ///   write to `err` failed, a prefix of its line.
 pub(crate) fn run_query<R: Source, W: Sink, E: Sink>(
     alloc: Global,
-    target: &str,
-    profiles: &[String],
+    words: &QueryWords<'_>,
     relation: &[u8],
-    detail: Detail,
     first: &mut R,
     out: &mut W,
     err: &mut E,
 ) -> u8
     ensures yes { result ≡ 0 → (err.new ≡ err.old)
         × ((text : List ℕ) → R.left first.old ≡ Some text
-        → WritesReport detail (question target.now (map string_bytes profiles.now) relation.now) text
+        → WritesReport words.now.detail (question_of words.now relation.now) text
         (W.held out.old) (W.held out.new) true) }
     ensures no { result ≡ 1 → (err.new ≡ err.old)
         × ((text : List ℕ) → R.left first.old ≡ Some text
-        → WritesReport detail (question target.now (map string_bytes profiles.now) relation.now) text
+        → WritesReport words.now.detail (question_of words.now relation.now) text
         (W.held out.old) (W.held out.new) false) }
     ensures refused { result ≡ 2 → (out.new ≡ out.old)
-        × ReportsQueryRefusal (question target.now (map string_bytes profiles.now) relation.now)
+        × ReportsQueryRefusal (question_of words.now relation.now)
         (R.left first.old) (E.held err.old) (E.held err.new) }
     ensures reads_at_most { TakesFile (R.left first.old) (R.left first.new) }
     ensures first_untouched_if_refused { AreRefused
-        (question target.now (map string_bytes profiles.now) relation.now)
+        (question_of words.now relation.now)
         → first.new ≡ first.old }
 
     // Where a call of a device failed, the status is 3.
@@ -62,12 +68,12 @@ pub(crate) fn run_query<R: Source, W: Sink, E: Sink>(
 
     // Whatever the status: there is an answer, and that is reported.
     ensures reports_answer { (answer : Result Bool Fault)
-        × QueriesFile detail (question target.now (map string_bytes profiles.now) relation.now)
+        × QueriesFile words.now.detail (question_of words.now relation.now)
         (R.left first.old) (R.failures first.old) (R.failures first.new)
         W.held W.failures out.old out.new answer
         × Reports verdict_status E.held E.failures err.old err.new answer result }
 {
-    match write_report(alloc, target, profiles, relation, detail, first, out) {
+    match write_report(alloc, words, relation, first, out) {
         Ok(true) => 0,
         Ok(false) => 1,
         Err(fault) => report_fault(&fault, err),
@@ -77,41 +83,38 @@ pub(crate) fn run_query<R: Source, W: Sink, E: Sink>(
 /// Writes the report, and returns whether no group is unmet.
 fn write_report<R: Source, W: Sink>(
     alloc: Global,
-    target: &str,
-    profiles: &[String],
+    words: &QueryWords<'_>,
     relation: &[u8],
-    detail: Detail,
     first: &mut R,
     out: &mut W,
 ) -> Result<bool, Fault>
-    ensures queries { QueriesFile detail
-        (question target.now (map string_bytes profiles.now) relation.now)
+    ensures queries { QueriesFile words.now.detail
+        (question_of words.now relation.now)
         (R.left first.old) (R.failures first.old) (R.failures first.new)
         W.held W.failures out.old out.new result }
     ensures reads_at_most { TakesFile (R.left first.old) (R.left first.new) }
     ensures first_untouched_if_refused { AreRefused
-        (question target.now (map string_bytes profiles.now) relation.now)
+        (question_of words.now relation.now)
         → first.new ≡ first.old }
 {
-    let question = parse_question(alloc, target, profiles, relation)?;
-    write_answer(alloc, &question, detail, first, out)
+    let question = parse_question(alloc, words, relation)?;
+    write_answer(alloc, &question, words.detail, first, out)
 }
 
 /// Parses the question that the command-line arguments ask.
 fn parse_question<'a>(
     alloc: Global,
-    target: &str,
-    profiles: &[String],
+    words: &QueryWords<'_>,
     relation: &'a [u8],
 ) -> Result<Question<'a>, Fault>
     ensures ok { IfOk result
-        (Asks (question target.now (map string_bytes profiles.now) relation.now)) }
+        (Asks (question_of words.now relation.now)) }
     ensures fault { IfErr result
         (λ fault. RefusedOrMemory fault
-        (RefusesWords (question target.now (map string_bytes profiles.now) relation.now))) }
+        (RefusesWords (question_of words.now relation.now))) }
 {
-    let names = names_of(alloc, profiles)?;
-    Question::parse(alloc, target.as_bytes(), &names, relation)
+    let names = names_of(alloc, words.profiles)?;
+    Question::parse(alloc, words.target.as_bytes(), &names, relation)
 }
 
 /// Returns the same texts in bytes.
