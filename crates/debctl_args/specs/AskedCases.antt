@@ -252,7 +252,7 @@ query_of_a_file_with_reasons = refl
 
 -- ---- `unmet`
 
--- arguments of `unmet` after its architecture
+-- words of `unmet` behind its architecture
 abbrev unmet_line : List Text → List Text
 unmet_line words = line (codes "unmet" ∷ codes "--arch" ∷ codes "amd64" ∷ words)
 

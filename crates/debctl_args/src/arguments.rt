@@ -84,17 +84,17 @@ impl From<AllocError> for UsageFault {
 /// # Errors
 ///
 /// - `UsageFault::Usage`: an argument is wrong or missing. The text is `usage: unknown kind`,
-///   `usage: unknown operator`, `usage: unknown command` or `usage: unknown code` for a K, an OP,
-///   a COMMAND or an N that isn't known; `usage: standard input twice` for `same - -`, for an
-///   audit with two paths `-`, for a query whose relation and index are both standard input, and
-///   for an `unmet` that reads standard input twice; `usage: explain takes one file, code,
-///   relation or version` for an `explain` with two of these, where a kind or a path names a file;
+///   `usage: unknown operator`, `usage: unknown command` or `usage: unknown code` for a K, an OP, a
+///   COMMAND or an N that isn't known; `usage: standard input twice` for `same - -`, for an audit
+///   with two paths `-`, for a query whose relation and index are both standard input, and for an
+///   `unmet` that reads standard input twice; `usage: explain takes one file, code, relation or
+///   version` for an `explain` with two of these, where a kind or a path names a file;
 ///   `usage: audit takes paths, or --files0-from` for an audit with neither paths nor a list, or
-///   with both; `usage: query takes a relation, or --relation-from` for a query with neither or
-///   with both; `usage: unmet takes no --kind any`; `usage: unmet takes --recommends only for
-///   binary packages` for the kinds `sources` and `source` with `--recommends`; `usage: unmet
-///   takes another --kind only with a second path` for a kind other than `packages` without PATH;
-///   otherwise that of `clap`.
+///   with both; `usage: query takes a relation, or --relation-from` for a query with neither or with
+///   both; `usage: unmet takes no --kind any`; `usage: unmet takes --recommends only for binary
+///   packages` for the kinds `sources` and `source` with `--recommends`; `usage: unmet takes another
+///   --kind only with a second path` for a kind other than `packages` without PATH; otherwise that
+///   of `clap`.
 /// - `UsageFault::Help`: the arguments ask for help or for the version.
 /// - `UsageFault::Memory`: a growth of memory was refused.
 pub fn job_of(alloc: Global, words: &[String]) -> Result<Task, UsageFault>
