@@ -1,10 +1,11 @@
 -- Refusals of what lies in memory, by the part of a query that is refused.
-use Rattle.std.proofs.Common.{◌≡◌, ℕ, List, Some, inl, inr}
+use Rattle.std.proofs.Common.{◌≡◌, ℕ, List, Some, inl, inr, subst, sym}
 use Rattle.std.specs.Prelude.{IsTrue}
 use Rattle.deb_base.specs.Faults.{RefusedOrMemory}
 use Rattle.deb_base.specs.declared.doc.Doc.TheVariants.{Packages}
 use Rattle.deb_base.specs.declared.fault.Fault.{Fault}
 use Rattle.deb_base.specs.declared.fault.Fault.TheVariants.{Refused, Memory, Read, Write}
+use Rattle.deb_base.specs.declared.refusal.Refusal.{Refusal}
 use Rattle.deb_control.specs.Documents.{refusal_of}
 use Rattle.deb_index.specs.Asked.{Asks, relation_asked}
 use Rattle.deb_index.specs.Listed.{Listed}
@@ -39,3 +40,7 @@ wildcard_refused q text (Refused refusal) good packages lists is =
 wildcard_refused q text Memory good packages lists is = tt
 wildcard_refused q text Read good packages lists is = absurd is
 wildcard_refused q text Write good packages lists is = absurd is
+
+-- out of memory refuses nothing
+pub memory_refused : (Fact : Refusal → Type 0) (fault : Fault) → fault ≡ Memory → RefusedOrMemory fault Fact
+memory_refused Fact fault is = subst (λ f. RefusedOrMemory f Fact) (sym is) tt

@@ -1,9 +1,9 @@
 use Rattle.std.proofs.lemmas.Result.{err_from_is_err_and}
 use Rattle.deb_index.specs.Indexes.{packages_of}
-use Rattle.deb_index.specs.Questions.{question}
+use Rattle.deb_index.specs.Questions.{question, RefusesQuery}
 use Rattle.deb_index.specs.Reported.{report_of}
 use Rattle.deb_relation.specs.Views.{names_of}
-use Rattle.debctl_ffi.proofs.Refusals.{good_words, index_refused, wildcard_refused, words_refused}
+use Rattle.debctl_ffi.proofs.Refusals.{good_words, index_refused, memory_refused, wildcard_refused, words_refused}
 use Rattle.debctl_ffi.proofs.report.report_on.Goals as goal
 
 pub returns-in_err-question-clause-fault : goal.returns-in_err-question-clause-fault
@@ -26,6 +26,12 @@ returns-in_err-report-clause-fault c =
     (wildcard_refused (question c.args.target.now (names_of c.args.profiles.now) c.args.relation.now) c.args.index.now _
     (good_words _ c.in_ok-question.question c.in_ok-question.ensures.ok)
     (packages_of c.in_ok-index.index) c.in_ok-index.ensures.ok c.in_err-report.ensures.reports)
+
+pub returns-in_err-text-clause-fault : goal.returns-in_err-text-clause-fault
+returns-in_err-text-clause-fault c =
+    let p = err_from_is_err_and c.from_residual-in_err-text.result c.from_residual-in_err-text.ensures.1 in
+    rw (p.1, p.2)
+    (memory_refused (RefusesQuery (question c.args.target.now (names_of c.args.profiles.now) c.args.relation.now) c.args.index.now) _ c.in_err-text.ensures.memory)
 
 pub returns-clause-ok : goal.returns-clause-ok
 returns-clause-ok c =
