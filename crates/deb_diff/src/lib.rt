@@ -1,0 +1,8 @@
+//! What changed in meaning between two files of Debian control data (Debian Policy 5.1 and 5.3 to
+//! 5.6).
+#![tactic(auto)]
+
+mod kind;
+pub mod laws;
+
+pub use kind::Kind;
