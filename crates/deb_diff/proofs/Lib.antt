@@ -1,3 +1,4 @@
 pub mod Pairs
 pub mod Fated
 pub mod Permuted
+pub mod Lookups

@@ -4,4 +4,5 @@ pub mod Pairing
 pub mod Differences
 pub mod Fields
 pub mod Lines
+pub mod Waiting
 pub mod Laws

@@ -4,5 +4,6 @@
 
 mod kind;
 pub mod laws;
+mod waiting;
 
 pub use kind::Kind;
