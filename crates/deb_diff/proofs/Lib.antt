@@ -2,3 +2,5 @@ pub mod Pairs
 pub mod Fated
 pub mod Permuted
 pub mod Lookups
+pub mod Picked
+pub mod Pooled

@@ -5,4 +5,5 @@ pub mod Differences
 pub mod Fields
 pub mod Lines
 pub mod Waiting
+pub mod Pools
 pub mod Laws

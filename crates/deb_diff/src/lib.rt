@@ -4,6 +4,7 @@
 
 mod kind;
 pub mod laws;
+mod pool;
 mod waiting;
 
 pub use kind::Kind;
