@@ -4,3 +4,4 @@ pub mod Permuted
 pub mod Lookups
 pub mod Picked
 pub mod Pooled
+pub mod KeptValues

@@ -33,9 +33,13 @@ abbrev pub word_of : Option ValueMeaning → List ℕ
 word_of None = []
 word_of (Some value) = word_in value
 
--- the word in the field with a name, and nothing if there is no such field
+-- the value of the field with a name, without ASCII case
+abbrev pub value_under : List ℕ → ValueEntries ValueMeaning → Option ValueMeaning
+value_under name values = find byte_order (canonical_name name) values
+
+-- the word in it, and nothing if there is no such field
 abbrev pub word_under : List ℕ → ValueEntries ValueMeaning → List ℕ
-word_under name values = word_of (find byte_order (canonical_name name) values)
+word_under name values = word_of (value_under name values)
 
 -- the architecture of a binary package, and `source` for a source package
 abbrev pub architecture_of : Kind → ValueEntries ValueMeaning → List ℕ

@@ -4,6 +4,7 @@ pub mod Pairing
 pub mod Differences
 pub mod Fields
 pub mod Lines
+pub mod Kepts
 pub mod Waiting
 pub mod Pools
 pub mod Laws

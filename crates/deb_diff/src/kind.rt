@@ -30,4 +30,24 @@ impl Kind {
             Kind::Source => Doc::Source,
         }
     }
+
+    /// Returns whether the files have binary packages.
+    pub(crate) fn is_binary(self) -> bool
+        ensures { result ≡ is_binary self }
+    {
+        match self {
+            Kind::Packages | Kind::Binary => true,
+            Kind::Sources | Kind::Source => false,
+        }
+    }
+
+    /// Returns the name of the field that names a package.
+    pub(crate) fn name_field(self) -> &'static [u8]
+        ensures { result.now ≡ name_field self }
+    {
+        match self {
+            Kind::Packages | Kind::Binary | Kind::Sources => b"Package",
+            Kind::Source => b"Source",
+        }
+    }
 }

@@ -2,6 +2,7 @@
 //! 5.6).
 #![tactic(auto)]
 
+mod kept;
 mod kind;
 pub mod laws;
 mod pool;
