@@ -1,5 +1,5 @@
 -- The values and the text of a paragraph that passes, as they are kept.
-use Rattle.std.proofs.Common.{◌≡◌, ℕ, List, Option, Some, Result, Ok, Err, IfOk, IsTrue, ap, sym, ◌∙◌, subst, bytes_eq}
+use Rattle.std.proofs.Common.{◌≡◌, ℕ, List, Option, Some, Result, Ok, Err, IfOk, IsTrue, ap, sym, ◌∙◌, subst, bytes_eq, is_ok, refl}
 use Rattle.std.proofs.lemmas.Slice.Eq.{bytes_eq-Decides}
 use Rattle.std.specs.FinMap.{find}
 use Rattle.std.specs.Option.{option_map}
@@ -21,6 +21,7 @@ use Rattle.deb_control.specs.PassingValues.{HasValue}
 use Rattle.deb_control.specs.Refusals.{built}
 use Rattle.deb_control.specs.ValueFiles.{ValueEntries}
 use Rattle.deb_control.specs.declared.checked_text.CheckedText.{CheckedText}
+use Rattle.deb_control.proofs.PassingParagraphs.{values-passing}
 use Rattle.deb_control.proofs.ValueBodies.{one_paragraph}
 use Rattle.deb_diff.specs.Items.{value_under}
 use Rattle.deb_diff.specs.Kepts.{HasValues}
@@ -43,3 +44,18 @@ text_is (Err refusal) entries text is same = cc same
 -- its text is that of its values
 pub text_kept : (paragraph : CheckedText) (values : ValueEntries ValueMeaning) → HasValues paragraph values → (passing_of paragraph).text ≡ text_of_values values
 text_kept paragraph values are = text_is _ _ (passing_of paragraph).text paragraph.passes are.passes
+
+judged-text : (r : Result Entries Refusal) (text : List ℕ) → IsTrue (is_text_of r text) → IsTrue (is_ok r)
+judged-text (Ok entries) text is = refl
+judged-text (Err refusal) text is = is
+
+-- The paragraph that was given has values.
+pub record GivenValues (paragraph : CheckedText) (doc : Doc) : Type 0 where
+  pub values : ValueEntries ValueMeaning
+  pub has : HasValues paragraph values
+  pub are : AreValuesOf doc (passing_of paragraph).seen values
+
+pub given_values : (paragraph : CheckedText) (doc : Doc) → doc_of paragraph ≡ doc → GivenValues paragraph doc
+given_values paragraph doc same =
+    let found = values-passing (doc_of paragraph) (passing_of paragraph).seen (judged-text _ (passing_of paragraph).text paragraph.passes) in
+    record { values = found.0; has = found.1; are = subst (λ d. AreValuesOf d (passing_of paragraph).seen found.0) same found.1 }

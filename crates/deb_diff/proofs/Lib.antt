@@ -5,3 +5,4 @@ pub mod Lookups
 pub mod Picked
 pub mod Pooled
 pub mod KeptValues
+pub mod Sifted

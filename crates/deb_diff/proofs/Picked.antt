@@ -10,6 +10,31 @@ use Rattle.deb_diff.specs.Pools.{numbers_of, pick}
 use Rattle.deb_diff.specs.Waiting.{first_of, rest_of}
 use Rattle.deb_diff.proofs.Pairs.{bytes_eq-sym}
 
+-- elements under a key, and their images
+module _ {X Y : Type 0} (f : X → Y) (key : Y → List ℕ) where
+  pub earliest-map : (wanted : List ℕ) (xs : List X) → earliest key wanted (map f xs) ≡ option_map f (earliest (λ x. key (f x)) wanted xs)
+  earliest-map wanted [] = refl
+  earliest-map wanted (x ∷ xs) = go (bytes_eq (key (f x)) wanted) (earliest-map wanted xs)
+    where
+      go : (b : Bool) → earliest key wanted (map f xs) ≡ option_map f (earliest (λ x. key (f x)) wanted xs) → cond b (Some (f x)) (earliest key wanted (map f xs)) ≡ option_map f (cond b (Some x) (earliest (λ x. key (f x)) wanted xs))
+      go true h = refl
+      go false h = h
+
+  pub all_but-map : (wanted : List ℕ) (xs : List X) → all_but key wanted (map f xs) ≡ map f (all_but (λ x. key (f x)) wanted xs)
+  all_but-map wanted [] = refl
+  all_but-map wanted (x ∷ xs) = go (bytes_eq (key (f x)) wanted) (all_but-map wanted xs)
+    where
+      go : (b : Bool) → all_but key wanted (map f xs) ≡ map f (all_but (λ x. key (f x)) wanted xs) → cond b (map f xs) (f x ∷ all_but key wanted (map f xs)) ≡ map f (cond b xs (x ∷ all_but (λ x. key (f x)) wanted xs))
+      go true h = refl
+      go false h = ap (λ l. f x ∷ l) h
+
+-- picked elements, and their images
+pub pick-map : {X Y : Type 0} (f : X → Y) (n : ℕ) (xs : List X) (flags : List Bool) → pick n (map f xs) flags ≡ map (λ e. (e.0, f e.1)) (pick n xs flags)
+pick-map f n [] flags = refl
+pick-map f n (x ∷ xs) [] = refl
+pick-map f n (x ∷ xs) (true ∷ flags) = ap (λ l. (n, f x) ∷ l) (pick-map f (n + 1) xs flags)
+pick-map f n (x ∷ xs) (false ∷ flags) = pick-map f (n + 1) xs flags
+
 -- one element more
 pub pick-push : {X : Type 0} (n : ℕ) (xs : List X) (x : X) (flags : List Bool) → length xs < length flags → pick n (xs ++ x ∷ []) flags ≡ pick n xs flags ++ cond (get_or flags (length xs) false) ((n + length xs, x) ∷ []) []
 pick-push n [] x [] less = absurd (omega (arith, less))

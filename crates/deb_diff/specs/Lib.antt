@@ -7,4 +7,5 @@ pub mod Lines
 pub mod Kepts
 pub mod Waiting
 pub mod Pools
+pub mod Sifting
 pub mod Laws

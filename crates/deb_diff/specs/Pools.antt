@@ -3,6 +3,7 @@ use Rattle.std.specs.Prelude.{◌≡◌, ℕ, ◌+◌, Bool, true, false, cond, 
 use Rattle.std.specs.List.{filter}
 use Rattle.std.specs.Option.{option_map}
 use Rattle.std.specs.Str.{bytes_eq}
+use Rattle.deb_diff.specs.Items.{Item}
 use Rattle.deb_diff.specs.Pairing.{all_but, earliest}
 use Rattle.deb_diff.specs.Waiting.{numbers_under}
 use Rattle.deb_diff.specs.declared.pool.Pool.{Pool}
@@ -28,11 +29,11 @@ pub record IsPoolOf (keys : List (List ℕ)) (pool : Pool) : Type 0 where
       numbers_under pool.waiting key ≡ numbers_of key (left_in keys pool)
 
 -- The earliest with a key was taken away, and this is its number.
-pub record Takes (keys : List (List ℕ)) (key : List ℕ) (old : Pool) (number : Option ℕ)
-    (new : Pool) : Type 0 where
-  pub found : number ≡ option_map (λ e. e.0) (earliest (λ e. e.1) key (left_in keys old))
-  pub left : left_in keys new ≡ all_but (λ e. e.1) key (left_in keys old)
-  pub is_pool : IsPoolOf keys new
+pub record Takes (items : List Item) (key : Item → List ℕ) (wanted : List ℕ) (old : Pool)
+    (number : Option ℕ) (new : Pool) : Type 0 where
+  pub found : number ≡ option_map (λ e. e.0) (earliest (λ e. key e.1) wanted (left_in items old))
+  pub left : left_in items new ≡ all_but (λ e. key e.1) wanted (left_in items old)
+  pub is_pool : IsPoolOf (map key items) new
 
 worked-pick : pick 3 (codes "a" ∷ codes "b" ∷ codes "c" ∷ []) (true ∷ false ∷ true ∷ [])
     ≡ (3, codes "a") ∷ (5, codes "c") ∷ []

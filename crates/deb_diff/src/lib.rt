@@ -6,6 +6,7 @@ mod kept;
 mod kind;
 pub mod laws;
 mod pool;
+mod reading;
 mod waiting;
 
 pub use kind::Kind;

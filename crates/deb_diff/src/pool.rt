@@ -1,6 +1,7 @@
 //! Elements of a list that aren't paired yet.
 
 ghost use Rattle.std.specs.Prelude.{◌≡◌, ℕ, List, length, map, IfOk};
+ghost use Rattle.deb_diff.specs.Items.{Item};
 ghost use Rattle.deb_diff.specs.Pools.{IsPoolOf, Takes, numbers_of, pick};
 ghost use Rattle.deb_diff.specs.Waiting.{numbers_under};
 
@@ -31,8 +32,9 @@ impl<'a> Pool<'a> {
 
     /// Takes the earliest element with a key away, and returns its number.
     pub(crate) fn take(&mut self, key: &[u8]) -> Option<usize>
-        ensures { (keys : List (List ℕ)) → IsPoolOf keys self.old
-            → Takes keys key.now self.old result self.new }
+        ensures { (items : List Item) (key_of : Item → List ℕ)
+            → IsPoolOf (map key_of items) self.old
+            → Takes items key_of key.now self.old result self.new }
     {
         let Some(number) = self.waiting.take(key) else {
             return None;
