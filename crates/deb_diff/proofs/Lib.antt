@@ -6,3 +6,5 @@ pub mod Picked
 pub mod Pooled
 pub mod KeptValues
 pub mod Sifted
+pub mod Boths
+pub mod Partnered

@@ -8,4 +8,6 @@ pub mod Kepts
 pub mod Waiting
 pub mod Pools
 pub mod Sifting
+pub mod Both
+pub mod Partners
 pub mod Laws

@@ -2,11 +2,14 @@
 //! 5.6).
 #![tactic(auto)]
 
+mod both;
 mod kept;
 mod kind;
 pub mod laws;
+mod partners;
 mod pool;
 mod reading;
+mod sides;
 mod waiting;
 
 pub use kind::Kind;
