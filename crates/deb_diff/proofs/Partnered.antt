@@ -1,5 +1,6 @@
 -- The partners of one key more.
-use Rattle.std.proofs.Common.{◌≡◌, ℕ, List, [], ◌∷◌, ◌++◌, map, take, Option, refl, sym, ap, ◌∙◌}
+use Rattle.std.proofs.Common.{◌≡◌, ℕ, List, [], ◌∷◌, ◌++◌, map, take, get_or, ◌+◌, ◌<◌, length, Bor, Option, refl, sym, ap, ◌∙◌}
+use Rattle.std.proofs.lemmas.List.{map-append, take_more}
 use Rattle.std.specs.Option.{option_map}
 use Rattle.deb_diff.specs.Items.{Item}
 use Rattle.deb_diff.specs.Pairing.{all_but, earliest}
@@ -25,3 +26,6 @@ pairs-push items key keys more wanted old now new found found_now number more_is
   left = takes.left ∙ ap (all_but (λ e. key e.1) wanted) pairs.left ∙ sym (after-push key keys wanted (left_in items old)) ∙ ap (λ l. after_keys key l (left_in items old)) (sym more_is);
   is_pool = takes.is_pool;
 }
+
+pub keys-more : (keys : List (Bor (List ℕ))) (i : ℕ) (d : Bor (List ℕ)) → i < length keys → map (λ k. k.now) (take (i + 1) keys) ≡ map (λ k. k.now) (take i keys) ++ (get_or keys i d).now ∷ []
+keys-more keys i d below = ap (map (λ k. k.now)) (take_more keys i d below) ∙ map-append (λ k. k.now) (take i keys) (get_or keys i d ∷ [])
