@@ -1,5 +1,6 @@
 -- A pool of all paragraphs of a file, and of none.
 use Rattle.std.proofs.Common.{◌≡◌, ℕ, ◌+◌, Bool, true, false, cond, ◌&&◌, List, [], ◌∷◌, length, map, refl, sym, ap, ◌∙◌, subst, arith, Result, Ok, Err, IfOk}
+use Rattle.std.proofs.lemmas.List.{length-map}
 use Rattle.std.specs.List.{list_all}
 use Rattle.deb_control.specs.Pairs.{Pairwise}
 use Rattle.deb_diff.specs.Items.{Item, items_of, whole}
@@ -48,6 +49,7 @@ reads_new kind text items old new others same all waits sifts =
     record {
       meaning = sifts.meaning;
       accepted = sifts.accepted;
+      length_is = ap length waits ∙ sifts.is_pool.length_is ∙ length-map items whole;
       left = ap (λ flags. map (λ e. e.1) (pick 0 items flags)) waits ∙ sifts.left ∙ ap (λ l. without whole l (items_of kind sifts.meaning)) whole_old;
       are_kept = subst (λ l. AreKept others.new.items (without whole (items_of kind sifts.meaning) l)) whole_old sifts.are_kept;
     }

@@ -8,3 +8,4 @@ pub mod KeptValues
 pub mod Sifted
 pub mod Boths
 pub mod Partnered
+pub mod Unchanging

@@ -71,7 +71,7 @@ some_fate : (fate : Item × Fate) (fates : List (Item × Fate)) (more : List ℕ
 some_fate fate fates more none = not_nothing ((fate_line fate ++ flat_map fate_line fates) ++ more) (fate_line-some fate (flat_map fate_line fates) more) none
 
 -- where nothing is written, nothing is left of either list
-left-nothing : (old new : List Item) → difference_text (difference old new) ≡ [] → (without whole old new ≡ []) × (without whole new old ≡ [])
+pub left-nothing : (old new : List Item) → difference_text (difference old new) ≡ [] → (without whole old new ≡ []) × (without whole new old ≡ [])
 left-nothing old new none = go (without whole old new) (without whole new old) none
   where
     go : (xs ys : List Item) → flat_map fate_line (fates xs ys (without release ys xs)) ++ flat_map added_line (without series (without release ys xs) (without release xs ys)) ≡ [] → (xs ≡ []) × (ys ≡ [])
@@ -83,7 +83,7 @@ left-nothing old new none = go (without whole old new) (without whole new old) n
         (fates xs (all_but release (release x) ys) (cond (is_some (earliest release (release x) ys)) (without release ys (x ∷ xs)) (all_but series (series x) (without release ys (x ∷ xs)))))
         (flat_map added_line (without series (without release ys (x ∷ xs)) (without release (x ∷ xs) ys))) none)
 
-nothing-left : (old new : List Item) → without whole old new ≡ [] → without whole new old ≡ [] → difference_text (difference old new) ≡ []
+pub nothing-left : (old new : List Item) → without whole old new ≡ [] → without whole new old ≡ [] → difference_text (difference old new) ≡ []
 nothing-left old new e f = rw (e, f) refl
 
 pub no_line_if_permuted : NoLineIfPermuted

@@ -1,5 +1,5 @@
 -- What two files don't have in common.
-use Rattle.std.specs.Prelude.{◌≡◌, ℕ, List, map}
+use Rattle.std.specs.Prelude.{◌≡◌, ℕ, List, length, map}
 use Rattle.deb_control.specs.Documents.{Accepted, Meaning}
 use Rattle.deb_diff.specs.Items.{Item, items_of, whole}
 use Rattle.deb_diff.specs.Kepts.{AreKept}
@@ -23,6 +23,7 @@ pub record ReadsNew (kind : Kind) (text : List ℕ) (old : List Item) (others : 
   where
     pub meaning : Meaning
     pub accepted : Accepted (doc_of kind) text meaning
+    pub length_is : length others.waits.items ≡ length old
     pub left : map (λ e. e.1) (pick 0 old others.waits.items)
         ≡ without whole old (items_of kind meaning)
     pub are_kept : AreKept others.new.items (without whole (items_of kind meaning) old)

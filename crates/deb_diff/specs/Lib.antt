@@ -10,4 +10,5 @@ pub mod Pools
 pub mod Sifting
 pub mod Both
 pub mod Partners
+pub mod Unchanged
 pub mod Laws

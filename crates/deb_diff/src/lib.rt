@@ -10,6 +10,8 @@ mod partners;
 mod pool;
 mod reading;
 mod sides;
+mod unchanged;
 mod waiting;
 
 pub use kind::Kind;
+pub use unchanged::is_unchanged;
