@@ -1,19 +1,17 @@
 -- A pool of all paragraphs of a file, and of none.
-use Rattle.std.proofs.Common.{◌≡◌, ℕ, ◌+◌, Bool, true, false, cond, ◌&&◌, List, [], ◌∷◌, length, map, refl, sym, ap, ◌∙◌, subst, arith, Result, Ok, Err, IfOk}
+use Rattle.std.proofs.Common.{◌≡◌, ℕ, ◌+◌, Bool, true, false, List, [], ◌∷◌, length, map, refl, ap, ◌∙◌, subst, arith, Result, Ok, Err, IfOk}
 use Rattle.std.proofs.lemmas.List.{length-map}
 use Rattle.std.specs.List.{list_all}
-use Rattle.deb_control.specs.Pairs.{Pairwise}
 use Rattle.deb_diff.specs.Items.{Item, items_of, whole}
 use Rattle.deb_diff.specs.Both.{ReadsAll, ReadsNew}
 use Rattle.deb_diff.specs.Kepts.{AreKept}
 use Rattle.deb_diff.specs.Pairing.{without}
-use Rattle.deb_diff.specs.Pools.{IsPoolOf, left_in, pick}
+use Rattle.deb_diff.specs.Pools.{pick}
 use Rattle.deb_diff.specs.Sifting.{SiftsFile, items_in}
 use Rattle.deb_diff.specs.declared.both.Others.{Others}
 use Rattle.deb_diff.specs.declared.kept.Kept.{Kept}
 use Rattle.deb_diff.specs.declared.kind.Kind.{Kind}
 use Rattle.deb_diff.specs.declared.pool.Pool.{Pool}
-use Rattle.deb_diff.proofs.Pairs.{without-nil}
 
 pub if_ok : {T E : Type 0} {P Q : T → Type 0} → ((x : T) → P x → Q x) → (r : Result T E) → IfOk r P → IfOk r Q
 if_ok next (Ok x) p = next x p

@@ -1,7 +1,7 @@
 -- The fates of old paragraphs, and those that were removed.
-use Rattle.std.proofs.Common.{◌≡◌, ℕ, Bool, true, false, cond, List, [], ◌∷◌, map, Option, Some, None, is_some, refl, sym, ap, ◌∙◌}
+use Rattle.std.proofs.Common.{◌≡◌, cond, List, [], ◌∷◌, map, Option, Some, None, is_some, refl, ap, ◌∙◌}
 use Rattle.std.specs.List.{filter}
-use Rattle.deb_diff.specs.Differences.{Difference, Fate, Changed, Removed, Upgraded, difference, difference_of_others, fate_of, fates, is_removed, removed}
+use Rattle.deb_diff.specs.Differences.{difference, difference_of_others, fate_of, fates, is_removed, removed}
 use Rattle.deb_diff.specs.Items.{Item, release, series, whole}
 use Rattle.deb_diff.specs.Pairing.{all_but, earliest, without}
 use Rattle.deb_diff.proofs.Pairs.{unpaired, unpaired-left}

@@ -7,5 +7,4 @@ pub mod Pooled
 pub mod KeptValues
 pub mod Sifted
 pub mod Boths
-pub mod Partnered
 pub mod Unchanging

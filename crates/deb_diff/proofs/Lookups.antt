@@ -1,5 +1,5 @@
 -- A look-up by bytes among keys that are lent, after a change at one of them.
-use Rattle.std.proofs.Common.{◌≡◌, ℕ, Bool, true, false, cond, List, [], ◌++◌, Option, Some, None, refl, sym, ap, ◌∙◌, Bor, drop, ◌∷◌}
+use Rattle.std.proofs.Common.{◌≡◌, ℕ, Bool, true, false, cond, List, [], Some, refl, sym, ap, ◌∙◌, Bor, drop, ◌∷◌}
 use Rattle.std.specs.Map.{lookup, KeepsOthers}
 use Rattle.std.specs.Option.{option_map_or}
 use Rattle.std.specs.declared.collections.VecDeque.{VecDeque}

@@ -1,15 +1,15 @@
 -- No line comes exactly where the paragraphs are the same in some order.
-use Rattle.std.proofs.Common.{◌≡◌, ◌↔◌, ℕ, ◌+◌, Bool, true, false, cond, is_some, List, [], ◌∷◌, ◌++◌, map, refl, sym, ap, ◌∙◌, subst, append-nil}
+use Rattle.std.proofs.Common.{◌≡◌, ℕ, ◌+◌, false, cond, is_some, List, [], ◌∷◌, ◌++◌, map, refl, sym, ap, ◌∙◌, subst}
 use Rattle.std.specs.List.{AllByRecursion, flat_map}
 use Rattle.std.specs.List.Sorted.{IsPermutation}
 use Rattle.std.proofs.lemmas.Bool.{false≢true}
 use Rattle.std.proofs.lemmas.List.Sorted.{IsPermutation-map, IsPermutation-sym}
 use Rattle.deb_base.specs.declared.doc.Doc.{Doc}
-use Rattle.deb_syntax.specs.Meaning.{Entries, Means}
+use Rattle.deb_syntax.specs.Meaning.{Means}
 use Rattle.deb_field.specs.ValueLaws.{value_law}
 use Rattle.deb_field.specs.Values.{ValueMeaning, value_text, SpellsValue}
 use Rattle.deb_control.specs.Canonical.{paragraph_text}
-use Rattle.deb_control.specs.Documents.{Accepted, Meaning, Means as MeansOf}
+use Rattle.deb_control.specs.Documents.{Meaning, Means as MeansOf}
 use Rattle.deb_control.specs.Pairs.{Pairwise}
 use Rattle.deb_control.specs.Paragraphs.{text_of_values}
 use Rattle.deb_control.specs.ValueFiles.{ValueEntries, SpellsEntry, SpellsEntries, body_under, bodies_of}
@@ -17,11 +17,11 @@ use Rattle.deb_syntax.proofs.LinesLawsPlaces.{means-unique}
 use Rattle.deb_control.proofs.Entries.{AreEntries}
 use Rattle.deb_control.proofs.FileText.{AreEntries-from_means, HaveMeanings-file_text}
 use Rattle.deb_control.proofs.ValueBodies.{AreEntries-bodies_of, bodies_of-spelled, one_paragraph}
-use Rattle.deb_diff.specs.Differences.{Difference, Fate, Changed, Removed, Upgraded, difference, fate_of, fates}
+use Rattle.deb_diff.specs.Differences.{Fate, Changed, Removed, Upgraded, difference, fate_of, fates}
 use Rattle.deb_diff.specs.Items.{Item, items_from, items_of, release, series, whole}
 use Rattle.deb_diff.specs.Kinds.{doc_of}
 use Rattle.deb_diff.specs.Laws.{NoLineIfPermuted}
-use Rattle.deb_diff.specs.Lines.{added_line, diff_text, difference_text, fate_line, is_nothing}
+use Rattle.deb_diff.specs.Lines.{added_line, difference_text, fate_line, is_nothing}
 use Rattle.deb_diff.specs.Pairing.{all_but, earliest, without}
 use Rattle.deb_diff.specs.declared.kind.Kind.{Kind}
 use Rattle.deb_diff.proofs.Pairs.{none_left, same_elements, same_keys, without-nil}

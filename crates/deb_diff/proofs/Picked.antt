@@ -1,5 +1,5 @@
 -- Elements of a list that wait, when one more comes and when one is taken.
-use Rattle.std.proofs.Common.{◌≡◌, ℕ, suc, ◌+◌, ◌-◌, ◌<◌, ◌≤◌, Bool, true, false, cond, List, [], ◌∷◌, ◌++◌, length, map, take, get_or, slice_set, subst, Bor, Option, Some, None, refl, sym, ap, ◌∙◌, arith, append-nil}
+use Rattle.std.proofs.Common.{◌≡◌, ℕ, suc, ◌+◌, ◌<◌, Bool, true, false, cond, List, [], ◌∷◌, ◌++◌, length, map, take, get_or, slice_set, subst, Bor, Some, refl, sym, ap, ◌∙◌, arith, append-nil}
 use Rattle.std.specs.List.{filter}
 use Rattle.std.proofs.lemmas.List.{length-map, length-take-le, map-append, take_more}
 use Rattle.std.specs.Option.{option_map}
@@ -8,7 +8,6 @@ use Rattle.std.proofs.lemmas.Slice.Eq.{bytes_eq-Decides}
 use Rattle.deb_diff.specs.Pairing.{all_but, earliest}
 use Rattle.deb_diff.specs.Pools.{numbers_of, pick}
 use Rattle.deb_diff.specs.Waiting.{first_of, rest_of}
-use Rattle.deb_diff.proofs.Pairs.{bytes_eq-sym}
 
 -- elements under a key, and their images
 module _ {X Y : Type 0} (f : X → Y) (key : Y → List ℕ) where

@@ -1,5 +1,5 @@
 -- What is known of the paragraphs that were kept while a file is read, and at its end.
-use Rattle.std.proofs.Common.{◌≡◌, ℕ, ◌+◌, Bool, true, false, cond, is_none, is_some, List, [], ◌∷◌, ◌++◌, length, map, Option, None, Some, Result, Ok, Err, refl, sym, ap, ◌∙◌, subst, arith, append-nil, bytes_eq}
+use Rattle.std.proofs.Common.{◌≡◌, ℕ, ◌+◌, Bool, true, false, cond, is_none, is_some, List, [], ◌∷◌, ◌++◌, length, map, Option, None, Some, Ok, refl, sym, ap, ◌∙◌, subst, arith, append-nil}
 use Rattle.std.proofs.lemmas.List.{length_push}
 use Rattle.std.specs.Option.{option_map}
 use Rattle.deb_base.specs.declared.doc.Doc.{Doc}
@@ -18,7 +18,7 @@ use Rattle.deb_diff.specs.Items.{Item, item_of, items_from, items_of, whole}
 use Rattle.deb_diff.specs.Kepts.{AreKept, IsKept}
 use Rattle.deb_diff.specs.Kinds.{doc_of}
 use Rattle.deb_diff.specs.Pairing.{all_but, earliest, without}
-use Rattle.deb_diff.specs.Pools.{IsPoolOf, Takes, left_in, pick}
+use Rattle.deb_diff.specs.Pools.{IsPoolOf, Takes, left_in}
 use Rattle.deb_diff.specs.Sifting.{Sifts, SiftsFile, items_in}
 use Rattle.deb_diff.specs.declared.kept.Kept.{Kept}
 use Rattle.deb_diff.specs.declared.kind.Kind.{Kind}

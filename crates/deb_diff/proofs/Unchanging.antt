@@ -1,9 +1,8 @@
 -- Nothing is left of either file exactly where there is no line.
-use Rattle.std.proofs.Common.{◌≡◌, ◌↔◌, ℕ, ◌+◌, Bool, true, false, not, ◌&&◌, IsTrue, List, [], ◌∷◌, length, map, refl, sym, ap, ◌∙◌, subst, arith, Result, Ok, Err, IfOk}
+use Rattle.std.proofs.Common.{◌≡◌, ◌↔◌, ℕ, ◌+◌, Bool, true, false, not, ◌&&◌, IsTrue, List, [], ◌∷◌, length, map, refl, sym, ◌∙◌, subst, arith}
 use Rattle.std.specs.List.{list_any}
 use Rattle.std.specs.List.Sorted.{IsPermutation}
-use Rattle.deb_diff.specs.Both.{ReadsBoth, ReadsNew}
-use Rattle.deb_diff.specs.Differences.{difference}
+use Rattle.deb_diff.specs.Both.{ReadsBoth}
 use Rattle.deb_diff.specs.Items.{Item, items_of, whole}
 use Rattle.deb_diff.specs.Kepts.{AreKept}
 use Rattle.deb_diff.specs.Lines.{diff_text}
@@ -12,7 +11,6 @@ use Rattle.deb_diff.specs.Pools.{pick}
 use Rattle.deb_diff.specs.Unchanged.{AnswersUnchanged, has_none, is_none}
 use Rattle.deb_diff.specs.declared.kept.Kept.{Kept}
 use Rattle.deb_diff.specs.declared.kind.Kind.{Kind}
-use Rattle.deb_diff.specs.declared.both.Others.{Others}
 use Rattle.deb_diff.specs.declared.sides.Read.{Read}
 use Rattle.deb_diff.proofs.Permuted.{left-nothing, no_line_if_permuted, nothing-left}
 

@@ -1,5 +1,5 @@
 -- What changed between two files (this project's own).
-use Rattle.std.specs.Prelude.{◌≡◌, ℕ, Bool, true, false, cond, is_some, List, [], ◌∷◌, ◌++◌, map, Option, Some, None, codes, refl}
+use Rattle.std.specs.Prelude.{◌≡◌, ℕ, Bool, true, false, cond, is_some, List, [], ◌∷◌, map, Option, Some, None, codes, refl}
 use Rattle.std.specs.List.{filter}
 use Rattle.deb_diff.specs.Items.{Item, release, series, whole}
 use Rattle.deb_diff.specs.Pairing.{all_but, earliest, without}

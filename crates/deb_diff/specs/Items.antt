@@ -1,5 +1,5 @@
 -- The paragraphs of a file, each with its number and what it is called. Debian Policy 5.6.
-use Rattle.std.specs.Prelude.{◌≡◌, ℕ, ◌+◌, cond, List, [], ◌∷◌, ◌++◌, map, Option, Some, None, codes, refl}
+use Rattle.std.specs.Prelude.{◌≡◌, ℕ, ◌+◌, cond, List, [], ◌∷◌, map, Option, Some, None, codes, refl}
 use Rattle.std.specs.FinMap.{find}
 use Rattle.std.specs.List.{concat}
 use Rattle.deb_base.specs.Names.{canonical_name}

@@ -9,6 +9,5 @@ pub mod Waiting
 pub mod Pools
 pub mod Sifting
 pub mod Both
-pub mod Partners
 pub mod Unchanged
 pub mod Laws

@@ -6,7 +6,6 @@ mod both;
 mod kept;
 mod kind;
 pub mod laws;
-mod partners;
 mod pool;
 mod reading;
 mod sides;

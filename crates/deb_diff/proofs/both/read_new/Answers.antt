@@ -1,6 +1,5 @@
-use Rattle.std.proofs.Common.{◌≡◌, ℕ, List, length, map, ap, sym, ◌∙◌, subst, rules}
+use Rattle.std.proofs.Common.{◌≡◌, length, map, ap, ◌∙◌, subst, rules}
 use Rattle.std.specs.List.{list_all}
-use Rattle.deb_diff.specs.Items.{whole}
 use Rattle.deb_diff.specs.Pools.{IsPoolOf}
 use Rattle.deb_diff.proofs.Boths.{length-kept, reads_new, texts-kept}
 use Rattle.deb_diff.proofs.both.read_new.Goals as goal

@@ -1,4 +1,4 @@
-use Rattle.std.proofs.Common.{◌≡◌, ℕ, List, [], map, ap, ◌∙◌}
+use Rattle.std.proofs.Common.{[]}
 use Rattle.deb_diff.proofs.Boths.{if_ok, reads_all}
 use Rattle.deb_diff.proofs.both.read_old.Goals as goal
 

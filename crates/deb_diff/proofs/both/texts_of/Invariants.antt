@@ -1,4 +1,4 @@
-use Rattle.std.proofs.Common.{◌≡◌, List, map, take}
+use Rattle.std.proofs.Common.{◌≡◌, map, take}
 use Rattle.deb_diff.proofs.both.texts_of.Given as goal
 
 abbrev pub invariant-loop-paragraph : goal.invariant-loop-paragraph

@@ -1,5 +1,5 @@
 -- One element more.
-use Rattle.std.proofs.Common.{◌≡◌, ℕ, [], List, Bool, true, false, refl, sym, ap, ◌∙◌, rules, cond, slice_index_or}
+use Rattle.std.proofs.Common.{[], true, false, ap, ◌∙◌}
 use Rattle.deb_diff.specs.Waiting.{numbers_under}
 use Rattle.deb_diff.proofs.Picked.{numbers-more}
 use Rattle.deb_diff.proofs.pool.waiting_of.Goals as goal

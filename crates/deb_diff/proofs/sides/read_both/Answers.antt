@@ -1,4 +1,4 @@
-use Rattle.std.proofs.Common.{◌≡◌, ℕ, List, Some, subst, sym, rules}
+use Rattle.std.proofs.Common.{◌≡◌, Some, subst, sym, rules}
 use Rattle.std.specs.Prelude.{⊤}
 use Rattle.deb_control.specs.Comparing.{RefusesSecond}
 use Rattle.deb_control.specs.Documents.{refusal_of}

@@ -1,4 +1,3 @@
-use Rattle.std.proofs.Common.{◌∙◌, rules}
 use Rattle.deb_diff.proofs.Unchanging.{answered}
 use Rattle.deb_diff.proofs.unchanged.is_unchanged.Goals as goal
 

@@ -1,4 +1,4 @@
-use Rattle.std.proofs.Common.{◌≡◌, refl, sym, ◌∙◌, rules, arith}
+use Rattle.std.proofs.Common.{refl, rules}
 use Rattle.deb_diff.proofs.Pooled.{takes-none, takes-some}
 use Rattle.deb_diff.proofs.pool.Pool.take.Goals as goal
 

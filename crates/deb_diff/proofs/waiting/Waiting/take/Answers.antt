@@ -1,6 +1,6 @@
-use Rattle.std.proofs.Common.{◌≡◌, ◌++◌, [], ◌∷◌, ℕ, List, cond, sym, ap, ◌∙◌, rules}
+use Rattle.std.proofs.Common.{[], ap, ◌∙◌, rules}
 use Rattle.std.specs.Option.{option_map_or}
-use Rattle.deb_diff.specs.Waiting.{numbers_under, rest_of}
+use Rattle.deb_diff.specs.Waiting.{rest_of}
 use Rattle.deb_diff.proofs.Lookups.{change_under, rest-drop}
 use Rattle.deb_diff.proofs.waiting.Waiting.take.Goals as goal
 
