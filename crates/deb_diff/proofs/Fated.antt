@@ -14,6 +14,7 @@ removed-unpaired (x ∷ xs) same near =
   where
     others : List Item
     others = all_but release (release x) same
+
     go : (p q : Option Item) → earliest series (series x) near ≡ q → ((near : List Item) → map (λ fate. fate.0) (filter is_removed (fates xs others near)) ≡ unpaired series (unpaired release xs others) near)
         → map (λ fate. fate.0) (filter is_removed ((x, fate_of p q) ∷ fates xs others (cond (is_some p) near (all_but series (series x) near)))) ≡ unpaired series (cond (is_some p) (unpaired release xs others) (x ∷ unpaired release xs others)) near
     go (Some y) q is h = h near

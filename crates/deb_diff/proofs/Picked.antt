@@ -84,6 +84,7 @@ numbers-rest key other (e ∷ left) =
   where
     same : List (ℕ × List ℕ)
     same = filter (λ e. bytes_eq e.1 other) left
+
     go : (a : Bool) → bytes_eq e.1 key ≡ a → (b : Bool) → bytes_eq e.1 other ≡ b → (c : Bool) → bytes_eq key other ≡ c → numbers_of other (all_but (λ e. e.1) key left) ≡ cond c (rest_of (map (λ e. e.0) same)) (map (λ e. e.0) same)
         → numbers_of other (cond a left (e ∷ all_but (λ e. e.1) key left)) ≡ cond c (rest_of (map (λ e. e.0) (cond b (e ∷ same) same))) (map (λ e. e.0) (cond b (e ∷ same) same))
     go true x true y true z h = refl
@@ -131,8 +132,8 @@ numbers-more keys flags number d below same b waits old new key before is =
     let long : length front ≡ number = length-map (take number keys) (λ k. k.now) ∙ length-take-le number keys (omega (arith, below)) in
     let more : map (λ (k : Bor (List ℕ)). k.now) (take (number + 1) keys) ≡ front ++ element ∷ [] = ap (map (λ k. k.now)) (take_more keys number d below) ∙ map-append (λ k. k.now) (take number keys) (get_or keys number d ∷ []) in
     let picked : pick 0 (map (λ (k : Bor (List ℕ)). k.now) (take (number + 1) keys)) flags ≡ pick 0 front flags ++ cond b ((number, element) ∷ []) [] =
-        ap (λ l. pick 0 l flags) more ∙ pick-push 0 front element flags (omega (arith, below, same, long)) ∙ ap (λ i. pick 0 front flags ++ cond (get_or flags i false) ((0 + i, element) ∷ []) []) long
-        ∙ ap (λ w. pick 0 front flags ++ cond w ((0 + number, element) ∷ []) []) waits ∙ ap (λ i. pick 0 front flags ++ cond b ((i, element) ∷ []) []) (omega arith) in
+    ap (λ l. pick 0 l flags) more ∙ pick-push 0 front element flags (omega (arith, below, same, long)) ∙ ap (λ i. pick 0 front flags ++ cond (get_or flags i false) ((0 + i, element) ∷ []) []) long
+    ∙ ap (λ w. pick 0 front flags ++ cond w ((0 + number, element) ∷ []) []) waits ∙ ap (λ i. pick 0 front flags ++ cond b ((i, element) ∷ []) []) (omega arith) in
     is ∙ ap (λ l. cond b (cond (bytes_eq element key) (l ++ number ∷ []) l) l) before ∙ last b front ∙ ap (numbers_of key) (sym picked)
   where
     last : (b : Bool) (front : List (List ℕ)) → cond b (cond (bytes_eq (get_or keys number d).now key) (numbers_of key (pick 0 front flags) ++ number ∷ []) (numbers_of key (pick 0 front flags))) (numbers_of key (pick 0 front flags)) ≡ numbers_of key (pick 0 front flags ++ cond b ((number, (get_or keys number d).now) ∷ []) [])

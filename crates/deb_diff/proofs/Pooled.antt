@@ -33,7 +33,7 @@ module _ (items : List Item) (key : Item → List ℕ) (wanted : List ℕ) (old 
       → length new.waits.items ≡ length old.waits.items → left_in items new ≡ all_but (λ e. key e.1) wanted (left_in items old) → IsPoolOf (map key items) new
   rest_numbers rest long left =
       let keys : left_in (map key items) new ≡ all_but (λ e. e.1) wanted (left_in (map key items) old) =
-          pick-map key 0 items new.waits.items ∙ ap (map keyed) left ∙ sym (all_but-map keyed (λ e. e.1) wanted (left_in items old)) ∙ ap (all_but (λ e. e.1) wanted) (sym (pick-map key 0 items old.waits.items)) in
+      pick-map key 0 items new.waits.items ∙ ap (map keyed) left ∙ sym (all_but-map keyed (λ e. e.1) wanted (left_in items old)) ∙ ap (all_but (λ e. e.1) wanted) (sym (pick-map key 0 items old.waits.items)) in
       record {
         length_is = long ∙ pool.length_is;
         numbers = λ other. rest other ∙ ap (λ l. cond (bytes_eq wanted other) (rest_of l) l) (pool.numbers other) ∙ sym (numbers-rest wanted other (left_in (map key items) old)) ∙ ap (numbers_of other) (sym keys);

@@ -79,6 +79,7 @@ unpaired-push (z ∷ xs) ys x = go (is_some (earliest whole (whole z) ys)) (unpa
   where
     rest : List Item
     rest = all_but whole (whole z) ys
+
     go : (b : Bool) → unpaired whole (xs ++ x ∷ []) rest ≡ unpaired whole xs rest ++ cond (is_some (earliest whole (whole x) (without whole rest xs))) [] (x ∷ [])
         → cond b (unpaired whole (xs ++ x ∷ []) rest) (z ∷ unpaired whole (xs ++ x ∷ []) rest) ≡ cond b (unpaired whole xs rest) (z ∷ unpaired whole xs rest) ++ cond (is_some (earliest whole (whole x) (without whole rest xs))) [] (x ∷ [])
     go true h = h

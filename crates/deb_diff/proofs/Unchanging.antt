@@ -54,14 +54,18 @@ answers kind text other read both = record {
   where
     old : List Item
     old = items_of kind both.old_meaning
+
     new : List Item
     new = items_of kind both.new.meaning
+
     law : (diff_text kind both.old_meaning both.new.meaning ≡ []) ↔ IsPermutation both.old_meaning both.new.meaning
     law = no_line_if_permuted kind text other both.old_meaning both.new.meaning both.accepted both.new.accepted
+
     to : IsTrue (has_none read.others) → diff_text kind both.old_meaning both.new.meaning ≡ []
     to holds =
         let parts = both_true (is_none read.others.new.items) (list_any (λ wait. wait) read.others.waits.items) holds in
         nothing-left old new (sym both.new.left ∙ none_wait 0 old read.others.waits.items both.new.length_is parts.1) (none_kept read.others.new.items (without whole new old) both.new.are_kept parts.0)
+
     from : diff_text kind both.old_meaning both.new.meaning ≡ [] → IsTrue (has_none read.others)
     from none =
         let left = left-nothing old new none in

@@ -1,5 +1,12 @@
 //! What changed in meaning between two files of Debian control data (Debian Policy 5.1 and 5.3 to
 //! 5.6).
+//!
+//! ```text
+//! let unchanged = is_unchanged(alloc, Kind::Packages, &mut old, &mut new)?;
+//! ```
+//!
+//! `specs/` defines what changed and the lines that say so; `laws` has the theorems about these
+//! definitions. `is_unchanged` returns whether there is no line.
 #![tactic(auto)]
 
 mod both;

@@ -46,11 +46,7 @@ fn same_paragraphs(rt: HostRuntime) {
     }
 }
 
-fn in_pieces(
-    alloc: Global,
-    old: &mut Pieces<'_>,
-    new: &mut Pieces<'_>,
-) -> Result<bool, SideFault> {
+fn in_pieces(alloc: Global, old: &mut Pieces<'_>, new: &mut Pieces<'_>) -> Result<bool, SideFault> {
     let mut other = Input::new(&mut *new);
     is_unchanged(
         alloc,
