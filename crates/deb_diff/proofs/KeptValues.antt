@@ -1,18 +1,39 @@
 -- The values and the text of a paragraph that passes, as they are kept.
-use Rattle.std.proofs.Common.{◌≡◌, ℕ, List, Result, Ok, Err, IsTrue, ap, ◌∙◌, subst, is_ok, refl}
+use Rattle.std.proofs.Common.{◌≡◌, ℕ, List, Option, Some, Result, Ok, Err, IfOk, IsTrue, ap, sym, ◌∙◌, subst, bytes_eq, is_ok, refl}
 use Rattle.std.proofs.lemmas.Slice.Eq.{bytes_eq-Decides}
+use Rattle.std.specs.FinMap.{find}
+use Rattle.std.specs.Option.{option_map}
+use Rattle.deb_base.specs.Names.{canonical_name}
 use Rattle.deb_base.specs.declared.doc.Doc.{Doc}
 use Rattle.deb_base.specs.declared.refusal.Refusal.{Refusal}
-use Rattle.deb_syntax.specs.Meaning.{Entries}
-use Rattle.deb_field.specs.Values.{ValueMeaning}
-use Rattle.deb_control.specs.Checking.{is_text_of}
+use Rattle.deb_syntax.specs.Answers.{Seen}
+use Rattle.deb_syntax.specs.Meaning.{Entries, byte_order, entries_of}
+use Rattle.deb_field.specs.ValueLaws.{value_law}
+use Rattle.deb_field.specs.ValueMeanings.{value_meaning}
+use Rattle.deb_field.specs.Values.{ValueMeaning, value_text, SpellsValue}
+use Rattle.deb_field.specs.declared.value.Value.{Value}
+use Rattle.deb_control.specs.Checking.{is_passing, is_text_of}
 use Rattle.deb_control.specs.Canonical.{paragraph_text}
 use Rattle.deb_control.specs.CheckedStates.{doc_of, passing_of}
+use Rattle.deb_control.specs.Documents.{rules_of}
 use Rattle.deb_control.specs.Paragraphs.{AreValuesOf, text_of_values}
+use Rattle.deb_control.specs.PassingValues.{HasValue}
+use Rattle.deb_control.specs.Refusals.{built}
 use Rattle.deb_control.specs.ValueFiles.{ValueEntries}
 use Rattle.deb_control.specs.declared.checked_text.CheckedText.{CheckedText}
 use Rattle.deb_control.proofs.PassingParagraphs.{values-passing}
+use Rattle.deb_control.proofs.ValueBodies.{one_paragraph}
+use Rattle.deb_diff.specs.Items.{value_under}
 use Rattle.deb_diff.specs.Kepts.{HasValues}
+
+-- the value that is found under a name is that of any list of the paragraph's values
+pub value_found : {E : Type 0} (paragraph : CheckedText) (name : List ℕ) (found : Result (Option Value) E)
+    → IfOk found (λ value. HasValue (doc_of paragraph) (passing_of paragraph).seen name (option_map value_meaning value))
+    → (values : ValueEntries ValueMeaning) → HasValues paragraph values → IfOk found (λ value. option_map value_meaning value ≡ value_under name values)
+value_found paragraph name (Ok value) has values are =
+    let doc = doc_of paragraph in
+    has.found ∙ ap (find byte_order (canonical_name name)) (one_paragraph ValueMeaning (SpellsValue doc) value_text (value_law doc) (entries_of (passing_of paragraph).seen.fields) has.values values has.are.spelled are.spelled)
+value_found paragraph name (Err error) has values are = tt
 
 text_is : (r : Result Entries Refusal) (entries : Entries) (text : List ℕ) → IsTrue (is_text_of r text) → r ≡ Ok entries → text ≡ paragraph_text entries
 text_is (Ok others) entries text is same =

@@ -7,4 +7,10 @@ pub mod Pooled
 pub mod KeptValues
 pub mod Sifted
 pub mod Boths
+pub mod Partnered
+pub mod Walked
+pub mod Lined
+pub mod Cutting
+pub mod Naming
+pub mod Differed
 pub mod Unchanging

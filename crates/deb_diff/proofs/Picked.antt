@@ -139,3 +139,26 @@ numbers-more keys flags number d below same b waits old new key before is =
     last : (b : Bool) (front : List (List ℕ)) → cond b (cond (bytes_eq (get_or keys number d).now key) (numbers_of key (pick 0 front flags) ++ number ∷ []) (numbers_of key (pick 0 front flags))) (numbers_of key (pick 0 front flags)) ≡ numbers_of key (pick 0 front flags ++ cond b ((number, (get_or keys number d).now) ∷ []) [])
     last true front = sym (numbers-push key (pick 0 front flags) number (get_or keys number d).now)
     last false front = ap (numbers_of key) (sym (append-nil (pick 0 front flags)))
+
+-- the elements that wait, with the next one
+pub picked-more : {X : Type 0} (xs : List X) (flags : List Bool) (number : ℕ) (d : X) → number < length xs → length flags ≡ length xs → (b : Bool) → get_or flags number false ≡ b
+    → (old new : List X) → old ≡ map (λ e. e.1) (pick 0 (take number xs) flags) → new ≡ cond b (old ++ get_or xs number d ∷ []) old → new ≡ map (λ e. e.1) (pick 0 (take (number + 1) xs) flags)
+picked-more {X = X} xs flags number d below same b waits old new before is =
+    let x = get_or xs number d in
+    let front = take number xs in
+    let long : length front ≡ number = length-take-le number xs (omega (arith, below)) in
+    let picked : pick 0 (take (number + 1) xs) flags ≡ pick 0 front flags ++ cond (get_or flags (length front) false) ((0 + length front, x) ∷ []) [] =
+    ap (λ l. pick 0 l flags) (take_more xs number d below) ∙ pick-push 0 front x flags (omega (arith, below, same, long)) in
+    let flag : get_or flags (length front) false ≡ b = ap (λ i. get_or flags i false) long ∙ waits in
+    is ∙ ap (λ l. cond b (l ++ x ∷ []) l) before ∙ last b (0 + length front) (pick 0 front flags) x
+    ∙ ap (λ w. map (λ e. e.1) (pick 0 front flags ++ cond w ((0 + length front, x) ∷ []) [])) (sym flag) ∙ ap (map (λ e. e.1)) (sym picked)
+  where
+    last : (b : Bool) (n : ℕ) (front : List (ℕ × X)) (x : X) → cond b (map (λ e. e.1) front ++ x ∷ []) (map (λ e. e.1) front) ≡ map (λ e. e.1) (front ++ cond b ((n, x) ∷ []) [])
+    last true n front x = sym (map-append (λ e. e.1) front ((n, x) ∷ []))
+    last false n front x = ap (map (λ e. e.1)) (sym (append-nil front))
+
+-- and without it
+pub picked-same : {X : Type 0} (xs : List X) (flags : List Bool) (number : ℕ) → number < length xs → length flags ≡ length xs → get_or flags number false ≡ false
+    → (old new : List X) → old ≡ map (λ e. e.1) (pick 0 (take number xs) flags) → new ≡ old → new ≡ map (λ e. e.1) (pick 0 (take (number + 1) xs) flags)
+picked-same [] flags number below same waits old new before is = absurd (omega (arith, below))
+picked-same (x ∷ xs) flags number below same waits old new before is = picked-more (x ∷ xs) flags number x below same false waits old new before is

@@ -1,5 +1,5 @@
 -- Paragraphs that are kept. Debian Policy 5.1.
-use Rattle.std.specs.Prelude.{◌≡◌, List}
+use Rattle.std.specs.Prelude.{◌≡◌, ℕ, List}
 use Rattle.deb_control.specs.CheckedStates.{doc_of, passing_of}
 use Rattle.deb_control.specs.Pairs.{Pairwise}
 use Rattle.deb_control.specs.Paragraphs.{AreValuesOf}
@@ -13,8 +13,12 @@ use Rattle.deb_diff.specs.declared.kept.Kept.{Kept}
 abbrev pub HasValues : CheckedText → ValueEntries ValueMeaning → Type 0
 HasValues paragraph values = AreValuesOf (doc_of paragraph) (passing_of paragraph).seen values
 
--- What is kept is the paragraph's text.
+-- What is kept is the paragraph's.
 pub record IsKept (kept : Kept) (item : Item) : Type 0 where
+  pub number : kept.number ≡ item.number
+  pub name : kept.name.items ≡ item.name
+  pub version : kept.version.items ≡ item.version
+  pub architecture : kept.architecture.items ≡ item.architecture
   pub text : kept.text.items ≡ whole item
 
 -- These paragraphs are kept, in their order.

@@ -9,5 +9,9 @@ pub mod Waiting
 pub mod Pools
 pub mod Sifting
 pub mod Both
+pub mod Partners
+pub mod Cuts
+pub mod Lefts
+pub mod Walks
 pub mod Unchanged
 pub mod Laws

@@ -1,7 +1,7 @@
 //! Which kinds of files are compared.
 
 ghost use Rattle.std.specs.Prelude.{◌≡◌};
-ghost use Rattle.deb_diff.specs.Kinds.{doc_of};
+ghost use Rattle.deb_diff.specs.Kinds.{doc_of, is_binary, name_field};
 
 use deb_field::Doc;
 
@@ -28,6 +28,26 @@ impl Kind {
             Kind::Binary => Doc::Binary,
             Kind::Sources => Doc::Sources,
             Kind::Source => Doc::Source,
+        }
+    }
+
+    /// Returns whether the files have binary packages.
+    pub(crate) fn is_binary(self) -> bool
+        ensures { result ≡ is_binary self }
+    {
+        match self {
+            Kind::Packages | Kind::Binary => true,
+            Kind::Sources | Kind::Source => false,
+        }
+    }
+
+    /// Returns the name of the field that names a package.
+    pub(crate) fn name_field(self) -> &'static [u8]
+        ensures { result.now ≡ name_field self }
+    {
+        match self {
+            Kind::Packages | Kind::Binary | Kind::Sources => b"Package",
+            Kind::Source => b"Source",
         }
     }
 }

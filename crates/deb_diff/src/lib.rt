@@ -9,10 +9,16 @@
 //! definitions. `is_unchanged` returns whether there is no line.
 #![tactic(auto)]
 
+mod became;
 mod both;
+mod cut;
+mod differing;
 mod kept;
 mod kind;
 pub mod laws;
+mod left;
+mod lines;
+mod partners;
 mod pool;
 mod reading;
 mod sides;

@@ -15,7 +15,6 @@ ghost use Rattle.deb_diff.specs.Kepts.{HasValues};
 ghost use Rattle.deb_diff.specs.Kinds.{doc_of};
 ghost use Rattle.deb_diff.specs.Pools.{IsPoolOf};
 ghost use Rattle.deb_diff.specs.Sifting.{Sifts, SiftsFile};
-ghost use Rattle.deb_diff.specs.declared.kind.Kind.{Kind as KindOf};
 
 use crate::kept::{Kept, keep};
 use crate::kind::Kind;
@@ -47,11 +46,11 @@ pub(crate) fn read_others<R: Source>(
 {
     let mut checked = Checked::new(alloc, kind.doc());
     let mut kept = Vec::new(alloc);
-    for _ in 0..u64::MAX {
+    for count in 0..u64::MAX {
         let Some(paragraph) = checked.next(reader)? else {
             return Ok(kept);
         };
-        sift(alloc, &paragraph, pool, &mut kept)?;
+        sift(alloc, kind, count + 1, &paragraph, pool, &mut kept)?;
     }
     // No file has so many paragraphs.
     unreachable!()
@@ -60,17 +59,19 @@ pub(crate) fn read_others<R: Source>(
 /// Takes a paragraph away from the pool, or else keeps it.
 fn sift(
     alloc: Global,
+    kind: Kind,
+    number: u64,
     paragraph: &CheckedText<'_>,
     pool: &mut Pool<'_>,
     kept: &mut Vec<Kept>,
 ) -> Result<(), AllocError>
-    ensures { (kind : KindOf) (number : ℕ) (values : ValueEntries ValueMeaning)
-        (others : List Item) → HasValues paragraph.now values → IsPoolOf (map whole others) pool.old
+    ensures { (values : ValueEntries ValueMeaning) (others : List Item)
+        → HasValues paragraph.now values → IsPoolOf (map whole others) pool.old
         → OnOk result (Sifts (item_of kind number values) others pool.old pool.new
         kept.old.items kept.new.items) }
 {
     if pool.take(paragraph.canonical_text()).is_none() {
-        kept.push(keep(alloc, paragraph)?)?;
+        kept.push(keep(alloc, kind, number, paragraph)?)?;
     }
     Ok(())
 }
