@@ -13,4 +13,6 @@ pub mod Lined
 pub mod Cutting
 pub mod Naming
 pub mod Differed
+pub mod Fating
+pub mod Linked
 pub mod Unchanging

@@ -13,5 +13,6 @@ pub mod Partners
 pub mod Cuts
 pub mod Lefts
 pub mod Walks
+pub mod Fates
 pub mod Unchanged
 pub mod Laws

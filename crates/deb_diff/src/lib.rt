@@ -13,6 +13,7 @@ mod became;
 mod both;
 mod cut;
 mod differing;
+mod fates;
 mod kept;
 mod kind;
 pub mod laws;
