@@ -1,5 +1,5 @@
 -- Where the fields of a canonical text end, and what a map of them has.
-use Rattle.std.proofs.Common.{◌≡◌, ℕ, suc, ◌+◌, ◌-◌, ◌<◌, ◌≤◌, ◌==◌, ◌&&◌, Bool, true, false, not, cond, IsTrue, List, [], ◌∷◌, ◌++◌, length, map, drop, take, Bor, refl, sym, ap, ◌∙◌, subst, arith}
+use Rattle.std.proofs.Common.{◌≡◌, ℕ, ◌+◌, ◌==◌, ◌&&◌, Bool, true, false, not, cond, IsTrue, List, [], ◌∷◌, ◌++◌, length, map, drop, take, Bor, refl, sym, ap, ◌∙◌, arith}
 use Rattle.std.proofs.lemmas.Bool.{and_parts, false≢true}
 use Rattle.std.proofs.lemmas.Bool.Decides.{nat_tests}
 use Rattle.std.proofs.lemmas.List.{append_assoc, length-append, drop-drop}
@@ -8,7 +8,7 @@ use Rattle.std.specs.BTreeMap.{insert_entry}
 use Rattle.std.specs.Ordering.{match_ordering}
 use Rattle.std.specs.declared.cmp.Ordering.{Ordering}
 use Rattle.std.specs.declared.cmp.Ordering.TheVariants.{Less, Equal, Greater}
-use Rattle.deb_base.specs.Bodies.{Line, begins_with_blank, ends_with_blank, is_blank, is_blank_byte, is_body_shape, is_continuation, newline, pieces_of, with_byte}
+use Rattle.deb_base.specs.Bodies.{Line, begins_with_blank, ends_with_blank, is_blank, is_blank_byte, is_continuation, newline, pieces_of, with_byte}
 use Rattle.deb_base.specs.FieldNames.{colon, is_name, is_name_byte}
 use Rattle.deb_base.proofs.FieldBytes.{each_from_list_all, each_name_byte}
 use Rattle.deb_syntax.specs.Meaning.{Entries, byte_order}

@@ -1,10 +1,10 @@
 -- The lines of paragraphs that are kept.
-use Rattle.std.proofs.Common.{◌≡◌, ℕ, suc, ◌<◌, List, [], ◌∷◌, ◌++◌, length, map, drop, get_or, Bor, codes, refl, sym, ap, ◌∙◌, subst, arith, append-nil}
+use Rattle.std.proofs.Common.{◌≡◌, ℕ, List, [], ◌∷◌, ◌++◌, map, Bor, codes, refl, sym, ap, ◌∙◌, subst, append-nil}
 use Rattle.std.specs.List.{flat_map}
 use Rattle.std.specs.Fmt.{decimal}
 use Rattle.std.proofs.lemmas.List.{append_assoc}
-use Rattle.deb_diff.specs.Differences.{Changed, Fate, Removed, Upgraded}
-use Rattle.deb_diff.specs.Fates.{AreFated, IsAt, IsFated, IsWhole}
+use Rattle.deb_diff.specs.Differences.{Changed, Fate, Upgraded}
+use Rattle.deb_diff.specs.Fates.{AreFated, IsFated}
 use Rattle.deb_diff.specs.Fields.{differing}
 use Rattle.deb_diff.specs.Items.{Item}
 use Rattle.deb_diff.specs.Kepts.{AreKept, IsKept}

@@ -1,24 +1,21 @@
 -- The values and the text of a paragraph that passes, as they are kept.
-use Rattle.std.proofs.Common.{◌≡◌, ℕ, List, Option, Some, Result, Ok, Err, IfOk, IsTrue, ap, sym, ◌∙◌, subst, bytes_eq, is_ok, refl}
+use Rattle.std.proofs.Common.{◌≡◌, ℕ, List, Option, Result, Ok, Err, IfOk, IsTrue, ap, ◌∙◌, subst, is_ok, refl}
 use Rattle.std.proofs.lemmas.Slice.Eq.{bytes_eq-Decides}
 use Rattle.std.specs.FinMap.{find}
 use Rattle.std.specs.Option.{option_map}
 use Rattle.deb_base.specs.Names.{canonical_name}
 use Rattle.deb_base.specs.declared.doc.Doc.{Doc}
 use Rattle.deb_base.specs.declared.refusal.Refusal.{Refusal}
-use Rattle.deb_syntax.specs.Answers.{Seen}
 use Rattle.deb_syntax.specs.Meaning.{Entries, byte_order, entries_of}
 use Rattle.deb_field.specs.ValueLaws.{value_law}
 use Rattle.deb_field.specs.ValueMeanings.{value_meaning}
 use Rattle.deb_field.specs.Values.{ValueMeaning, value_text, SpellsValue}
 use Rattle.deb_field.specs.declared.value.Value.{Value}
-use Rattle.deb_control.specs.Checking.{is_passing, is_text_of}
+use Rattle.deb_control.specs.Checking.{is_text_of}
 use Rattle.deb_control.specs.Canonical.{paragraph_text}
 use Rattle.deb_control.specs.CheckedStates.{doc_of, passing_of}
-use Rattle.deb_control.specs.Documents.{rules_of}
 use Rattle.deb_control.specs.Paragraphs.{AreValuesOf, text_of_values}
 use Rattle.deb_control.specs.PassingValues.{HasValue}
-use Rattle.deb_control.specs.Refusals.{built}
 use Rattle.deb_control.specs.ValueFiles.{ValueEntries}
 use Rattle.deb_control.specs.declared.checked_text.CheckedText.{CheckedText}
 use Rattle.deb_control.proofs.PassingParagraphs.{values-passing}

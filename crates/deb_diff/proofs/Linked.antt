@@ -4,12 +4,12 @@ use Rattle.std.specs.List.{AllByRecursion}
 use Rattle.std.specs.Option.{option_map}
 use Rattle.std.specs.Str.{bytes_eq}
 use Rattle.deb_control.specs.Pairs.{Pairwise}
-use Rattle.deb_diff.specs.Differences.{Changed, Fate, Removed, Upgraded, fate_of, fates}
+use Rattle.deb_diff.specs.Differences.{fate_of, fates}
 use Rattle.deb_diff.specs.Fates.{AreFated, IsAt, IsFated, IsWhole}
 use Rattle.deb_diff.specs.Items.{Item, release, series}
 use Rattle.deb_diff.specs.Pairing.{all_but, earliest, without}
 use Rattle.deb_diff.specs.Partners.{after_keys, partners_of}
-use Rattle.deb_diff.specs.Walks.{all_of, became_of, left_after, left_after_all, near_of}
+use Rattle.deb_diff.specs.Walks.{all_of, became_of, left_after_all}
 use Rattle.deb_diff.specs.declared.kept.Kept.{Kept}
 use Rattle.deb_diff.proofs.Pairs.{unpaired}
 use Rattle.deb_diff.proofs.Picked.{all_but-map, earliest-map}

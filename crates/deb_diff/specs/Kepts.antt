@@ -1,5 +1,5 @@
 -- Paragraphs that are kept. Debian Policy 5.1.
-use Rattle.std.specs.Prelude.{◌≡◌, ℕ, List}
+use Rattle.std.specs.Prelude.{◌≡◌, List}
 use Rattle.deb_control.specs.CheckedStates.{doc_of, passing_of}
 use Rattle.deb_control.specs.Pairs.{Pairwise}
 use Rattle.deb_control.specs.Paragraphs.{AreValuesOf}

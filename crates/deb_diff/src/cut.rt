@@ -15,10 +15,7 @@ use std::collections::BTreeMap;
 pub(crate) type FieldMap<'a> = BTreeMap<&'a [u8], &'a [u8]>;
 
 /// Adds the fields of a canonical text.
-pub(crate) fn add_fields<'a>(
-    fields: &mut FieldMap<'a>,
-    text: &'a [u8],
-) -> Result<(), AllocError>
+pub(crate) fn add_fields<'a>(fields: &mut FieldMap<'a>, text: &'a [u8]) -> Result<(), AllocError>
     ensures { (entries : Entries) → AreCut entries → text.now ≡ paragraph_text entries
         → OnOk result (map (λ e. (e.0.now, e.1.now)) fields.new.entries
         ≡ fields_of_both (map (λ e. (e.0.now, e.1.now)) fields.old.entries)

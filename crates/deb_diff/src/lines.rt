@@ -10,11 +10,7 @@ use itoa::Buffer;
 use std::alloc::AllocError;
 
 /// Appends a line with a word, the number, name, version and architecture of a paragraph.
-pub(crate) fn append_item(
-    out: &mut Vec<u8>,
-    word: &[u8],
-    kept: &Kept,
-) -> Result<(), AllocError>
+pub(crate) fn append_item(out: &mut Vec<u8>, word: &[u8], kept: &Kept) -> Result<(), AllocError>
     ensures { OnOk result (out.new.items ≡ out.old.items ++ line_of
         (word.now ∷ decimal kept.now.number ∷ kept.now.name.items ∷ kept.now.version.items
         ∷ kept.now.architecture.items ∷ [])) }

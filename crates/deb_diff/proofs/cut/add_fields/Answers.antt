@@ -1,5 +1,5 @@
 -- One field more, and the end.
-use Rattle.std.proofs.Common.{◌≡◌, ◌+◌, ◌-◌, [], length, take, drop, refl, sym, ap, ◌∙◌, arith, rules}
+use Rattle.std.proofs.Common.{◌≡◌, ◌+◌, ◌-◌, length, take, drop, refl, ap, ◌∙◌, arith}
 use Rattle.std.proofs.lemmas.List.{drop_all, length-drop, length-take-le, take_all}
 use Rattle.deb_diff.proofs.Cutting.{adds_all, adds_more, insert_now}
 use Rattle.deb_diff.specs.Cuts.{texts_in}

@@ -1,5 +1,5 @@
 -- The fields so far are there, and the others are to come.
-use Rattle.std.proofs.Common.{◌≡◌, ◌≤◌, ◌-◌, length, List, ℕ}
+use Rattle.std.proofs.Common.{◌≡◌, ◌≤◌, ◌-◌, length}
 use Rattle.deb_syntax.specs.Meaning.{Entries}
 use Rattle.deb_control.specs.Canonical.{paragraph_text}
 use Rattle.deb_diff.specs.Cuts.{AreCut}

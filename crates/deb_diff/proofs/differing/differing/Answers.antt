@@ -1,4 +1,4 @@
-use Rattle.std.proofs.Common.{◌≡◌, map, ap, ◌∙◌}
+use Rattle.std.proofs.Common.{map, ap, ◌∙◌}
 use Rattle.deb_diff.specs.Cuts.{rest_of, texts_in}
 use Rattle.deb_diff.specs.Fields.{fields_of_both}
 use Rattle.deb_diff.proofs.Boths.{if_ok}

@@ -1,4 +1,4 @@
-use Rattle.std.proofs.Common.{◌≡◌, not, map, refl, ap, ◌∙◌}
+use Rattle.std.proofs.Common.{not, map, refl, ap, ◌∙◌}
 use Rattle.std.specs.List.{filter}
 use Rattle.deb_diff.specs.Cuts.{texts_in}
 use Rattle.deb_diff.specs.Fields.{differs}

@@ -1,5 +1,5 @@
 -- The line of one paragraph more.
-use Rattle.std.proofs.Common.{◌≡◌, ◌+◌, ◌∷◌, drop, sym, ap, ◌∙◌}
+use Rattle.std.proofs.Common.{◌+◌, ◌∷◌, drop, sym, ap, ◌∙◌}
 use Rattle.std.proofs.lemmas.List.{drop_more}
 use Rattle.deb_diff.proofs.Fating.{added_more}
 use Rattle.deb_diff.proofs.fates.append_added.Goals as goal

@@ -1,5 +1,5 @@
 -- The line of one paragraph more.
-use Rattle.std.proofs.Common.{◌≡◌, ◌+◌, ◌∷◌, drop, length, sym, ap, ◌∙◌, arith}
+use Rattle.std.proofs.Common.{◌+◌, ◌∷◌, drop, sym, ap, ◌∙◌, arith}
 use Rattle.std.proofs.lemmas.List.{drop_more}
 use Rattle.deb_diff.proofs.Fating.{fates_more}
 use Rattle.deb_diff.proofs.fates.append_fates.Goals as goal

@@ -1,5 +1,5 @@
 -- One paragraph more.
-use Rattle.std.proofs.Common.{◌≡◌, ◌++◌, [], ◌∷◌, true, map, ap, ◌∙◌, rules}
+use Rattle.std.proofs.Common.{◌++◌, [], ◌∷◌, true, map, ap, ◌∙◌}
 use Rattle.std.proofs.lemmas.List.{map-append}
 use Rattle.deb_diff.proofs.Picked.{picked-more, picked-same}
 use Rattle.deb_diff.proofs.left.waiting.Goals as goal

@@ -1,5 +1,5 @@
 -- The partners of the keys so far.
-use Rattle.std.proofs.Common.{◌≡◌, ℕ, List, map, take}
+use Rattle.std.proofs.Common.{ℕ, List, map, take}
 use Rattle.deb_diff.specs.Items.{Item}
 use Rattle.deb_diff.specs.Partners.{Pairs}
 use Rattle.deb_diff.specs.Pools.{IsPoolOf}

@@ -1,9 +1,9 @@
-use Rattle.std.proofs.Common.{◌≡◌, ◌∙◌, ◌+◌, ℕ, [], ap, sym, refl, arith, subst, Some, Global}
+use Rattle.std.proofs.Common.{◌∙◌, ◌+◌, [], ap, refl, subst, Some, Global}
 use Rattle.std.proofs.lemmas.Result.{err_from_is_err_and}
 use Rattle.deb_control.specs.CheckedStates.{passing_of}
 use Rattle.deb_control.specs.Checking.{FitsChecked}
 use Rattle.deb_control.specs.CheckedStates.{checked_state}
-use Rattle.deb_control.proofs.CheckedSoFar.{goes_on, sound_on, answers_on, taken_on, refusal_behind, checked_on, has_taken}
+use Rattle.deb_control.proofs.CheckedSoFar.{goes_on, sound_on, answers_on, taken_on, refusal_behind, checked_on}
 use Rattle.deb_diff.specs.declared.kept.Kept.{Kept}
 use Rattle.std.specs.Prelude.{Vec}
 use Rattle.deb_diff.proofs.KeptValues.{given_values}

@@ -1,9 +1,7 @@
-use Rattle.std.proofs.Common.{◌≡◌, ℕ, List, Option, Some, None, Bool, true, false, is_none, subst, sym, ap, ◌∙◌, rules, ◌++◌, ◌∷◌, [], refl}
-use Rattle.deb_diff.specs.Items.{Item, item_of, whole}
+use Rattle.std.proofs.Common.{◌≡◌, ℕ, Option, Some, None, true, false, is_none, subst, sym, ◌∙◌, rules, ◌++◌, ◌∷◌, [], refl}
+use Rattle.deb_diff.specs.Items.{item_of, whole}
 use Rattle.deb_diff.specs.Pools.{Takes}
 use Rattle.deb_diff.specs.Sifting.{Sifts}
-use Rattle.deb_diff.specs.declared.kept.Kept.{Kept}
-use Rattle.deb_diff.specs.declared.pool.Pool.{Pool}
 use Rattle.deb_diff.proofs.KeptValues.{text_kept}
 use Rattle.deb_diff.proofs.Sifted.{sifts-kept, sifts-some}
 use Rattle.deb_diff.proofs.reading.sift.Goals as goal
