@@ -1,6 +1,6 @@
 //! Pairs elements with those of a pool.
 
-ghost use Rattle.std.specs.Prelude.{◌≡◌, List, ℕ, map, OnOk, IfOk};
+ghost use Rattle.std.specs.Prelude.{◌≡◌, List, ℕ, length, map, OnOk, IfOk};
 ghost use Rattle.deb_diff.specs.Items.{Item};
 ghost use Rattle.deb_diff.specs.Partners.{Pairs};
 ghost use Rattle.deb_diff.specs.Pools.{IsPoolOf};
@@ -15,9 +15,11 @@ pub(crate) fn partners(
     pool: &mut Pool<'_>,
     keys: &[&[u8]],
 ) -> Result<Vec<Option<usize>>, AllocError>
-    ensures { (items : List Item) (key : Item → List ℕ) → IsPoolOf (map key items) pool.old
+    ensures pairs { (items : List Item) (key : Item → List ℕ) → IsPoolOf (map key items) pool.old
         → IfOk result (λ found. Pairs items key (map (λ k. k.now) keys.now) pool.old found.items
         pool.new) }
+    ensures found { IfOk result (λ found. length found.items ≡ length keys.now) }
+    ensures waits { length pool.new.waits.items ≡ length pool.old.waits.items }
 {
     let mut found = Vec::with_capacity(alloc, keys.len())?;
     for key in keys {

@@ -32,9 +32,10 @@ impl<'a> Pool<'a> {
 
     /// Takes the earliest element with a key away, and returns its number.
     pub(crate) fn take(&mut self, key: &[u8]) -> Option<usize>
-        ensures { (items : List Item) (key_of : Item → List ℕ)
+        ensures takes { (items : List Item) (key_of : Item → List ℕ)
             → IsPoolOf (map key_of items) self.old
             → Takes items key_of key.now self.old result self.new }
+        ensures count { length self.new.waits.items ≡ length self.old.waits.items }
     {
         let Some(number) = self.waiting.take(key) else {
             return None;

@@ -13,7 +13,7 @@ none_is (Some x) e = cc e
 pub returns-in_ok-push : goal.returns-in_ok-push
 returns-in_ok-push c = λ values others has pool.
     let text = c.canonical_text.ensures ∙ text_kept c.args.paragraph.now values has in
-    let takes = c.take.ensures others whole pool in
+    let takes = c.take.ensures.takes others whole pool in
     let is : is_none c.take.result ≡ true = search rules in
     let none : c.take.result ≡ None = none_is c.take.result is in
     let items : c.push.new.self.items ≡ c.args.kept.now.items ++ c.in_ok-keep.field-0 ∷ [] = search rules in
@@ -24,4 +24,4 @@ pub returns-else-is_none : goal.returns-else-is_none
 returns-else-is_none c = λ values others has pool.
     let text = c.canonical_text.ensures ∙ text_kept c.args.paragraph.now values has in
     let is : is_none c.take.result ≡ false = search rules in
-    sifts-some (item_of c.args.kind c.args.number values) others c.args.pool.now c.take.new.self c.canonical_text.result.now c.take.result c.args.kept.now.items text is (c.take.ensures others whole pool)
+    sifts-some (item_of c.args.kind c.args.number values) others c.args.pool.now c.take.new.self c.canonical_text.result.now c.take.result c.args.kept.now.items text is (c.take.ensures.takes others whole pool)
