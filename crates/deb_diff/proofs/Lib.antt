@@ -15,4 +15,5 @@ pub mod Naming
 pub mod Differed
 pub mod Fating
 pub mod Linked
+pub mod Released
 pub mod Unchanging

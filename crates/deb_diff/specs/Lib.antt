@@ -13,6 +13,7 @@ pub mod Partners
 pub mod Cuts
 pub mod Lefts
 pub mod Walks
+pub mod Pairings
 pub mod Fates
 pub mod Unchanged
 pub mod Laws

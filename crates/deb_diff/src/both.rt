@@ -94,7 +94,7 @@ fn texts_of<'a>(alloc: Global, kept: &'a [Kept]) -> Result<Vec<&'a [u8]>, AllocE
 }
 
 /// Says of so many paragraphs that they wait.
-fn all_wait(alloc: Global, count: usize) -> Result<Vec<bool>, AllocError>
+pub(crate) fn all_wait(alloc: Global, count: usize) -> Result<Vec<bool>, AllocError>
     ensures count { IfOk result (λ waits. length waits.items ≡ count) }
     ensures all { IfOk result (λ waits. list_all (λ wait. wait) waits.items ≡ true) }
 {

@@ -19,6 +19,7 @@ mod kind;
 pub mod laws;
 mod left;
 mod lines;
+mod pairing;
 mod partners;
 mod pool;
 mod reading;

@@ -1,0 +1,24 @@
+-- Paragraphs that are kept have the releases of their items.
+use Rattle.std.proofs.Common.{◌≡◌, ℕ, List, [], ◌∷◌, ◌++◌, length, map, Bor, codes, refl, sym, ap, ◌∙◌, append-nil, subst}
+use Rattle.std.proofs.lemmas.List.{append_assoc}
+use Rattle.std.specs.List.{concat}
+use Rattle.deb_diff.specs.Items.{Item, release}
+use Rattle.deb_diff.specs.Kepts.{AreKept, IsKept}
+use Rattle.deb_diff.specs.Lefts.{release_in}
+use Rattle.deb_diff.specs.declared.kept.Kept.{Kept}
+
+joined : (n v a : List ℕ) → n ++ codes " " ++ v ++ codes " " ++ a ≡ concat (n ∷ codes " " ∷ v ∷ codes " " ∷ a ∷ [])
+joined n v a = simp (append_assoc, append-nil)
+
+release_is : (kept : Kept) (item : Item) → IsKept kept item → release_in kept ≡ release item
+release_is kept item is =
+    ap (λ n. n ++ codes " " ++ kept.version.items ++ codes " " ++ kept.architecture.items) is.name
+    ∙ ap (λ v. item.name ++ codes " " ++ v ++ codes " " ++ kept.architecture.items) is.version
+    ∙ ap (λ a. item.name ++ codes " " ++ item.version ++ codes " " ++ a) is.architecture
+    ∙ joined item.name item.version item.architecture
+
+pub releases_are : (refs : List (Bor Kept)) (items : List Item) → AreKept (map (λ k. k.now) refs) items → map (λ k. release_in k.now) refs ≡ map release items
+releases_are [] [] are = refl
+releases_are [] (item ∷ items) are = absurd are
+releases_are (k ∷ refs) [] are = absurd are
+releases_are (k ∷ refs) (item ∷ items) are = ap (λ l. l ∷ map (λ k. release_in k.now) refs) (release_is k.now item are.0) ∙ ap (λ l. release item ∷ l) (releases_are refs items are.1)
