@@ -26,9 +26,10 @@ pub(crate) fn all_became(
     pool: &mut Pool<'_>,
 ) -> Result<Vec<Became>, AllocError>
     requires { length keys.now ≡ length partners.now }
-    ensures { (items : List Item) → IsPoolOf (map series items) pool.old
+    ensures becomes { (items : List Item) → IsPoolOf (map series items) pool.old
         → IfOk result (λ made. Becomes items partners.now (map (λ k. k.now) keys.now) pool.old
         made.items pool.new) }
+    ensures waits { length pool.new.waits.items ≡ length pool.old.waits.items }
 {
     let mut made = Vec::with_capacity(alloc, partners.len())?;
     for (number, partner) in partners.iter().enumerate() {
@@ -39,8 +40,9 @@ pub(crate) fn all_became(
 
 /// Returns what became of one.
 fn became_of(partner: Option<usize>, key: &[u8], pool: &mut Pool<'_>) -> Became
-    ensures { (items : List Item) → IsPoolOf (map series items) pool.old
+    ensures becomes { (items : List Item) → IsPoolOf (map series items) pool.old
         → BecomesOne items partner key.now pool.old result pool.new }
+    ensures waits { length pool.new.waits.items ≡ length pool.old.waits.items }
 {
     if let Some(number) = partner {
         return Became::Changed(number);
