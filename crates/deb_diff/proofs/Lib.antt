@@ -16,4 +16,5 @@ pub mod Differed
 pub mod Fating
 pub mod Linked
 pub mod Released
+pub mod Assembled
 pub mod Unchanging

@@ -32,15 +32,15 @@ texts-from kind n [] = refl
 texts-from kind n (values ∷ more) = ap (λ l. text_of_values values ∷ l) (texts-from kind (n + 1) more)
 
 -- the canonical bodies of values are entries, and spell the values
-record AreSpelled (doc : Doc) (values : ValueEntries ValueMeaning) : Type 0 where
-  entries : AreEntries (map (body_under value_text) values)
-  spelled : Pairwise (SpellsEntry (SpellsValue doc)) (map (body_under value_text) values) values
+pub record AreSpelled (doc : Doc) (values : ValueEntries ValueMeaning) : Type 0 where
+  pub entries : AreEntries (map (body_under value_text) values)
+  pub spelled : Pairwise (SpellsEntry (SpellsValue doc)) (map (body_under value_text) values) values
 
 each_spelled : (doc : Doc) (meaning : Meaning) → AllByRecursion AreEntries (bodies_of value_text meaning) → SpellsEntries (SpellsValue doc) (bodies_of value_text meaning) meaning → AllByRecursion (AreSpelled doc) meaning
 each_spelled doc [] are spelled = tt
 each_spelled doc (values ∷ meaning) are spelled = (record { entries = are.0; spelled = spelled.0 }, each_spelled doc meaning are.1 spelled.1)
 
-all_spelled : (doc : Doc) (text : List ℕ) (meaning : Meaning) → MeansOf doc text meaning → AllByRecursion (AreSpelled doc) meaning
+pub all_spelled : (doc : Doc) (text : List ℕ) (meaning : Meaning) → MeansOf doc text meaning → AllByRecursion (AreSpelled doc) meaning
 all_spelled doc text meaning m =
     each_spelled doc meaning
     (AreEntries-bodies_of ValueMeaning (SpellsValue doc) value_text (value_law doc) m.bodies meaning m.spelled (AreEntries-from_means text m.bodies m.means))

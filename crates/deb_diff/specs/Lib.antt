@@ -15,5 +15,6 @@ pub mod Lefts
 pub mod Walks
 pub mod Pairings
 pub mod Fates
+pub mod Written
 pub mod Unchanged
 pub mod Laws

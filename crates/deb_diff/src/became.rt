@@ -29,6 +29,7 @@ pub(crate) fn all_became(
     ensures becomes { (items : List Item) → IsPoolOf (map series items) pool.old
         → IfOk result (λ made. Becomes items partners.now (map (λ k. k.now) keys.now) pool.old
         made.items pool.new) }
+    ensures made { IfOk result (λ made. length made.items ≡ length partners.now) }
     ensures waits { length pool.new.waits.items ≡ length pool.old.waits.items }
 {
     let mut made = Vec::with_capacity(alloc, partners.len())?;

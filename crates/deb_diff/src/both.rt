@@ -61,6 +61,7 @@ pub(crate) fn read_new<R: Source>(
 ) -> Result<Others, Fault>
     ensures ok { (text : List ℕ) (items : List Item) → R.left reader.old ≡ Some text
         → AreKept old.now items → IfOk result (λ others. ReadsNew kind text items others) }
+    ensures waits { IfOk result (λ others. length others.waits.items ≡ length old.now) }
     ensures refused { (text : List ℕ) → R.left reader.old ≡ Some text
         → IfRefused result (λ refusal. refusal_of (doc_of kind) text ≡ Some refusal) }
     ensures reads_at_most { (text : List ℕ) → R.left reader.old ≡ Some text

@@ -9,9 +9,11 @@
 //! definitions. `is_unchanged` returns whether there is no line.
 #![tactic(auto)]
 
+mod all_lines;
 mod became;
 mod both;
 mod cut;
+mod diff;
 mod differing;
 mod fates;
 mod kept;

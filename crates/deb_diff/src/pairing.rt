@@ -63,6 +63,7 @@ pub(crate) fn by_series(
     ensures pairs { (items others : List Item) → AreKept (map (λ k. k.now) old.now) items
         → AreKept (map (λ k. k.now) new.now) others
         → IfOk result (PairsBySeries items others found.now waits.items) }
+    ensures became { IfOk result (λ outcome. length outcome.became.items ≡ length found.now) }
     ensures waits { IfOk result (λ outcome. length outcome.waits.items ≡ length new.now) }
 {
     let series_of_new = all_series(alloc, new)?;

@@ -1,6 +1,6 @@
 //! Reads the paragraphs of a file that another file doesn't have.
 
-ghost use Rattle.std.specs.Prelude.{◌≡◌, ℕ, List, Some, map, IfOk, IfErr, OnOk};
+ghost use Rattle.std.specs.Prelude.{◌≡◌, ℕ, List, Some, length, map, IfOk, IfErr, OnOk};
 ghost use Rattle.deb_base.specs.Devices.{read_failures_after};
 ghost use Rattle.deb_base.specs.Faults.{IsReadersFault};
 ghost use Rattle.deb_base.specs.Reading.{TakesNoMore};
@@ -31,6 +31,7 @@ pub(crate) fn read_others<R: Source>(
     pool: &mut Pool<'_>,
     reader: &mut R,
 ) -> Result<Vec<Kept>, Fault>
+    ensures waits { length pool.new.waits.items ≡ length pool.old.waits.items }
     ensures ok { (text : List ℕ) (others : List Item) → R.left reader.old ≡ Some text
         → IsPoolOf (map whole others) pool.old
         → IfOk result (λ kept. SiftsFile kind text others pool.old pool.new kept.items) }
@@ -65,7 +66,8 @@ fn sift(
     pool: &mut Pool<'_>,
     kept: &mut Vec<Kept>,
 ) -> Result<(), AllocError>
-    ensures { (values : ValueEntries ValueMeaning) (others : List Item)
+    ensures waits { length pool.new.waits.items ≡ length pool.old.waits.items }
+    ensures sifts { (values : ValueEntries ValueMeaning) (others : List Item)
         → HasValues paragraph.now values → IsPoolOf (map whole others) pool.old
         → OnOk result (Sifts (item_of kind number values) others pool.old pool.new
         kept.old.items kept.new.items) }

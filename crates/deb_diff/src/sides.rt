@@ -1,6 +1,6 @@
 //! Reads both files, one after the other.
 
-ghost use Rattle.std.specs.Prelude.{◌≡◌, ℕ, List, Some, IfOk, IfErr};
+ghost use Rattle.std.specs.Prelude.{◌≡◌, ℕ, List, Some, length, IfOk, IfErr};
 ghost use Rattle.deb_base.specs.Devices.{read_failures_after};
 ghost use Rattle.deb_base.specs.Faults.{IsReadersFault};
 ghost use Rattle.deb_base.specs.Reading.{TakesNoMore};
@@ -38,6 +38,8 @@ pub(crate) fn read_both<R: Source, S: Source>(
 ) -> Result<Read, SideFault>
     ensures ok { (text other : List ℕ) → R.left first.old ≡ Some text
         → S.left second.old ≡ Some other → IfOk result (ReadsBoth kind text other) }
+    ensures waits { IfOk result
+        (λ read. length read.others.waits.items ≡ length read.old.items) }
     ensures first { (text : List ℕ) → R.left first.old ≡ Some text
         → IfRefused (of_first result) (λ refusal. refusal_of (doc_of kind) text ≡ Some refusal) }
     ensures second { (text other : List ℕ) → R.left first.old ≡ Some text

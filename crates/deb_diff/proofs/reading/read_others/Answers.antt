@@ -15,6 +15,7 @@ loop-count-init g c =
     record {
       doc = c.new-checked.ensures.doc ∙ c.doc.ensures;
       fault = c.new-checked.ensures.sound;
+      waits = refl;
       reads = refl;
       count = c.new-checked.ensures.none;
       checked = λ text left. record { before = []; fits = rw left (subst (λ doc. FitsChecked doc text [] (checked_state c.new-checked.result) (Some text)) c.doc.ensures (c.new-checked.ensures.fits text)) };
@@ -55,6 +56,7 @@ loop-count-preserved g c =
     record {
       doc = passes.1;
       fault = sound_on _ _ _ _ c.loop-count.invariant.fault passes.0;
+      waits = c.sift.ensures.waits ∙ c.loop-count.invariant.waits;
       reads = checks.counted ∙ c.loop-count.invariant.reads;
       count = checks.count ∙ ap (λ n. n + 1) c.loop-count.invariant.count;
       checked = λ text left.
@@ -62,5 +64,5 @@ loop-count-preserved g c =
           checked_on _ text checked.before (Some (passing_of c.in-Some.paragraph)) _ _ (checks.answers text checked.before checked.fits);
       sifted = λ text others left pool.
           let so_far = c.loop-count.invariant.sifted text others left pool in
-          one_sifted _ text others _ _ _ _ _ _ _ _ _ c.loop-count.count given.values _ so_far (checks.answers text so_far.checked.before so_far.checked.fits) given.are (c.in_ok-sift.ensures given.values others given.has so_far.is_pool);
+          one_sifted _ text others _ _ _ _ _ _ _ _ _ c.loop-count.count given.values _ so_far (checks.answers text so_far.checked.before so_far.checked.fits) given.are (c.in_ok-sift.ensures.sifts given.values others given.has so_far.is_pool);
     }

@@ -10,8 +10,8 @@ none_is : (o : Option ℕ) → is_none o ≡ true → o ≡ None
 none_is None e = refl
 none_is (Some x) e = cc e
 
-pub returns-in_ok-push : goal.returns-in_ok-push
-returns-in_ok-push c = λ values others has pool.
+pub returns-in_ok-push-clause-sifts : goal.returns-in_ok-push-clause-sifts
+returns-in_ok-push-clause-sifts c = λ values others has pool.
     let text = c.canonical_text.ensures ∙ text_kept c.args.paragraph.now values has in
     let takes = c.take.ensures.takes others whole pool in
     let is : is_none c.take.result ≡ true = search rules in
@@ -20,8 +20,8 @@ returns-in_ok-push c = λ values others has pool.
     subst (Sifts (item_of c.args.kind c.args.number values) others c.args.pool.now c.take.new.self c.args.kept.now.items) (sym items)
     (sifts-kept (item_of c.args.kind c.args.number values) others c.args.pool.now c.take.new.self c.canonical_text.result.now c.args.kept.now.items c.in_ok-keep.field-0 text (subst (λ o. Takes others whole c.canonical_text.result.now c.args.pool.now o c.take.new.self) none takes) (c.in_ok-keep.ensures values has))
 
-pub returns-else-is_none : goal.returns-else-is_none
-returns-else-is_none c = λ values others has pool.
+pub returns-else-is_none-clause-sifts : goal.returns-else-is_none-clause-sifts
+returns-else-is_none-clause-sifts c = λ values others has pool.
     let text = c.canonical_text.ensures ∙ text_kept c.args.paragraph.now values has in
     let is : is_none c.take.result ≡ false = search rules in
     sifts-some (item_of c.args.kind c.args.number values) others c.args.pool.now c.take.new.self c.canonical_text.result.now c.take.result c.args.kept.now.items text is (c.take.ensures.takes others whole pool)
