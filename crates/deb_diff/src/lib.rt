@@ -13,7 +13,6 @@ mod all_lines;
 mod became;
 mod both;
 mod cut;
-mod diff;
 mod differing;
 mod fates;
 mod kept;
@@ -28,6 +27,8 @@ mod reading;
 mod sides;
 mod unchanged;
 mod waiting;
+mod writing;
 
 pub use kind::Kind;
 pub use unchanged::is_unchanged;
+pub use writing::diff;

@@ -73,7 +73,7 @@ fn at_first(fault: Fault) -> SideFault
     }
 }
 
-fn at_second(fault: Fault) -> SideFault
+pub(crate) fn at_second(fault: Fault) -> SideFault
     ensures { result ≡ record { side = Side.Second; fault = fault } }
 {
     SideFault {

@@ -8,7 +8,7 @@ use Rattle.deb_diff.specs.Fates.{IsWhole}
 use Rattle.deb_diff.specs.Lines.{diff_text}
 use Rattle.deb_diff.specs.Written.{WritesSome}
 use Rattle.deb_diff.proofs.Assembled.{both_text, no_length, some_written}
-use Rattle.deb_diff.proofs.diff.write_lines.Goals as goal
+use Rattle.deb_diff.proofs.writing.write_lines.Goals as goal
 
 pub returns-clause-ok : goal.returns-clause-ok
 returns-clause-ok g c = λ kind text other both.
