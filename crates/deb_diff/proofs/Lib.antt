@@ -17,4 +17,3 @@ pub mod Fating
 pub mod Linked
 pub mod Released
 pub mod Assembled
-pub mod Unchanging

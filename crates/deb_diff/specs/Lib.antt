@@ -16,5 +16,4 @@ pub mod Walks
 pub mod Pairings
 pub mod Fates
 pub mod Written
-pub mod Unchanged
 pub mod Laws

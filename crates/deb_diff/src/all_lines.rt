@@ -16,11 +16,7 @@ use crate::pairing::{Partners, by_release, by_series};
 use std::alloc::{AllocError, Global};
 
 /// Returns the lines, given all paragraphs of the old file and what isn't in both files.
-pub(crate) fn all_lines(
-    alloc: Global,
-    old: &[Kept],
-    others: &Others,
-) -> Result<Vec<u8>, AllocError>
+pub(crate) fn all_lines(alloc: Global, old: &[Kept], others: &Others) -> Result<Vec<u8>, AllocError>
     requires { length others.now.waits.items ≡ length old.now }
     ensures { (items added : List Item) → Pairwise IsWhole old.now items
         → Pairwise IsWhole others.now.new.items added

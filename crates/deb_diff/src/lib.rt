@@ -2,11 +2,12 @@
 //! 5.6).
 //!
 //! ```text
-//! let unchanged = is_unchanged(alloc, Kind::Packages, &mut old, &mut new)?;
+//! let unchanged = diff(alloc, Kind::Packages, &mut old, &mut new, &mut writer)?;
 //! ```
 //!
-//! `specs/` defines what changed and the lines that say so; `laws` has the theorems about these
-//! definitions. `is_unchanged` returns whether there is no line.
+//! `diff` writes a line for each paragraph that was removed, added, changed or upgraded, and returns
+//! whether there is none. `specs/` defines what changed and the lines that say so; `laws` has the
+//! theorems about these definitions.
 #![tactic(auto)]
 
 mod all_lines;
@@ -25,10 +26,8 @@ mod partners;
 mod pool;
 mod reading;
 mod sides;
-mod unchanged;
 mod waiting;
 mod writing;
 
 pub use kind::Kind;
-pub use unchanged::is_unchanged;
 pub use writing::diff;
