@@ -11,6 +11,8 @@ mod control;
 #[cfg(test)]
 mod devices;
 #[cfg(test)]
+mod diff;
+#[cfg(test)]
 mod index;
 #[cfg(test)]
 mod syntax;

@@ -1,0 +1,58 @@
+-- The values and the text of a paragraph that passes, as they are kept.
+use Rattle.std.proofs.Common.{◌≡◌, ℕ, List, Option, Result, Ok, Err, IfOk, IsTrue, ap, ◌∙◌, subst, is_ok, refl}
+use Rattle.std.proofs.lemmas.Slice.Eq.{bytes_eq-Decides}
+use Rattle.std.specs.FinMap.{find}
+use Rattle.std.specs.Option.{option_map}
+use Rattle.deb_base.specs.Names.{canonical_name}
+use Rattle.deb_base.specs.declared.doc.Doc.{Doc}
+use Rattle.deb_base.specs.declared.refusal.Refusal.{Refusal}
+use Rattle.deb_syntax.specs.Meaning.{Entries, byte_order, entries_of}
+use Rattle.deb_field.specs.ValueLaws.{value_law}
+use Rattle.deb_field.specs.ValueMeanings.{value_meaning}
+use Rattle.deb_field.specs.Values.{ValueMeaning, value_text, SpellsValue}
+use Rattle.deb_field.specs.declared.value.Value.{Value}
+use Rattle.deb_control.specs.Checking.{is_text_of}
+use Rattle.deb_control.specs.Canonical.{paragraph_text}
+use Rattle.deb_control.specs.CheckedStates.{doc_of, passing_of}
+use Rattle.deb_control.specs.Paragraphs.{AreValuesOf, text_of_values}
+use Rattle.deb_control.specs.PassingValues.{HasValue}
+use Rattle.deb_control.specs.ValueFiles.{ValueEntries}
+use Rattle.deb_control.specs.declared.checked_text.CheckedText.{CheckedText}
+use Rattle.deb_control.proofs.PassingParagraphs.{values-passing}
+use Rattle.deb_control.proofs.ValueBodies.{one_paragraph}
+use Rattle.deb_diff.specs.Items.{value_under}
+use Rattle.deb_diff.specs.Kepts.{HasValues}
+
+-- the value that is found under a name is that of any list of the paragraph's values
+pub value_found : {E : Type 0} (paragraph : CheckedText) (name : List ℕ) (found : Result (Option Value) E)
+    → IfOk found (λ value. HasValue (doc_of paragraph) (passing_of paragraph).seen name (option_map value_meaning value))
+    → (values : ValueEntries ValueMeaning) → HasValues paragraph values → IfOk found (λ value. option_map value_meaning value ≡ value_under name values)
+value_found paragraph name (Ok value) has values are =
+    let doc = doc_of paragraph in
+    has.found ∙ ap (find byte_order (canonical_name name)) (one_paragraph ValueMeaning (SpellsValue doc) value_text (value_law doc) (entries_of (passing_of paragraph).seen.fields) has.values values has.are.spelled are.spelled)
+value_found paragraph name (Err error) has values are = tt
+
+text_is : (r : Result Entries Refusal) (entries : Entries) (text : List ℕ) → IsTrue (is_text_of r text) → r ≡ Ok entries → text ≡ paragraph_text entries
+text_is (Ok others) entries text is same =
+    let one : others ≡ entries = cc same in
+    (bytes_eq-Decides text (paragraph_text others)).0 is ∙ ap paragraph_text one
+text_is (Err refusal) entries text is same = cc same
+
+-- its text is that of its values
+pub text_kept : (paragraph : CheckedText) (values : ValueEntries ValueMeaning) → HasValues paragraph values → (passing_of paragraph).text ≡ text_of_values values
+text_kept paragraph values are = text_is _ _ (passing_of paragraph).text paragraph.passes are.passes
+
+judged-text : (r : Result Entries Refusal) (text : List ℕ) → IsTrue (is_text_of r text) → IsTrue (is_ok r)
+judged-text (Ok entries) text is = refl
+judged-text (Err refusal) text is = is
+
+-- The paragraph that was given has values.
+pub record GivenValues (paragraph : CheckedText) (doc : Doc) : Type 0 where
+  pub values : ValueEntries ValueMeaning
+  pub has : HasValues paragraph values
+  pub are : AreValuesOf doc (passing_of paragraph).seen values
+
+pub given_values : (paragraph : CheckedText) (doc : Doc) → doc_of paragraph ≡ doc → GivenValues paragraph doc
+given_values paragraph doc same =
+    let found = values-passing (doc_of paragraph) (passing_of paragraph).seen (judged-text _ (passing_of paragraph).text paragraph.passes) in
+    record { values = found.0; has = found.1; are = subst (λ d. AreValuesOf d (passing_of paragraph).seen found.0) same found.1 }

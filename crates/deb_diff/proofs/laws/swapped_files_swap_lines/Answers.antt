@@ -1,0 +1,7 @@
+use Rattle.std.proofs.Common.{sym}
+use Rattle.deb_diff.specs.Items.{items_of}
+use Rattle.deb_diff.proofs.Fated.{removed-added}
+use Rattle.deb_diff.proofs.laws.swapped_files_swap_lines.Goals as goal
+
+pub returns : goal.returns
+returns c = λ kind old new. (removed-added (items_of kind old) (items_of kind new), sym (removed-added (items_of kind new) (items_of kind old)))

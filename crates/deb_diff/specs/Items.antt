@@ -1,0 +1,126 @@
+-- The paragraphs of a file, each with its number and what it is called. Debian Policy 5.6.
+use Rattle.std.specs.Prelude.{◌≡◌, ℕ, ◌+◌, cond, List, [], ◌∷◌, map, Option, Some, None, codes, refl}
+use Rattle.std.specs.FinMap.{find}
+use Rattle.std.specs.List.{concat}
+use Rattle.deb_base.specs.Names.{canonical_name}
+use Rattle.deb_syntax.specs.Meaning.{Entries, byte_order}
+use Rattle.deb_version.specs.Canonical.{version_text}
+use Rattle.deb_version.specs.Places.{version_in}
+use Rattle.deb_field.specs.Values.{ValueMeaning, NameMeans, SourceMeans, VersionMeans, ArchitectureMeans, ArchitecturesMean, FlagMeans, MultiArchMeans, NumberMeans, LineMeans, FoldedMeans, RelationMeans, TextMeans, value_text}
+use Rattle.deb_control.specs.Canonical.{paragraph_text}
+use Rattle.deb_control.specs.Documents.{Meaning}
+use Rattle.deb_control.specs.ValueFiles.{ValueEntries, body_under}
+use Rattle.deb_diff.specs.Kinds.{is_binary, name_field}
+use Rattle.deb_diff.specs.declared.kind.Kind.{Kind}
+use Rattle.deb_diff.specs.declared.kind.Kind.TheVariants.{Packages, Source}
+
+-- a name, of a source package too, a version or an architecture, as a line has it
+abbrev pub word_in : ValueMeaning → List ℕ
+word_in (NameMeans name) = name
+word_in (SourceMeans source) = source.name
+word_in (VersionMeans version) = version_text version
+word_in (ArchitectureMeans name) = name
+word_in (ArchitecturesMean x) = []
+word_in (FlagMeans x) = []
+word_in (MultiArchMeans x) = []
+word_in (NumberMeans x) = []
+word_in (LineMeans x) = []
+word_in (FoldedMeans x) = []
+word_in (RelationMeans x) = []
+word_in (TextMeans x) = []
+
+abbrev pub word_of : Option ValueMeaning → List ℕ
+word_of None = []
+word_of (Some value) = word_in value
+
+-- the value of the field with a name, without ASCII case
+abbrev pub value_under : List ℕ → ValueEntries ValueMeaning → Option ValueMeaning
+value_under name values = find byte_order (canonical_name name) values
+
+-- the word in it, and nothing if there is no such field
+abbrev pub word_under : List ℕ → ValueEntries ValueMeaning → List ℕ
+word_under name values = word_of (value_under name values)
+
+-- the architecture of a binary package, and `source` for a source package
+abbrev pub architecture_of : Kind → ValueEntries ValueMeaning → List ℕ
+architecture_of kind values =
+    cond (is_binary kind) (word_under (codes "Architecture") values) (codes "source")
+
+-- A paragraph: its number in its file, its package or source, its canonical version, its
+-- architecture, and the canonical texts of its values under the names of their fields, in ascending
+-- order of these.
+pub record Item : Type 0 where
+  pub number : ℕ
+  pub name : List ℕ
+  pub version : List ℕ
+  pub architecture : List ℕ
+  pub bodies : Entries
+
+abbrev pub item_of : Kind → ℕ → ValueEntries ValueMeaning → Item
+item_of kind number values =
+    record {
+      number = number;
+      name = word_under (name_field kind) values;
+      version = word_under (codes "Version") values;
+      architecture = architecture_of kind values;
+      bodies = map (body_under value_text) values;
+    }
+
+-- the paragraphs of which the first has this number, and those of a file, counted from 1
+abbrev pub items_from : Kind → ℕ → Meaning → List Item
+items_from kind n [] = []
+items_from kind n (values ∷ more) = item_of kind n values ∷ items_from kind (n + 1) more
+
+abbrev pub items_of : Kind → Meaning → List Item
+items_of kind meaning = items_from kind 1 meaning
+
+-- What paragraphs are compared by: their whole canonical text, which is equal exactly if their
+-- meanings are; name, version and architecture; name and architecture. No name, version or
+-- architecture has a space.
+abbrev pub whole : Item → List ℕ
+whole item = paragraph_text item.bodies
+
+abbrev pub release : Item → List ℕ
+release item =
+    concat (item.name ∷ codes " " ∷ item.version ∷ codes " " ∷ item.architecture ∷ [])
+
+abbrev pub series : Item → List ℕ
+series item = concat (item.name ∷ codes " " ∷ item.architecture ∷ [])
+
+-- a binary package and a source package, each with a version that is spelled otherwise
+abbrev hello : ValueEntries ValueMeaning
+hello =
+    (codes "Architecture", ArchitectureMeans (codes "amd64"))
+    ∷ (codes "Package", NameMeans (codes "hello"))
+    ∷ (codes "Version", VersionMeans (version_in (codes "0:2.010-0"))) ∷ []
+
+abbrev world : ValueEntries ValueMeaning
+world =
+    (codes "Architecture", ArchitecturesMean (codes "any" ∷ []))
+    ∷ (codes "Source", SourceMeans (record { name = codes "world"; version = None }))
+    ∷ (codes "Version", VersionMeans (version_in (codes "1"))) ∷ []
+
+worked-binary : (item_of Packages 7 hello
+    ≡ record {
+      number = 7;
+      name = codes "hello";
+      version = codes "2.10";
+      architecture = codes "amd64";
+      bodies =
+          (codes "Architecture", codes "amd64") ∷ (codes "Package", codes "hello")
+          ∷ (codes "Version", codes "2.10") ∷ [];
+    })
+    × (whole (item_of Packages 7 hello)
+    ≡ codes "Architecture: amd64\nPackage: hello\nVersion: 2.10\n")
+    × (release (item_of Packages 7 hello) ≡ codes "hello 2.10 amd64")
+    × (series (item_of Packages 7 hello) ≡ codes "hello amd64")
+worked-binary = (refl, refl, refl, refl)
+
+worked-source : (release (item_of Source 1 world) ≡ codes "world 1 source")
+    × (series (item_of Source 1 world) ≡ codes "world source")
+worked-source = (refl, refl)
+
+worked-items : (map (λ item. item.number) (items_of Packages (hello ∷ world ∷ [])) ≡ 1 ∷ 2 ∷ [])
+    × (map (λ item. item.name) (items_of Packages (hello ∷ world ∷ []))
+    ≡ codes "hello" ∷ [] ∷ [])
+worked-items = (refl, refl)

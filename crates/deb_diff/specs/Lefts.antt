@@ -1,0 +1,15 @@
+-- What paragraphs that are kept are paired by.
+use Rattle.std.specs.Prelude.{List, ℕ, ◌++◌, codes}
+use Rattle.std.specs.List.{flat_map}
+use Rattle.deb_diff.specs.declared.kept.Kept.{Kept}
+
+abbrev pub release_in : Kept → List ℕ
+release_in kept =
+    kept.name.items ++ codes " " ++ kept.version.items ++ codes " " ++ kept.architecture.items
+
+abbrev pub series_in : Kept → List ℕ
+series_in kept = kept.name.items ++ codes " " ++ kept.architecture.items
+
+-- words, each after a space, and a newline
+abbrev pub rest_of_line : List (List ℕ) → List ℕ
+rest_of_line words = flat_map (λ word. codes " " ++ word) words ++ codes "\n"

@@ -1,0 +1,33 @@
+-- The paragraphs of a file that another file doesn't have.
+use Rattle.std.specs.Prelude.{◌≡◌, ℕ, ◌++◌, cond, is_some, List, [], ◌∷◌, map}
+use Rattle.deb_control.specs.Documents.{Accepted, Meaning}
+use Rattle.deb_diff.specs.Items.{Item, items_of, whole}
+use Rattle.deb_diff.specs.Kepts.{AreKept}
+use Rattle.deb_diff.specs.Kinds.{doc_of}
+use Rattle.deb_diff.specs.Pairing.{all_but, earliest, without}
+use Rattle.deb_diff.specs.Pools.{IsPoolOf, left_in}
+use Rattle.deb_diff.specs.declared.kept.Kept.{Kept}
+use Rattle.deb_diff.specs.declared.kind.Kind.{Kind}
+use Rattle.deb_diff.specs.declared.pool.Pool.{Pool}
+
+-- the paragraphs that wait
+abbrev pub items_in : List Item → Pool → List Item
+items_in others pool = map (λ e. e.1) (left_in others pool)
+
+-- The paragraph was taken away, or else kept.
+pub record Sifts (item : Item) (others : List Item) (old new : Pool) (before after : List Kept)
+    : Type 0 where
+  pub is_pool : IsPoolOf (map whole others) new
+  pub left : items_in others new ≡ all_but whole (whole item) (items_in others old)
+  pub kept : (items : List Item) → AreKept before items → AreKept after
+      (items ++ cond (is_some (earliest whole (whole item) (items_in others old))) []
+      (item ∷ []))
+
+-- The file is accepted. Its paragraphs were taken away, and those that weren't there are kept.
+pub record SiftsFile (kind : Kind) (text : List ℕ) (others : List Item) (old new : Pool)
+    (kept : List Kept) : Type 0 where
+  pub meaning : Meaning
+  pub accepted : Accepted (doc_of kind) text meaning
+  pub is_pool : IsPoolOf (map whole others) new
+  pub left : items_in others new ≡ without whole (items_in others old) (items_of kind meaning)
+  pub are_kept : AreKept kept (without whole (items_of kind meaning) (items_in others old))

@@ -1,0 +1,47 @@
+-- What became of old paragraphs, by the numbers of new ones.
+use Rattle.std.specs.Prelude.{◌≡◌, ℕ, cond, is_some, List, [], ◌∷◌, map, Option, Some, None}
+use Rattle.std.specs.Option.{option_map}
+use Rattle.deb_diff.specs.Items.{Item, series}
+use Rattle.deb_diff.specs.Pairing.{all_but, earliest}
+use Rattle.deb_diff.specs.Pools.{IsPoolOf, left_in}
+use Rattle.deb_diff.specs.declared.pool.Pool.{Pool}
+use Rattle.deb_diff.specs.declared.became.Became.{Became}
+use Rattle.deb_diff.specs.declared.became.Became.TheVariants as became
+
+abbrev pub became_of : Option ℕ → Option ℕ → Became
+became_of (Some number) near = became.Changed number
+became_of None (Some number) = became.Upgraded number
+became_of None None = became.Nothing
+
+-- what is left of those that can be upgraded to
+abbrev pub left_after : Option ℕ → List ℕ → List (ℕ × Item) → List (ℕ × Item)
+left_after partner wanted left =
+    cond (is_some partner) left (all_but (λ e. series e.1) wanted left)
+
+abbrev pub near_of : List ℕ → List (ℕ × Item) → Option ℕ
+near_of wanted left = option_map (λ e. e.0) (earliest (λ e. series e.1) wanted left)
+
+abbrev pub all_of : List (Option ℕ) → List (List ℕ) → List (ℕ × Item) → List Became
+all_of [] keys left = []
+all_of (partner ∷ partners) [] left = []
+all_of (partner ∷ partners) (wanted ∷ keys) left =
+    became_of partner (near_of wanted left)
+    ∷ all_of partners keys (left_after partner wanted left)
+
+abbrev pub left_after_all : List (Option ℕ) → List (List ℕ) → List (ℕ × Item) → List (ℕ × Item)
+left_after_all [] keys left = left
+left_after_all (partner ∷ partners) [] left = left
+left_after_all (partner ∷ partners) (wanted ∷ keys) left =
+    left_after_all partners keys (left_after partner wanted left)
+
+pub record BecomesOne (items : List Item) (partner : Option ℕ) (wanted : List ℕ) (old : Pool)
+    (made : Became) (new : Pool) : Type 0 where
+  pub became : made ≡ became_of partner (near_of wanted (left_in items old))
+  pub left : left_in items new ≡ left_after partner wanted (left_in items old)
+  pub is_pool : IsPoolOf (map series items) new
+
+pub record Becomes (items : List Item) (partners : List (Option ℕ)) (keys : List (List ℕ))
+    (old : Pool) (made : List Became) (new : Pool) : Type 0 where
+  pub became : made ≡ all_of partners keys (left_in items old)
+  pub left : left_in items new ≡ left_after_all partners keys (left_in items old)
+  pub is_pool : IsPoolOf (map series items) new

@@ -1,0 +1,18 @@
+//! Laws of what changed between two files. Each function does nothing; its contract is the law.
+
+ghost use Rattle.deb_diff.specs.Laws.{CanonicalTextChangesNoLine, NoLineIfPermuted, SwappedFilesSwapLines};
+
+/// There is no line exactly if the two files hold the same paragraphs in some order.
+pub fn no_line_if_permuted()
+    ensures { NoLineIfPermuted }
+{}
+
+/// With the two files swapped, the removed and the added paragraphs are swapped.
+pub fn swapped_files_swap_lines()
+    ensures { SwappedFilesSwapLines }
+{}
+
+/// The lines don't change if either file or both are replaced by their canonical text.
+pub fn canonical_text_changes_no_line()
+    ensures { CanonicalTextChangesNoLine }
+{}

@@ -1,0 +1,60 @@
+//! Elements that aren't paired yet, by their keys.
+
+ghost use Rattle.std.specs.Prelude.{◌≡◌, ◌++◌, [], ◌∷◌, ℕ, List, cond, OnOk};
+ghost use Rattle.std.specs.Str.{bytes_eq};
+ghost use Rattle.deb_diff.specs.Waiting.{first_of, numbers_under, rest_of};
+
+use indexmap::IndexMap;
+use std::alloc::{AllocError, Global};
+use std::collections::VecDeque;
+
+/// The numbers of elements that aren't paired yet, under their keys in ascending order.
+#[derive(Drop)]
+pub(crate) struct Waiting<'a> {
+    map: IndexMap<&'a [u8], VecDeque<usize>>,
+}
+
+impl<'a> Waiting<'a> {
+    /// No element waits. Takes no memory.
+    pub(crate) fn new(alloc: Global) -> Waiting<'a>
+        ensures { (key : List ℕ) → numbers_under result key ≡ [] }
+    {
+        Waiting {
+            map: IndexMap::new(alloc),
+        }
+    }
+
+    /// Adds a number to those under a key.
+    pub(crate) fn push(
+        &mut self,
+        alloc: Global,
+        key: &'a [u8],
+        number: usize,
+    ) -> Result<(), AllocError>
+        ensures { OnOk result ((other : List ℕ) → numbers_under self.new other
+            ≡ cond (bytes_eq key.now other) (numbers_under self.old other ++ number ∷ [])
+            (numbers_under self.old other)) }
+    {
+        if let Some(numbers) = self.map.get_mut(key) {
+            numbers.push_back(number)?;
+            return Ok(());
+        }
+        let mut numbers = VecDeque::new(alloc);
+        numbers.push_back(number)?;
+        self.map.insert(key, numbers)?;
+        Ok(())
+    }
+
+    /// Takes the first of the numbers under a key away, and returns it.
+    pub(crate) fn take(&mut self, key: &[u8]) -> Option<usize>
+        ensures first { result ≡ first_of (numbers_under self.old key.now) }
+        ensures rest { (other : List ℕ) → numbers_under self.new other
+            ≡ cond (bytes_eq key.now other) (rest_of (numbers_under self.old other))
+            (numbers_under self.old other) }
+    {
+        let Some(numbers) = self.map.get_mut(key) else {
+            return None;
+        };
+        numbers.pop_front()
+    }
+}

@@ -1,0 +1,91 @@
+//! Tests of `diff`: moved and equal paragraphs, each kind of line, and a refusal, in pieces.
+
+use crate::devices::{Pieces, SIZES};
+use deb_base::{Code, Fault, Input, Refusal, VecSink};
+use deb_control::{Side, SideFault};
+use deb_diff::{Kind, diff};
+use std::alloc::Global;
+
+const OLD: &[u8] = b"Package: gone\nVersion: 2.10-2\nArchitecture: amd64\n\n\
+    Package: hello\nVersion: 2.10-2\nArchitecture: amd64\nSize: 1\n\n\
+    Package: world\nVersion: 0:1.00\nArchitecture: all\nSize: 1\n";
+
+const MOVED: &[u8] = b"version: 1.0-0\npackage: world\narchitecture: all\nsize: 01\n\n\
+    Package: gone\nVersion: 2.010-2\nArchitecture: amd64\n\n\
+    Package: hello\nVersion: 2.10-2\nArchitecture: amd64\nSize: 1\n";
+
+const NEW: &[u8] = b"Package: world\nVersion: 1.0\nArchitecture: all\nDepends: aa\n\n\
+    Package: fresh\nVersion: 2.10-3\nArchitecture: amd64\n\n\
+    Package: hello\nVersion: 2.10-3\nArchitecture: amd64\nSize: 1\n";
+
+const LINES: &[u8] = b"removed 1 gone 2.10-2 amd64\n\
+    upgraded 3 hello 2.10-2 2.10-3 amd64 Version\n\
+    changed 1 world 1.0 all Depends Size\n\
+    added 2 fresh 2.10-3 amd64\n";
+
+const LATER: &[u8] = b"added 1 gone 2.10-2 amd64\n\
+    added 2 hello 2.10-2 amd64\n\
+    added 3 world 1.0 all\n";
+
+const BAD: &[u8] = b"Package: gone\nVersion: 2.10-2\nArchitecture: amd64\n\nPackage: gone\n";
+
+/// Two files, and the lines that say what changed.
+struct Pair(&'static [u8], &'static [u8], &'static [u8]);
+
+const PAIRS: [Pair; 4] = [
+    Pair(OLD, MOVED, b""),
+    Pair(b"", b"\n \n", b""),
+    Pair(OLD, NEW, LINES),
+    Pair(b"", OLD, LATER),
+];
+
+/// Each pair, in pieces of several sizes.
+#[test]
+fn lines_of_two_files(rt: HostRuntime) {
+    for Pair(old, new, lines) in &PAIRS {
+        for size in SIZES {
+            let (answer, written) = in_pieces(rt.alloc(), old, new, size);
+            assert!(rt;
+                answer == Ok(lines.is_empty()),
+                "in pieces of {size}: {answer:?}"
+            );
+            assert!(rt;
+                written.bytes() == *lines,
+                "in pieces of {size}: {written:?}"
+            );
+        }
+    }
+}
+
+/// Nothing is written if a file is refused; the first one is read first.
+#[test]
+fn refused_files(rt: HostRuntime) {
+    for (old, new, side) in [(BAD, OLD, Side::First), (OLD, BAD, Side::Second)] {
+        let (answer, written) = in_pieces(rt.alloc(), old, new, 7);
+        let fault = Fault::Refused(Refusal {
+            code: Code::MissingField,
+            line: 5,
+        });
+        assert!(rt; answer == Err(SideFault { side, fault }), "{answer:?}");
+        assert!(rt; written.bytes().is_empty(), "{written:?}");
+    }
+}
+
+fn in_pieces(
+    alloc: Global,
+    old: &[u8],
+    new: &[u8],
+    size: usize,
+) -> (Result<bool, SideFault>, VecSink) {
+    let mut reader = Pieces::new(old, size, 0);
+    let mut other = Pieces::new(new, size, 0);
+    let mut writer = VecSink::new(alloc);
+    let answer = diff(
+        alloc,
+        Kind::Packages,
+        &mut Input::new(&mut reader),
+        &mut Input::new(&mut other),
+        &mut writer,
+    );
+    (answer, writer)
+}
