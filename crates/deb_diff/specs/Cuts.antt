@@ -40,3 +40,9 @@ texts_in entries = map (λ e. (e.0.now, e.1.now)) entries
 worked-field_len : (field_len (codes "A: b\n c\nB: d\n") ≡ 8) × (field_len (codes "A: b\n") ≡ 5)
     × (field_len [] ≡ 0)
 worked-field_len = (refl, refl, refl)
+
+-- a body in the same line, and one that begins in the next
+worked-rest_of : (rest_of (codes "A", codes "b") ≡ (codes "A", codes ": b\n"))
+    × (rest_of (codes "A", codes "\n b") ≡ (codes "A", codes ":\n b\n"))
+    × (rest_of (codes "A", []) ≡ (codes "A", codes ":\n"))
+worked-rest_of = (refl, refl, refl)

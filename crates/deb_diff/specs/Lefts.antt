@@ -1,5 +1,5 @@
 -- What paragraphs that are kept are paired by.
-use Rattle.std.specs.Prelude.{List, ℕ, ◌++◌, codes}
+use Rattle.std.specs.Prelude.{◌≡◌, List, [], ◌∷◌, ℕ, ◌++◌, codes, refl}
 use Rattle.std.specs.List.{flat_map}
 use Rattle.deb_diff.specs.declared.kept.Kept.{Kept}
 
@@ -13,3 +13,7 @@ series_in kept = kept.name.items ++ codes " " ++ kept.architecture.items
 -- words, each after a space, and a newline
 abbrev pub rest_of_line : List (List ℕ) → List ℕ
 rest_of_line words = flat_map (λ word. codes " " ++ word) words ++ codes "\n"
+
+worked-rest_of_line : (rest_of_line (codes "a" ∷ codes "bc" ∷ []) ≡ codes " a bc\n")
+    × (rest_of_line [] ≡ codes "\n")
+worked-rest_of_line = (refl, refl)

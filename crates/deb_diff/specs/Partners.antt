@@ -1,5 +1,5 @@
 -- The partners of elements in a pool.
-use Rattle.std.specs.Prelude.{◌≡◌, ℕ, List, [], ◌∷◌, map, Option}
+use Rattle.std.specs.Prelude.{◌≡◌, ℕ, ◌+◌, List, [], ◌∷◌, map, Option, None, Some, codes, refl}
 use Rattle.std.specs.Option.{option_map}
 use Rattle.deb_diff.specs.Items.{Item}
 use Rattle.deb_diff.specs.Pairing.{all_but, earliest}
@@ -24,3 +24,29 @@ pub record Pairs (items : List Item) (key : Item → List ℕ) (keys : List (Lis
   pub partners : found ≡ partners_of key keys (left_in items old)
   pub left : left_in items new ≡ after_keys key keys (left_in items old)
   pub is_pool : IsPoolOf (map key items) new
+
+-- Below, two paragraphs with the name x have the numbers 4 and 6 in their pool.
+abbrev named : ℕ → List ℕ → ℕ × Item
+named number name = (
+  number,
+  record {
+    number = number + 1;
+    name = name;
+    version = codes "1";
+    architecture = codes "all";
+    bodies = [];
+  },
+)
+
+abbrev left : List (ℕ × Item)
+left = named 4 (codes "x") ∷ named 5 (codes "y") ∷ named 6 (codes "x") ∷ []
+
+-- three of a key where two are left, and a key that none has
+worked-partners : (partners_of (λ item. item.name)
+    (codes "x" ∷ codes "z" ∷ codes "x" ∷ codes "x" ∷ []) left
+    ≡ Some 4 ∷ None ∷ Some 6 ∷ None ∷ [])
+    × (after_keys (λ item. item.name)
+    (codes "x" ∷ codes "z" ∷ codes "x" ∷ codes "x" ∷ []) left
+    ≡ named 5 (codes "y") ∷ [])
+    × (after_keys (λ item. item.name) [] left ≡ left)
+worked-partners = (refl, refl, refl)

@@ -38,3 +38,9 @@ pub record Takes (items : List Item) (key : Item → List ℕ) (wanted : List �
 worked-pick : pick 3 (codes "a" ∷ codes "b" ∷ codes "c" ∷ []) (true ∷ false ∷ true ∷ [])
     ≡ (3, codes "a") ∷ (5, codes "c") ∷ []
 worked-pick = refl
+
+-- several, one and none
+worked-numbers_of : map
+    (λ key. numbers_of key ((0, codes "a") ∷ (2, codes "b") ∷ (5, codes "a") ∷ []))
+    (codes "a" ∷ codes "b" ∷ codes "c" ∷ []) ≡ (0 ∷ 5 ∷ []) ∷ (2 ∷ []) ∷ [] ∷ []
+worked-numbers_of = refl

@@ -1,5 +1,5 @@
 -- What became of old paragraphs, by the numbers of new ones.
-use Rattle.std.specs.Prelude.{◌≡◌, ℕ, cond, is_some, List, [], ◌∷◌, map, Option, Some, None}
+use Rattle.std.specs.Prelude.{◌≡◌, ℕ, ◌+◌, cond, is_some, List, [], ◌∷◌, map, Option, Some, None, codes, refl}
 use Rattle.std.specs.Option.{option_map}
 use Rattle.deb_diff.specs.Items.{Item, series}
 use Rattle.deb_diff.specs.Pairing.{all_but, earliest}
@@ -45,3 +45,44 @@ pub record Becomes (items : List Item) (partners : List (Option ℕ)) (keys : Li
   pub became : made ≡ all_of partners keys (left_in items old)
   pub left : left_in items new ≡ left_after_all partners keys (left_in items old)
   pub is_pool : IsPoolOf (map series items) new
+
+-- Below, two new paragraphs of the series `x all` have the numbers 4 and 6 in their pool.
+abbrev named : ℕ → List ℕ → ℕ × Item
+named number name = (
+  number,
+  record {
+    number = number + 1;
+    name = name;
+    version = codes "1";
+    architecture = codes "all";
+    bodies = [];
+  },
+)
+
+abbrev left : List (ℕ × Item)
+left = named 4 (codes "x") ∷ named 5 (codes "y") ∷ named 6 (codes "x") ∷ []
+
+worked-became : (became_of (Some 3) (Some 4) ≡ became.Changed 3)
+    × (became_of (Some 3) None ≡ became.Changed 3)
+    × (became_of None (Some 4) ≡ became.Upgraded 4) × (became_of None None ≡ became.Nothing)
+worked-became = (refl, refl, refl, refl)
+
+worked-near : (near_of (codes "x all") left ≡ Some 4) × (near_of (codes "x amd64") left ≡ None)
+worked-near = (refl, refl)
+
+-- one with a partner takes none, and one without takes the earliest
+worked-left_after : (left_after (Some 3) (codes "x all") left ≡ left)
+    × (left_after None (codes "x all") left
+    ≡ named 5 (codes "y") ∷ named 6 (codes "x") ∷ [])
+    × (left_after None (codes "z all") left ≡ left)
+worked-left_after = (refl, refl, refl)
+
+-- four of a series, of which the second has a partner, and one of another series
+worked-all : (all_of (None ∷ Some 3 ∷ None ∷ None ∷ None ∷ [])
+    (codes "x all" ∷ codes "x all" ∷ codes "z all" ∷ codes "x all" ∷ codes "x all" ∷ []) left
+    ≡ became.Upgraded 4 ∷ became.Changed 3 ∷ became.Nothing ∷ became.Upgraded 6
+    ∷ became.Nothing ∷ [])
+    × (left_after_all (None ∷ Some 3 ∷ None ∷ None ∷ None ∷ [])
+    (codes "x all" ∷ codes "x all" ∷ codes "z all" ∷ codes "x all" ∷ codes "x all" ∷ []) left
+    ≡ named 5 (codes "y") ∷ [])
+worked-all = (refl, refl)
