@@ -33,5 +33,7 @@ pub mod PartsWithin
 pub mod ReadAlone
 pub mod RefusalLines
 pub mod RefusedLines
+pub mod Resuming
 pub mod RefusalsOfAny
 mod RequiredFields
+pub mod StreamLaws

@@ -25,3 +25,6 @@ pub mod Sorting
 pub mod Paragraphs
 pub mod ParagraphValues
 pub mod Required
+pub mod Resuming
+pub mod Streams
+pub mod StreamLaws

@@ -1,10 +1,13 @@
 //! Reads the paragraphs of a document, and checks them one after another.
 
-ghost use Rattle.std.specs.Prelude.{◌≡◌, ℕ, List, [], Some, None, Ok, true, IfNone, IfOk, IfSome, IsSome, IsTrue};
-ghost use Rattle.deb_syntax.specs.Paragraphs.{seen_of, state_of};
+ghost use Rattle.std.specs.Prelude.{◌≡◌, ◌==◌, ℕ, List, [], Option, Some, None, Ok, true, IfNone, IfErr, IfOk, IfSome, IsFalse, IsSome, IsTrue};
+ghost use Rattle.deb_base.specs.Codes.{number_of};
+ghost use Rattle.deb_syntax.specs.Paragraphs.{judged_last, seen_of, state_of};
+ghost use Rattle.deb_syntax.specs.Reading.{Fits};
 ghost use Rattle.deb_control.specs.Checking.{current_answer, is_found, is_sound, passing_seen, text_built};
 ghost use Rattle.deb_control.specs.Documents.{rules_of};
 ghost use Rattle.deb_control.specs.Refusals.{built};
+ghost use Rattle.deb_control.specs.Resuming.{is_inside, is_none_or_refusal};
 ghost use Rattle.deb_control.specs.Visiting.{PassesVisiting};
 
 use crate::canon_text::CanonText;
@@ -13,8 +16,8 @@ use crate::checked_view::CheckedView;
 use crate::find::find;
 use crate::totals::Totals;
 use crate::visitor::FieldVisitor;
-use deb_base::{Fault, Source};
-use deb_field::Doc;
+use deb_base::{Code, Fault, Source};
+use deb_field::{Doc, is_single};
 use deb_syntax::{Paragraphs, Raw};
 use std::alloc::{AllocError, Global};
 use std::mem;
@@ -35,6 +38,7 @@ pub struct Checked {
     /// The canonical text of that paragraph.
     text: Vec<u8>,
     alloc: Global,
+    ghost inside: { IsTrue (is_inside fault (state_of paragraphs).fault) },
     ghost sound: { IsTrue (is_sound fault (state_of paragraphs).fault) },
     ghost found: { IsTrue (is_found fault doc (state_of paragraphs).current) },
 }
@@ -51,6 +55,7 @@ impl Checked {
     ghost use Rattle.deb_control.specs.CheckedStates.{refused_last};
     ghost use Rattle.deb_control.specs.Calls.{IfRefused};
     ghost use Rattle.deb_control.specs.Refused.{lines_behind};
+    ghost use Rattle.deb_control.specs.Resuming.{FitsWithout, refuses_paragraph, resumed, resumes};
     ghost use Rattle.deb_syntax.specs.Judged.{line_judged};
     ghost use Rattle.deb_syntax.specs.Meaning.{Entries};
 
@@ -133,6 +138,11 @@ impl Checked {
             (checked_state self.old) (R.left reader.old) → IfRefused result
             (λ _. lines_checked self.new ≡ lines_behind (rules_of (doc_read self.old)) text
             before)) }
+        ensures without { IfNone (checked_state self.old).fault
+            ((text : List ℕ) (before : List Entries) → FitsChecked (doc_read self.old) text before
+            (checked_state self.old) (R.left reader.old) → IfErr result
+            (λ _. IfSome (lines_checked self.new) (λ p. FitsWithout (doc_read self.old) text before
+            p (checked_state self.new) (R.left reader.new)))) }
         ensures repeats { IsSome (checked_state self.old).fault → self.new ≡ self.old }
         ensures source_untouched { IsQuietChecked (checked_state self.old) → reader.new ≡
             reader.old }
@@ -153,6 +163,47 @@ impl Checked {
                 self.fault = Some(fault);
                 Err(fault)
             }
+        }
+    }
+
+    /// Goes on after the paragraph that `advance` or `next` refused: forgets that error, so that the
+    /// next call returns what follows that paragraph, as if its lines were blank. It counts neither
+    /// as a paragraph nor with the canonical text of the file. Returns whether there was such an
+    /// error. Otherwise it changes nothing: these errors repeat. Reads nothing.
+    ///
+    /// - A paragraph whose lines are too long, and a file that is too long, also if only its
+    ///   canonical text is.
+    /// - Each refusal of a kind of document that has exactly one paragraph.
+    /// - `Fault::Memory` and `Fault::Read`.
+    pub fn resume(&mut self) -> bool
+        ensures resumed { result ≡ resumes (doc_read self.old) (checked_state self.old).fault
+            (lines_checked self.old) }
+        ensures goes_on { IsTrue result
+            → checked_state self.new ≡ resumed (checked_state self.old) }
+        ensures fits { (text : List ℕ) (before : List Entries) (left : Option (List ℕ))
+            → FitsChecked (doc_read self.old) text before (checked_state self.old) left
+            → FitsChecked (doc_read self.old) text before (checked_state self.new) left }
+        ensures doc { doc_read self.new ≡ doc_read self.old }
+        ensures lines { lines_checked self.new ≡ lines_checked self.old }
+        ensures unchanged { IsFalse result → self.new ≡ self.old }
+    {
+        let resumes = !is_single(self.doc) && self.refuses_paragraph();
+        if resumes {
+            go_on(&mut self.paragraphs);
+            self.fault = None;
+        }
+        resumes
+    }
+
+    /// Whether the error is a refusal of a paragraph whose lines were judged, by itself.
+    fn refuses_paragraph(&self) -> bool
+        ensures { result ≡ refuses_paragraph self.now.fault (lines_checked self.now) }
+    {
+        match self.fault {
+            Some(Fault::Refused(refusal)) => {
+                self.paragraphs.first_line().is_some() && !is_file_too_long(refusal.code)
+            }
+            _ => false,
         }
     }
 
@@ -235,4 +286,26 @@ impl Checked {
         let judged = self.current()?;
         Some(CheckedText::new(judged, self.text.as_slice()))
     }
+}
+
+/// Goes on after the paragraph that was judged last.
+fn go_on(paragraphs: &mut Paragraphs)
+    requires inside { IsTrue (is_none_or_refusal (state_of paragraphs.old).fault) }
+    requires judged { IsSome (judged_last paragraphs.old) }
+    ensures state { state_of paragraphs.new
+        ≡ record (state_of paragraphs.old) { current = None; fault = None } }
+    ensures fits { (text passed : List ℕ) (left : Option (List ℕ))
+        → Fits text passed (state_of paragraphs.old) left
+        → Fits text passed (state_of paragraphs.new) left }
+    ensures judged { judged_last paragraphs.new ≡ judged_last paragraphs.old }
+{
+    paragraphs.resume();
+    paragraphs.leave();
+}
+
+/// Whether a code is that of a file that is too long.
+fn is_file_too_long(code: Code) -> bool
+    ensures { result ≡ (number_of code == 9) }
+{
+    matches!(code, Code::FileTooLong)
 }

@@ -1,6 +1,6 @@
 //! Finds the next paragraph of a document, and checks it.
 
-ghost use Rattle.std.specs.Prelude.{◌≡◌, ◌≤◌, ◌==◌, ◌&&◌, ℕ, List, not, Option, None, Some, Ok, Err, false, true, is_some, length, IfOk, IfErr, IsTrue};
+ghost use Rattle.std.specs.Prelude.{◌≡◌, ◌≤◌, ◌==◌, ◌&&◌, ℕ, List, not, Option, None, Some, Ok, Err, false, true, is_some, length, IfOk, IfErr, IfSome, IsTrue};
 ghost use Rattle.deb_base.specs.Faults.{RefusedOrMemory};
 ghost use Rattle.deb_syntax.specs.Answers.{Seen};
 ghost use Rattle.deb_syntax.specs.Meaning.{Entries};
@@ -11,6 +11,7 @@ ghost use Rattle.deb_control.specs.Checking.{is_found, Checks, FitsChecked, Pass
 ghost use Rattle.deb_control.specs.Documents.{rules_of};
 ghost use Rattle.deb_control.specs.Finding.{moment_from, AddsPassing, RefusesSeen, end_answer, given_answer, seen_found};
 ghost use Rattle.deb_control.specs.Refused.{lines_behind};
+ghost use Rattle.deb_control.specs.Resuming.{FitsWithout, is_inside};
 ghost use Rattle.deb_control.specs.Visiting.{VisitsFound, VisitsValues};
 
 use crate::paragraph_check::{check_paragraph, refused};
@@ -48,6 +49,15 @@ pub(crate) fn find<R: Source, V: FieldVisitor>(
         (moment_from shown kept paragraphs.old totals.old (R.left reader.old)
         (R.failures reader.old)).state (R.left reader.old) → IfRefused result
         (λ _. judged_last paragraphs.new ≡ lines_behind (rules_of doc) text before) }
+    ensures inside { IfErr result
+        (λ fault. IsTrue (is_inside (Some fault) (state_of paragraphs.new).fault)) }
+    ensures without { (shown shown_now : Option Seen) (kept kept_now : Option Fault)
+        (text : List ℕ) (before : List Entries) → FitsChecked doc text before
+        (moment_from shown kept paragraphs.old totals.old (R.left reader.old)
+        (R.failures reader.old)).state (R.left reader.old) → IfErr result
+        (λ _. IfSome (judged_last paragraphs.new) (λ p. FitsWithout doc text before p
+        (moment_from shown_now kept_now paragraphs.new totals.new (R.left reader.new)
+        (R.failures reader.new)).state (R.left reader.new))) }
     ensures source_untouched { IsQuiet (state_of paragraphs.old) → reader.new ≡ reader.old }
 {
     if is_complete(doc, totals) {
@@ -81,6 +91,8 @@ fn none_follows<R: Source>(paragraphs: &mut Paragraphs, reader: &mut R) -> Resul
     ensures none { IfOk result
         (λ gives. (gives ≡ false) × ((state_of paragraphs.new).current ≡ None)) }
     ensures unjudged { judged_last paragraphs.new ≡ None }
+    ensures inside { IfErr result
+        (λ fault. IsTrue (is_inside (Some fault) (state_of paragraphs.new).fault)) }
     ensures source_untouched { IsQuiet (state_of paragraphs.old) → reader.new ≡ reader.old }
 {
     match paragraphs.begins(reader)? {

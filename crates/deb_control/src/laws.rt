@@ -1,6 +1,7 @@
 //! Laws of documents. Each function does nothing; its contract is the law.
 
 ghost use Rattle.deb_control.specs.Laws.{RefusedOrAccepted, AcceptedMeansOneThing, AcceptedIsWritten, CanonicalTextIsAccepted, CanonicalTextTellsMeanings, CanonicalTextIsItsOwn, WhatIsWrittenIsNormal, RefusalsAreOfTheFile, RefusalsOfAnyAreOfText, RefusalBehindIsOfTheFile, EndBehindIsOfTheFile};
+ghost use Rattle.deb_control.specs.StreamLaws.{FirstIsTheRefusal, NoRefusalIsAccepted, RefusedIsLeftOut};
 
 /// A file has no refusal exactly if it is accepted with some meaning.
 pub fn a_file_is_refused_or_accepted()
@@ -63,4 +64,21 @@ pub fn a_refusal_behind_paragraphs_is_of_the_file()
 /// accepted with exactly these.
 pub fn an_end_behind_paragraphs_is_of_the_file()
     ensures { EndBehindIsOfTheFile }
+{}
+
+/// The first refusal of the stream of a file, if it has one, is the refusal of the file.
+pub fn the_first_refusal_is_of_the_file()
+    ensures { FirstIsTheRefusal }
+{}
+
+/// The stream of a file has no refusal exactly if the file is accepted with some meaning.
+pub fn no_refusal_is_acceptance()
+    ensures { NoRefusalIsAccepted }
+{}
+
+/// If `Checked` refuses a paragraph after those that it has returned, and the stream doesn't end
+/// there, that refusal is the stream's next item, and what follows it is the stream of the text
+/// without that paragraph.
+pub fn what_is_refused_is_left_out()
+    ensures { RefusedIsLeftOut }
 {}

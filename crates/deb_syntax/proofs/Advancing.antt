@@ -120,7 +120,7 @@ long_refused ahead overlong cursor left is long ends no_newline =
     left-long (cursor.lines + 1) (room_ahead cursor) ahead [] overlong visible.0 visible.1 tt not_blank nothing longer ∙ ap (λ n. Err (record { code = ParagraphTooLong; line = n })) one
 
 -- the same number of paragraphs have passed
-same_count : (text passed passed_now : List ℕ) → paragraphs_of passed_now ≡ paragraphs_of passed → (next_answer text (passed_count passed_now) ≡ next_answer text (passed_count passed)) × (next_begin text (passed_count passed_now) ≡ next_begin text (passed_count passed))
+pub same_count : (text passed passed_now : List ℕ) → paragraphs_of passed_now ≡ paragraphs_of passed → (next_answer text (passed_count passed_now) ≡ next_answer text (passed_count passed)) × (next_begin text (passed_count passed_now) ≡ next_begin text (passed_count passed))
 same_count text passed passed_now e = (ap (λ ps. next_answer text (length ps)) e, ap (λ ps. next_begin text (length ps)) e)
 
 -- What the walk finds ahead, told of the whole text, where no bytes are discarded.
@@ -363,7 +363,7 @@ pub dropped_answer : (text passed : List ℕ) (cursor : CursorState) (overlong_l
 dropped_answer text passed cursor overlong_len finished current fault left line b some test small is =
     sym (same_count text passed b.passed_now b.passes).0 ∙ overlong_answer text b.passed_now cursor overlong_len finished current fault left b.again some test small ∙ ap (λ n. Err (record { code = ParagraphTooLong; line = n })) (sym is)
 
-if_none : (o : Option Fault) (P : Type 0) → P → IfNone o P
+pub if_none : (o : Option Fault) (P : Type 0) → P → IfNone o P
 if_none None P p = p
 if_none (Some f) P p = tt
 

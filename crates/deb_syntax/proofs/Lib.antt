@@ -38,10 +38,13 @@ pub mod Parts
 pub mod Passing
 pub mod FieldSpanLemmas
 pub mod SpansWithin
+pub mod Resuming
 pub mod Runs
 pub mod Slices
+pub mod StreamLaws
 pub mod Takings
 pub mod WalkingBlanks
 pub mod WalkingLines
 pub mod WalkingRuns
 pub mod WalkingSteps
+pub mod Without

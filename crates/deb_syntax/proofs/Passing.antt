@@ -39,7 +39,7 @@ ends_line-with_newlines (line ∷ lines) =
     ap ends_line apart ∙ ends_line-both (line ++ newline ∷ []) (with_newlines lines) (ends_line-append [] line) (ends_line-with_newlines lines)
 
 -- closed lines and more of them
-closed_more : (passed more : List ℕ) → IsClosed passed → IsClosed more → IsClosed (passed ++ more)
+pub closed_more : (passed more : List ℕ) → IsClosed passed → IsClosed more → IsClosed (passed ++ more)
 closed_more passed more a b = (ends_line-both passed more a.0 b.0, go (lines_of more) refl)
   where
     go : (lines : List Line) → lines_of more ≡ lines → ends_blank (lines_of (passed ++ more)) ≡ true

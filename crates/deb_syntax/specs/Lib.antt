@@ -13,5 +13,7 @@ pub mod Paragraphs
 pub mod FieldSpans
 pub mod Raw
 pub mod Reading
+pub mod Resuming
+pub mod Streams
 pub mod CurrentParagraphs
 pub mod Walking

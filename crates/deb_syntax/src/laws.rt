@@ -3,6 +3,7 @@
 #![tactic(auto, using(crate::proofs::LawProofs::laws))]
 
 ghost use Rattle.deb_syntax.specs.Laws.{JudgedIsSpelled, SpelledIsJudged, RefusedIsNotSpelled, ParagraphHasOneReading, TextHasOneMeaning, TextIsMeantOrRefused, ParagraphsAreRuns, ParagraphsStandInText, LinesGiveTextBack, TextGivesLinesBack, PiecesGiveTextBack, MeaningIsItsBodies, MeaningHasBodies, OrderIsNoMeaning, AcceptedIsNeverRefused, NeverRefusedIsAccepted, RefusalIsOfText, AnswersEnd};
+ghost use Rattle.deb_syntax.specs.Streams.{AnswersAreOfStream};
 
 /// The fields that are read from the lines of a paragraph within its limit of length are those that
 /// the lines spell.
@@ -100,4 +101,10 @@ pub fn a_refusal_is_of_the_text()
 /// a file that isn't too long.
 pub fn answers_end()
     ensures { AnswersEnd }
+{}
+
+/// After the first items of a file's stream, a reader of paragraphs returns the next item, or the
+/// end: so the first refusal of a file is that of its first refused item, or else of its end.
+pub fn answers_are_those_of_the_stream()
+    ensures { AnswersAreOfStream }
 {}

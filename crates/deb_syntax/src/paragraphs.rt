@@ -1,11 +1,12 @@
 //! The reader of paragraphs (Debian Policy 5.1; deb822(5)).
 
-ghost use Rattle.std.specs.Prelude.{◌≡◌, ◌+◌, ◌≤◌, ◌⊎◌, ℕ, List, [], Some, None, true, false, length, option_map, IsTrue, IfErr, IfOk, OnOk};
+ghost use Rattle.std.specs.Prelude.{◌≡◌, ◌+◌, ◌≤◌, ◌⊎◌, ℕ, List, [], Some, None, true, false, length, option_map, Option, IsTrue, IfErr, IfOk, IfSome, OnOk};
 ghost use Rattle.deb_base.specs.Reading.{piece_limit};
 ghost use Rattle.deb_syntax.specs.Ahead.{IsAhead, IsNear, KeepsLine};
 ghost use Rattle.deb_syntax.specs.Cursors.{cursor_state, buffer_of, had, Takes};
 ghost use Rattle.deb_syntax.specs.Judged.{lines_standing, IsRefusalOfLength, JudgesAhead, JudgesLines};
 ghost use Rattle.deb_syntax.specs.Lines.{file_limit};
+ghost use Rattle.deb_syntax.specs.Resuming.{HasPassed, PassesRun, is_resumable};
 ghost use Rattle.deb_syntax.specs.CurrentParagraphs.{HidesLong, stands_within, current_answer, IsPassed};
 ghost use Rattle.deb_base.specs.Devices.{read_failures_after};
 ghost use Rattle.deb_base.specs.Faults.{IsReadersFault};
@@ -62,7 +63,7 @@ pub struct Paragraphs {
 }
 
 impl Paragraphs {
-    ghost use Rattle.std.specs.Prelude.{IfNone, IsSome, ◌↔◌};
+    ghost use Rattle.std.specs.Prelude.{IfNone, IsFalse, IsSome, ◌↔◌};
     ghost use Rattle.std.specs.Borrow.{sem};
     ghost use Rattle.std.specs.Io.BufRead.{Rests};
     ghost use Rattle.deb_syntax.specs.contracts.paragraphs.Paragraphs.{the_row};
@@ -232,6 +233,10 @@ impl Paragraphs {
             → Fits text passed (state_of self.old) (R.left reader.old)
             → ShowsJudged text (passed_count passed)
             (advance_answer (state_of self.new) result) (judged_last self.new)) }
+        ensures judged_passed { IfNone (state_of self.old).fault ((text passed : List ℕ)
+            → Fits text passed (state_of self.old) (R.left reader.old)
+            → IfSome (judged_last self.new)
+            (λ p. HasPassed text passed p (state_of self.new) (R.left reader.new))) }
         ensures repeats { IsSome (state_of self.old).fault → self.new ≡ self.old }
         ensures source_untouched { IsQuiet (state_of self.old) → reader.new ≡ reader.old }
     {
@@ -243,6 +248,50 @@ impl Paragraphs {
             self.fault = Some(fault);
         }
         answer
+    }
+
+    /// Goes on after the paragraph of which `advance` or `next` refused a line: forgets that error,
+    /// so that the next call returns what follows that paragraph. Returns whether there was such an
+    /// error. Otherwise it changes nothing: an error of memory or of a read, and a paragraph or a
+    /// file that is too long, repeat. Reads nothing.
+    pub fn resume(&mut self) -> bool
+        ensures resumed { result ≡ is_resumable (state_of self.old).fault (judged_last self.old) }
+        ensures goes_on { IsTrue result
+            → state_of self.new ≡ record (state_of self.old) { fault = None } }
+        ensures fits { (text passed : List ℕ) (left : Option (List ℕ))
+            → Fits text passed (state_of self.old) left
+            → Fits text passed (state_of self.new) left }
+        ensures judged { judged_last self.new ≡ judged_last self.old }
+        ensures unchanged { IsFalse result → self.new ≡ self.old }
+    {
+        match self.fault {
+            Some(Fault::Refused(_)) if self.judged.is_some() => {
+                self.fault = None;
+                true
+            }
+            _ => false,
+        }
+    }
+
+    /// Returns the number of the first line of the paragraph that the last `advance` or `next` found,
+    /// or of which it refused a line. `None` if there is no such paragraph.
+    pub fn first_line(&self) -> Option<u64>
+        ensures { result ≡ option_map (λ p. p.first) (judged_last self.now) }
+    {
+        let at = self.judged?;
+        Some(at.first_line)
+    }
+
+    /// Leaves the paragraph that was found last: `current` then returns `None`. Reads nothing, and
+    /// changes nothing else.
+    pub fn leave(&mut self)
+        ensures left { state_of self.new ≡ record (state_of self.old) { current = None } }
+        ensures fits { (text passed : List ℕ) (left : Option (List ℕ))
+            → Fits text passed (state_of self.old) left
+            → Fits text passed (state_of self.new) left }
+        ensures judged { judged_last self.new ≡ judged_last self.old }
+    {
+        self.current = None;
     }
 
     /// The line at which the next paragraph begins.
@@ -274,6 +323,10 @@ impl Paragraphs {
             → Fits text passed (state_of self.old) (R.left reader.old)
             → ShowsJudged text (passed_count passed)
             (advance_answer (state_of self.new) result) (judged_last self.new) }
+        ensures judged_passed { (text passed : List ℕ)
+            → Fits text passed (state_of self.old) (R.left reader.old)
+            → IfSome (judged_last self.new)
+            (λ p. HasPassed text passed p (state_of self.new) (R.left reader.new)) }
         ensures source_untouched { IsTrue (state_of self.old).ended ⊎ IsTrue
             (state_of self.old).finished
             → reader.new ≡ reader.old }
@@ -358,6 +411,10 @@ impl Paragraphs {
             → Fits text passed (state_of self.old) (R.left reader.old)
             → ShowsJudged text (passed_count passed)
             (end_answer (state_of self.new) result) (judged_last self.new) }
+        ensures judged_passed { (text passed : List ℕ)
+            → Fits text passed (state_of self.old) (R.left reader.old)
+            → IfSome (judged_last self.new)
+            (λ p. HasPassed text passed p (state_of self.new) (R.left reader.new)) }
         ensures found { OnOk result (IsSome (state_of self.new).current) }
         ensures unfinished { self.new.finished ≡ false }
         ensures no_overlong { self.new.overlong_len ≡ 0 }
@@ -384,16 +441,18 @@ impl Paragraphs {
                 Ok(())
             }
             Err(fault) => {
-                // Nothing that is unread is asked for again.
-                self.cursor.truncate(0);
+                if self.judged.is_none() {
+                    // Nothing that is unread is asked for again.
+                    self.cursor.truncate(0);
+                }
                 Err(fault)
             }
         }
     }
 }
 
-/// Finds the end of the paragraph that begins the unread bytes, judges it and passes it. Where its
-/// end was found, `judged` is where its lines are, also if one of them is refused.
+/// Finds the end of the paragraph that begins the unread bytes, judges it and passes it. If its end
+/// was found, `judged` is where its lines are, and it has passed, also if a line of it is refused.
 fn pass_paragraph<R: Source>(
     cursor: &mut FileCursor,
     partial: PartialLine,
@@ -415,6 +474,11 @@ fn pass_paragraph<R: Source>(
         → JudgesAhead text (cursor_state cursor.old)
         (option_map (lines_standing (buffer_of cursor.new)) judged.new) }
     ensures near { OnOk result (length (cursor_state cursor.new).unread ≤ piece_limit) }
+    ensures judged_near { IfSome judged.new
+        (λ _. length (cursor_state cursor.new).unread ≤ piece_limit) }
+    ensures passes { (text : List ℕ) → IsAhead text [] (cursor_state cursor.old) (R.left reader.old)
+        → IfSome judged.new (λ at. PassesRun text (cursor_state cursor.old)
+        (lines_standing (buffer_of cursor.new) at) (cursor_state cursor.new) (R.left reader.new)) }
     ensures ahead { (text : List ℕ) → IsAhead text [] (cursor_state cursor.old) (R.left reader.old)
         → IsPassed text (cursor_state cursor.old) (current_answer
         (buffer_of cursor.new) spans.new.items
@@ -436,11 +500,11 @@ fn pass_paragraph<R: Source>(
     *judged = Some(current);
     let paragraph = &cursor.unread()[..extent.end];
     let alloc = *spans.allocator();
-    match judge(alloc, paragraph, ends.as_slice(), first_line, spans) {
-        Ok(()) => {
-            cursor.consume(extent.skip, extent.bytes, extent.lines);
-            Ok(current)
-        }
+    let answer = judge(alloc, paragraph, ends.as_slice(), first_line, spans);
+    // It passes also if one of its lines is refused: `resume` then goes on after it.
+    cursor.consume(extent.skip, extent.bytes, extent.lines);
+    match answer {
+        Ok(()) => Ok(current),
         Err(fault) => Err(fault),
     }
 }

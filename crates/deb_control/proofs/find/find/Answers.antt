@@ -1,7 +1,8 @@
-use Rattle.deb_control.proofs.Common.{◌≡◌, Bool, None, Some, refl, sym, ◌∙◌, err_from_is_err_and, goes-from_passes, state_of, seen_of, Advances}
+use Rattle.deb_control.proofs.Common.{◌≡◌, Bool, None, Some, refl, sym, ap, ◌∙◌, err_from_is_err_and, goes-from_passes, state_of, seen_of, Advances}
 use Rattle.deb_syntax.specs.Paragraphs.{judged_last}
 use Rattle.deb_control.proofs.Checks.{few-totals, checks-advance_err, checks-end, says-found, none_found, one_found}
 use Rattle.deb_control.proofs.RefusedLines.{lines_are, lines_none, lines_refused, of_refusal, shown_by_answer, without_error}
+use Rattle.deb_control.proofs.Resuming.{any_error, error_inside, fits_without, found_sound, if_error, is_inside-same, unchanged_error}
 use Rattle.deb_control.proofs.find.find.Goals as goal
 
 pub returns-then-is_complete-clause-checks : goal.returns-then-is_complete-clause-checks
@@ -55,3 +56,33 @@ returns-in-Some-clause-lines g c = λ shown kept text before fits.
     let judged = without_error _ _ c.requires.sound c.in_ok-advance.ensures.judged in
     let last = judged_last c.advance.new.self in
     of_refusal c.pass.result _ (lines_are c.args.doc text before c.args.totals.now.paragraphs fits.counted (sym c.is_complete.ensures ∙ c.if-is_complete.false) fits.passed fits.paragraphs last (shown_by_answer text _ (state_of c.advance.new.self) c.in_ok-advance.field-0 last (judged text fits.passed fits.fits)))
+
+pub returns-then-is_complete-clause-without : goal.returns-then-is_complete-clause-without
+returns-then-is_complete-clause-without g c = λ shown shown_now kept kept_now text before fits.
+    any_error c.none_follows.result (if_error _ (judged_last c.none_follows.new.paragraphs) c.none_follows.ensures.unjudged)
+
+pub returns-in_err-advance-clause-without : goal.returns-in_err-advance-clause-without
+returns-in_err-advance-clause-without g c = λ shown shown_now kept kept_now text before fits.
+    let passed = without_error _ _ c.requires.sound c.in_err-advance.ensures.judged_passed in
+    any_error c.from_residual.result (fits_without c.args.doc text before _ _ _ _ (judged_last c.advance.new.self) refl refl fits (passed text fits.passed fits.fits))
+
+pub returns-in-None-clause-without : goal.returns-in-None-clause-without
+returns-in-None-clause-without g c = λ shown shown_now kept kept_now text before fits.
+    let passed = without_error _ _ c.requires.sound c.in_ok-advance.ensures.judged_passed in
+    any_error c.end.result (fits_without c.args.doc text before _ _ _ _ (judged_last c.advance.new.self) refl refl fits (passed text fits.passed fits.fits))
+
+pub returns-in-Some-clause-without : goal.returns-in-Some-clause-without
+returns-in-Some-clause-without g c = λ shown shown_now kept kept_now text before fits.
+    let passed = without_error _ _ c.requires.sound c.in_ok-advance.ensures.judged_passed in
+    unchanged_error c.pass.result (λ same. fits_without c.args.doc text before _ _ _ _ (judged_last c.advance.new.self) (ap (λ t. t.paragraphs) same) (ap (λ t. t.bytes) same) fits (passed text fits.passed fits.fits)) c.pass.ensures.unchanged
+
+pub returns-in_err-advance-clause-inside : goal.returns-in_err-advance-clause-inside
+returns-in_err-advance-clause-inside g c =
+    let p = err_from_is_err_and c.from_residual.result c.from_residual.ensures.1 in
+    rw (p.1, p.2) (is_inside-same c.in_err-advance.field-0.0 _ (without_error _ _ c.requires.sound c.in_err-advance.ensures.passes.keeps))
+
+pub returns-in-None-clause-inside : goal.returns-in-None-clause-inside
+returns-in-None-clause-inside g c = error_inside c.end.result _ (found_sound _ (state_of c.advance.new.self) c.in_ok-advance.field-0 c.requires.sound c.in_ok-advance.ensures.passes.keeps)
+
+pub returns-in-Some-clause-inside : goal.returns-in-Some-clause-inside
+returns-in-Some-clause-inside g c = error_inside c.pass.result _ (found_sound _ (state_of c.advance.new.self) c.in_ok-advance.field-0 c.requires.sound c.in_ok-advance.ensures.passes.keeps)

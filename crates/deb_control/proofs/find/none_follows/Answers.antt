@@ -1,5 +1,7 @@
 use Rattle.deb_control.proofs.Common.{refl, err_from_is_err_and, goes-from_passes, Begins}
 use Rattle.deb_control.proofs.Checks.{few-totals, checks-begins_err, checks-begins_none, checks-begins_some}
+use Rattle.deb_control.proofs.RefusedLines.{without_error}
+use Rattle.deb_control.proofs.Resuming.{is_inside-none, is_inside-same}
 use Rattle.deb_control.proofs.find.none_follows.Goals as goal
 
 pub returns-in_err-begins-clause-checks : goal.returns-in_err-begins-clause-checks
@@ -20,3 +22,11 @@ returns-in-Some-clause-checks g c = λ shown shown_now kept kept_now doc totals 
 
 pub returns-in-None-clause-none : goal.returns-in-None-clause-none
 returns-in-None-clause-none g c = (refl, (goes-from_passes Begins _ _ _ c.requires.sound (rw c.in-None.is at c.in_ok-begins.ensures.passes)).current)
+
+pub returns-in_err-begins-clause-inside : goal.returns-in_err-begins-clause-inside
+returns-in_err-begins-clause-inside g c =
+    let p = err_from_is_err_and c.from_residual.result c.from_residual.ensures.1 in
+    rw (p.1, p.2) (is_inside-same c.in_err-begins.field-0.0 _ (without_error _ _ c.requires.sound c.in_err-begins.ensures.passes.keeps))
+
+pub returns-in-Some-clause-inside : goal.returns-in-Some-clause-inside
+returns-in-Some-clause-inside g c = is_inside-none c.refused.result _ (without_error _ _ c.requires.sound (rw c.in-Some.is at c.in_ok-begins.ensures.passes).keeps)

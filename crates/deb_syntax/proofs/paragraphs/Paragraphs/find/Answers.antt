@@ -3,6 +3,7 @@ use Rattle.deb_syntax.proofs.Advancing.{answers_behind, takes_text, dropped_answ
 use Rattle.deb_syntax.proofs.Faults.{readers_fault}
 use Rattle.deb_syntax.proofs.CursorLemmas.{cursor_small}
 use Rattle.deb_syntax.proofs.JudgedLines.{is_length_refusal, length_is_text, shows_behind, shows_end, shows_none}
+use Rattle.deb_syntax.proofs.Resuming.{judged_behind_blanks}
 use Rattle.deb_syntax.specs.Judged.{lines_standing}
 use Rattle.deb_syntax.specs.Paragraphs.{judged_last}
 use Rattle.deb_syntax.proofs.paragraphs.Paragraphs.find.Goals as goal
@@ -99,3 +100,13 @@ returns-in-Err-find_end-clause-judged g c = λ text passed fits.
 pub returns-in-Err-clause-judged : goal.returns-in-Err-clause-judged
 returns-in-Err-clause-judged g c = λ text passed fits.
     shows_none text passed c.in-Err.fault _ (ap (option_map _) c.in-Err.ensures.judged) (readers_fault c.in-Err.fault (λ refusal is. is.0) (c.in-Err.ensures.first text passed fits)) c.in-Err.ensures.fault
+
+pub returns-in-Ok-clause-judged_passed : goal.returns-in-Ok-clause-judged_passed
+returns-in-Ok-clause-judged_passed g c = λ text passed fits.
+    let b = rw c.in-Ok-Buffered.field-0-is at (c.in-Ok-Buffered.ensures.first text passed fits) in
+    judged_behind_blanks text passed b.passed_now _ _ _ b.passes (c.in-Ok.ensures.judged_passed text b.passed_now b.again)
+
+pub returns-in-Err-find_end-clause-judged_passed : goal.returns-in-Err-find_end-clause-judged_passed
+returns-in-Err-find_end-clause-judged_passed g c = λ text passed fits.
+    let b = rw c.in-Ok-Buffered.field-0-is at (c.in-Ok-Buffered.ensures.first text passed fits) in
+    judged_behind_blanks text passed b.passed_now _ _ _ b.passes (c.in-Err-find_end.ensures.judged_passed text b.passed_now b.again)

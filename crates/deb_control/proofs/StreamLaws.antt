@@ -1,0 +1,72 @@
+-- The first refusal of a stream is that of the file, and a stream goes on without what is refused.
+use Rattle.deb_control.proofs.Common.{◌≡◌, ℕ, ◌+◌, ◌++◌, Bool, true, false, cond, List, [], ◌∷◌, length, drop, Option, None, Some, Result, Ok, Err, refl, sym, ap, ◌∙◌, paragraph_limit, Refusal, Entries, Paragraph, Rules, paragraphs_within, rules_of, answer_behind, line_behind}
+use Rattle.deb_syntax.specs.Answers.{line_beyond}
+use Rattle.deb_syntax.specs.Lines.{file_limit}
+use Rattle.deb_control.specs.Refusals.{Outcome, followed, outcome_behind, stopped}
+use Rattle.deb_control.specs.Laws.{RefusedOrAccepted}
+use Rattle.deb_control.specs.Streams.{CheckedStream, end_of, is_end_under, item_of, refusals_in, stream_behind_under, with_answer, with_item}
+use Rattle.deb_control.specs.StreamLaws.{FirstIsTheRefusal, NoRefusalIsAccepted, RefusedIsLeftOut, first_of}
+
+-- the first of a stream's refusals
+first_in : CheckedStream → Option Refusal
+first_in stream = first_of (refusals_in stream.items stream.end)
+
+-- behind the last paragraph
+at_end : (before : List Entries) (answer : Result (Option Entries) Refusal) → first_in (end_of answer) ≡ (stopped before answer).refusal
+unfolding first_in
+at_end before (Ok entries) = refl
+at_end before (Err refusal) = refl
+
+-- and behind a paragraph, by what is answered of it
+behind_one : (is_end : Refusal → Bool) (p : Paragraph) (before : List Entries) (answer : Result (Option Entries) Refusal) (stream : List Entries → CheckedStream) (outcome : Entries → Outcome) → ((entries : Entries) → first_in (stream (before ++ entries ∷ [])) ≡ (outcome entries).refusal) → first_in (with_answer is_end p before answer stream) ≡ (followed before answer outcome).refusal
+unfolding first_in
+behind_one is_end p before (Ok (Some entries)) stream outcome same = same entries
+behind_one is_end p before (Ok None) stream outcome same = refl
+behind_one is_end p before (Err refusal) stream outcome same = go (is_end refusal)
+  where
+    go : (t : Bool) → first_in (cond t (Rattle.deb_control.specs.Streams.ended_by (Some refusal)) (with_item (item_of p (Err refusal)) (stream before))) ≡ Some refusal
+    go true = refl
+    go false = refl
+
+first_behind : (rules : Rules) (beyond : Option ℕ) (n : ℕ) (before : List Entries) (left : List Paragraph) → first_in (stream_behind_under paragraph_limit file_limit rules beyond n before left) ≡ (outcome_behind rules beyond n before left).refusal
+first_behind rules beyond n before [] = at_end before (answer_behind rules beyond n before [])
+first_behind rules beyond n before (p ∷ left) =
+    behind_one (is_end_under paragraph_limit rules p) p before (answer_behind rules beyond n before (p ∷ left)) _ (λ entries. outcome_behind rules beyond n (before ++ entries ∷ []) left)
+    (λ entries. first_behind rules beyond n (before ++ entries ∷ []) left)
+
+pub first_is_refusal : FirstIsTheRefusal
+unfolding first_in
+first_is_refusal doc text = first_behind (rules_of doc) (line_beyond 1 file_limit text) (line_behind text) [] (paragraphs_within text)
+
+no_first : (refusals : List Refusal) → first_of refusals ≡ None → refusals ≡ []
+no_first [] none = refl
+no_first (refusal ∷ refusals) none = absurd cc
+
+pub no_refusal_is_accepted : RefusedOrAccepted → NoRefusalIsAccepted
+no_refusal_is_accepted law doc text = (
+  λ none. (law doc text).0 (sym (first_is_refusal doc text) ∙ ap first_of none),
+  λ accepted. no_first _ (first_is_refusal doc text ∙ (law doc text).1 accepted),
+)
+
+drop_seam : (before : List Paragraph) (count : ℕ) (more : List Paragraph) → length before ≡ count → drop count (before ++ more) ≡ more
+drop_seam before count more counted = ap (λ n. drop n (before ++ more)) (sym counted) ∙ go before
+  where
+    go : (before : List Paragraph) → drop (length before) (before ++ more) ≡ more
+    go [] = refl
+    go (p ∷ before) = go before
+
+pub refused_is_left_out : RefusedIsLeftOut
+refused_is_left_out doc text before p other refusal w refused goes_on =
+    let rules = rules_of doc in
+    let beyond = line_beyond 1 file_limit text in
+    let n = line_behind text in
+    let here : drop (length before) (paragraphs_within text) ≡ p ∷ w.more = ap (drop (length before)) w.was ∙ drop_seam w.before (length before) (p ∷ w.more) w.counted in
+    let there : drop (length before) (paragraphs_within other) ≡ w.more = ap (drop (length before)) w.is ∙ drop_seam w.before (length before) w.more w.counted in
+    let stream : List Paragraph → CheckedStream = λ left. stream_behind_under paragraph_limit file_limit rules beyond n before left in
+    let answer : answer_behind rules beyond n before (p ∷ w.more) ≡ Err refusal = ap (answer_behind rules beyond n before) (sym here) ∙ refused in
+    ap stream here
+    ∙ ap (λ a. with_answer (is_end_under paragraph_limit rules p) p before a (λ passed. stream_behind_under paragraph_limit file_limit rules beyond n passed w.more)) answer
+    ∙ ap (λ t. cond t (Rattle.deb_control.specs.Streams.ended_by (Some refusal)) (with_item (item_of p (Err refusal)) (stream w.more))) goes_on
+    ∙ ap (with_item (item_of p (Err refusal)))
+    (ap stream (sym there) ∙ ap (λ b. stream_behind_under paragraph_limit file_limit rules b n before (drop (length before) (paragraphs_within other))) (sym w.beyond)
+    ∙ ap (λ k. stream_behind_under paragraph_limit file_limit rules (line_beyond 1 file_limit other) (k + 1) before (drop (length before) (paragraphs_within other))) (sym w.lines))

@@ -1,0 +1,115 @@
+-- How a reader of checked paragraphs goes on after a paragraph that is refused (this project's own).
+use Rattle.std.specs.Prelude.{◌≡◌, ℕ, ◌==◌, ◌&&◌, Bool, true, false, not, List, [], length, Option, Some, None, refl}
+use Rattle.deb_base.specs.Codes.{number_of}
+use Rattle.deb_base.specs.Docs.{is_single}
+use Rattle.deb_base.specs.declared.code.Code.TheVariants.{BadNumber, FileTooLong, ParagraphTooLong}
+use Rattle.deb_base.specs.declared.doc.Doc.{Doc}
+use Rattle.deb_base.specs.declared.doc.Doc.TheVariants.{Binary, Packages}
+use Rattle.deb_base.specs.declared.fault.Fault.{Fault}
+use Rattle.deb_base.specs.declared.fault.Fault.TheVariants.{Refused, Memory, Read, Write}
+use Rattle.deb_base.specs.declared.refusal.Refusal.{Refusal}
+use Rattle.deb_syntax.specs.Answers.{Seen}
+use Rattle.deb_syntax.specs.Lines.{Paragraph}
+use Rattle.deb_syntax.specs.Meaning.{Entries}
+use Rattle.deb_syntax.specs.Resuming.{IsWithout}
+use Rattle.deb_control.specs.Checking.{CheckedState, FitsChecked}
+
+-- In place of the text another one fits, which lacks the paragraph behind those that were given and
+-- is the same otherwise: the reader goes on as if the paragraph's lines were blank.
+pub record FitsWithout (doc : Doc) (text : List ℕ) (before : List Entries) (p : Paragraph)
+    (state : CheckedState) (left : Option (List ℕ)) : Type 0 where
+  pub other : List ℕ
+  pub without : IsWithout text (length before) p other
+  pub fits : FitsChecked doc other before state left
+
+-- whether the error is a refusal of a paragraph whose lines were judged, and isn't that with it the
+-- file's canonical text is too long
+abbrev pub refuses_paragraph : Option Fault → Option Paragraph → Bool
+refuses_paragraph (Some (Refused refusal)) (Some p) = not (number_of refusal.code == 9)
+refuses_paragraph (Some (Refused refusal)) None = false
+refuses_paragraph (Some Memory) last = false
+refuses_paragraph (Some Read) last = false
+refuses_paragraph (Some Write) last = false
+refuses_paragraph None last = false
+
+-- whether a reader of a kind of document can go on after this error, where these lines were judged
+-- last: any number of paragraphs may follow, and one is refused
+abbrev pub resumes : Doc → Option Fault → Option Paragraph → Bool
+resumes doc fault last = not (is_single doc) && refuses_paragraph fault last
+
+-- whether there is no error, or it is a refusal
+abbrev pub is_none_or_refusal : Option Fault → Bool
+is_none_or_refusal None = true
+is_none_or_refusal (Some (Refused refusal)) = true
+is_none_or_refusal (Some Memory) = false
+is_none_or_refusal (Some Read) = false
+is_none_or_refusal (Some Write) = false
+
+-- where the error is a refusal, there is no other one inside
+abbrev pub is_inside : Option Fault → Option Fault → Bool
+is_inside (Some (Refused refusal)) inside = is_none_or_refusal inside
+is_inside (Some Memory) inside = true
+is_inside (Some Read) inside = true
+is_inside (Some Write) inside = true
+is_inside None inside = true
+
+-- the reader after that: it has no error, and no paragraph that was found last
+abbrev pub resumed : CheckedState → CheckedState
+resumed state = record state {
+  reader = record state.reader { current = None; fault = None };
+  current = None;
+  fault = None;
+}
+
+-- a value is refused, canonical text of a paragraph is too long, and that of a file
+refusals_of_paragraphs : (p : Paragraph) (last : Option Paragraph)
+    → (refuses_paragraph (Some (Refused (record { code = BadNumber; line = 4 }))) (Some p) ≡ true)
+    × (refuses_paragraph (Some (Refused (record { code = ParagraphTooLong; line = 4 }))) (Some p)
+    ≡ true)
+    × (refuses_paragraph (Some (Refused (record { code = FileTooLong; line = 4 }))) (Some p)
+    ≡ false)
+    × (refuses_paragraph (Some (Refused (record { code = BadNumber; line = 4 }))) None ≡ false)
+    × (refuses_paragraph (Some Memory) last ≡ false) × (refuses_paragraph (Some Read) last ≡ false)
+    × (refuses_paragraph (Some Write) last ≡ false) × (refuses_paragraph None last ≡ false)
+refusals_of_paragraphs p last = (refl, refl, refl, refl, refl, refl, refl, refl)
+
+-- the same where a file has any number of paragraphs, and where it has one
+kinds_to_go_on_in : (p : Paragraph)
+    → (resumes Packages (Some (Refused (record { code = BadNumber; line = 4 }))) (Some p) ≡ true)
+    × (resumes Packages (Some (Refused (record { code = ParagraphTooLong; line = 4 }))) None
+    ≡ false)
+    × (resumes Binary (Some (Refused (record { code = BadNumber; line = 4 }))) (Some p) ≡ false)
+kinds_to_go_on_in p = (refl, refl, refl)
+
+errors_inside : (refusal other : Refusal) (inside : Option Fault)
+    → (is_inside (Some (Refused refusal)) None ≡ true)
+    × (is_inside (Some (Refused refusal)) (Some (Refused other)) ≡ true)
+    × (is_inside (Some (Refused refusal)) (Some Memory) ≡ false)
+    × (is_inside (Some Memory) inside ≡ true) × (is_inside None inside ≡ true)
+    × (is_none_or_refusal (Some Read) ≡ false) × (is_none_or_refusal (Some Write) ≡ false)
+errors_inside refusal other inside = (refl, refl, refl, refl, refl, refl, refl)
+
+-- for the worked case: a reader by the errors of its reader of paragraphs and its own, and the
+-- paragraph that the former found last
+abbrev reader_of : Option Fault → Option Fault → Option Seen → CheckedState
+reader_of inside fault found = record {
+  reader = record {
+    unread = [];
+    held = 9;
+    bytes = 5;
+    lines = 1;
+    overlong_len = 0;
+    ended = false;
+    finished = false;
+    current = found;
+    fault = inside;
+  };
+  count = 1;
+  bytes = 5;
+  current = None;
+  fault = fault;
+}
+
+reader_gone_on : (inside fault : Option Fault) (found : Option Seen)
+    → resumed (reader_of inside fault found) ≡ reader_of None None None
+reader_gone_on inside fault found = refl

@@ -1,0 +1,41 @@
+-- Laws of the stream of a document (this project's own).
+use Rattle.std.specs.Prelude.{◌≡◌, ◌↔◌, ℕ, false, List, [], ◌∷◌, length, Option, Some, None, Err, refl}
+use Rattle.deb_base.specs.Bodies.{paragraph_limit}
+use Rattle.deb_base.specs.declared.doc.Doc.{Doc}
+use Rattle.deb_base.specs.declared.refusal.Refusal.{Refusal}
+use Rattle.deb_syntax.specs.Lines.{Paragraph}
+use Rattle.deb_syntax.specs.Meaning.{Entries}
+use Rattle.deb_syntax.specs.Resuming.{IsWithout}
+use Rattle.deb_control.specs.Documents.{Accepted, Meaning, refusal_of, rules_of}
+use Rattle.deb_control.specs.Refusals.{next_checked}
+use Rattle.deb_control.specs.Streams.{is_end_under, item_of, refusals_by, stream_from, with_item}
+
+abbrev pub first_of : List Refusal → Option Refusal
+first_of [] = None
+first_of (refusal ∷ refusals) = Some refusal
+
+-- The first refusal of the stream of a file, if it has one, is the refusal of the file.
+abbrev pub FirstIsTheRefusal : Type 0
+FirstIsTheRefusal =
+    (doc : Doc) (text : List ℕ) → first_of (refusals_by (rules_of doc) text) ≡ refusal_of doc text
+
+-- The stream of a file has no refusal exactly where the file is accepted with some meaning.
+abbrev pub NoRefusalIsAccepted : Type 0
+NoRefusalIsAccepted =
+    (doc : Doc) (text : List ℕ) → (refusals_by (rules_of doc) text ≡ [])
+    ↔ ((meaning : Meaning) × Accepted doc text meaning)
+
+-- Behind paragraphs that have passed, a refusal that doesn't end the stream is its next item, and
+-- the stream of the text without that paragraph follows.
+abbrev pub RefusedIsLeftOut : Type 0
+RefusedIsLeftOut =
+    (doc : Doc) (text : List ℕ) (before : List Entries) (p : Paragraph) (other : List ℕ)
+    (refusal : Refusal) → IsWithout text (length before) p other
+    → next_checked (rules_of doc) text before ≡ Err refusal
+    → is_end_under paragraph_limit (rules_of doc) p refusal ≡ false
+    → stream_from (rules_of doc) text before
+    ≡ with_item (item_of p (Err refusal)) (stream_from (rules_of doc) other before)
+
+first_refusals : (refusal other : Refusal) → (first_of [] ≡ None)
+    × (first_of (refusal ∷ other ∷ []) ≡ Some refusal)
+first_refusals refusal other = (refl, refl)

@@ -1,0 +1,104 @@
+-- How a reader of paragraphs goes on after a paragraph of which a line is refused. Debian Policy
+-- 5.1; this project's own.
+use Rattle.std.specs.Prelude.{◌≡◌, ◌≢◌, ◌⊎◌, ℕ, ◌+◌, ◌≤◌, Bool, true, false, List, [], ◌∷◌, ◌++◌, length, Option, Some, None, codes, refl}
+use Rattle.deb_base.specs.Bodies.{Line, paragraph_limit}
+use Rattle.deb_base.specs.Reading.{piece_limit}
+use Rattle.deb_base.specs.declared.fault.Fault.{Fault}
+use Rattle.deb_base.specs.declared.fault.Fault.TheVariants.{Refused, Memory, Read, Write}
+use Rattle.deb_base.specs.declared.refusal.Refusal.{Refusal}
+use Rattle.deb_syntax.specs.Ahead.{IsAhead, left_answer, room_ahead}
+use Rattle.deb_syntax.specs.Answers.{line_beyond, next_answer, paragraphs_within, seen_from}
+use Rattle.deb_syntax.specs.Cursors.{CursorState}
+use Rattle.deb_syntax.specs.Extents.{AreBlank, AreNotBlank}
+use Rattle.deb_syntax.specs.Fields.{IsShort}
+use Rattle.deb_syntax.specs.Judged.{IsFirstAhead}
+use Rattle.deb_syntax.specs.Judging.{judged}
+use Rattle.deb_syntax.specs.Lines.{Paragraph, IsClosed, file_limit, lines_of, paragraphs_of}
+use Rattle.deb_syntax.specs.Reading.{Fits, State, passed_count}
+
+-- whether a reader can go on after this error, where these lines were judged last: it is a refusal,
+-- and lines were judged, so that it is of one of them
+abbrev pub is_resumable : Option Fault → Option Paragraph → Bool
+is_resumable (Some (Refused refusal)) (Some p) = true
+is_resumable (Some (Refused refusal)) None = false
+is_resumable (Some Memory) last = false
+is_resumable (Some Read) last = false
+is_resumable (Some Write) last = false
+is_resumable None last = false
+
+-- The next paragraph of the text, whose lines were judged, has passed: it, and no more than one
+-- blank line after it. `front` is what had passed before its first line.
+pub record HasPassed (text passed : List ℕ) (p : Paragraph) (new : State)
+    (left : Option (List ℕ)) : Type 0 where
+  pub more : List Paragraph
+  pub next : paragraphs_within text ≡ paragraphs_of passed ++ p ∷ more
+  pub answer : next_answer text (passed_count passed) ≡ seen_from p.first (judged p.first p.lines)
+  pub some : p.lines ≢ []
+  pub short : IsShort p
+  pub front : List ℕ
+  pub fresh : List ℕ
+  pub ending : List Line
+  pub closed : IsClosed front
+  pub before : paragraphs_of front ≡ paragraphs_of passed
+  pub lines : lines_of fresh ≡ p.lines ++ ending
+  pub blank : AreBlank ending
+  pub within : length (front ++ fresh) ≤ file_limit
+  pub again : Fits text (front ++ fresh) new left
+  pub passes : paragraphs_of (front ++ fresh) ≡ paragraphs_of passed ++ p ∷ []
+  pub ends : new.lines ≤ p.first + length p.lines
+  pub near : length new.unread ≤ piece_limit
+
+-- A text without the paragraph behind the first `count` ones: it has as many lines, is too long from
+-- the same line on, if it is, and has the other paragraphs, at their lines.
+pub record IsWithout (text : List ℕ) (count : ℕ) (p : Paragraph) (other : List ℕ) : Type 0 where
+  pub before : List Paragraph
+  pub more : List Paragraph
+  pub counted : length before ≡ count
+  pub was : paragraphs_within text ≡ before ++ p ∷ more
+  pub is : paragraphs_within other ≡ before ++ more
+  pub beyond : line_beyond 1 file_limit other ≡ line_beyond 1 file_limit text
+  pub lines : length (lines_of other) ≡ length (lines_of text)
+
+-- The same of the text ahead, where the paragraph is its first.
+pub record PassesRun (text : List ℕ) (before : CursorState) (p : Paragraph) (after : CursorState)
+    (left : Option (List ℕ)) : Type 0 where
+  pub first : IsFirstAhead text before p
+  pub number : p.first ≡ before.lines + 1
+  pub answer : left_answer (before.lines + 1) (room_ahead before) text
+      ≡ seen_from p.first (judged p.first p.lines)
+  pub some : p.lines ≢ []
+  pub not_blank : AreNotBlank p.lines
+  pub short : IsShort p
+  pub passed : List ℕ
+  pub ahead : List ℕ
+  pub ending : List Line
+  pub whole : text ≡ passed ++ ahead
+  pub lines : lines_of passed ≡ p.lines ++ ending
+  pub blank : AreBlank ending
+  pub one : length ending ≤ 1
+  pub closed : IsClosed passed ⊎ (ahead ≡ [])
+  pub again : IsAhead ahead [] after left
+  pub bytes : after.bytes ≡ before.bytes + length passed
+  pub counted : after.lines ≡ before.lines + length (lines_of passed)
+
+errors_to_go_on_after : (refusal : Refusal) (p : Paragraph) (last : Option Paragraph)
+    → (is_resumable (Some (Refused refusal)) (Some p) ≡ true)
+    × (is_resumable (Some (Refused refusal)) None ≡ false)
+    × (is_resumable (Some Memory) last ≡ false) × (is_resumable (Some Read) last ≡ false)
+    × (is_resumable (Some Write) last ≡ false) × (is_resumable None last ≡ false)
+errors_to_go_on_after refusal p last = (refl, refl, refl, refl, refl, refl)
+
+-- the second paragraph of three is blank in the other text
+second_left_out : IsWithout (codes "a:1\n\n#\n\nb") 1 (record { first = 3; lines = codes "#" ∷ [] })
+    (codes "a:1\n\n \n\nb")
+unfolding paragraph_limit file_limit
+second_left_out =
+    record {
+      before = record { first = 1; lines = codes "a:1" ∷ [] } ∷ [];
+      more = record { first = 5; lines = codes "b" ∷ [] } ∷ [];
+      counted = refl;
+      was = refl;
+      is = refl;
+      beyond = refl;
+      lines = refl;
+    }
