@@ -29,5 +29,6 @@ pub mod SpelledLists
 pub mod SpelledParts
 pub mod SpelledRelation
 pub mod Summed
+pub mod SummedGroups
 pub mod Versions
 pub mod Viewed
