@@ -14,6 +14,7 @@ pub mod Gathering
 pub mod InPlace
 pub mod Inserting
 pub mod Joining
+pub mod ListOrder
 pub mod Mapped
 pub mod Names
 pub mod Parsed

@@ -1,12 +1,12 @@
 -- A group's text and tests, put together alternative by alternative.
-use Rattle.std.proofs.Common.{◌≡◌, ◌&&◌, ℕ, Bool, true, false, List, [], ◌∷◌, ◌++◌, length, map, Option, Some, None, Ok, Err, Result, refl, sym, ap, ◌∙◌, subst, append-nil, length-append, codes, arith}
+use Rattle.std.proofs.Common.{◌≡◌, ◌&&◌, ℕ, true, false, List, [], ◌∷◌, ◌++◌, length, Option, Some, None, Ok, Err, Result, refl, sym, ap, ◌∙◌, subst, append-nil, length-append, codes, arith}
 use Rattle.std.specs.List.{list_all}
 use Rattle.std.proofs.Math.Bool.{and-true}
 use Rattle.std.proofs.lemmas.Bool.{le-leb}
 use Rattle.std.proofs.lemmas.List.Folds.{list_all-append}
 use Rattle.deb_relation.specs.declared.fault.Stop.{Stop}
 use Rattle.deb_relation.specs.declared.fault.Stop.TheVariants.{Bad, Memory}
-use Rattle.deb_relation.specs.Meaning.{Alternative, Group}
+use Rattle.deb_relation.specs.Meaning.{Alternative}
 use Rattle.deb_relation.specs.Reading.{append, gather, mapped, next_alternative}
 use Rattle.deb_relation.specs.Stops.{Gives}
 use Rattle.deb_relation.specs.Summaries.{Summary, summary_of, summary_with}

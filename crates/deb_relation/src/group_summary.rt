@@ -17,11 +17,9 @@ use crate::fault::{Reason, Stop};
 use crate::group::next_alternative;
 use crate::in_place::cut_group;
 use crate::kept_text::KeptText;
+use crate::repeats::{FEW, most_after};
 use std::alloc::{AllocError, Global};
 use std::cmp::Ordering;
-
-/// How many groups there are at least when repeats among them are dropped.
-const FEW: usize = 1_000;
 
 /// A group's canonical text, whether it has two alternatives or more, and whether no bound of it
 /// has an operator other than `=`.
@@ -176,7 +174,7 @@ fn drop_repeats(groups: &mut Vec<GroupSummary<'_>>, most: &mut usize) -> Result<
 {
     if groups.len() >= *most {
         sort_groups(groups)?;
-        *most = groups.len().saturating_mul(2).max(FEW);
+        *most = most_after(groups.len());
     }
     Ok(())
 }
