@@ -103,8 +103,8 @@ impl<'a> Alternative<'a> {
         formula_applies(&self.formula, environment)
     }
 
-    /// Returns the canonical text: the name, the qualifier, the bound, the architecture list and the
-    /// formula.
+    /// Returns the canonical text: the name, the qualifier, the bound, the architecture list and
+    /// the formula.
     ///
     /// # Errors
     ///
