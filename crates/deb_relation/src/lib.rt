@@ -18,6 +18,7 @@
 
 mod alternative;
 mod architectures;
+mod asked;
 mod bound;
 mod cursor;
 mod environment;
@@ -30,6 +31,7 @@ mod items;
 mod kept_text;
 pub mod laws;
 mod list_order;
+mod lists;
 mod name;
 mod name_byte;
 mod operator;

@@ -174,7 +174,7 @@ impl<'a> Relation<'a> {
     ///
     /// The reason and the offset of the first step that fails, reading from the left; or out of
     /// memory.
-    #[tactic(auto, unfolding(crate::specs::Reading::relation_in, crate::specs::Reading::read_relation))]
+    #[tactic(auto, using(crate::proofs::Parsed::read_fault))]
     pub fn parse(alloc: Global, text: &'a [u8]) -> Result<Relation<'a>, RelationFault>
         ensures ok { IfOk result (λ relation. SpellsRelation text.now (relation_of relation)) }
         ensures accepted { (m : Meaning) → SpellsRelation text.now m → IsRead result m }

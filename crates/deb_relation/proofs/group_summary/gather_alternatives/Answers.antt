@@ -27,6 +27,16 @@ loop-joined-preserved c =
     let read = c.in_ok-alternative.ensures.value ∙ ap (λ o. Ok (next_of (λ p. (alternative_of p.0, p.1.now)) o)) c.in-Some.is in
     rw (c.in_ok-append_next.ensures, c.has_equal_bound-only_equals-in-Some.ensures) (summed-more (alternative_of c.args.first.now) c.args.text.now (summary_with l.joined.items l.has_two l.only_equals) l.rest.now l.invariant a c.in-Some.behind.now read)
 
+pub loop-joined-smaller-in_ok-append_next : goal.loop-joined-smaller-in_ok-append_next
+loop-joined-smaller-in_ok-append_next c = step-next_alternative.shrinks c.loop-joined.rest.now (alternative_of c.in-Some.alternative) c.in-Some.behind.now (c.in_ok-alternative.ensures.value ∙ ap (λ o. Ok (next_of (λ p. (alternative_of p.0, p.1.now)) o)) c.in-Some.is)
+
+pub loop-joined-preserved-in_ok-append_next : goal.loop-joined-preserved-in_ok-append_next
+loop-joined-preserved-in_ok-append_next c =
+    let l = c.loop-joined in
+    let a = alternative_of c.in-Some.alternative in
+    let read = c.in_ok-alternative.ensures.value ∙ ap (λ o. Ok (next_of (λ p. (alternative_of p.0, p.1.now)) o)) c.in-Some.is in
+    rw (c.in_ok-append_next.ensures, c.has_equal_bound-only_equals-in-Some.ensures) (summed-more (alternative_of c.args.first.now) c.args.text.now (summary_with l.joined.items l.has_two l.only_equals) l.rest.now l.invariant a c.in-Some.behind.now read)
+
 pub returns : goal.returns
 returns c =
     let l = c.loop-joined in
