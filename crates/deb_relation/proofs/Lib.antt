@@ -14,6 +14,7 @@ pub mod Gathering
 pub mod InPlace
 pub mod Inserting
 pub mod Joining
+pub mod ListOrder
 pub mod Mapped
 pub mod Names
 pub mod Parsed
@@ -29,5 +30,6 @@ pub mod SpelledLists
 pub mod SpelledParts
 pub mod SpelledRelation
 pub mod Summed
+pub mod SummedGroups
 pub mod Versions
 pub mod Viewed

@@ -1,6 +1,7 @@
 -- What the groups of a text being read says of the text.
-use Rattle.std.proofs.Common.{◌≡◌, ℕ, List, [], length, Ok, Err, Result, ap}
+use Rattle.std.proofs.Common.{◌≡◌, ℕ, ◌-◌, List, [], length, Some, Ok, Err, Result, ap}
 use Rattle.deb_relation.specs.declared.fault.Reason.{Reason}
+use Rattle.deb_relation.specs.Faults.{fault_of, first_fault}
 use Rattle.deb_relation.specs.Grammar.{SpellsRelation}
 use Rattle.deb_relation.specs.Meaning.{Relation}
 use Rattle.deb_relation.specs.Reading.{gather, next_piece, put_piece, placed, read_relation, relation_in}
@@ -29,6 +30,11 @@ module _ (text : List ℕ) where
     where
       differ : (r : Result Relation (Reason × ℕ)) (fault : Reason × ℕ) → r ≡ Err fault → r ≡ Ok n → ⊥
       differ r fault p q = cc
+
+-- the step that fails is the first fault of the text
+pub read_fault : (text : List ℕ) (reason : Reason) (left : ℕ) → gather next_piece put_piece [] text ≡ Err (reason, left) → first_fault text ≡ Some (reason, length text - left)
+unfolding relation_in read_relation
+read_fault text reason left e = ap (λ r. fault_of (placed (length text) r)) e
 
 -- the canonical text of what was read is read back
 pub read_back : (text : List ℕ) (m : Relation) (rest : List ℕ) → gather next_piece put_piece [] text ≡ Ok (m, rest) → relation_in (relation_text m) ≡ Ok m

@@ -251,7 +251,7 @@ names_took negated rest q e =
     (λ name good. signed_run negated name 93 refl refl (arch_bytes name good))
     (architecture_none negated) (architecture_took negated) rest q e
 
-restrictions_took : (rest : List ℕ) (q : Restrictions × List ℕ) → read_restrictions rest ≡ Ok q → TookList item_text item_text 62 (λ item. IsTrue (is_profile_name item.1)) rest q
+pub restrictions_took : (rest : List ℕ) (q : Restrictions × List ℕ) → read_restrictions rest ≡ Ok q → TookList item_text item_text 62 (λ item. IsTrue (is_profile_name item.1)) rest q
 unfolding read_restrictions
 restrictions_took rest q e =
     list_took next_restriction step-next_restriction item_text item_text 62 (λ item. IsTrue (is_profile_name item.1))

@@ -35,7 +35,7 @@ pub set_of-some : {A : Type 0} (text : A → List ℕ) (xs set : List A) → xs 
 set_of-some text [] set some = absurd (some refl)
 set_of-some text (x ∷ xs) set some = set_with-some text xs (insert_by text x set) (insert-some text x set)
 
-empty_list-some : {A : Type 0} (xs : List A) → xs ≢ [] → is_empty_list xs ≡ false
+pub empty_list-some : {A : Type 0} (xs : List A) → xs ≢ [] → is_empty_list xs ≡ false
 empty_list-some [] some = absurd (some refl)
 empty_list-some (x ∷ xs) some = ne_eqb (length (x ∷ xs)) 0 (λ e. omega arith)
 
@@ -172,7 +172,7 @@ list_takes piece list more is =
     let here : behind_white (piece ++ more) ≡ 60 ∷ (is.inner ++ 62 ∷ more) = ap (λ t. behind_white (t ++ more)) is.spelt ∙ ap behind_white (bracketed is.before 60 is.inner 62 more) ∙ white-past is.before (60 ∷ (is.inner ++ 62 ∷ more)) is.before_white refl in
     rw (here, restrictions_read is.members is.inner more is.items is.some is.are_profiles) (ap (λ l. Ok (Some (l, behind_white more))) (sym is.set))
 
-no_list : (text : List ℕ) → begins 60 text ≡ false → next_restrictions text ≡ Ok None
+pub no_list : (text : List ℕ) → begins 60 text ≡ false → next_restrictions text ≡ Ok None
 unfolding next_restrictions
 no_list text other = rw other refl
 

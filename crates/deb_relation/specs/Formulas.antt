@@ -1,25 +1,25 @@
 -- What the lists of a formula stand for while they are ordered.
 use Rattle.std.proofs.Common.{◌≡◌, ℕ, true, false, List, [], ◌∷◌, codes, ap}
 use Rattle.deb_version.specs.Lent.{lent}
-use Rattle.deb_relation.specs.declared.spelled_list.SpelledList.{SpelledList}
+use Rattle.deb_relation.specs.declared.profile_list.ProfileList.{ProfileList}
 use Rattle.deb_relation.specs.Meaning.{Restrictions}
 use Rattle.deb_relation.specs.Texts.{restrictions_text}
 use Rattle.deb_relation.specs.Views.{items_of}
 
 -- a list's meaning, and the text by which a formula is ordered
-abbrev pub spelled_of : SpelledList → Restrictions
-spelled_of list = items_of list.items.items
+abbrev pub profiles_of : ProfileList → Restrictions
+profiles_of list = items_of list.items.items
 
-abbrev pub spelled_key : SpelledList → List ℕ
-spelled_key list = restrictions_text (spelled_of list)
+abbrev pub profiles_key : ProfileList → List ℕ
+profiles_key list = restrictions_text (profiles_of list)
 
 -- `<!b a>`, whose items keep their order here
-worked-items : (list : SpelledList)
+worked-items : (list : ProfileList)
     → list.items.items ≡ (true, lent (codes "b")) ∷ (false, lent (codes "a")) ∷ []
-    → spelled_of list ≡ (true, codes "b") ∷ (false, codes "a") ∷ []
+    → profiles_of list ≡ (true, codes "b") ∷ (false, codes "a") ∷ []
 worked-items list = ap items_of
 
-worked-key : (list : SpelledList)
+worked-key : (list : ProfileList)
     → list.items.items ≡ (true, lent (codes "b")) ∷ (false, lent (codes "a")) ∷ []
-    → spelled_key list ≡ codes "<!b a>"
+    → profiles_key list ≡ codes "<!b a>"
 worked-key list = ap (λ items. restrictions_text (items_of items))

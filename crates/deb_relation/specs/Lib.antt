@@ -10,6 +10,7 @@ pub mod KeptTexts
 pub mod Laws
 pub mod Meaning
 pub mod PlaceLaws
+pub mod ProfileLists
 pub mod Reading
 pub mod Regular
 pub mod RelationTexts

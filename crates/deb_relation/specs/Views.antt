@@ -1,11 +1,13 @@
 -- What the values of the code stand for: the meanings of a relation's parts.
-use Rattle.std.proofs.Common.{◌≡◌, ℕ, Bool, true, false, List, [], ◌∷◌, Some, None, map, codes, refl, ap}
+use Rattle.std.proofs.Common.{◌≡◌, ℕ, Bool, true, false, List, [], ◌∷◌, Option, Some, None, map, codes, refl, ap}
 use Rattle.std.specs.Option.{option_copied, option_map}
 use denote.Ref.{Bor}
-use Rattle.std.specs.Prelude.{Vec}
+use Rattle.std.specs.Prelude.{Box, Vec}
 use Rattle.std.specs.declared.alloc.Global.{Global}
 use Rattle.deb_relation.specs.declared.operator.Op.{Op}
 use Rattle.deb_relation.specs.declared.alternative.Alternative.{Alternative as Parts}
+use Rattle.deb_relation.specs.declared.asked.Asked.{Asked}
+use Rattle.deb_relation.specs.declared.lists.Lists.{Lists}
 use Rattle.deb_version.specs.declared.version.Version.{Version as Spelled}
 use Rattle.deb_version.specs.Parts.{Meaning as Version}
 use Rattle.deb_version.specs.Version.{meaning_of}
@@ -52,14 +54,32 @@ lent_bound_of bound = (bound.0, meaning_of bound.1.now)
 abbrev pub lent_list_of : Bool × Bor (List (Bor (List ℕ))) → Bool × List (List ℕ)
 lent_list_of list = (list.0, names_of list.1.now)
 
+-- the qualifier and the bound, where something is asked
+abbrev pub asked_qualifier : Option (Box Asked Global) → Option (List ℕ)
+asked_qualifier None = None
+asked_qualifier (Some asked) = option_copied asked.value.qualifier
+
+abbrev pub asked_bound : Option (Box Asked Global) → Option (Op × Version)
+asked_bound None = None
+asked_bound (Some asked) = option_map bound_of asked.value.bound
+
+-- the architecture list and the formula, where there is a list
+abbrev pub listed_names : Option (Box Lists Global) → Option (Bool × List (List ℕ))
+listed_names None = None
+listed_names (Some lists) = option_map list_of lists.value.architectures
+
+abbrev pub listed_formula : Option (Box Lists Global) → List Restrictions
+listed_formula None = []
+listed_formula (Some lists) = map restrictions_of lists.value.formula.items
+
 -- an alternative's meaning
 abbrev pub alternative_of : Parts → Alternative
 alternative_of a = record {
   name = a.name.now;
-  qualifier = option_copied a.qualifier;
-  bound = option_map bound_of a.bound;
-  architectures = option_map list_of a.architectures;
-  formula = map restrictions_of a.formula.items;
+  qualifier = asked_qualifier a.asked;
+  bound = asked_bound a.asked;
+  architectures = listed_names a.lists;
+  formula = listed_formula a.lists;
 }
 
 -- Worked cases: slices that show these bytes, and vectors of these items.
@@ -97,35 +117,38 @@ worked-bound : (version : Spelled)
     ≡ (LaterEqual, meaning_of version))
 worked-bound version = (refl, refl)
 
--- each part of an alternative
-worked-alternative : (version : Spelled) (names : Vec (Bor (List ℕ)) Global)
+-- what is asked and the lists of an alternative, and one that has a name alone
+worked-asked : (asked : Box Asked Global) (version : Spelled)
+    → asked.value
+    ≡ record { qualifier = Some (lent (codes "any")); bound = Some (LaterEqual, version) }
+    → (asked_qualifier (Some asked) ≡ Some (codes "any"))
+    × (asked_bound (Some asked) ≡ Some (LaterEqual, meaning_of version))
+worked-asked asked version is =
+    (ap (λ a. option_copied a.qualifier) is, ap (λ a. option_map bound_of a.bound) is)
+
+worked-lists : (lists : Box Lists Global) (names : Vec (Bor (List ℕ)) Global)
     → (formula : Vec (Vec (Bool × Bor (List ℕ)) Global) Global)
+    → lists.value ≡ record { architectures = Some (true, names); formula = formula }
+    → (listed_names (Some lists) ≡ Some (true, names_of names.items))
+    × (listed_formula (Some lists) ≡ map restrictions_of formula.items)
+worked-lists lists names formula is = (
+  ap (λ l. option_map list_of l.architectures) is,
+  ap (λ l. map restrictions_of l.formula.items) is,
+)
+
+worked-alternative : (asked : Box Asked Global) (lists : Box Lists Global)
     → alternative_of
-    (record {
-      name = lent (codes "aa");
-      qualifier = Some (lent (codes "any"));
-      bound = Some (LaterEqual, version);
-      architectures = Some (true, names);
-      formula = formula;
-    })
+    (record { name = lent (codes "aa"); asked = Some asked; lists = Some lists })
     ≡ record {
       name = codes "aa";
-      qualifier = Some (codes "any");
-      bound = Some (LaterEqual, meaning_of version);
-      architectures = Some (true, names_of names.items);
-      formula = map restrictions_of formula.items;
+      qualifier = asked_qualifier (Some asked);
+      bound = asked_bound (Some asked);
+      architectures = listed_names (Some lists);
+      formula = listed_formula (Some lists);
     }
-worked-alternative version names formula = refl
+worked-alternative asked lists = refl
 
-worked-bare : (formula : Vec (Vec (Bool × Bor (List ℕ)) Global) Global) → formula.items ≡ []
-    → alternative_of
-    (record {
-      name = lent (codes "aa");
-      qualifier = None;
-      bound = None;
-      architectures = None;
-      formula = formula;
-    })
+worked-bare : alternative_of (record { name = lent (codes "aa"); asked = None; lists = None })
     ≡ record {
       name = codes "aa";
       qualifier = None;
@@ -133,11 +156,4 @@ worked-bare : (formula : Vec (Vec (Bool × Bor (List ℕ)) Global) Global) → f
       architectures = None;
       formula = [];
     }
-worked-bare formula =
-    ap (λ lists. record {
-      name = codes "aa";
-      qualifier = None;
-      bound = None;
-      architectures = None;
-      formula = map restrictions_of lists;
-    })
+worked-bare = refl

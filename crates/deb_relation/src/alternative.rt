@@ -3,35 +3,34 @@
 ghost use Rattle.std.specs.Prelude.{◌≡◌, ◌++◌, IfOk, OnOk, map};
 ghost use Rattle.std.specs.List.{list_all, list_any};
 ghost use Rattle.std.specs.Str.{bytes_eq};
-ghost use Rattle.deb_base.specs.PackageNames.{is_wildcard};
 ghost use Rattle.std.specs.Option.{option_copied, option_map};
-ghost use Rattle.deb_relation.specs.Reading.{read_alternative};
+ghost use Rattle.deb_relation.specs.Reading.{alternative_with, read_alternative};
 ghost use Rattle.deb_relation.specs.Stops.{Gives};
-ghost use Rattle.deb_relation.specs.Texts.{alternative_text, qualifier_text};
+ghost use Rattle.deb_relation.specs.Texts.{alternative_text, architectures_text, bound_text, formula_text, qualifier_text};
 ghost use Rattle.deb_relation.specs.Applying.{all_hold, formula_applies, is_among, item_holds, list_applies};
 ghost use Rattle.deb_relation.specs.Environments.{environment_of};
-ghost use Rattle.deb_relation.specs.Views.{bound_of, item_of, items_of, list_of, name_key, names_of, restrictions_of};
+ghost use Rattle.deb_relation.specs.Views.{asked_bound, asked_qualifier, bound_of, item_of, items_of, list_of, listed_formula, listed_names, name_key, names_of, restrictions_of};
 
 use crate::architectures::{append_architectures, read_architectures};
+use crate::asked::{Asked, append_qualifier};
 use crate::bound::{append_bound, bound_is_equal, read_bound};
 use crate::cursor::skip_white;
 use crate::environment::Env;
 use crate::fault::Stop;
 use crate::formula::{append_formula, read_formula};
+use crate::lists::Lists;
 use crate::name::{read_name, read_qualifier};
 use crate::operator::Op;
-use deb_base::is_wildcard;
 use deb_version::Version;
 use std::alloc::{AllocError, Global};
 
-/// A package name with its conditions (Debian Policy 7.1).
+/// A package name with its conditions (Debian Policy 7.1). Most have none, so each kind of them is
+/// a block of its own.
 #[derive(Debug, Drop)]
 pub struct Alternative<'a> {
     pub(crate) name: &'a [u8],
-    pub(crate) qualifier: Option<&'a [u8]>,
-    pub(crate) bound: Option<(Op, Version<'a>)>,
-    pub(crate) architectures: Option<(bool, Vec<&'a [u8]>)>,
-    pub(crate) formula: Vec<Vec<(bool, &'a [u8])>>,
+    pub(crate) asked: Option<Box<Asked<'a>>>,
+    pub(crate) lists: Option<Box<Lists<'a>>>,
 }
 
 impl<'a> Alternative<'a> {
@@ -51,15 +50,18 @@ impl<'a> Alternative<'a> {
     pub fn qualifier(&self) -> Option<&'a [u8]>
         ensures { option_copied result ≡ (alternative_of self.now).qualifier }
     {
-        self.qualifier
+        match &self.asked {
+            Some(asked) => asked.qualifier,
+            None => None,
+        }
     }
 
     /// Returns the operator and the version of the bound.
     pub fn bound(&self) -> Option<(Op, &Version<'a>)>
         ensures { option_map lent_bound_of result ≡ (alternative_of self.now).bound }
     {
-        match &self.bound {
-            Some((operator, version)) => Some((*operator, version)),
+        match &self.asked {
+            Some(asked) => asked.bound(),
             None => None,
         }
     }
@@ -69,8 +71,8 @@ impl<'a> Alternative<'a> {
     pub fn architectures(&self) -> Option<(bool, &[&'a [u8]])>
         ensures { option_map lent_list_of result ≡ (alternative_of self.now).architectures }
     {
-        match &self.architectures {
-            Some((negated, names)) => Some((*negated, names)),
+        match &self.lists {
+            Some(lists) => lists.architectures(),
             None => None,
         }
     }
@@ -80,7 +82,10 @@ impl<'a> Alternative<'a> {
     pub fn formula(&self) -> &[Vec<(bool, &'a [u8])>]
         ensures { map restrictions_of result.now ≡ (alternative_of self.now).formula }
     {
-        &self.formula
+        match &self.lists {
+            Some(lists) => &lists.formula,
+            None => &[],
+        }
     }
 
     /// Returns whether the alternative applies to an environment: its architecture list contains
@@ -90,8 +95,13 @@ impl<'a> Alternative<'a> {
     pub fn applies(&self, environment: &Env) -> bool
         ensures { result ≡ applies (alternative_of self.now) (environment_of environment.now) }
     {
-        list_applies(&self.architectures, environment)
-            && formula_applies(&self.formula, environment)
+        match &self.lists {
+            Some(lists) => {
+                list_applies(&lists.architectures, environment)
+                    && formula_applies(&lists.formula, environment)
+            }
+            None => true,
+        }
     }
 
     /// Returns whether the restriction formula applies, whatever the architecture list says: all
@@ -100,11 +110,14 @@ impl<'a> Alternative<'a> {
         ensures { result ≡ formula_applies (alternative_of self.now).formula
             (environment_of environment.now).profiles }
     {
-        formula_applies(&self.formula, environment)
+        match &self.lists {
+            Some(lists) => formula_applies(&lists.formula, environment),
+            None => true,
+        }
     }
 
-    /// Returns the canonical text: the name, the qualifier, the bound, the architecture list and the
-    /// formula.
+    /// Returns the canonical text: the name, the qualifier, the bound, the architecture list and
+    /// the formula.
     ///
     /// # Errors
     ///
@@ -121,8 +134,8 @@ impl<'a> Alternative<'a> {
     pub(crate) fn has_wildcard(&self) -> bool
         ensures { result ≡ has_wildcard (alternative_of self.now) }
     {
-        match &self.architectures {
-            Some((_, names)) => some_is_wildcard(names),
+        match &self.lists {
+            Some(lists) => lists.has_wildcard(),
             None => false,
         }
     }
@@ -131,7 +144,10 @@ impl<'a> Alternative<'a> {
     pub(crate) fn has_equal_bound(&self) -> bool
         ensures { result ≡ has_equal_bound (alternative_of self.now) }
     {
-        bound_is_equal(&self.bound)
+        match &self.asked {
+            Some(asked) => bound_is_equal(&asked.bound),
+            None => true,
+        }
     }
 
     /// The alternative, and what is left after it and white space.
@@ -144,14 +160,29 @@ impl<'a> Alternative<'a> {
         let (bound, rest) = read_bound(skip_white(rest))?;
         let (architectures, rest) = read_architectures(alloc, rest)?;
         let (formula, rest) = read_formula(alloc, rest)?;
-        let alternative = Alternative {
-            name,
-            qualifier,
-            bound,
+        let asked = Asked { qualifier, bound };
+        let lists = Lists {
             architectures,
             formula,
         };
-        Ok((alternative, rest))
+        Ok((Alternative::with(alloc, name, asked, lists)?, rest))
+    }
+
+    /// The alternative of these parts.
+    fn with(
+        alloc: Global,
+        name: &'a [u8],
+        asked: Asked<'a>,
+        lists: Lists<'a>,
+    ) -> Result<Alternative<'a>, AllocError>
+        ensures { IfOk result (λ a. alternative_of a ≡ alternative_with name.entry.now
+            (option_copied asked.entry.qualifier) (option_map bound_of asked.entry.bound)
+            (option_map list_of lists.entry.architectures)
+            (map restrictions_of lists.entry.formula.items)) }
+    {
+        let asked = asked.boxed(alloc)?;
+        let lists = lists.boxed(alloc)?;
+        Ok(Alternative { name, asked, lists })
     }
 
     /// Appends the canonical text.
@@ -160,24 +191,32 @@ impl<'a> Alternative<'a> {
             (out.new.items ≡ out.old.items ++ alternative_text (alternative_of self.now)) }
     {
         out.extend_from_slice(self.name)?;
-        append_qualifier(out, self.qualifier)?;
-        append_bound(out, &self.bound)?;
-        append_architectures(out, &self.architectures)?;
-        append_formula(out, &self.formula)
+        append_asked(out, &self.asked)?;
+        append_lists(out, &self.lists)
     }
 }
 
-/// Appends a colon and the qualifier, or nothing.
-pub(crate) fn append_qualifier(
-    out: &mut Vec<u8>,
-    qualifier: Option<&[u8]>,
-) -> Result<(), AllocError>
-    ensures { OnOk result
-        (out.new.items ≡ out.old.items ++ qualifier_text (option_copied qualifier.entry)) }
+/// Appends the qualifier and the bound.
+fn append_asked(out: &mut Vec<u8>, asked: &Option<Box<Asked<'_>>>) -> Result<(), AllocError>
+    ensures { OnOk result (out.new.items ≡ out.old.items
+        ++ (qualifier_text (asked_qualifier asked.now) ++ bound_text (asked_bound asked.now))) }
 {
-    if let Some(qualifier) = qualifier {
-        out.push(b':')?;
-        out.extend_from_slice(qualifier)?;
+    if let Some(asked) = asked {
+        append_qualifier(out, asked.qualifier)?;
+        append_bound(out, &asked.bound)?;
+    }
+    Ok(())
+}
+
+/// Appends the architecture list and the formula.
+fn append_lists(out: &mut Vec<u8>, lists: &Option<Box<Lists<'_>>>) -> Result<(), AllocError>
+    ensures { OnOk result (out.new.items ≡ out.old.items ++
+        (architectures_text (listed_names lists.now)
+        ++ formula_text (listed_formula lists.now))) }
+{
+    if let Some(lists) = lists {
+        append_architectures(out, &lists.architectures)?;
+        append_formula(out, &lists.formula)?;
     }
     Ok(())
 }
@@ -234,12 +273,6 @@ fn some_is(names: &[&[u8]], name: &[u8]) -> bool
     ensures { result ≡ list_any (λ other. bytes_eq (name_key other) name.now) names.now }
 {
     names.iter().any(|other| *other == name)
-}
-
-fn some_is_wildcard(names: &[&[u8]]) -> bool
-    ensures { result ≡ list_any (λ name. is_wildcard (name_key name)) names.now }
-{
-    names.iter().any(|name| is_wildcard(*name))
 }
 
 fn each_holds(items: &[(bool, &[u8])], environment: &Env) -> bool

@@ -1,10 +1,10 @@
 //! Restriction formulas: lists of build profiles.
 
 ghost use Rattle.std.specs.Prelude.{◌≡◌, ◌++◌, [], IfOk, OnOk, map, codes};
-ghost use Rattle.deb_relation.specs.Formulas.{spelled_key, spelled_of};
+ghost use Rattle.deb_relation.specs.Formulas.{profiles_of};
 ghost use Rattle.deb_relation.specs.Grammar.{set_of};
-ghost use Rattle.deb_relation.specs.Reading.{append, gather, next_restriction, next_restrictions, read_formula, read_restrictions};
-ghost use Rattle.deb_relation.specs.Sets.{byte_cmp, insert_by};
+ghost use Rattle.deb_relation.specs.Reading.{gather, next_restriction, next_restrictions, read_formula, read_restrictions};
+ghost use Rattle.deb_relation.specs.Sets.{insert_by};
 ghost use Rattle.deb_relation.specs.Stops.{Gives, next_of};
 ghost use Rattle.deb_relation.specs.Texts.{formula_text, item_text, joined, restrictions_text, separated};
 ghost use Rattle.deb_relation.specs.Views.{item_of, items_of, restrictions_of};
@@ -13,22 +13,21 @@ use crate::architectures::read_list_end;
 use crate::cursor::begins;
 use crate::fault::Stop;
 use crate::items::{next_restriction, sort_items};
-use crate::spelled_list::SpelledList;
+use crate::list_order::compare_lists;
+use crate::profile_list::ProfileList;
+use crate::repeats::{FEW, most_after};
 use std::alloc::{AllocError, Global};
-use std::cmp::Ordering;
 
-/// The items of a list in their order, up to its end, repeats kept.
-fn gather_items(alloc: Global, text: &[u8]) -> Result<(Vec<(bool, &[u8])>, &[u8]), Stop>
-    ensures { Gives result (λ p. (items_of p.0.items, p.1.now))
-        (gather next_restriction append [] text.now) }
+/// Drops repeats once there are `most` items, and lets those that are left become twice as many.
+fn drop_items(items: &mut Vec<(bool, &[u8])>, most: &mut usize) -> Result<(), AllocError>
+    ensures { OnOk result (set_of item_text (items_of items.new.items)
+        ≡ set_of item_text (items_of items.old.items)) }
 {
-    let mut items = Vec::new(alloc);
-    let mut rest = text;
-    while let Some((item, behind)) = next_restriction(rest)? {
-        items.push(item)?;
-        rest = behind;
+    if items.len() >= *most {
+        sort_items(items)?;
+        *most = most_after(items.len());
     }
-    Ok((items, rest))
+    Ok(())
 }
 
 /// The set of the items of a list, up to its end.
@@ -36,8 +35,16 @@ fn read_items(alloc: Global, text: &[u8]) -> Result<(Vec<(bool, &[u8])>, &[u8]),
     ensures { Gives result (λ p. (items_of p.0.items, p.1.now))
         (gather next_restriction (insert_by item_text) [] text.now) }
 {
-    let (mut items, rest) = gather_items(alloc, text)?;
+    let mut items = Vec::with_capacity(alloc, 1)?;
+    let mut most = FEW;
+    let mut rest = text;
+    while let Some((item, behind)) = next_restriction(rest)? {
+        items.push(item)?;
+        drop_items(&mut items, &mut most)?;
+        rest = behind;
+    }
     sort_items(&mut items)?;
+    items.shrink_to_fit();
     Ok((items, rest))
 }
 
@@ -56,18 +63,15 @@ pub(crate) fn read_restrictions(
 
 /// The next list of a formula, and what is left behind it and white space.
 #[tactic(auto, unfolding(crate::specs::Reading::next_restrictions))]
-fn next_restrictions(
-    alloc: Global,
-    text: &[u8],
-) -> Result<Option<(Vec<(bool, &[u8])>, &[u8])>, Stop>
-    ensures value { Gives result (next_of (λ p. (items_of p.0.items, p.1.now)))
+fn next_restrictions(alloc: Global, text: &[u8]) -> Result<Option<(ProfileList<'_>, &[u8])>, Stop>
+    ensures value { Gives result (next_of (λ p. (profiles_of p.0, p.1.now)))
         (next_restrictions text.now) }
 {
     if !begins(text, b'<') {
         return Ok(None);
     }
     let (items, rest) = read_restrictions(alloc, &text[1..])?;
-    Ok(Some((items, rest)))
+    Ok(Some((ProfileList { items }, rest)))
 }
 
 /// Appends the text of an item.
@@ -131,91 +135,58 @@ pub(crate) fn append_formula(
     Ok(())
 }
 
-/// The text of a restriction list.
-pub(crate) fn text_of(alloc: Global, items: &[(bool, &[u8])]) -> Result<Vec<u8>, AllocError>
-    ensures { IfOk result (λ text. text.items ≡ restrictions_text (items_of items.now)) }
-{
-    let mut text = Vec::new(alloc);
-    append_restrictions(&mut text, items)?;
-    Ok(text)
-}
-
-/// Two lists, in the byte order of their texts.
-fn compare_lists(a: &SpelledList<'_>, b: &SpelledList<'_>) -> Ordering
-    ensures { result ≡ byte_cmp (spelled_key a.now) (spelled_key b.now) }
-{
-    a.text.as_slice().cmp(b.text.as_slice())
-}
-
 /// Makes lists a set: ascending by their texts, each once.
-fn sort_lists(lists: &mut Vec<SpelledList<'_>>) -> Result<(), AllocError>
-    ensures { OnOk result (map spelled_of lists.new.items
-        ≡ set_of restrictions_text (map spelled_of lists.old.items)) }
+fn sort_lists(lists: &mut Vec<ProfileList<'_>>) -> Result<(), AllocError>
+    ensures { OnOk result (map profiles_of lists.new.items
+        ≡ set_of restrictions_text (map profiles_of lists.old.items)) }
 {
     lists.sort_by(|a, b| compare_lists(a, b))?;
     lists.dedup_by(|a, b| compare_lists(a, b).is_eq());
     Ok(())
 }
 
-/// Lists with their texts.
-fn spell_lists<'a>(
-    alloc: Global,
-    lists: Vec<Vec<(bool, &'a [u8])>>,
-) -> Result<Vec<SpelledList<'a>>, AllocError>
-    ensures { IfOk result
-        (λ all. map spelled_of all.items ≡ map restrictions_of lists.entry.items) }
+/// Drops repeats once there are `most` lists, and lets those that are left become twice as many.
+fn drop_lists(lists: &mut Vec<ProfileList<'_>>, most: &mut usize) -> Result<(), AllocError>
+    ensures { OnOk result (set_of restrictions_text (map profiles_of lists.new.items)
+        ≡ set_of restrictions_text (map profiles_of lists.old.items)) }
 {
-    let mut all = Vec::with_capacity(alloc, lists.len())?;
-    for items in lists {
-        let text = text_of(alloc, &items)?;
-        all.push(SpelledList { items, text })?;
+    if lists.len() >= *most {
+        sort_lists(lists)?;
+        *most = most_after(lists.len());
     }
-    Ok(all)
+    Ok(())
 }
 
-/// Lists without their texts.
-fn lists_of<'a>(
-    alloc: Global,
-    all: Vec<SpelledList<'a>>,
-) -> Result<Vec<Vec<(bool, &'a [u8])>>, AllocError>
-    ensures { IfOk result
-        (λ lists. map restrictions_of lists.items ≡ map spelled_of all.entry.items) }
+/// The set of the lists of a formula, and what is left behind it.
+fn gather_lists(alloc: Global, text: &[u8]) -> Result<(Vec<ProfileList<'_>>, &[u8]), Stop>
+    ensures { Gives result (λ p. (map profiles_of p.0.items, p.1.now))
+        (gather next_restrictions (insert_by restrictions_text) [] text.now) }
 {
-    let mut lists = Vec::with_capacity(alloc, all.len())?;
-    for list in all {
-        lists.push(list.items)?;
-    }
-    Ok(lists)
-}
-
-/// The set of lists: ascending by their texts, each once. Texts are made only where there are two.
-fn set_of_lists<'a>(
-    alloc: Global,
-    lists: Vec<Vec<(bool, &'a [u8])>>,
-) -> Result<Vec<Vec<(bool, &'a [u8])>>, AllocError>
-    ensures { IfOk result (λ set. map restrictions_of set.items
-        ≡ set_of restrictions_text (map restrictions_of lists.entry.items)) }
-{
-    if lists.len() < 2 {
-        return Ok(lists);
-    }
-    let mut all = spell_lists(alloc, lists)?;
-    sort_lists(&mut all)?;
-    lists_of(alloc, all)
-}
-
-/// The lists of a formula in their order, repeats kept.
-fn gather_lists(alloc: Global, text: &[u8]) -> Result<(Vec<Vec<(bool, &[u8])>>, &[u8]), Stop>
-    ensures { Gives result (λ p. (map restrictions_of p.0.items, p.1.now))
-        (gather next_restrictions append [] text.now) }
-{
-    let mut lists = Vec::new(alloc);
+    let mut lists = Vec::with_capacity(alloc, 1)?;
+    let mut most = FEW;
     let mut rest = text;
     while let Some((list, behind)) = next_restrictions(alloc, rest)? {
         lists.push(list)?;
+        drop_lists(&mut lists, &mut most)?;
         rest = behind;
     }
+    sort_lists(&mut lists)?;
     Ok((lists, rest))
+}
+
+/// The items of each list.
+fn items_of_lists<'a>(
+    alloc: Global,
+    lists: Vec<ProfileList<'a>>,
+) -> Result<Vec<Vec<(bool, &'a [u8])>>, AllocError>
+    ensures { IfOk result
+        (λ all. map restrictions_of all.items ≡ map profiles_of lists.entry.items) }
+{
+    let mut all = Vec::with_capacity(alloc, lists.len())?;
+    for list in lists {
+        all.push(list.items)?;
+    }
+    Ok(all)
 }
 
 /// The formula, perhaps of no list, and what is left behind it and white space.
@@ -226,7 +197,10 @@ pub(crate) fn read_formula(
 ) -> Result<(Vec<Vec<(bool, &[u8])>>, &[u8]), Stop>
     ensures { Gives result (λ p. (map restrictions_of p.0.items, p.1.now)) (read_formula text.now) }
 {
+    if !begins(text, b'<') {
+        return Ok((Vec::new(alloc), text));
+    }
     let (lists, rest) = gather_lists(alloc, text)?;
-    let lists = set_of_lists(alloc, lists)?;
-    Ok((lists, rest))
+    let formula = items_of_lists(alloc, lists)?;
+    Ok((formula, rest))
 }

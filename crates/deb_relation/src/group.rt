@@ -89,7 +89,10 @@ impl<'a> Group<'a> {
 
 /// The next alternative, and what is left after it and white space.
 #[tactic(auto, unfolding(crate::specs::Reading::next_alternative))]
-fn next_alternative(alloc: Global, text: &[u8]) -> Result<Option<(Alternative<'_>, &[u8])>, Stop>
+pub(crate) fn next_alternative(
+    alloc: Global,
+    text: &[u8],
+) -> Result<Option<(Alternative<'_>, &[u8])>, Stop>
     ensures value { Gives result (next_of (λ p. (alternative_of p.0, p.1.now)))
         (next_alternative text.now) }
 {

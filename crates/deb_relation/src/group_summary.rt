@@ -1,24 +1,25 @@
 //! Groups as a field needs them: their canonical texts and two tests, without their parts.
 
-ghost use Rattle.std.specs.Prelude.{◌≡◌, ◌||◌, [], IfSome, Ok, OnOk, map};
+ghost use Rattle.std.specs.Prelude.{◌≡◌, ◌||◌, ◌++◌, ◌∷◌, [], IfSome, Ok, OnOk, codes, map};
 ghost use Rattle.std.specs.Option.{option_map};
 ghost use Rattle.deb_relation.specs.Grammar.{set_of};
-ghost use Rattle.deb_relation.specs.Reading.{begins, gather, is_at_end};
+ghost use Rattle.deb_relation.specs.Reading.{append, begins, gather, is_at_end, mapped, next_alternative};
 ghost use Rattle.deb_relation.specs.Sets.{byte_cmp};
 ghost use Rattle.deb_relation.specs.Stops.{Gives, next_of};
-ghost use Rattle.deb_relation.specs.Summaries.{append_summary, next_summary, put_summary, read_summary, summary_key};
+ghost use Rattle.deb_relation.specs.Summaries.{append_summary, next_summary, put_summary, read_summary, summary_key, summary_of};
 ghost use Rattle.deb_relation.specs.SummaryViews.{told_behind, told_key, told_of};
+ghost use Rattle.deb_relation.specs.Texts.{alternative_text};
+ghost use Rattle.deb_relation.specs.Views.{alternative_of};
 
+use crate::alternative::Alternative;
 use crate::cursor::{begins, skip_white};
 use crate::fault::{Reason, Stop};
-use crate::group::Group;
+use crate::group::next_alternative;
 use crate::in_place::cut_group;
 use crate::kept_text::KeptText;
+use crate::repeats::{FEW, most_after};
 use std::alloc::{AllocError, Global};
 use std::cmp::Ordering;
-
-/// How many groups there are at least when repeats among them are dropped.
-const FEW: usize = 1_000;
 
 /// A group's canonical text, whether it has two alternatives or more, and whether no bound of it
 /// has an operator other than `=`.
@@ -53,20 +54,50 @@ fn cut_summary(text: &[u8]) -> Option<(GroupSummary<'_>, &[u8])>
     Some((group, rest))
 }
 
-/// The group, read part by part, and what is left after it and white space.
-#[tactic(auto, unfolding(crate::specs::Summaries::read_summary))]
-fn read_parts(alloc: Global, text: &[u8]) -> Result<(GroupSummary<'_>, &[u8]), Stop>
-    ensures { Gives result (λ p. (told_of p.0, p.1.now)) (read_summary text.now) }
+/// Appends a bar and the text of an alternative.
+fn append_next(out: &mut Vec<u8>, alternative: &Alternative<'_>) -> Result<(), AllocError>
+    ensures { OnOk result (out.new.items
+        ≡ out.old.items ++ (codes " | " ++ alternative_text (alternative_of alternative.now))) }
 {
-    let (group, rest) = Group::read(alloc, text)?;
-    let has_two = group.has_two();
-    let only_equals = group.only_equals();
+    out.extend_from_slice(b" | ")?;
+    alternative.append_to(out)
+}
+
+/// The group of a first alternative and those that follow, and what is left after it. It keeps the
+/// text of each alternative, and drops its parts.
+fn gather_alternatives<'a>(
+    alloc: Global,
+    first: &Alternative<'_>,
+    text: &'a [u8],
+) -> Result<(GroupSummary<'a>, &'a [u8]), Stop>
+    ensures { Gives result (λ p. (told_of p.0, p.1.now)) (mapped summary_of
+        (gather next_alternative append (alternative_of first.now ∷ []) text.now)) }
+{
+    let mut joined = first.text(alloc)?;
+    let mut has_two = false;
+    let mut only_equals = first.has_equal_bound();
+    let mut rest = text;
+    while let Some((alternative, behind)) = next_alternative(alloc, rest)? {
+        append_next(&mut joined, &alternative)?;
+        has_two = true;
+        only_equals &= alternative.has_equal_bound();
+        rest = behind;
+    }
     let group = GroupSummary {
-        text: KeptText::Owned(group.text),
+        text: KeptText::Owned(joined),
         has_two,
         only_equals,
     };
     Ok((group, rest))
+}
+
+/// The group, read part by part, and what is left after it and white space.
+#[tactic(auto, unfolding(crate::specs::Reading::read_group, crate::specs::Summaries::read_summary))]
+fn read_parts(alloc: Global, text: &[u8]) -> Result<(GroupSummary<'_>, &[u8]), Stop>
+    ensures { Gives result (λ p. (told_of p.0, p.1.now)) (read_summary text.now) }
+{
+    let (first, rest) = Alternative::read(alloc, text)?;
+    gather_alternatives(alloc, &first, rest)
 }
 
 /// The group, and what is left after it and white space.
@@ -143,7 +174,7 @@ fn drop_repeats(groups: &mut Vec<GroupSummary<'_>>, most: &mut usize) -> Result<
 {
     if groups.len() >= *most {
         sort_groups(groups)?;
-        *most = groups.len().saturating_mul(2).max(FEW);
+        *most = most_after(groups.len());
     }
     Ok(())
 }

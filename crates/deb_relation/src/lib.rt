@@ -18,6 +18,7 @@
 
 mod alternative;
 mod architectures;
+mod asked;
 mod bound;
 mod cursor;
 mod environment;
@@ -29,12 +30,15 @@ mod in_place;
 mod items;
 mod kept_text;
 pub mod laws;
+mod list_order;
+mod lists;
 mod name;
 mod name_byte;
 mod operator;
+mod profile_list;
 mod relation;
 mod relation_text;
-mod spelled_list;
+mod repeats;
 
 pub use alternative::Alternative;
 pub use environment::{Env, EnvFault};

@@ -14,6 +14,7 @@ ghost use Rattle.deb_relation.specs.Texts.{group_text, relation_text, separated}
 use crate::cursor::{begins, skip_white};
 use crate::fault::{Reason, RelationFault, Stop};
 use crate::group::Group;
+use crate::repeats::{FEW, most_after};
 use std::alloc::{AllocError, Global};
 use std::cmp::Ordering;
 
@@ -64,20 +65,6 @@ fn push_piece<'a>(groups: &mut Vec<Group<'a>>, piece: Option<Group<'a>>) -> Resu
     Ok(())
 }
 
-/// The groups of a whole text in their order, repeats kept.
-fn gather_groups(alloc: Global, text: &[u8]) -> Result<(Vec<Group<'_>>, &[u8]), Stop>
-    ensures { Gives result (λ p. (map group_of p.0.items, p.1.now))
-        (gather next_piece append_piece [] text.now) }
-{
-    let mut groups = Vec::with_capacity(alloc, 1)?;
-    let mut rest = text;
-    while let Some((piece, behind)) = next_piece(alloc, rest)? {
-        push_piece(&mut groups, piece)?;
-        rest = behind;
-    }
-    Ok((groups, rest))
-}
-
 /// Two groups, in the byte order of their texts.
 fn compare_groups(a: &Group<'_>, b: &Group<'_>) -> Ordering
     ensures { result ≡ byte_cmp (group_key a.now) (group_key b.now) }
@@ -95,12 +82,31 @@ fn sort_groups(groups: &mut Vec<Group<'_>>) -> Result<(), AllocError>
     Ok(())
 }
 
-/// The set of the groups of a whole text.
+/// Drops repeats once there are `most` groups, and lets those that are left become twice as many.
+fn drop_repeats(groups: &mut Vec<Group<'_>>, most: &mut usize) -> Result<(), AllocError>
+    ensures { OnOk result (set_of group_text (map group_of groups.new.items)
+        ≡ set_of group_text (map group_of groups.old.items)) }
+{
+    if groups.len() >= *most {
+        sort_groups(groups)?;
+        *most = most_after(groups.len());
+    }
+    Ok(())
+}
+
+/// The set of the groups of a whole text, and what is left after it.
 fn read_groups(alloc: Global, text: &[u8]) -> Result<(Vec<Group<'_>>, &[u8]), Stop>
     ensures { Gives result (λ p. (map group_of p.0.items, p.1.now))
         (gather next_piece put_piece [] text.now) }
 {
-    let (mut groups, rest) = gather_groups(alloc, text)?;
+    let mut groups = Vec::with_capacity(alloc, 1)?;
+    let mut most = FEW;
+    let mut rest = text;
+    while let Some((piece, behind)) = next_piece(alloc, rest)? {
+        push_piece(&mut groups, piece)?;
+        drop_repeats(&mut groups, &mut most)?;
+        rest = behind;
+    }
     sort_groups(&mut groups)?;
     Ok((groups, rest))
 }
@@ -168,7 +174,7 @@ impl<'a> Relation<'a> {
     ///
     /// The reason and the offset of the first step that fails, reading from the left; or out of
     /// memory.
-    #[tactic(auto, unfolding(crate::specs::Reading::relation_in, crate::specs::Reading::read_relation))]
+    #[tactic(auto, using(crate::proofs::Parsed::read_fault))]
     pub fn parse(alloc: Global, text: &'a [u8]) -> Result<Relation<'a>, RelationFault>
         ensures ok { IfOk result (λ relation. SpellsRelation text.now (relation_of relation)) }
         ensures accepted { (m : Meaning) → SpellsRelation text.now m → IsRead result m }

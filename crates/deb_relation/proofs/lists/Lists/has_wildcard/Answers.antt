@@ -5,7 +5,7 @@ use Rattle.deb_base.specs.PackageNames.{is_wildcard}
 use Rattle.deb_relation.specs.Tests.{list_has_wildcard}
 use Rattle.deb_relation.specs.Views.{list_of, name_key}
 use Rattle.deb_relation.proofs.Mapped.{any-map}
-use Rattle.deb_relation.proofs.alternative.Alternative.has_wildcard.Goals as goal
+use Rattle.deb_relation.proofs.lists.Lists.has_wildcard.Goals as goal
 
 pub returns-in-Some : goal.returns-in-Some
 returns-in-Some c =
