@@ -9,7 +9,7 @@ _debctl_files() {
 _debctl() {
     local cur prev words cword split
     _init_completion -s -n : || return
-    local commands='check explain audit normalise same compare canon-version version-key sort query unmet help'
+    local commands='check explain audit normalise same diff compare canon-version version-key sort query unmet help'
     local command='' given=0 ended='' options='--help' i
     for ((i = 1; i < cword; i++)); do
         if [[ $ended || ${words[i]} != -?* ]]; then
@@ -26,7 +26,7 @@ _debctl() {
     case $ended$prev in
         -k | --kind)
             local kinds='packages binary source sources'
-            [[ $command == unmet ]] || kinds+=' any'
+            [[ $command == diff || $command == unmet ]] || kinds+=' any'
             mapfile -t COMPREPLY < <(compgen -W "$kinds" -- "$cur")
             return
             ;;
@@ -44,6 +44,7 @@ _debctl() {
     case $command in
         '') options='--help --version' ;;
         check | normalise | same) options='--kind --help' ;;
+        diff) options='--kind --values --help' ;;
         explain) options='--kind --code --relation --version-text --help' ;;
         audit) options='--kind --files0-from --null --help' ;;
         sort) options='--reverse --help' ;;
@@ -56,7 +57,8 @@ _debctl() {
     fi
     case $command:$given in
         :0 | help:0) mapfile -t COMPREPLY < <(compgen -W "$commands" -- "$cur") ;;
-        check:0 | explain:0 | audit:* | normalise:0 | same:[01] | sort:0 | query:1 | unmet:[01])
+        check:0 | explain:0 | audit:* | normalise:0 | same:[01] | diff:[01] | sort:0 | query:1 | \
+            unmet:[01])
             _debctl_files
             ;;
         compare:1) mapfile -t COMPREPLY < <(compgen -W 'lt le eq ne ge gt' -- "$cur") ;;

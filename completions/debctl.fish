@@ -48,6 +48,7 @@ complete -c debctl -n __debctl_command -a explain -d 'Explain why a file is reje
 complete -c debctl -n __debctl_command -a audit -d 'Check many files and print one line for each'
 complete -c debctl -n __debctl_command -a normalise -d 'Write the canonical text of a file'
 complete -c debctl -n __debctl_command -a same -d 'Check whether two files mean the same'
+complete -c debctl -n __debctl_command -a diff -d 'List the paragraphs that changed'
 complete -c debctl -n __debctl_command -a compare -d 'Compare two versions'
 complete -c debctl -n __debctl_command -a canon-version -d 'Print the canonical text of a version'
 complete -c debctl -n __debctl_command -a version-key -d 'Print keys that sort as their versions do'
@@ -57,17 +58,19 @@ complete -c debctl -n __debctl_command -a unmet -d 'Find dependencies that an in
 complete -c debctl -n __debctl_command -a help -d 'Print the help'
 complete -c debctl -n __debctl_command -s V -l version -d 'Print the version'
 complete -c debctl -s h -l help -d 'Print the help'
-complete -c debctl -n '__debctl_at 0 help' -a 'check explain audit normalise same compare canon-version version-key sort query unmet help'
+complete -c debctl -n '__debctl_at 0 help' -a 'check explain audit normalise same diff compare canon-version version-key sort query unmet help'
 complete -c debctl -n '__debctl_command check explain audit normalise same' -s k -l kind -x -a 'packages binary source sources any' -d 'Kind of file'
+complete -c debctl -n '__debctl_command diff' -s k -l kind -x -a 'packages binary source sources' -d 'Kind of both files'
 complete -c debctl -n '__debctl_command unmet' -s k -l kind -x -a 'packages binary source sources' -d 'Kind of the second file'
-complete -c debctl -n '__debctl_at 0 check explain normalise same sort unmet' -F
-complete -c debctl -n '__debctl_at 1 same query unmet' -F
+complete -c debctl -n '__debctl_at 0 check explain normalise same diff sort unmet' -F
+complete -c debctl -n '__debctl_at 1 same diff query unmet' -F
 complete -c debctl -n '__debctl_command audit' -F
 complete -c debctl -n '__debctl_command explain' -l code -x -d 'Error code'
 complete -c debctl -n '__debctl_command explain' -l relation -x -d 'Relation'
 complete -c debctl -n '__debctl_command explain' -l version-text -x -d 'Version'
 complete -c debctl -n '__debctl_command audit' -l files0-from -r -F -d 'File that lists the paths'
 complete -c debctl -n '__debctl_command audit' -s 0 -l null -d 'End each line with a byte 0'
+complete -c debctl -n '__debctl_command diff' -l values -d 'Print the lines of the fields that differ'
 complete -c debctl -n '__debctl_command sort' -l reverse -d 'Sort the latest version first'
 complete -c debctl -n '__debctl_at 1 compare' -a 'lt le eq ne ge gt'
 complete -c debctl -n '__debctl_command query unmet' -l arch -x -a '(dpkg-architecture -L 2>/dev/null)' -d 'Target architecture'

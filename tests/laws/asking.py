@@ -6,6 +6,7 @@ import signal
 from dataclasses import dataclass
 from typing import Iterator, NamedTuple
 
+from laws.changes import changed, lines_with
 from laws.documents import OPERATORS, REQUIRED, VERSIONS
 from laws.documents import alternative, made, mistaken, read, text_of
 from laws.reasons import FIELDS, Fault, fault_of, nearly
@@ -114,7 +115,12 @@ class Asked:
             yield from self.of_copies(normal)
         elif case.is_good:
             yield f"a good document is refused: {normal.err!r}"
-        yield from self.of_pairs(normal)
+        other = self.normalise(case.other)
+        yield from self.of_pairs(normal, other)
+        if case.kind != "any":
+            yield from self.of_differences(normal, other)
+        if normal.status == 0 and case.kind != "any":
+            yield from self.of_changes(normal)
         if normal.status == 0 and case.kind == "packages":
             yield from self.of_query(normal)
         yield from self.of_bound()
@@ -163,11 +169,10 @@ class Asked:
             if answer != Answer(front, refusal, 2):
                 yield f"spoiled as {copy!r}, which is {refusal!r}: {shown(answer)}"
 
-    def of_pairs(self, normal):
+    def of_pairs(self, normal, other):
         """`same` goes by the normal texts, and by the refusals of the first file and then of the
         second one, whichever goes first."""
         case = self.case
-        other = self.normalise(case.other)
         pairs = ((case.text, normal, case.other, other), (case.other, other, case.text, normal))
         for text, first, text_too, second in pairs:
             if first.status == 2:
@@ -181,6 +186,46 @@ class Asked:
             answer = self.program.run(["same", "--kind", case.kind], [text, text_too])
             if answer != wanted:
                 yield f"same of {text!r} and {text_too!r}: {shown(answer)}, and not {shown(wanted)}"
+
+    def diff(self, text, other, *options) -> Answer:
+        """What `diff` answers of two files."""
+        return self.program.run(["diff", "--kind", self.case.kind, *options], [text, other])
+
+    def of_differences(self, normal, other):
+        """`diff` reports the refusals that `same` does, and then writes nothing. It has no line
+        exactly if the files have the same paragraphs in some order. If the files are swapped,
+        removed and added paragraphs are swapped."""
+        case = self.case
+        forth, back = self.diff(case.text, case.other), self.diff(case.other, case.text)
+        for first, second, answer in ((normal, other, forth), (other, normal, back)):
+            is_same = sorted(paragraphs_of(first.out)) == sorted(paragraphs_of(second.out))
+            if first.status == 2:
+                wanted = (False, b"first: " + first.err, 2)
+            elif second.status == 2:
+                wanted = (False, b"second: " + second.err, 2)
+            else:
+                wanted = (not is_same, b"", int(not is_same))
+            if (bool(answer.out), answer.err, answer.status) != wanted:
+                yield f"diff of {case.text!r} and {case.other!r}: {shown(answer)}, and not {wanted}"
+        if lines_with(b"removed ", forth.out) != lines_with(b"added ", back.out):
+            yield f"diff of {case.text!r} and {case.other!r}: {shown(forth)}; swapped {shown(back)}"
+
+    def of_changes(self, normal):
+        """A copy in another order and spelling has no line; one with one changed field has the line
+        of that field, and its values if they are wanted."""
+        case, random = self.case, self.case.random
+        document = read(case.text)
+        copy = respelled(random, case.kind, random.sample(document, len(document)))
+        answer = self.diff(case.text, copy, *random.choice(([], ["--values"])))
+        if answer != Answer(b"", b"", 0):
+            yield f"in another order as {copy!r}: {shown(answer)}"
+        change = changed(random, case.kind, paragraphs_of(normal.out))
+        if change:
+            copy = file_of(change.paragraphs)
+            for options, wanted in (([], change.line), (["--values"], change.line + change.values)):
+                answer = self.diff(case.text, copy, *options)
+                if answer != Answer(wanted, b"", 1):
+                    yield f"changed to {copy!r}: {shown(answer)}, and not {wanted!r}"
 
     def of_query(self, normal):
         """A relation has one answer, in any order of its groups and with some of them twice, over

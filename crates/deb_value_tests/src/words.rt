@@ -5,7 +5,7 @@ use std::alloc::{AllocError, Global};
 use std::process::Abort;
 use std::test::Fail;
 
-/// The words of a command line, which stand between its spaces, behind the program's name.
+/// The program's name, and the arguments of a command line, which are between its spaces.
 fn words(alloc: Global, line: &str) -> Result<Vec<String>, AllocError> {
     let mut words = Vec::new(alloc);
     words.push(String::from_str(alloc, "debctl")?)?;
@@ -16,7 +16,7 @@ fn words(alloc: Global, line: &str) -> Result<Vec<String>, AllocError> {
 }
 
 /// A command line, and the task or the fault that it has.
-const LINES: [(&str, &str); 26] = [
+const LINES: [(&str, &str); 29] = [
     (
         "check",
         "Ok(Run(Call { job: Check(Packages), first: None, second: None }))",
@@ -32,6 +32,20 @@ const LINES: [(&str, &str); 26] = [
     (
         "same x y",
         "Ok(Run(Call { job: Same(Packages), first: Some(\"x\"), second: Some(\"y\") }))",
+    ),
+    (
+        "diff x -",
+        "Ok(Run(Call { job: Diff { kind: Packages, detail: Fields }, first: Some(\"x\"), \
+        second: Some(\"-\") }))",
+    ),
+    (
+        "diff --values -k source x y",
+        "Ok(Run(Call { job: Diff { kind: Source, detail: Values }, first: Some(\"x\"), \
+        second: Some(\"y\") }))",
+    ),
+    (
+        "diff --kind any x y",
+        "Err(Usage(\"usage: diff takes no --kind any\"))",
     ),
     (
         "compare 1 lt 2",

@@ -9,7 +9,7 @@ use Rattle.clap.specs.Simple.{subcommand_of}
 use Rattle.clap.specs.Walk.{Row, Text, all_of, first_of}
 use Rattle.clap.specs.declared.error.kind.ErrorKind.{ErrorKind}
 use Rattle.clap.specs.declared.error.kind.ErrorKind.TheVariants.{DisplayHelp, DisplayVersion, OutOfMemory}
-use Rattle.debctl_args.specs.Commands.{debctl_app, audit_word, check_word, explain_word, normalise_word, same_word, compare_word, canon_version_word, version_key_word, sort_word, query_word, unmet_word, help_word}
+use Rattle.debctl_args.specs.Commands.{debctl_app, audit_word, check_word, explain_word, normalise_word, same_word, diff_word, compare_word, canon_version_word, version_key_word, sort_word, query_word, unmet_word, help_word}
 use Rattle.deb_base.specs.Codes.{number_of}
 use Rattle.deb_base.specs.declared.code.Code.{Code}
 use Rattle.deb_base.specs.declared.code.Code.TheVariants as code
@@ -22,6 +22,10 @@ use Rattle.debctl_args.specs.declared.jobs.Dependents.{Dependents}
 use Rattle.debctl_args.specs.declared.jobs.Dependents.TheVariants as dependents
 use Rattle.debctl_args.specs.declared.jobs.Detail.{Detail}
 use Rattle.debctl_args.specs.declared.jobs.Detail.TheVariants.{Verdicts, Reasons}
+use Rattle.debctl_args.specs.declared.jobs.DiffDetail.{DiffDetail}
+use Rattle.debctl_args.specs.declared.jobs.DiffDetail.TheVariants.{Fields, Values}
+use Rattle.debctl_args.specs.declared.jobs.DiffKind.{DiffKind}
+use Rattle.debctl_args.specs.declared.jobs.DiffKind.TheVariants as diffed
 use Rattle.debctl_args.specs.declared.jobs.Explain.TheVariants as explain
 use Rattle.debctl_args.specs.declared.jobs.Files.{Files}
 use Rattle.debctl_args.specs.declared.jobs.Files.TheVariants as files
@@ -97,6 +101,11 @@ abbrev pub detail_asked : Bool → Detail
 detail_asked false = Verdicts
 detail_asked true = Reasons
 
+-- what `diff` prints of each paragraph that changed: values too if they are asked for
+abbrev pub diff_detail_asked : Bool → DiffDetail
+diff_detail_asked false = Fields
+diff_detail_asked true = Values
+
 -- which fields of binary packages are tried: Recommends too where that is asked for
 abbrev pub strength_asked : Bool → Strength
 strength_asked false = Depends
@@ -114,6 +123,7 @@ is_command word =
     else if bytes_eq word audit_word then true
     else if bytes_eq word normalise_word then true
     else if bytes_eq word same_word then true
+    else if bytes_eq word diff_word then true
     else if bytes_eq word compare_word then true
     else if bytes_eq word canon_version_word then true
     else if bytes_eq word version_key_word then true
@@ -134,6 +144,7 @@ pub data Wanted : Type 0 where
   checks : Doc → Wanted
   normalises : Doc → Wanted
   compares_files : Doc → Wanted
+  finds_changes : DiffKind → DiffDetail → Wanted
   compares : Text → Cmp → Text → Wanted
   canonicalises : Text → Wanted
   keys : List Text → Wanted
@@ -157,6 +168,7 @@ abbrev pub wanted_of : Job → Wanted
 wanted_of (job.Check kind) = checks kind
 wanted_of (job.Normalise kind) = normalises kind
 wanted_of (job.Same kind) = compares_files kind
+wanted_of (job.Diff kind detail) = finds_changes kind detail
 wanted_of (job.Compare left operator right) =
     compares (string_bytes left) operator (string_bytes right)
 wanted_of (job.CanonVersion version) = canonicalises (string_bytes version)
@@ -210,6 +222,7 @@ pub data Asked : Type 0 where
   explain_takes_one : Asked
   paths_or_list : Asked
   relation_or_file : Asked
+  no_names : Asked
   no_relations : Asked
   no_recommends : Asked
   kind_of_path : Asked
@@ -240,6 +253,31 @@ same_asked rows = option_map_or
       second = Some (word_in (codes "second") rows);
     }))
     (kind_asked (first_of (codes "kind") rows)) unknown_kind
+
+-- `diff` of files of this kind, not both of which are standard input
+abbrev pub diff_of_files : List Row → DiffKind → Asked
+diff_of_files rows kind =
+    if is_standard_input (word_in (codes "old") rows)
+    && is_standard_input (word_in (codes "new") rows) then standard_input_twice
+    else asks (record {
+      wanted = finds_changes kind
+          (diff_detail_asked (flag_asked (first_of (codes "values") rows)));
+      first = Some (word_in (codes "old") rows);
+      second = Some (word_in (codes "new") rows);
+    })
+
+-- the same, of a kind of document: the paragraphs of other control data have no names
+abbrev pub diff_of_kind : List Row → Doc → Asked
+diff_of_kind rows Packages = diff_of_files rows diffed.Packages
+diff_of_kind rows Binary = diff_of_files rows diffed.Binary
+diff_of_kind rows Sources = diff_of_files rows diffed.Sources
+diff_of_kind rows Source = diff_of_files rows diffed.Source
+diff_of_kind rows Any = no_names
+
+-- `diff`
+abbrev pub diff_asked : List Row → Asked
+diff_asked rows =
+    option_map_or (diff_of_kind rows) (kind_asked (first_of (codes "kind") rows)) unknown_kind
 
 -- a kind or a path is given: the words of `explain` are about a file
 abbrev pub names_file : List Row → Bool
@@ -438,6 +476,7 @@ asked_by name rows =
     else if bytes_eq name audit_word then audit_asked rows
     else if bytes_eq name normalise_word then document_asked normalises rows
     else if bytes_eq name same_word then same_asked rows
+    else if bytes_eq name diff_word then diff_asked rows
     else if bytes_eq name compare_word then compare_asked rows
     else if bytes_eq name canon_version_word then canon_version_asked rows
     else if bytes_eq name version_key_word then version_key_asked rows
@@ -467,6 +506,7 @@ IsUsage explain_takes_one text =
     text ≡ codes "usage: explain takes one file, code, relation or version"
 IsUsage paths_or_list text = text ≡ codes "usage: audit takes paths, or --files0-from"
 IsUsage relation_or_file text = text ≡ codes "usage: query takes a relation, or --relation-from"
+IsUsage no_names text = text ≡ codes "usage: diff takes no --kind any"
 IsUsage no_relations text = text ≡ codes "usage: unmet takes no --kind any"
 IsUsage no_recommends text = text ≡ codes "usage: unmet takes --recommends only for binary packages"
 IsUsage kind_of_path text =

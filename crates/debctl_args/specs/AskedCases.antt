@@ -6,7 +6,7 @@ use Rattle.clap.specs.Faults.{fault_of}
 use Rattle.clap.specs.Takes.{takes}
 use Rattle.clap.specs.Walk.{Text}
 use Rattle.clap.specs.declared.error.kind.ErrorKind.TheVariants as kind
-use Rattle.debctl_args.specs.Asked.{asked_of, asks, asks_help, audits, code_named, explain_takes_one, explains, explains_relation, explains_version, listed, paths, paths_or_list, explains_rule, unknown_code, canonicalises, checks, comma_pieces, compares, finds_unmet, keys, kind_asked, kind_of_path, no_recommends, no_relations, normalises, profiles_asked, queries, queries_from, relation_or_file, sorts, compares_files, unknown_command, unknown_kind, unknown_operator, standard_input_twice, operator_named, Asked}
+use Rattle.debctl_args.specs.Asked.{asked_of, asks, asks_help, audits, code_named, explain_takes_one, explains, explains_relation, explains_version, listed, paths, paths_or_list, explains_rule, unknown_code, canonicalises, checks, comma_pieces, compares, finds_changes, finds_unmet, keys, kind_asked, kind_of_path, no_names, no_recommends, no_relations, normalises, profiles_asked, queries, queries_from, relation_or_file, sorts, compares_files, unknown_command, unknown_kind, unknown_operator, standard_input_twice, operator_named, Asked}
 use Rattle.debctl_args.specs.Commands.{debctl_app}
 use Rattle.deb_base.specs.declared.code.Code.TheVariants as code
 use Rattle.deb_base.specs.declared.doc.Doc.TheVariants.{Any, Binary, Packages, Source, Sources}
@@ -14,10 +14,14 @@ use Rattle.debctl_args.specs.declared.jobs.Cmp.TheVariants as cmp
 use Rattle.debctl_args.specs.declared.jobs.Dependents.{Dependents}
 use Rattle.debctl_args.specs.declared.jobs.Dependents.TheVariants as dependents
 use Rattle.debctl_args.specs.declared.jobs.Detail.TheVariants.{Verdicts, Reasons}
+use Rattle.debctl_args.specs.declared.jobs.DiffDetail.{DiffDetail}
+use Rattle.debctl_args.specs.declared.jobs.DiffDetail.TheVariants.{Fields, Values}
+use Rattle.debctl_args.specs.declared.jobs.DiffKind.{DiffKind}
+use Rattle.debctl_args.specs.declared.jobs.DiffKind.TheVariants as diffed
 use Rattle.debctl_args.specs.declared.jobs.LineEnd.TheVariants.{Newline, Nul}
 use Rattle.debctl_args.specs.declared.jobs.Strength.TheVariants.{Depends, Recommends}
 
--- words behind the program's name
+-- the program's name, and the arguments after it
 abbrev line : List Text → List Text
 line words = codes "debctl" ∷ words
 
@@ -91,6 +95,63 @@ two_paths : asked_of
 unfolding clap_on_literals kind_asked
 two_paths = refl
 
+-- ---- `diff`
+
+-- what is asked of the files `x` and `y`
+abbrev asks_diff : DiffKind → DiffDetail → Option Asked
+asks_diff kind detail =
+    Some (asks (record {
+      wanted = finds_changes kind detail;
+      first = Some (codes "x");
+      second = Some (codes "y");
+    }))
+
+diff_of_two_files : asked_of (line (codes "diff" ∷ codes "x" ∷ codes "y" ∷ []))
+    ≡ asks_diff diffed.Packages Fields
+unfolding clap_on_literals kind_asked
+diff_of_two_files = refl
+
+diff_with_values : asked_of
+    (line (codes "diff" ∷ codes "x" ∷ codes "--values" ∷ codes "y" ∷ codes "-ksources" ∷ []))
+    ≡ asks_diff diffed.Sources Values
+unfolding clap_on_literals kind_asked
+diff_with_values = refl
+
+kinds_of_a_diff : map (λ kind. asked_of
+    (line (codes "diff" ∷ codes "--kind" ∷ kind ∷ codes "x" ∷ codes "y" ∷ [])))
+    (codes "packages" ∷ codes "binary" ∷ codes "sources" ∷ codes "source" ∷ codes "any"
+    ∷ codes "foo" ∷ [])
+    ≡ asks_diff diffed.Packages Fields ∷ asks_diff diffed.Binary Fields
+    ∷ asks_diff diffed.Sources Fields ∷ asks_diff diffed.Source Fields ∷ Some no_names
+    ∷ Some unknown_kind ∷ []
+unfolding clap_on_literals kind_asked
+kinds_of_a_diff = refl
+
+standard_input_on_either_side : map (λ paths. asked_of (line (codes "diff" ∷ paths)))
+    ((codes "-" ∷ codes "x" ∷ []) ∷ (codes "x" ∷ codes "-" ∷ [])
+    ∷ (codes "-" ∷ codes "-" ∷ []) ∷ [])
+    ≡ Some (asks (record {
+      wanted = finds_changes diffed.Packages Fields;
+      first = Some (codes "-");
+      second = Some (codes "x");
+    }))
+    ∷ Some (asks (record {
+      wanted = finds_changes diffed.Packages Fields;
+      first = Some (codes "x");
+      second = Some (codes "-");
+    }))
+    ∷ Some standard_input_twice ∷ []
+unfolding clap_on_literals kind_asked
+standard_input_on_either_side = refl
+
+-- a kind without names goes before standard input twice
+no_names_go_first : asked_of
+    (line (codes "diff" ∷ codes "--kind=any" ∷ codes "-" ∷ codes "-" ∷ [])) ≡ Some no_names
+unfolding clap_on_literals kind_asked
+no_names_go_first = refl
+
+-- ---- `compare`
+
 comparison : asked_of (line (codes "compare" ∷ codes "1" ∷ codes "lt" ∷ codes "2" ∷ []))
     ≡ Some (asks (record {
       wanted = compares (codes "1") cmp.Less (codes "2");
@@ -151,7 +212,7 @@ empty_piece_between = refl
 no_profiles : profiles_asked None ≡ []
 no_profiles = refl
 
--- words of `query` behind its architecture
+-- a query for amd64, with its other arguments
 abbrev query_line : List Text → List Text
 query_line words = line (codes "query" ∷ codes "--arch" ∷ codes "amd64" ∷ words)
 
@@ -252,7 +313,7 @@ query_of_a_file_with_reasons = refl
 
 -- ---- `unmet`
 
--- words of `unmet` behind its architecture
+-- an `unmet` for amd64, with its other arguments
 abbrev unmet_line : List Text → List Text
 unmet_line words = line (codes "unmet" ∷ codes "--arch" ∷ codes "amd64" ∷ words)
 
@@ -580,6 +641,23 @@ missing_path : fault_of debctl_app (line (codes "same" ∷ codes "x" ∷ []))
 unfolding clap_on_literals
 missing_path = refl
 
+missing_new_file : fault_of debctl_app (line (codes "diff" ∷ codes "x" ∷ []))
+    ≡ kind.MissingRequiredArgument ∷ []
+unfolding clap_on_literals
+missing_new_file = refl
+
+third_file_of_a_diff : fault_of debctl_app
+    (line (codes "diff" ∷ codes "x" ∷ codes "y" ∷ codes "z" ∷ []))
+    ≡ kind.UnknownArgument ∷ []
+unfolding clap_on_literals
+third_file_of_a_diff = refl
+
+values_twice : fault_of debctl_app
+    (line (codes "diff" ∷ codes "--values" ∷ codes "--values" ∷ codes "x" ∷ codes "y" ∷ []))
+    ≡ kind.ArgumentConflict ∷ []
+unfolding clap_on_literals
+values_twice = refl
+
 reverse_twice : fault_of debctl_app
     (line (codes "sort" ∷ codes "--reverse" ∷ codes "--reverse" ∷ []))
     ≡ kind.ArgumentConflict ∷ []
@@ -609,11 +687,11 @@ architecture_twice : fault_of debctl_app
 unfolding clap_on_literals
 architecture_twice = refl
 
-word_behind_a_path : fault_of debctl_app
+argument_after_a_path : fault_of debctl_app
     (query_line (codes "aa" ∷ codes "x" ∷ codes "y" ∷ []))
     ≡ kind.UnknownArgument ∷ []
 unfolding clap_on_literals
-word_behind_a_path = refl
+argument_after_a_path = refl
 
 code_twice : fault_of debctl_app
     (line (codes "explain" ∷ codes "--code=1" ∷ codes "--code=2" ∷ []))
@@ -656,9 +734,9 @@ help_on_help = refl
 
 help_on_each_command : map (λ word. asked_of (line (codes "help" ∷ word ∷ [])))
     (codes "normalise" ∷ codes "same" ∷ codes "compare" ∷ codes "canon-version" ∷ codes "sort"
-    ∷ codes "version-key" ∷ codes "unmet" ∷ [])
+    ∷ codes "version-key" ∷ codes "unmet" ∷ codes "diff" ∷ [])
     ≡ Some asks_help ∷ Some asks_help ∷ Some asks_help ∷ Some asks_help ∷ Some asks_help
-    ∷ Some asks_help ∷ Some asks_help ∷ []
+    ∷ Some asks_help ∷ Some asks_help ∷ Some asks_help ∷ []
 unfolding clap_on_literals
 help_on_each_command = refl
 

@@ -29,6 +29,11 @@ profiles_rule =
 abbrev pub why_rule : Rule
 why_rule = record (new_rule (codes "why")) { long = Some (codes "why"); action = Some SetTrue }
 
+-- `--values`, which takes no value
+abbrev pub values_rule : Rule
+values_rule =
+    record (new_rule (codes "values")) { long = Some (codes "values"); action = Some SetTrue }
+
 -- `--recommends`, which takes no value
 abbrev pub recommends_rule : Rule
 recommends_rule =
@@ -109,6 +114,9 @@ normalise_word = codes "normalise"
 abbrev pub same_word : Text
 same_word = codes "same"
 
+abbrev pub diff_word : Text
+diff_word = codes "diff"
+
 abbrev pub compare_word : Text
 compare_word = codes "compare"
 
@@ -152,6 +160,12 @@ abbrev pub same_app : App
 same_app =
     with_rule (with_rule (with_rule (new_app same_word) kind_rule)
     (required_rule (codes "first"))) (required_rule (codes "second"))
+
+-- `diff [--kind K] [--values] OLD NEW`
+abbrev pub diff_app : App
+diff_app =
+    with_rule (with_rule (with_rule (with_rule (new_app diff_word) kind_rule) values_rule)
+    (required_rule (codes "old"))) (required_rule (codes "new"))
 
 -- `compare V OP V`
 abbrev pub compare_app : App
@@ -202,9 +216,10 @@ abbrev pub debctl_app : App
 debctl_app =
     with_subcommand (with_subcommand (with_subcommand (with_subcommand (with_subcommand
     (with_subcommand (with_subcommand (with_subcommand (with_subcommand (with_subcommand
-    (with_subcommand (with_subcommand bare_app
+    (with_subcommand (with_subcommand (with_subcommand bare_app
     (document_app check_word).top) explain_app.top) audit_app.top)
-    (document_app normalise_word).top) same_app.top) compare_app.top) canon_version_app.top)
+    (document_app normalise_word).top) same_app.top) diff_app.top) compare_app.top)
+    canon_version_app.top)
     version_key_app.top) sort_app.top) query_app.top) unmet_app.top) help_app.top
 
 -- the command is what `clap` reads so, and none of its arguments is global

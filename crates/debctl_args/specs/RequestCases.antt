@@ -7,10 +7,12 @@ use Rattle.clap.specs.declared.error.kind.ErrorKind.TheVariants as kind
 use Rattle.clap.specs.Walk.{Text}
 use Rattle.deb_base.specs.declared.code.Code.TheVariants as code
 use Rattle.deb_base.specs.declared.doc.Doc.{Doc}
-use Rattle.debctl_args.specs.Asked.{asks, asks_help, audited_of, audits, canonicalises, checks, compares, explain_takes_one, explains, explains_relation, explains_version, finds_unmet, has_mistake, has_request, is_request_kind, keys, kind_of_path, listed, no_recommends, no_relations, normalises, paths, paths_or_list, queries, queries_from, relation_or_file, request_of, sorts, standard_input_twice, explains_rule, compares_files, unknown_code, unknown_command, unknown_kind, unknown_operator, wanted_of, IsHelp, IsUsage, MeansKind, Request, FitsKind, UsesText}
+use Rattle.debctl_args.specs.Asked.{asks, asks_help, audited_of, audits, canonicalises, checks, compares, explain_takes_one, explains, explains_relation, explains_version, finds_changes, finds_unmet, has_mistake, has_request, is_request_kind, keys, kind_of_path, listed, no_names, no_recommends, no_relations, normalises, paths, paths_or_list, queries, queries_from, relation_or_file, request_of, sorts, standard_input_twice, explains_rule, compares_files, unknown_code, unknown_command, unknown_kind, unknown_operator, wanted_of, IsHelp, IsUsage, MeansKind, Request, FitsKind, UsesText}
 use Rattle.debctl_args.specs.declared.jobs.Cmp.{Cmp}
 use Rattle.debctl_args.specs.declared.jobs.Dependents.{Dependents}
 use Rattle.debctl_args.specs.declared.jobs.Detail.{Detail}
+use Rattle.debctl_args.specs.declared.jobs.DiffDetail.{DiffDetail}
+use Rattle.debctl_args.specs.declared.jobs.DiffKind.{DiffKind}
 use Rattle.debctl_args.specs.declared.jobs.Explain.TheVariants as explain
 use Rattle.debctl_args.specs.declared.jobs.Files.{Files}
 use Rattle.debctl_args.specs.declared.jobs.Files.TheVariants as files
@@ -27,6 +29,10 @@ jobs_on_files : (doc : Doc) → (wanted_of (job.Check doc) ≡ checks doc)
     × (wanted_of (job.Normalise doc) ≡ normalises doc)
     × (wanted_of (job.Same doc) ≡ compares_files doc)
 jobs_on_files doc = (refl, refl, refl)
+
+changes_of_files : (kind : DiffKind) (detail : DiffDetail)
+    → wanted_of (job.Diff kind detail) ≡ finds_changes kind detail
+changes_of_files kind detail = refl
 
 comparisons : (left right : String Global) (operator : Cmp)
     → wanted_of (job.Compare left operator right)
@@ -181,10 +187,11 @@ texts_of_mistakes : IsUsage unknown_kind (codes "usage: unknown kind")
     (codes "usage: explain takes one file, code, relation or version")
     × IsUsage paths_or_list (codes "usage: audit takes paths, or --files0-from")
     × IsUsage relation_or_file (codes "usage: query takes a relation, or --relation-from")
+    × IsUsage no_names (codes "usage: diff takes no --kind any")
     × IsUsage no_relations (codes "usage: unmet takes no --kind any")
     × IsUsage no_recommends (codes "usage: unmet takes --recommends only for binary packages")
     × IsUsage kind_of_path (codes "usage: unmet takes another --kind only with a second path")
-texts_of_mistakes = (refl, refl, refl, refl, refl, refl, refl, refl, refl, refl, refl)
+texts_of_mistakes = (refl, refl, refl, refl, refl, refl, refl, refl, refl, refl, refl, refl)
 
 no_mistakes : (request : Request) (text : Text)
     → (IsUsage (asks request) text ≡ ⊥) × (IsUsage asks_help text ≡ ⊥)

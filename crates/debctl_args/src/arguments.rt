@@ -2,21 +2,21 @@
 
 ghost use Rattle.std.specs.Prelude.{◌≡◌, [], Some, None, map, true, string_bytes, IfOk, IfErr, option_copied};
 ghost use Rattle.clap.specs.Words.{fault_of, found_of, has_subcommand, kind_of, rows_of, subcommand_rows_of, takes};
-ghost use Rattle.debctl_args.specs.Asked.{asked_by, asked_in, asked_of, asks, audit_asked, canon_version_asked, checks, compare_asked, document_asked, explain_asked, help_asked, normalises, query_asked, query_of_file, query_of_word, relation_asked, request_of, rule_asked, same_asked, sort_asked, text_asked, unmet_asked, unmet_of_files, unmet_of_path, unmet_of_sources, version_asked, version_key_asked, word_in, Answers, AnswersError, AnswersMet, IsHelp, MeansError, Request, FitsKind, UsesText};
+ghost use Rattle.debctl_args.specs.Asked.{asked_by, asked_in, asked_of, asks, audit_asked, canon_version_asked, checks, compare_asked, diff_asked, diff_of_files, document_asked, explain_asked, help_asked, normalises, query_asked, query_of_file, query_of_word, relation_asked, request_of, rule_asked, same_asked, sort_asked, text_asked, unmet_asked, unmet_of_files, unmet_of_path, unmet_of_sources, version_asked, version_key_asked, word_in, Answers, AnswersError, AnswersMet, IsHelp, MeansError, Request, FitsKind, UsesText};
 ghost use Rattle.debctl_args.specs.Commands.{debctl_app};
 
 use crate::code_argument::code_named;
 use crate::commands::{
     audit_command, canon_version_command, check_command, compare_command, debctl_command,
-    explain_command, help_command, kinds_help, normalise_command, query_command, same_command,
-    sort_command, unmet_command, version_key_command,
+    diff_command, explain_command, help_command, kinds_help, normalise_command, query_command,
+    same_command, sort_command, unmet_command, version_key_command,
 };
 use crate::found_arguments::{
-    all_given, detail_in, end_in, file_in, flag_in, given, index_in, is_standard_input_twice,
-    kind_in, names_file, owned_texts, packages_in, path_in, profiles_in, strength_in, versions_in,
-    word_in,
+    all_given, detail_in, diff_detail_in, end_in, file_in, flag_in, given, index_in,
+    is_standard_input_twice, kind_in, names_file, owned_texts, packages_in, path_in, profiles_in,
+    strength_in, versions_in, word_in,
 };
-use crate::jobs::{Audit, Call, Dependents, Explain, Files, Job, Task};
+use crate::jobs::{Audit, Call, Dependents, DiffKind, Explain, Files, Job, Task};
 use crate::operator_argument::operator_named;
 use clap::error::{Error, ErrorKind};
 use clap::{ArgMatches, Command};
@@ -31,6 +31,9 @@ const PATHS_OR_LIST: &str = "usage: audit takes paths, or --files0-from";
 
 /// The text for a query with neither a relation nor its file, and for one with both.
 const RELATION_OR_FILE: &str = "usage: query takes a relation, or --relation-from";
+
+/// The text for a `diff` of files whose paragraphs have no names.
+const NO_NAMES: &str = "usage: diff takes no --kind any";
 
 /// The text for an `unmet` of files whose relations have no meaning.
 const NO_RELATIONS: &str = "usage: unmet takes no --kind any";
@@ -69,11 +72,12 @@ impl From<AllocError> for UsageFault {
 ///
 /// `check [--kind K] [PATH]`, `explain [--kind K] [PATH]`, `explain --code N`, `explain --relation
 /// TEXT`, `explain --version-text TEXT`, `normalise [--kind K] [PATH]`, `same [--kind K] PATH
-/// PATH`, `compare V OP V`, `canon-version V`, `version-key V ..`, `sort [--reverse] [PATH]`,
-/// `query --arch A [--profiles P,P] [--why] RELATION [PATH]`, `query --arch A [--profiles P,P]
-/// [--why] --relation-from PATH [PATH]`, `unmet --arch A [--profiles P,P] [--kind K] [--recommends]
-/// INDEX [PATH]`, `audit [--kind K] [--null] PATH ..` and `audit [--kind K] [--null] --files0-from
-/// PATH` ask for a task. `help [COMMAND]`, `--help` and `--version` ask for help.
+/// PATH`, `diff [--kind K] [--values] OLD NEW`, `compare V OP V`, `canon-version V`, `version-key V
+/// ..`, `sort [--reverse] [PATH]`, `query --arch A [--profiles P,P] [--why] RELATION [PATH]`,
+/// `query --arch A [--profiles P,P] [--why] --relation-from PATH [PATH]`, `unmet --arch A
+/// [--profiles P,P] [--kind K] [--recommends] INDEX [PATH]`, `audit [--kind K] [--null] PATH ..`
+/// and `audit [--kind K] [--null] --files0-from PATH` ask for a task. `help [COMMAND]`, `--help`
+/// and `--version` ask for help.
 ///
 /// The profiles of `query` and `unmet` are the texts between the commas of P,P; without the option
 /// there are none. A version, an architecture, a profile or a relation may be any text here: the
@@ -85,16 +89,16 @@ impl From<AllocError> for UsageFault {
 ///
 /// - `UsageFault::Usage`: an argument is wrong or missing. The text is `usage: unknown kind`,
 ///   `usage: unknown operator`, `usage: unknown command` or `usage: unknown code` for a K, an OP, a
-///   COMMAND or an N that isn't known; `usage: standard input twice` for `same - -`, for an audit
-///   with two paths `-`, for a query whose relation and index are both standard input, and for an
-///   `unmet` that reads standard input twice; `usage: explain takes one file, code, relation or
-///   version` for an `explain` with two of these, where a kind or a path names a file;
-///   `usage: audit takes paths, or --files0-from` for an audit with neither paths nor a list, or
-///   with both; `usage: query takes a relation, or --relation-from` for a query with neither or with
-///   both; `usage: unmet takes no --kind any`; `usage: unmet takes --recommends only for binary
-///   packages` for the kinds `sources` and `source` with `--recommends`; `usage: unmet takes another
-///   --kind only with a second path` for a kind other than `packages` without PATH; otherwise that
-///   of `clap`.
+///   COMMAND or an N that isn't known; `usage: standard input twice` for `same - -`, for `diff - -`
+///   of a kind other than `any`, for an audit with two paths `-`, for a query whose relation and
+///   index are both standard input, and for an `unmet` that reads standard input twice; `usage:
+///   explain takes one file, code, relation or version` for an `explain` with two of these, where a
+///   kind or a path names a file; `usage: audit takes paths, or --files0-from` for an audit with
+///   neither paths nor a list, or with both; `usage: query takes a relation, or --relation-from`
+///   for a query with neither or with both; `usage: diff takes no --kind any`; `usage: unmet takes
+///   no --kind any`; `usage: unmet takes --recommends only for binary packages` for the kinds
+///   `sources` and `source` with `--recommends`; `usage: unmet takes another --kind only with a
+///   second path` for a kind other than `packages` without PATH; otherwise that of `clap`.
 /// - `UsageFault::Help`: the arguments ask for help or for the version.
 /// - `UsageFault::Memory`: a growth of memory was refused.
 pub fn job_of(alloc: Global, words: &[String]) -> Result<Task, UsageFault>
@@ -166,6 +170,7 @@ fn task_by(alloc: Global, name: &str, found: &ArgMatches<'_>) -> Result<Task, Us
         "audit" => audit_task(alloc, found),
         "normalise" => normalise_task(alloc, found),
         "same" => same_task(alloc, found),
+        "diff" => diff_task(alloc, found),
         "compare" => compare_task(alloc, found),
         "canon-version" => canon_version_task(alloc, found),
         "version-key" => version_key_task(alloc, found),
@@ -290,6 +295,38 @@ fn same_task(alloc: Global, found: &ArgMatches<'_>) -> Result<Task, UsageFault>
     let second = String::from_str(alloc, second)?;
     Ok(Task::Run(Call {
         job: Job::Same(kind),
+        first: Some(first),
+        second: Some(second),
+    }))
+}
+
+fn diff_task(alloc: Global, found: &ArgMatches<'_>) -> Result<Task, UsageFault>
+    ensures { Answers (diff_asked (rows_of (found_of found.now))) result }
+{
+    match kind_in(alloc, found)? {
+        Doc::Packages => diff_of_files(alloc, found, DiffKind::Packages),
+        Doc::Binary => diff_of_files(alloc, found, DiffKind::Binary),
+        Doc::Sources => diff_of_files(alloc, found, DiffKind::Sources),
+        Doc::Source => diff_of_files(alloc, found, DiffKind::Source),
+        Doc::Any => Err(usage(alloc, NO_NAMES)),
+    }
+}
+
+/// `diff` of files of this kind.
+fn diff_of_files(alloc: Global, found: &ArgMatches<'_>, kind: DiffKind) -> Result<Task, UsageFault>
+    ensures { Answers (diff_of_files (rows_of (found_of found.now)) kind) result }
+{
+    let (old, new) = (word_in(found, "old"), word_in(found, "new"));
+    if old == "-" && new == "-" {
+        return Err(usage(alloc, "usage: standard input twice"));
+    }
+    let first = String::from_str(alloc, old)?;
+    let second = String::from_str(alloc, new)?;
+    Ok(Task::Run(Call {
+        job: Job::Diff {
+            kind,
+            detail: diff_detail_in(found),
+        },
         first: Some(first),
         second: Some(second),
     }))
@@ -488,6 +525,7 @@ fn help_with(alloc: Global, word: Option<&str>, kinds: &str) -> UsageFault
         Some("audit") => help_of(alloc, audit_command(alloc, kinds), "debctl audit"),
         Some("normalise") => help_of(alloc, normalise_command(alloc, kinds), "debctl normalise"),
         Some("same") => help_of(alloc, same_command(alloc, kinds), "debctl same"),
+        Some("diff") => help_of(alloc, diff_command(alloc), "debctl diff"),
         Some("compare") => help_of(alloc, compare_command(alloc), "debctl compare"),
         Some("canon-version") => help_of(
             alloc,

@@ -3,13 +3,13 @@
 ghost use Rattle.std.specs.Prelude.{◌≡◌, IfOk, false};
 ghost use Rattle.clap.specs.Simple.{App, with_subcommand};
 ghost use Rattle.clap.specs.Words.{rule_of};
-ghost use Rattle.debctl_args.specs.Commands.{arch_rule, audit_app, bare_app, code_rule, explain_app, list_rule, paths_rule, canon_version_app, check_word, normalise_word, compare_app, debctl_app, document_app, help_app, kind_rule, null_rule, optional_rule, profiles_rule, query_app, relation_file_rule, relation_rule, required_rule, reverse_rule, same_app, sort_app, recommends_rule, unmet_app, version_key_app, version_rule, versions_rule, why_rule, IsShaped};
+ghost use Rattle.debctl_args.specs.Commands.{arch_rule, audit_app, bare_app, code_rule, explain_app, list_rule, paths_rule, canon_version_app, check_word, normalise_word, compare_app, debctl_app, diff_app, document_app, help_app, kind_rule, null_rule, optional_rule, profiles_rule, query_app, relation_file_rule, relation_rule, required_rule, reverse_rule, same_app, sort_app, recommends_rule, unmet_app, values_rule, version_key_app, version_rule, versions_rule, why_rule, IsShaped};
 
 use crate::helps::{
     ARCH_HELP, AUDIT_HELP, CANON_VERSION_HELP, CHECK_HELP, CODE_HELP, COMPARE_HELP, DEBCTL_HELP,
-    EXPLAIN_HELP, FILES_HELP, NORMALISE_HELP, OPERATORS_HELP, PROFILES_HELP, QUERY_HELP,
-    RELATION_FILE_HELP, RELATION_HELP, SAME_HELP, SORT_HELP, UNMET_HELP, UNMET_INDEX_HELP,
-    UNMET_KIND_HELP, UNMET_PATH_HELP, VERSION_KEY_HELP, WHY_HELP,
+    DIFF_HELP, DIFF_KIND_HELP, EXPLAIN_HELP, FILES_HELP, NORMALISE_HELP, OPERATORS_HELP,
+    PROFILES_HELP, QUERY_HELP, RELATION_FILE_HELP, RELATION_HELP, SAME_HELP, SORT_HELP, UNMET_HELP,
+    UNMET_INDEX_HELP, UNMET_KIND_HELP, UNMET_PATH_HELP, VERSION_KEY_HELP, WHY_HELP,
 };
 use clap::{Arg, ArgAction, Command};
 use deb_base::{Doc, is_single};
@@ -39,7 +39,8 @@ pub(crate) fn debctl_command<'a>(alloc: Global, kinds: &'a str) -> Result<Comman
     let with_audit = with_command(with_explain, audit_command(alloc, kinds));
     let with_normalise = with_command(with_audit, normalise_command(alloc, kinds));
     let with_same = with_command(with_normalise, same_command(alloc, kinds));
-    let with_compare = with_command(with_same, compare_command(alloc));
+    let with_diff = with_command(with_same, diff_command(alloc));
+    let with_compare = with_command(with_diff, compare_command(alloc));
     let with_canon_version = with_command(with_compare, canon_version_command(alloc));
     let with_version_key = with_command(with_canon_version, version_key_command(alloc));
     let with_sort = with_command(with_version_key, sort_command(alloc));
@@ -179,6 +180,19 @@ pub(crate) fn same_command<'a>(alloc: Global, kinds: &'a str) -> Result<Command<
             "PATH",
             "The second file; `-` is standard input",
         ))
+}
+
+/// `diff [--kind K] [--values] OLD NEW`
+pub(crate) fn diff_command<'a>(alloc: Global) -> Result<Command<'a>, AllocError>
+    ensures { IfOk result (IsShaped diff_app) }
+{
+    Command::new(alloc, "diff")
+        .about("Lists the paragraphs that changed between two files")
+        .after_help(DIFF_HELP)
+        .arg(kind_option(alloc, DIFF_KIND_HELP))?
+        .arg(values_option(alloc))?
+        .arg(required_word(alloc, "old", "OLD", "The old file; `-` is standard input"))?
+        .arg(required_word(alloc, "new", "NEW", "The new file; `-` is standard input"))
 }
 
 /// `compare V OP V`
@@ -412,6 +426,17 @@ fn why_option<'a>(alloc: Global) -> Arg<'a>
     Arg::new(alloc, "why")
         .long("why")
         .help(WHY_HELP)
+        .action(ArgAction::SetTrue)
+}
+
+/// `--values`
+fn values_option<'a>(alloc: Global) -> Arg<'a>
+    ensures rule { rule_of result ≡ values_rule }
+    ensures local { result.global ≡ false }
+{
+    Arg::new(alloc, "values")
+        .long("values")
+        .help("Print the lines of the fields that differ")
         .action(ArgAction::SetTrue)
 }
 

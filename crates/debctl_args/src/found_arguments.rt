@@ -2,10 +2,10 @@
 
 ghost use Rattle.std.specs.Prelude.{◌≡◌, nat_lt, count_by, map, codes, string_bytes, option_map, IfOk, option_copied};
 ghost use Rattle.clap.specs.Words.{all_of, first_of, found_of, rows_of};
-ghost use Rattle.debctl_args.specs.Asked.{comma_pieces, detail_asked, end_asked, file_asked, flag_asked, index_asked, is_standard_input, kind_asked, names_file, packages_in, profiles_asked, strength_in, texts_asked, word_in, MeansKind};
+ghost use Rattle.debctl_args.specs.Asked.{comma_pieces, detail_asked, diff_detail_asked, end_asked, file_asked, flag_asked, index_asked, is_standard_input, kind_asked, names_file, packages_in, profiles_asked, strength_in, texts_asked, word_in, MeansKind};
 
 use crate::arguments::{UsageFault, usage};
-use crate::jobs::{Dependents, Detail, LineEnd, Strength};
+use crate::jobs::{Dependents, Detail, DiffDetail, LineEnd, Strength};
 use clap::ArgMatches;
 use deb_base::Doc;
 use std::alloc::{AllocError, Global};
@@ -56,6 +56,18 @@ pub(crate) fn detail_in(found: &ArgMatches<'_>) -> Detail
         Detail::Reasons
     } else {
         Detail::Verdicts
+    }
+}
+
+/// What `diff` prints of each paragraph that changed: values too if `--values` is given.
+pub(crate) fn diff_detail_in(found: &ArgMatches<'_>) -> DiffDetail
+    ensures { result ≡ diff_detail_asked
+        (flag_asked (first_of (codes "values") (rows_of (found_of found.now)))) }
+{
+    if flag_in(found, "values") {
+        DiffDetail::Values
+    } else {
+        DiffDetail::Fields
     }
 }
 

@@ -7,8 +7,8 @@ Exit statuses:
   1  the answer is no; for `query` and `unmet`: a group isn't met
   2  a file, a version, a relation, an architecture or a profile is rejected:
      standard error has `line N: CODE NAME`. Line 0 means a command-line
-     argument. `same` and `unmet` write `first: ` or `second: ` before the line
-     of a file. `explain` and `audit` report the error on standard output
+     argument. `same`, `diff` and `unmet` write `first: ` or `second: ` before
+     the line of a file. `explain` and `audit` report the error on standard output
   3  wrong arguments, out of memory, or a failed read or write
 
 Put `--` before a version or a path that begins with a hyphen:
@@ -138,6 +138,50 @@ Example:
   $ debctl same one other; echo $?
   same
   0";
+
+pub(crate) const DIFF_HELP: &str = "\
+Prints one line for each paragraph that changed in meaning:
+  removed NUMBER PACKAGE VERSION ARCHITECTURE
+  changed NUMBER PACKAGE VERSION ARCHITECTURE FIELD ..
+  upgraded NUMBER PACKAGE OLD-VERSION NEW-VERSION ARCHITECTURE FIELD ..
+  added NUMBER PACKAGE VERSION ARCHITECTURE
+NUMBER is the position of the paragraph, from 1: in OLD for `removed`, else in NEW.
+VERSION is canonical. ARCHITECTURE is `source` for a source package. The FIELDs are
+those that differ or are in one paragraph only, in ascending order. The lines of the
+paragraphs of OLD are in its order. After them come those of the added ones, in the
+order of NEW.
+
+Paragraphs that are in both files have no line, in whatever order they are. Of the
+others, a paragraph of OLD is changed if NEW has one of the same package, version
+and architecture. It is upgraded if NEW has one of the same package and architecture
+with another version, earlier or later.
+
+With `--values` the values of these fields are printed below the line. Each line of
+the field's canonical text in OLD is printed after ` -`, then each line of that in
+NEW after ` +`. A removed or added paragraph is printed whole.
+
+Exit statuses:
+  0  nothing is printed: the files have the same paragraphs, in whatever order
+  1  the files differ
+  2  a file is rejected: standard error has `first: line N: CODE NAME` for OLD or
+     `second: line N: CODE NAME` for NEW, and nothing is printed. If both are
+     rejected, the error of OLD is reported
+  3  wrong arguments, out of memory, or a failed read or write
+
+Example:
+  $ printf 'Package: aa\\nVersion: 1\\nArchitecture: all\\n' > old
+  $ printf 'Package: aa\\nVersion: 2\\nArchitecture: all\\n' > new
+  $ debctl diff old new; echo $?
+  upgraded 1 aa 1 2 all Version
+  1
+  $ debctl diff --values old new; echo $?
+  upgraded 1 aa 1 2 all Version
+   -Version: 1
+   +Version: 2
+  1";
+
+pub(crate) const DIFF_KIND_HELP: &str = "\
+The kind of both files: packages (the default), binary, sources or source";
 
 pub(crate) const COMPARE_HELP: &str = "\
 Prints nothing: the exit status is the answer.

@@ -39,6 +39,11 @@ pub enum Job {
     Normalise(Doc),
     /// `same`: check whether two files of this kind mean the same.
     Same(Doc),
+    /// `diff`: write which paragraphs changed between two files of this kind.
+    Diff {
+        kind: DiffKind,
+        detail: DiffDetail,
+    },
     /// `compare`: check whether an operator holds between two versions.
     Compare(String, Cmp, String),
     /// `canon-version`: print the canonical text of a version.
@@ -71,6 +76,28 @@ pub enum Job {
         profiles: Vec<String>,
         dependents: Dependents,
     },
+}
+
+/// The kind of the files that `diff` compares. Their paragraphs are packages or sources.
+#[derive(Clone, Copy, Debug, PartialEq, Eq)]
+pub enum DiffKind {
+    /// An index of binary packages.
+    Packages,
+    /// The control file of a binary package.
+    Binary,
+    /// An index of source packages.
+    Sources,
+    /// The description of a source package.
+    Source,
+}
+
+/// What `diff` prints of each paragraph that changed.
+#[derive(Clone, Copy, Debug, PartialEq, Eq)]
+pub enum DiffDetail {
+    /// One line, with the names of the fields that differ.
+    Fields,
+    /// `--values`: also the lines of these fields in both files.
+    Values,
 }
 
 /// What `query` prints of each group.
@@ -109,8 +136,8 @@ pub enum Strength {
 /// A command and the paths of the files that it reads.
 ///
 /// If `check`, `normalise`, `sort` or `query` has no path, the file is standard input. `same`,
-/// `query --relation-from` and `unmet` have both paths, and no other job has a second one. Those of
-/// an `unmet` of the index itself are the same.
+/// `diff`, `query --relation-from` and `unmet` have both paths, and no other job has a second one.
+/// Those of an `unmet` of the index itself are the same.
 #[derive(Debug, PartialEq, Eq, Drop)]
 pub struct Call {
     pub job: Job,

@@ -56,38 +56,42 @@ module _ (job : Job) (arch : String Global) (profiles : Vec (String Global) Glob
       subst (λ (asked : Job). IfRefusedRelation asked left P) (sym is) (of_words (λ ask. AreRefusedFrom ask left → P) arch profiles target items target_is items_is then)
 
   -- the answer, and its report
-  pub reported_from : {W E : Type 0} (first second : ReaderOfJob) (out : WriterOfJob W) (err : WriterOfJob E) (status : ℕ)
-      → ReportsFrom detail (λ relation. question target (map string_bytes items) relation) first second out err status → Reported job first second out err status
-  reported_from first second out err status reports =
+  pub reported_from : {W E : Type 0} (first second : ReaderOfJob) (out : WriterOfJob W) (err : WriterOfJob E) (status : ℕ) (wanted : Detail) → wanted ≡ detail
+      → ReportsFrom wanted (λ relation. question target (map string_bytes items) relation) first second out err status → Reported job first second out err status
+  reported_from first second out err status wanted wanted_is reports =
       subst (λ (asked : Job). Reported asked first second out err status) (sym is)
-      (of_words (λ ask. ReportsFrom detail ask first second out err status) arch profiles target items target_is items_is reports)
+      (of_words (λ ask. ReportsFrom detail ask first second out err status) arch profiles target items target_is items_is
+      (subst (λ d. ReportsFrom d (λ relation. question target (map string_bytes items) relation) first second out err status) wanted_is reports))
 
 -- what is said of the words of `unmet` is said of those of the job
-of_unmet : (P : Words → Type 0) (arch : String Global) (profiles : Vec (String Global) Global) (dependents : Dependents) (target : List ℕ) (items : List (String Global)) → target ≡ string_bytes arch → items ≡ profiles.items
-    → P (words target (map string_bytes items) dependents) → P (words_of_unmet arch profiles dependents)
-of_unmet P arch profiles dependents target items target_is items_is p =
-    subst (λ t. P (words t (map string_bytes profiles.items) dependents)) target_is (subst (λ l. P (words target (map string_bytes l) dependents)) items_is p)
+of_unmet : (P : Words → Type 0) (arch : String Global) (profiles : Vec (String Global) Global) (dependents : Dependents) (target : List ℕ) (items : List (String Global)) (tried : Dependents)
+    → target ≡ string_bytes arch → items ≡ profiles.items → tried ≡ dependents
+    → P (words target (map string_bytes items) tried) → P (words_of_unmet arch profiles dependents)
+of_unmet P arch profiles dependents target items tried target_is items_is tried_is p =
+    subst (λ t. P (words t (map string_bytes profiles.items) dependents)) target_is (subst (λ l. P (words target (map string_bytes l) dependents)) items_is
+    (subst (λ d. P (words target (map string_bytes items) d)) tried_is p))
 
-module _ (job : Job) (arch : String Global) (profiles : Vec (String Global) Global) (dependents : Dependents) (is : job ≡ Unmet arch profiles dependents) (target : List ℕ) (items : List (String Global)) (target_is : target ≡ string_bytes arch) (items_is : items ≡ profiles.items) where
+module _ (job : Job) (arch : String Global) (profiles : Vec (String Global) Global) (dependents : Dependents) (is : job ≡ Unmet arch profiles dependents) (target : List ℕ) (items : List (String Global)) (tried : Dependents)
+    (target_is : target ≡ string_bytes arch) (items_is : items ≡ profiles.items) (tried_is : tried ≡ dependents) where
   -- status 2 of `unmet`
   pub unmet_refused : {W : Type 0} (left other : Option (List ℕ)) (held : W → Option (List ℕ)) (out out_after : W) (err err_after : Option (List ℕ))
-      → ReportsRefusalOfUnmet (words target (map string_bytes items) dependents) left other held out out_after err err_after → IsRefused job left other held out out_after err err_after
+      → ReportsRefusalOfUnmet (words target (map string_bytes items) tried) left other held out out_after err err_after → IsRefused job left other held out out_after err err_after
   unmet_refused left other held out out_after err err_after refused =
       subst (λ (asked : Job). IsRefused asked left other held out out_after err err_after) (sym is)
-      (of_unmet (λ w. ReportsRefusalOfUnmet w left other held out out_after err err_after) arch profiles dependents target items target_is items_is refused)
+      (of_unmet (λ w. ReportsRefusalOfUnmet w left other held out out_after err err_after) arch profiles dependents target items tried target_is items_is tried_is refused)
 
   -- what refused words leave, and what a refused index does
-  pub unmet_unread_index : (P : Type 0) → (IsFalse (has_environment (words target (map string_bytes items) dependents)) → P) → IfRefusedWords job P
+  pub unmet_unread_index : (P : Type 0) → (IsFalse (has_environment (words target (map string_bytes items) tried)) → P) → IfRefusedWords job P
   unmet_unread_index P then =
-      subst (λ (asked : Job). IfRefusedWords asked P) (sym is) (of_unmet (λ w. IsFalse (has_environment w) → P) arch profiles dependents target items target_is items_is then)
+      subst (λ (asked : Job). IfRefusedWords asked P) (sym is) (of_unmet (λ w. IsFalse (has_environment w) → P) arch profiles dependents target items tried target_is items_is tried_is then)
 
-  pub unmet_unread_file : (left : Option (List ℕ)) (P : Type 0) → (AreRefusedBefore (words target (map string_bytes items) dependents) left → P) → IfRefusedRelation job left P
+  pub unmet_unread_file : (left : Option (List ℕ)) (P : Type 0) → (AreRefusedBefore (words target (map string_bytes items) tried) left → P) → IfRefusedRelation job left P
   unmet_unread_file left P then =
-      subst (λ (asked : Job). IfRefusedRelation asked left P) (sym is) (of_unmet (λ w. AreRefusedBefore w left → P) arch profiles dependents target items target_is items_is then)
+      subst (λ (asked : Job). IfRefusedRelation asked left P) (sym is) (of_unmet (λ w. AreRefusedBefore w left → P) arch profiles dependents target items tried target_is items_is tried_is then)
 
   -- the answer, and its report
   pub unmet_reported : {W E : Type 0} (first second : ReaderOfJob) (out : WriterOfJob W) (err : WriterOfJob E) (status : ℕ)
-      → ReportsUnmet (words target (map string_bytes items) dependents) first second out err status → Reported job first second out err status
+      → ReportsUnmet (words target (map string_bytes items) tried) first second out err status → Reported job first second out err status
   unmet_reported first second out err status reports =
       subst (λ (asked : Job). Reported asked first second out err status) (sym is)
-      (of_unmet (λ w. ReportsUnmet w first second out err status) arch profiles dependents target items target_is items_is reports)
+      (of_unmet (λ w. ReportsUnmet w first second out err status) arch profiles dependents target items tried target_is items_is tried_is reports)

@@ -1,4 +1,5 @@
 pub mod AuditReports
+pub mod DiffReports
 pub mod DocumentReports
 pub mod ExplainReports
 pub mod JobRefusals

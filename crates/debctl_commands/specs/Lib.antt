@@ -1,4 +1,5 @@
 pub mod AuditJob
+pub mod DiffJob
 pub mod DocumentJobs
 pub mod ExplainJob
 pub mod JobDevices

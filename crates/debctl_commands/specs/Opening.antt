@@ -18,9 +18,11 @@ use Rattle.debctl_commands.specs.declared.unopened.Unopened.TheVariants.{NotFoun
 use Rattle.debctl_args.specs.declared.jobs.Call.{Call}
 use Rattle.debctl_args.specs.declared.jobs.Cmp.TheVariants.{Less}
 use Rattle.debctl_args.specs.declared.jobs.Job.{Job}
-use Rattle.debctl_args.specs.declared.jobs.Job.TheVariants.{Check, Normalise, Same, Compare}
+use Rattle.debctl_args.specs.declared.jobs.Job.TheVariants.{Check, Normalise, Same, Diff, Compare}
 use Rattle.debctl_args.specs.declared.jobs.Dependents.{Dependents}
 use Rattle.debctl_args.specs.declared.jobs.Detail.{Detail}
+use Rattle.debctl_args.specs.declared.jobs.DiffDetail.{DiffDetail}
+use Rattle.debctl_args.specs.declared.jobs.DiffKind.{DiffKind}
 use Rattle.debctl_args.specs.declared.jobs.Job.TheVariants.{CanonVersion, Sort, Query, QueryFrom}
 use Rattle.debctl_args.specs.declared.jobs.Job.TheVariants.{Unmet, VersionKey}
 
@@ -36,6 +38,7 @@ abbrev pub first_of_job : Job → Option (List ℕ) → Option (List ℕ)
 first_of_job (Check doc) path = Some (unwrap_or path standard_input)
 first_of_job (Normalise doc) path = Some (unwrap_or path standard_input)
 first_of_job (Same doc) path = path
+first_of_job (Diff kind detail) path = path
 first_of_job (Compare left operator right) path = None
 first_of_job (CanonVersion version) path = None
 first_of_job (VersionKey versions) path = None
@@ -147,6 +150,11 @@ first_of_unmet : (arch : String Global) (profiles : Vec (String Global) Global)
     (dependents : Dependents)
     → first_of_job (Unmet arch profiles dependents) (Some (codes "a")) ≡ Some (codes "a")
 first_of_unmet arch profiles dependents = refl
+
+-- the first file of `diff` is the old one
+first_of_diff : (kind : DiffKind) (detail : DiffDetail)
+    → first_of_job (Diff kind detail) (Some (codes "a")) ≡ Some (codes "a")
+first_of_diff kind detail = refl
 
 -- the paths of a call are those of its words, in their order
 paths_of_same : (path path_too : String Global)

@@ -10,6 +10,8 @@ use Rattle.deb_base.specs.declared.fault.Fault.{Fault}
 use Rattle.deb_control.specs.Calls.{WritesCanonical}
 use Rattle.deb_control.specs.declared.side.SideFault.{SideFault}
 use Rattle.deb_sort.specs.Files.{SortsFile, WritesSorted}
+use Rattle.debctl_commands.specs.DiffJob.{IsRefusedOld, ReportsDiff, ReportsRefusalOfDiff}
+use Rattle.debctl_commands.specs.DiffJob.{WritesChanges}
 use Rattle.debctl_commands.specs.DocumentJobs.{ChecksFile, NormalisesFile, ReportsRefusal}
 use Rattle.debctl_commands.specs.DocumentJobs.{ReportsRefusalBehind, WritesOk}
 use Rattle.deb_index.specs.Questions.{Question, question}
@@ -29,9 +31,11 @@ use Rattle.debctl_commands.specs.VersionJobs.{bad_version, verdict_status, Canon
 use Rattle.debctl_commands.specs.VersionJobs.{Compares, IsNoVersion, WritesLine}
 use Rattle.debctl_args.specs.declared.jobs.Cmp.{Cmp}
 use Rattle.debctl_args.specs.declared.jobs.Job.{Job}
-use Rattle.debctl_args.specs.declared.jobs.Job.TheVariants.{Check, Normalise, Same, Compare}
+use Rattle.debctl_args.specs.declared.jobs.Job.TheVariants.{Check, Normalise, Same, Diff, Compare}
 use Rattle.debctl_args.specs.declared.jobs.Dependents.{Dependents}
 use Rattle.debctl_args.specs.declared.jobs.Detail.{Detail}
+use Rattle.debctl_args.specs.declared.jobs.DiffDetail.{DiffDetail}
+use Rattle.debctl_args.specs.declared.jobs.DiffKind.{DiffKind}
 use Rattle.debctl_args.specs.declared.jobs.Job.TheVariants.{CanonVersion, Sort, Query, QueryFrom}
 use Rattle.debctl_args.specs.declared.jobs.Job.TheVariants.{Unmet, VersionKey}
 
@@ -53,9 +57,9 @@ words_of_unmet arch profiles dependents =
 -- Of the readers of the first file and of the second, `left` and `other` are the texts, where
 -- they are known.
 
--- Status 0: `ok N` for an accepted file, its canonical text, `same`, yes, a version's canonical
--- text with a newline, the keys of versions, the sorted lines of a file, a report without an unmet
--- group, and no line of `unmet`.
+-- Status 0: `ok N` for an accepted file, its canonical text, `same`, no line of `diff`, yes, a
+-- version's canonical text with a newline, the keys of versions, the sorted lines of a file, a
+-- report without an unmet group, and no line of `unmet`.
 abbrev pub Done : {W : Type 0} → Job → Option (List ℕ) → Option (List ℕ) →
     (W → Option (List ℕ)) → (W → ℕ) → W → W → Type 0
 Done (Check doc) left other held failures out new =
@@ -64,6 +68,8 @@ Done (Normalise doc) left other held failures out new =
     (text : List ℕ) → left ≡ Some text → (n : ℕ) × WritesCanonical doc text n (held out) (held new)
 Done (Same doc) left other held failures out new =
     WritesSame doc left other (held out) (held new) true
+Done (Diff kind detail) left other held failures out new =
+    WritesChanges kind detail left other (held out) (held new) true
 Done (Compare former operator latter) left other held failures out new =
     (new ≡ out) × Compared (string_bytes former) operator (string_bytes latter) true
 Done (CanonVersion version) left other held failures out new =
@@ -80,13 +86,15 @@ Done (QueryFrom arch profiles detail) left other held failures out new =
 Done (Unmet arch profiles dependents) left other held failures out new =
     WritesUnmetOf (words_of_unmet arch profiles dependents) left other (held out) (held new) true
 
--- Status 1: `different`, no, for which nothing was written, a report with an unmet group, and the
--- lines of `unmet`.
+-- Status 1: `different`, the lines of `diff`, no, for which nothing was written, a report with an
+-- unmet group, and the lines of `unmet`.
 abbrev pub SaysNo : {W : Type 0} → Job → Option (List ℕ) → Option (List ℕ) →
     (W → Option (List ℕ)) → W → W → Type 0
 SaysNo (Check doc) left other held out new = ⊥
 SaysNo (Normalise doc) left other held out new = ⊥
 SaysNo (Same doc) left other held out new = WritesSame doc left other (held out) (held new) false
+SaysNo (Diff kind detail) left other held out new =
+    WritesChanges kind detail left other (held out) (held new) false
 SaysNo (Compare former operator latter) left other held out new =
     (new ≡ out) × Compared (string_bytes former) operator (string_bytes latter) false
 SaysNo (CanonVersion version) left other held out new = ⊥
@@ -101,8 +109,8 @@ SaysNo (Unmet arch profiles dependents) left other held out new =
     WritesUnmetOf (words_of_unmet arch profiles dependents) left other (held out) (held new) false
 
 -- Status 2: a file or a version is refused, exactly the refusal's line was written on `err`, by
--- `same` and `unmet` after the side of the file, and nothing on `out` but the canonical text or
--- the lines of the paragraphs before the first that fails, by `normalise` and `unmet`.
+-- `same`, `diff` and `unmet` after the side of the file, and nothing on `out` but the canonical
+-- text or the lines of the paragraphs before the first that fails, by `normalise` and `unmet`.
 abbrev pub IsRefused : {W : Type 0} → Job → Option (List ℕ) → Option (List ℕ) →
     (W → Option (List ℕ)) → W → W → Option (List ℕ) → Option (List ℕ) → Type 0
 IsRefused (Check doc) left other held out new err err_after =
@@ -111,6 +119,8 @@ IsRefused (Normalise doc) left other held out new err err_after =
     ReportsRefusalBehind doc left (held out) (held new) err err_after
 IsRefused (Same doc) left other held out new err err_after =
     (new ≡ out) × ReportsRefusedSide doc left other err err_after
+IsRefused (Diff kind detail) left other held out new err err_after =
+    ReportsRefusalOfDiff kind left other held out new err err_after
 IsRefused (Compare former operator latter) left other held out new err err_after =
     (new ≡ out) × (IsNoVersion (string_bytes former) ⊎ IsNoVersion (string_bytes latter))
     × Appends err err_after (refusal_line bad_version)
@@ -148,6 +158,8 @@ Reported (Same doc) first second out err status =
     first.failures first.failures_after second.failures second.failures_after answer
     × ReportsComparison out.held out.failures out.old out.new err.held err.failures err.old err.new
     answer status
+Reported (Diff kind detail) first second out err status =
+    ReportsDiff kind detail first second out err status
 Reported (Compare left operator right) first second out err status =
     (answer : Result Bool Fault)
     × Compares (string_bytes left) operator (string_bytes right) answer × (out.new ≡ out.old)
@@ -180,6 +192,7 @@ abbrev pub IfUnread : Job → Type 0 → Type 0
 IfUnread (Check doc) P = Unit {0}
 IfUnread (Normalise doc) P = Unit {0}
 IfUnread (Same doc) P = Unit {0}
+IfUnread (Diff kind detail) P = Unit {0}
 IfUnread (Compare former operator latter) P = P
 IfUnread (CanonVersion version) P = P
 IfUnread (VersionKey versions) P = P
@@ -193,6 +206,7 @@ abbrev pub IfCompare : Job → Type 0 → Type 0
 IfCompare (Check doc) P = Unit {0}
 IfCompare (Normalise doc) P = Unit {0}
 IfCompare (Same doc) P = Unit {0}
+IfCompare (Diff kind detail) P = Unit {0}
 IfCompare (Compare former operator latter) P = P
 IfCompare (CanonVersion version) P = Unit {0}
 IfCompare (VersionKey versions) P = Unit {0}
@@ -201,11 +215,13 @@ IfCompare (Query arch profiles relation detail) P = Unit {0}
 IfCompare (QueryFrom arch profiles detail) P = Unit {0}
 IfCompare (Unmet arch profiles dependents) P = Unit {0}
 
--- Every job but `same`, `query --relation-from` and `unmet` leaves the second reader as it was.
+-- Every job but `same`, `diff`, `query --relation-from` and `unmet` leaves the second reader as it
+-- was.
 abbrev pub IfSecondUnread : Job → Type 0 → Type 0
 IfSecondUnread (Check doc) P = P
 IfSecondUnread (Normalise doc) P = P
 IfSecondUnread (Same doc) P = Unit {0}
+IfSecondUnread (Diff kind detail) P = Unit {0}
 IfSecondUnread (Compare former operator latter) P = P
 IfSecondUnread (CanonVersion version) P = P
 IfSecondUnread (VersionKey versions) P = P
@@ -219,6 +235,7 @@ abbrev pub IfRefusedWords : Job → Type 0 → Type 0
 IfRefusedWords (Check doc) P = Unit {0}
 IfRefusedWords (Normalise doc) P = Unit {0}
 IfRefusedWords (Same doc) P = Unit {0}
+IfRefusedWords (Diff kind detail) P = Unit {0}
 IfRefusedWords (Compare former operator latter) P = Unit {0}
 IfRefusedWords (CanonVersion version) P = Unit {0}
 IfRefusedWords (VersionKey versions) P = Unit {0}
@@ -230,12 +247,14 @@ IfRefusedWords (Unmet arch profiles dependents) P =
     IsFalse (has_environment (words_of_unmet arch profiles dependents)) → P
 
 -- A query whose relation is that of a file leaves the second reader, which is that of the index, as
--- it was, if the words with that relation are refused; `unmet`, if its words or the index are.
+-- it was, if the words with that relation are refused; `unmet`, if its words or the index are; and
+-- `diff`, if the old file is.
 abbrev pub IfRefusedRelation : Job → Option (List ℕ) → Type 0 → Type 0
 IfRefusedRelation (QueryFrom arch profiles detail) left P =
     AreRefusedFrom (asked_of_file arch profiles) left → P
 IfRefusedRelation (Unmet arch profiles dependents) left P =
     AreRefusedBefore (words_of_unmet arch profiles dependents) left → P
+IfRefusedRelation (Diff kind detail) left P = IsRefusedOld kind left → P
 IfRefusedRelation _ left P = Unit {0}
 
 -- the words of a query are asked in their places
@@ -353,6 +372,19 @@ answers_of_unmet : {W : Type 0} (arch : String Global) (profiles : Vec (String G
     ≡ WritesUnmetOf (words (string_bytes arch) (map string_bytes profiles.items) dependents) left
     other (held out) (held new) false)
 answers_of_unmet arch profiles dependents left other held failures out new = (refl, refl)
+
+-- what is said of `diff`: it reads both files, and its answer is whether there is no line
+said_of_diff : {W : Type 0} (kind : DiffKind) (detail : DiffDetail) (left other : Option (List ℕ))
+    (held : W → Option (List ℕ)) (failures : W → ℕ) (out new : W) (P : Type 0)
+    → (Done (Diff kind detail) left other held failures out new
+    ≡ WritesChanges kind detail left other (held out) (held new) true)
+    × (SaysNo (Diff kind detail) left other held out new
+    ≡ WritesChanges kind detail left other (held out) (held new) false)
+    × (IfUnread (Diff kind detail) P ≡ Unit {0}) × (IfSecondUnread (Diff kind detail) P ≡ Unit {0})
+    × (IfCompare (Diff kind detail) P ≡ Unit {0})
+    × (IfRefusedRelation (Diff kind detail) left P ≡ (IsRefusedOld kind left → P))
+said_of_diff kind detail left other held failures out new P =
+    (refl, refl, refl, refl, refl, refl)
 
 -- what is said of keys: no file is read, and status 0 is the only answer
 said_of_keys : {W : Type 0} (versions : Vec (String Global) Global)

@@ -1,6 +1,6 @@
 //! Runs a whole command, over two readers and two writers.
 
-ghost use Rattle.std.specs.Prelude.{◌≡◌, ◌<◌};
+ghost use Rattle.std.specs.Prelude.{◌≡◌, ◌<◌, string_bytes};
 ghost use Rattle.deb_base.specs.Devices.{one_more};
 ghost use Rattle.debctl_commands.specs.Running.{Done, IfCompare, IfRefusedWords, IfSecondUnread};
 ghost use Rattle.debctl_commands.specs.Running.{IfRefusedRelation, IfUnread, IsRefused, SaysNo};
@@ -8,6 +8,7 @@ ghost use Rattle.debctl_commands.specs.Running.{Reported};
 ghost use Rattle.debctl_commands.specs.JobDevices.{reader_of, writer_of};
 ghost use Rattle.debctl_commands.specs.Taking.{TakesFile};
 
+use crate::diff_job::{DiffOptions, run_diff};
 use crate::document_jobs::{run_check, run_normalise};
 use crate::query_from::run_query_from;
 use crate::query_job::{QueryWords, run_query};
@@ -16,29 +17,30 @@ use crate::sort_job::run_sort;
 use crate::unmet_job::{UnmetWords, run_unmet};
 use crate::version_jobs::{run_canon_version, run_compare, run_version_key};
 use deb_base::{Sink, Source};
-use debctl_args::Job;
+use debctl_args::{Dependents, Detail, DiffDetail, DiffKind, Job};
 use std::alloc::Global;
 
 /// Runs a job over readers and writers, reports on `err` why it failed, and returns the status.
 ///
-/// `check`, `normalise`, `sort` and `query` read `first`, and `same` reads both. `query` with a
-/// relation from a file reads the relation from `first`, and then the index from `second`. `unmet`
-/// reads the index from `first`, and then the file from `second`. A reader that a job doesn't use
-/// is unchanged. So is that of the index if the arguments of a `query`, or the relation that it has
-/// read, are refused; and so are both of an `unmet` if its arguments are refused, and the second if
-/// the index is. At most 4,295,032,831 bytes are read from a reader: a file of the most bytes, and
-/// one piece.
+/// `check`, `normalise`, `sort` and `query` read `first`, and `same` reads both. `diff` reads the
+/// old file from `first`, and then the new one from `second`. `query` with a relation from a file
+/// reads the relation from `first`, and then the index from `second`. `unmet` reads the index from
+/// `first`, and then the file from `second`. A reader that a job doesn't use is unchanged. So is
+/// that of the index if the arguments of a `query`, or the relation that it has read, are refused;
+/// and so are both of an `unmet` if its arguments are refused, and the second if the index is, or
+/// the old file of a `diff`. At most 4,295,032,831 bytes are read from a reader: a file of the most
+/// bytes, and one piece.
 ///
 /// - 0: done, or the answer is yes. `out` has `ok N` and a newline, the canonical text of the
 ///   file, `same` and a newline, nothing, the canonical version and a newline, the lines of the
 ///   keys, the sorted lines, or the report, with `--why` the report with reasons. Nothing was
 ///   written to `err`.
-/// - 1: the answer of `same` or `compare` is no, a group of a `query` is unmet, or `unmet` has a
-///   line. `out` has `different` and a newline for `same`, the report for `query`, and the lines
-///   for `unmet`; nothing else was written.
+/// - 1: the answer of `same` or `compare` is no, a group of a `query` is unmet, or `diff` or
+///   `unmet` has a line. `out` has `different` and a newline for `same`, the report for `query`,
+///   and the lines for `diff` and `unmet`; nothing else was written.
 /// - 2: a file or an argument is refused. `err` has the refusal's line, after `first: ` or `second:
-///   ` for a file of `same` or `unmet`. `out` has nothing, except for `normalise` and `unmet`: the
-///   canonical text, or the lines, of the paragraphs before the first that fails.
+///   ` for a file of `same`, `diff` or `unmet`. `out` has nothing, except for `normalise` and
+///   `unmet`: the canonical text, or the lines, of the paragraphs before the first that fails.
 /// - 3: out of memory, or a read or a write failed; for `compare` only a write to `err`. `err` has
 ///   `fault: memory`, `fault: read` or `fault: write`; if a write to `err` failed, a prefix of its
 ///   line. For an `unmet` of the index itself also: its second reading has another number of
@@ -92,6 +94,9 @@ pub fn run<R: Source, S: Source, W: Sink, E: Sink>(
         Job::Check(doc) => run_check(alloc, *doc, first, out, err),
         Job::Normalise(doc) => run_normalise(alloc, *doc, first, out, err),
         Job::Same(doc) => run_same(alloc, *doc, first, second, out, err),
+        Job::Diff { kind, detail } => {
+            run_diff(alloc, diff_options(*kind, *detail), first, second, out, err)
+        }
         Job::Compare(left, operator, right) => {
             run_compare(left.as_str(), *operator, right.as_str(), err)
         }
@@ -104,11 +109,7 @@ pub fn run<R: Source, S: Source, W: Sink, E: Sink>(
             relation,
             detail,
         } => {
-            let words = QueryWords {
-                target: arch.as_str(),
-                profiles,
-                detail: *detail,
-            };
+            let words = query_words(arch, profiles, *detail);
             run_query(alloc, &words, relation.as_bytes(), first, out, err)
         }
         Job::QueryFrom {
@@ -116,11 +117,7 @@ pub fn run<R: Source, S: Source, W: Sink, E: Sink>(
             profiles,
             detail,
         } => {
-            let words = QueryWords {
-                target: arch.as_str(),
-                profiles,
-                detail: *detail,
-            };
+            let words = query_words(arch, profiles, *detail);
             run_query_from(alloc, &words, first, second, out, err)
         }
         Job::Unmet {
@@ -128,12 +125,42 @@ pub fn run<R: Source, S: Source, W: Sink, E: Sink>(
             profiles,
             dependents,
         } => {
-            let words = UnmetWords {
-                target: arch.as_str(),
-                profiles,
-                dependents: *dependents,
-            };
+            let words = unmet_words(arch, profiles, *dependents);
             run_unmet(alloc, &words, first, second, out, err)
         }
+    }
+}
+
+fn diff_options(kind: DiffKind, detail: DiffDetail) -> DiffOptions
+    ensures { result ≡ record { kind = kind; detail = detail } }
+{
+    DiffOptions { kind, detail }
+}
+
+fn query_words<'a>(arch: &'a String, profiles: &'a [String], detail: Detail) -> QueryWords<'a>
+    ensures target { result.target.now ≡ string_bytes arch.entry.now }
+    ensures profiles { result.profiles.now ≡ profiles.entry.now }
+    ensures detail { result.detail ≡ detail }
+{
+    QueryWords {
+        target: arch.as_str(),
+        profiles,
+        detail,
+    }
+}
+
+fn unmet_words<'a>(
+    arch: &'a String,
+    profiles: &'a [String],
+    dependents: Dependents,
+) -> UnmetWords<'a>
+    ensures target { result.target.now ≡ string_bytes arch.entry.now }
+    ensures profiles { result.profiles.now ≡ profiles.entry.now }
+    ensures dependents { result.dependents ≡ dependents }
+{
+    UnmetWords {
+        target: arch.as_str(),
+        profiles,
+        dependents,
     }
 }

@@ -12,6 +12,7 @@
 
 mod audit_job;
 mod command;
+mod diff_job;
 mod document_jobs;
 mod explain_job;
 mod file_or_nothing;

@@ -116,7 +116,7 @@ fn first_path(call: &Call) -> Option<&[u8]>
         Job::Check(_) | Job::Normalise(_) | Job::Sort { .. } | Job::Query { .. } => {
             Some(path.unwrap_or(b"-"))
         }
-        Job::Same(_) | Job::QueryFrom { .. } | Job::Unmet { .. } => path,
+        Job::Same(_) | Job::Diff { .. } | Job::QueryFrom { .. } | Job::Unmet { .. } => path,
         Job::Compare(..) | Job::CanonVersion(_) | Job::VersionKey(_) => None,
     }
 }

@@ -7,10 +7,11 @@ returns c =
     let s2 = c.with_command-with_audit.ensures _ _ s1 c.audit_command.ensures in
     let s3 = c.with_command-with_normalise.ensures _ _ s2 c.normalise_command.ensures in
     let s4 = c.with_command-with_same.ensures _ _ s3 c.same_command.ensures in
-    let s5 = c.with_command-with_compare.ensures _ _ s4 c.compare_command.ensures in
-    let s6 = c.with_command-with_canon_version.ensures _ _ s5 c.canon_version_command.ensures in
-    let s7 = c.with_command-with_version_key.ensures _ _ s6 c.version_key_command.ensures in
-    let s8 = c.with_command-with_sort.ensures _ _ s7 c.sort_command.ensures in
-    let s9 = c.with_command-with_query.ensures _ _ s8 c.query_command.ensures in
-    let s10 = c.with_command-with_unmet.ensures _ _ s9 c.unmet_command.ensures in
-    c.with_command.ensures _ _ s10 c.help_command.ensures
+    let s5 = c.with_command-with_diff.ensures _ _ s4 c.diff_command.ensures in
+    let s6 = c.with_command-with_compare.ensures _ _ s5 c.compare_command.ensures in
+    let s7 = c.with_command-with_canon_version.ensures _ _ s6 c.canon_version_command.ensures in
+    let s8 = c.with_command-with_version_key.ensures _ _ s7 c.version_key_command.ensures in
+    let s9 = c.with_command-with_sort.ensures _ _ s8 c.sort_command.ensures in
+    let s10 = c.with_command-with_query.ensures _ _ s9 c.query_command.ensures in
+    let s11 = c.with_command-with_unmet.ensures _ _ s10 c.unmet_command.ensures in
+    c.with_command.ensures _ _ s11 c.help_command.ensures

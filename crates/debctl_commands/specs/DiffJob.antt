@@ -1,0 +1,136 @@
+-- What the job of `diff` answers and reports. Its lines are those of `deb_diff`; acceptance and
+-- refusals are those of documents of a kind (Debian Policy 5.1 and 5.3 to 5.6).
+use Rattle.std.specs.Prelude.{◌≡◌, ℕ, Bool, true, false, List, [], ◌∷◌, map, Option, Some, refl}
+use Rattle.std.specs.Prelude.{Result, Ok, Err, IfOk, IfErr}
+use Rattle.deb_base.specs.Devices.{read_failures_after, write_failures_after}
+use Rattle.deb_base.specs.declared.fault.Fault.TheVariants as faults
+use Rattle.deb_base.specs.declared.refusal.Refusal.{Refusal}
+use Rattle.deb_control.specs.Calls.{IfRefused, IfWriteFailed}
+use Rattle.deb_control.specs.Comparing.{RefusesSecond}
+use Rattle.deb_control.specs.Documents.{refusal_of}
+use Rattle.deb_control.specs.Sides.{of_first, of_second}
+use Rattle.deb_control.specs.declared.side.Side.TheVariants.{Second}
+use Rattle.deb_control.specs.declared.side.SideFault.{SideFault}
+use Rattle.deb_diff.specs.Kinds.{doc_of}
+use Rattle.deb_diff.specs.Written.{IsDiffFault, KeepsHeld, WritesDiff, WritesSome}
+use Rattle.deb_diff.specs.declared.detail.Detail.{Detail}
+use Rattle.deb_diff.specs.declared.detail.Detail.TheVariants as details
+use Rattle.deb_diff.specs.declared.kind.Kind.{Kind}
+use Rattle.deb_diff.specs.declared.kind.Kind.TheVariants as kinds
+use Rattle.debctl_args.specs.declared.jobs.DiffDetail.{DiffDetail}
+use Rattle.debctl_args.specs.declared.jobs.DiffDetail.TheVariants.{Fields, Values}
+use Rattle.debctl_args.specs.declared.jobs.DiffKind.{DiffKind}
+use Rattle.debctl_args.specs.declared.jobs.DiffKind.TheVariants.{Packages, Binary, Sources, Source}
+use Rattle.debctl_commands.specs.JobDevices.{ReaderOfJob, WriterOfJob, writer_of}
+use Rattle.debctl_commands.specs.SameJob.{ReportsRefusedSide, ReportsSide}
+use Rattle.debctl_commands.specs.VersionJobs.{verdict_status}
+
+-- ---- the arguments
+
+-- the kind of both files
+abbrev pub kind_of : DiffKind → Kind
+kind_of Packages = kinds.Packages
+kind_of Binary = kinds.Binary
+kind_of Sources = kinds.Sources
+kind_of Source = kinds.Source
+
+-- how much is written of each paragraph that changed
+abbrev pub detail_of : DiffDetail → Detail
+detail_of Fields = details.Fields
+detail_of Values = details.Values
+
+-- ---- the answer
+
+-- What is answered of the old file and of the new one, and what was written: by their readers'
+-- texts, their counts of failed calls before and after, and the writer before and after.
+pub record FindsChanges {W : Type 0} (kind : DiffKind) (detail : DiffDetail)
+    (old_file new_file : ReaderOfJob) (out : WriterOfJob W) (answer : Result Bool SideFault)
+    : Type 0 where
+  pub ok : (text other : List ℕ) → old_file.text ≡ Some text → new_file.text ≡ Some other →
+      IfOk answer (WritesDiff (kind_of kind) (detail_of detail) text other
+      (out.held out.old) (out.held out.new))
+  pub first : (text : List ℕ) → old_file.text ≡ Some text → IfRefused (of_first answer)
+      (λ refusal. refusal_of (doc_of (kind_of kind)) text ≡ Some refusal)
+  pub second : (text other : List ℕ) → old_file.text ≡ Some text → new_file.text ≡ Some other →
+      IfRefused (of_second answer) (RefusesSecond (doc_of (kind_of kind)) text other)
+  pub write : (text other : List ℕ) → old_file.text ≡ Some text → new_file.text ≡ Some other →
+      IfWriteFailed (of_second answer) (WritesSome (kind_of kind) (detail_of detail) text other
+      (out.held out.old) (out.held out.new))
+  pub fault : IfErr answer IsDiffFault
+  pub unwritten : IfErr answer
+      (λ told. KeepsHeld (out.held out.old) (out.held out.new) told.fault)
+  pub reads_first : old_file.failures_after
+      ≡ read_failures_after old_file.failures (of_first answer)
+  pub reads_second : new_file.failures_after
+      ≡ read_failures_after new_file.failures (of_second answer)
+  pub writes : out.failures out.new
+      ≡ write_failures_after (out.failures out.old) (of_second answer)
+
+-- If the texts of both readers are known, both files are accepted, exactly the lines that say what
+-- changed were written, and this is whether there is none.
+abbrev pub WritesChanges : DiffKind → DiffDetail → Option (List ℕ) → Option (List ℕ)
+    → Option (List ℕ) → Option (List ℕ) → Bool → Type 0
+WritesChanges kind detail left other old new is_empty =
+    (text text_too : List ℕ) → left ≡ Some text → other ≡ Some text_too
+    → WritesDiff (kind_of kind) (detail_of detail) text text_too old new is_empty
+
+-- One of the files is refused: nothing was written but that line, after the side of the file.
+abbrev pub ReportsRefusalOfDiff : {W : Type 0} → DiffKind → Option (List ℕ) → Option (List ℕ)
+    → (W → Option (List ℕ)) → W → W → Option (List ℕ) → Option (List ℕ) → Type 0
+ReportsRefusalOfDiff kind left other held old new err err_after =
+    (held new ≡ held old)
+    × ReportsRefusedSide (doc_of (kind_of kind)) left other err err_after
+
+-- The old file is refused.
+abbrev pub IsRefusedOld : DiffKind → Option (List ℕ) → Type 0
+IsRefusedOld kind left =
+    (text : List ℕ) × (refusal : Refusal) × (left ≡ Some text)
+    × (refusal_of (doc_of (kind_of kind)) text ≡ Some refusal)
+
+-- ---- reporting
+
+-- An answer is reported by its status, and a fault by its line.
+abbrev pub ReportsChanges : {E : Type 0} → WriterOfJob E → Result Bool SideFault → ℕ → Type 0
+ReportsChanges err (Ok is_empty) status = (status ≡ verdict_status is_empty) × (err.new ≡ err.old)
+ReportsChanges err (Err side_fault) status =
+    ReportsSide err.held err.failures err.old err.new side_fault status
+
+-- There is an answer, and it is reported.
+abbrev pub ReportsDiff : {W E : Type 0} → DiffKind → DiffDetail → ReaderOfJob → ReaderOfJob
+    → WriterOfJob W → WriterOfJob E → ℕ → Type 0
+ReportsDiff kind detail first second out err status =
+    (answer : Result Bool SideFault) × FindsChanges kind detail first second out answer
+    × ReportsChanges err answer status
+
+-- ---- worked cases
+
+arguments_of_diff : (map kind_of (Packages ∷ Binary ∷ Sources ∷ Source ∷ [])
+    ≡ kinds.Packages ∷ kinds.Binary ∷ kinds.Sources ∷ kinds.Source ∷ [])
+    × (map detail_of (Fields ∷ Values ∷ []) ≡ details.Fields ∷ details.Values ∷ [])
+arguments_of_diff = (refl, refl)
+
+-- no line is the status 0, a line is 1
+statuses_of_answers : {E : Type 0} (held : E → Option (List ℕ)) (failures : E → ℕ) (old new : E)
+    (status : ℕ)
+    → (ReportsChanges (writer_of held failures old new) (Ok true) status
+    ≡ ((status ≡ 0) × (new ≡ old)))
+    × (ReportsChanges (writer_of held failures old new) (Ok false) status
+    ≡ ((status ≡ 1) × (new ≡ old)))
+    × (ReportsChanges (writer_of held failures old new)
+    (Err (record { side = Second; fault = faults.Read })) status
+    ≡ ReportsSide held failures old new (record { side = Second; fault = faults.Read }) status)
+statuses_of_answers held failures old new status = (refl, refl, refl)
+
+-- nothing was written of files of which one is refused, and both are read as the same kind
+refusals_of_diff : {W : Type 0} (left other : Option (List ℕ)) (held : W → Option (List ℕ))
+    (old new : W) (err err_after : Option (List ℕ))
+    → ReportsRefusalOfDiff Source left other held old new err err_after
+    ≡ ((held new ≡ held old)
+    × ReportsRefusedSide (doc_of kinds.Source) left other err err_after)
+refusals_of_diff left other held old new err err_after = refl
+
+-- the old file is refused by its text, as a document of the kind
+old_files : (text : List ℕ) → IsRefusedOld Source (Some text)
+    ≡ ((read : List ℕ) × (refusal : Refusal) × (Some text ≡ Some read)
+    × (refusal_of (doc_of kinds.Source) read ≡ Some refusal))
+old_files text = refl
