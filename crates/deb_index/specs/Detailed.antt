@@ -1,6 +1,7 @@
 -- The report with reasons that the values of the code are to the contracts, and the answer of the
 -- call that makes it.
-use Rattle.std.specs.Prelude.{◌≡◌, ℕ, List, [], ◌∷◌, ◌++◌, drop, length, take, IsFalse, IsTrue, Result, Ok, Err, codes, refl}
+use Rattle.std.specs.Prelude.{◌≡◌, ℕ, List, [], ◌∷◌, ◌++◌, drop, length, take, IsFalse, IsTrue, Result, Ok, Err, Vec, codes, refl}
+use Rattle.std.specs.Global.{Global}
 use denote.Ref.{Bor}
 use Rattle.deb_base.specs.Faults.{RefusedOrMemory}
 use Rattle.deb_base.specs.declared.fault.Fault.{Fault}
@@ -13,6 +14,8 @@ use Rattle.deb_index.specs.Reported.{answer_of, answers_left, report_of}
 use Rattle.deb_index.specs.Reports.{Answer}
 use Rattle.deb_index.specs.Why.{Detailed, detailed_report}
 use Rattle.deb_index.specs.declared.answer.Answer.{Answer as Answered}
+use Rattle.deb_index.specs.declared.answer.Answers.{Answers}
+use Rattle.deb_index.specs.declared.report.Report.{Report}
 use Rattle.deb_index.specs.declared.why.DetailedAnswer.{DetailedAnswer}
 use Rattle.deb_index.specs.declared.why.DetailedAnswers.{DetailedAnswers}
 use Rattle.deb_index.specs.declared.why.DetailedReport.{DetailedReport}
@@ -66,6 +69,17 @@ worked-cut : (a b c : Answer)
     ≡ record { answer = a; reasons = codes "xx" } ∷ record { answer = b; reasons = [] }
     ∷ record { answer = c; reasons = codes "yyy" } ∷ []
 worked-cut a b c = refl
+
+-- the answers of a report, all of them and those that are left
+worked-details : (report : Report) (reasons lens : Vec ℕ Global)
+    → details_of (record { report = report; reasons = reasons; lens = lens })
+    ≡ details_cut (report_of report) reasons.items lens.items
+worked-details report reasons lens = refl
+
+worked-left : (answers : Answers) (reasons lens : Bor (List ℕ))
+    → details_left (record { answers = answers; reasons = reasons; lens = lens })
+    ≡ details_cut (answers_left answers) reasons.now lens.now
+worked-left answers reasons lens = refl
 
 worked-first : (first_len [] ≡ 0) × (first_len (3 ∷ 1 ∷ []) ≡ 3)
 worked-first = (refl, refl)
