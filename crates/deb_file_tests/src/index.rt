@@ -4,7 +4,7 @@
 use crate::devices::{Pieces, SIZES, Slow, Then};
 use deb_base::{Code, Fault, Input, Output, Refusal};
 use deb_index::Verdict::{Ignored, Met, Unmet};
-use deb_index::{Index, Question, Report};
+use deb_index::{DetailedReport, Index, Question, Report};
 use deb_relation::{Env, Relation};
 use std::alloc::Global;
 use std::io::Write;
@@ -46,19 +46,20 @@ fn what_is_found(rt: HostRuntime) -> Result<(), Fail> {
 
 /// Whether each group is there with its verdict and what meets it.
 fn is_told(report: &Report<'_>) -> Option<bool> {
-    let [ignored, provided, bounded, unmet] = report.answers() else {
-        return None;
-    };
-    let [hello, world] = provided.packages() else {
-        return None;
-    };
+    let mut answers = report.answers();
+    let (ignored, provided) = (answers.next()?, answers.next()?);
+    let (bounded, unmet) = (answers.next()?, answers.next()?);
+    let mut packages = provided.packages();
+    let (hello, world) = (packages.next()?, packages.next()?);
     Some(
         ignored.verdict() == Ignored
             && provided.verdict() == Met
             && bounded.verdict() == Met
             && unmet.verdict() == Unmet
             && unmet.text() == b"ww | aa".as_slice()
-            && unmet.packages().is_empty()
+            && unmet.packages().next().is_none()
+            && packages.next().is_none()
+            && answers.next().is_none()
             && hello.number() == 1
             && world.number() == 2
             && world.package().name() == b"world".as_slice()
@@ -84,16 +85,26 @@ fn why_groups_are_unmet(rt: HostRuntime) -> Result<(), Fail> {
     let question = Question::parse(rt.alloc(), b"amd64", &[], ASKED)?;
     let report = index.ask_why(rt.alloc(), &question)?;
     assert!(rt; !report.all_met());
-    let [ignored, unmet, met] = report.answers() else {
-        return Err("other groups".into());
-    };
-    assert!(rt; ignored.answer().verdict() == Ignored && !ignored.reasons().is_empty());
-    assert!(rt; unmet.answer().verdict() == Unmet && unmet.answer().packages().is_empty());
-    assert!(rt; met.answer().verdict() == Met && met.reasons().is_empty());
+    assert!(rt; is_told_why(&report) == Some(true));
     let mut writer = Slow::new(rt.alloc(), 7, 1_000, Then::Fails);
     assert!(rt; report.write(&mut Output::new(&mut writer)) == Ok(()));
     assert!(rt; writer.held.as_slice() == REASONS);
     Ok(())
+}
+
+/// Whether each group is there with its verdict, and with reasons if it isn't met.
+fn is_told_why(report: &DetailedReport<'_>) -> Option<bool> {
+    let mut answers = report.answers();
+    let (ignored, unmet, met) = (answers.next()?, answers.next()?, answers.next()?);
+    Some(
+        ignored.answer().verdict() == Ignored
+            && !ignored.reasons().is_empty()
+            && unmet.answer().verdict() == Unmet
+            && unmet.answer().packages().next().is_none()
+            && met.answer().verdict() == Met
+            && met.reasons().is_empty()
+            && answers.next().is_none(),
+    )
 }
 
 /// A package that provides its own name in two versions, and vv.

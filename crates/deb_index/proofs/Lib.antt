@@ -5,7 +5,6 @@ pub mod PackageBuilder
 pub mod ShownValues
 pub mod ListedValues
 pub mod Indexed
-pub mod Numbers
 pub mod ListedOnce
 pub mod WrittenParts
 pub mod Lookups
@@ -22,3 +21,5 @@ pub mod Cutting
 pub mod SomeMeets
 pub mod Reasoned
 pub mod Stored
+pub mod Answered
+pub mod Details

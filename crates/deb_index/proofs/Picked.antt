@@ -6,12 +6,8 @@ use Rattle.std.proofs.lemmas.List.{length_push}
 use Rattle.std.proofs.lemmas.List.Elements.{All-from_recursion, All-weaker}
 use Rattle.deb_index.specs.Listed.{Listed}
 use Rattle.deb_index.specs.Named.{numbers_from, numbers_of, passes_at}
-use Rattle.deb_index.specs.Reports.{Numbered, passing_from}
+use Rattle.deb_index.specs.Reports.{passing_from, picked}
 use Rattle.deb_index.proofs.Counted.{numbers-within}
-
--- the package of a number, with the number
-abbrev pub picked : List Listed → ℕ → List Numbered
-picked packages k = option_map_or (λ p. (k, p) ∷ []) (slice_get packages (k - 1)) []
 
 behind : (front : List Listed) (p : Listed) (rest : List Listed) → slice_get (front ++ p ∷ rest) (length front) ≡ Some p
 behind [] p rest = refl

@@ -12,10 +12,10 @@ use Rattle.deb_index.specs.Listed.{Listed}
 use Rattle.deb_index.specs.Meeting.{meets_by_name, meets_qualifier}
 use Rattle.deb_index.specs.Named.{numbers_from, numbers_of}
 use Rattle.deb_index.specs.Reasons.{has_version, reason_of_bound, reason_of_qualifier}
-use Rattle.deb_index.specs.Reports.{Numbered, answer, passing_from}
+use Rattle.deb_index.specs.Reports.{Numbered, answer, passing_from, picked}
 use Rattle.deb_index.specs.Why.{asked_lines, has_or_provides, lines_of, nameless_line, package_reason}
 use Rattle.deb_index.specs.declared.reason.Reason.{Reason}
-use Rattle.deb_index.proofs.Picked.{picked, picked-all}
+use Rattle.deb_index.proofs.Picked.{picked-all}
 
 -- what a test finds among those that pass another one
 any-filter-cond : {X : Type 0} (f : X → Bool) (v : Bool) (x : X) (xs : List X) → list_any f (cond v (x ∷ xs) xs) ≡ ((v && f x) || list_any f xs)
@@ -43,7 +43,7 @@ first-cond : (n : ℕ) (v : Bool) (p : Listed) (found : List Numbered) → map (
 first-cond n true p found = refl
 first-cond n false p found = refl
 
-numbers-found : (n : ℕ) (test : Listed → Bool) (packages : List Listed) → map (λ q. q.0) (passing_from n test packages) ≡ numbers_from n test packages
+pub numbers-found : (n : ℕ) (test : Listed → Bool) (packages : List Listed) → map (λ q. q.0) (passing_from n test packages) ≡ numbers_from n test packages
 numbers-found n test [] = refl
 numbers-found n test (p ∷ packages) =
     first-cond n (test p) p (passing_from (n + 1) test packages)

@@ -1,8 +1,8 @@
 -- The report with reasons that the values of the code are to the contracts, and the answer of the
 -- call that makes it.
-use Rattle.std.specs.Prelude.{◌≡◌, ℕ, List, [], ◌∷◌, map, IsFalse, IsTrue, Result, Ok, Err, Vec, refl}
+use Rattle.std.specs.Prelude.{◌≡◌, ℕ, List, [], ◌∷◌, ◌++◌, drop, length, take, IsFalse, IsTrue, Result, Ok, Err, Vec, codes, refl}
 use Rattle.std.specs.Global.{Global}
-use Rattle.std.proofs.Common.{ap}
+use denote.Ref.{Bor}
 use Rattle.deb_base.specs.Faults.{RefusedOrMemory}
 use Rattle.deb_base.specs.declared.fault.Fault.{Fault}
 use Rattle.deb_relation.specs.Applying.{Environment}
@@ -10,18 +10,44 @@ use Rattle.deb_relation.specs.Meaning.{Relation}
 use Rattle.deb_relation.specs.Tests.{some_wildcard}
 use Rattle.deb_index.specs.Listed.{Listed}
 use Rattle.deb_index.specs.Questions.{wildcard}
-use Rattle.deb_index.specs.Reported.{answer_of}
+use Rattle.deb_index.specs.Reported.{answer_of, answers_left, report_of}
+use Rattle.deb_index.specs.Reports.{Answer}
 use Rattle.deb_index.specs.Why.{Detailed, detailed_report}
-use Rattle.deb_index.specs.declared.report.Answer.{Answer as Answered}
+use Rattle.deb_index.specs.declared.answer.Answer.{Answer as Answered}
+use Rattle.deb_index.specs.declared.answer.Answers.{Answers}
+use Rattle.deb_index.specs.declared.report.Report.{Report}
 use Rattle.deb_index.specs.declared.why.DetailedAnswer.{DetailedAnswer}
+use Rattle.deb_index.specs.declared.why.DetailedAnswers.{DetailedAnswers}
 use Rattle.deb_index.specs.declared.why.DetailedReport.{DetailedReport}
 
 abbrev pub detailed_of : DetailedAnswer → Detailed
 detailed_of reported =
-    record { answer = answer_of reported.answer; reasons = reported.reasons.items }
+    record { answer = answer_of reported.answer; reasons = reported.reasons.now }
+
+-- the first of some lengths, or 0
+abbrev pub first_len : List ℕ → ℕ
+first_len [] = 0
+first_len (n ∷ lens) = n
+
+-- the answers with their lines, of which each has as many bytes as its length says
+abbrev pub details_cut : List Answer → List ℕ → List ℕ → List Detailed
+details_cut [] reasons lens = []
+details_cut (a ∷ answers) reasons lens =
+    record { answer = a; reasons = take (first_len lens) reasons }
+    ∷ details_cut answers (drop (first_len lens) reasons) (drop 1 lens)
+
+-- the answers that an iterator has left
+abbrev pub details_left : DetailedAnswers → List Detailed
+details_left left = details_cut (answers_left left.answers) left.reasons.now left.lens.now
 
 abbrev pub details_of : DetailedReport → List Detailed
-details_of reported = map detailed_of reported.answers.items
+details_of reported =
+    details_cut (report_of reported.report) reported.reasons.items reported.lens.items
+
+-- Lines were appended, and this is how many bytes they have.
+pub record AppendsBelow (old new lines : List ℕ) (len : ℕ) : Type 0 where
+  pub appended : new ≡ old ++ lines
+  pub counted : len ≡ length lines
 
 -- the report of a relation with reasons, or its refusal for a wildcard
 abbrev pub DetailsOf : List Listed → Relation → Environment → Result DetailedReport Fault → Type 0
@@ -31,12 +57,29 @@ DetailsOf packages relation environment (Ok found) =
 DetailsOf packages relation environment (Err fault) =
     RefusedOrMemory fault (λ refusal. IsTrue (some_wildcard relation) × (refusal ≡ wildcard))
 
--- the answer and the lines of one group, and the groups in their order
-worked-detailed : (answer : Answered) (reasons : Vec ℕ Global)
+-- the answer and the lines of one group
+worked-detailed : (answer : Answered) (reasons : Bor (List ℕ))
     → detailed_of (record { answer = answer; reasons = reasons })
-    ≡ record { answer = answer_of answer; reasons = reasons.items }
+    ≡ record { answer = answer_of answer; reasons = reasons.now }
 worked-detailed answer reasons = refl
 
-worked-details : (report : DetailedReport) (a b : DetailedAnswer)
-    → report.answers.items ≡ a ∷ b ∷ [] → details_of report ≡ detailed_of a ∷ detailed_of b ∷ []
-worked-details report a b = ap (map detailed_of)
+-- two bytes for the first answer, none for the second, and the others for the third
+worked-cut : (a b c : Answer)
+    → details_cut (a ∷ b ∷ c ∷ []) (codes "xxyyy") (2 ∷ 0 ∷ 3 ∷ [])
+    ≡ record { answer = a; reasons = codes "xx" } ∷ record { answer = b; reasons = [] }
+    ∷ record { answer = c; reasons = codes "yyy" } ∷ []
+worked-cut a b c = refl
+
+-- the answers of a report, all of them and those that are left
+worked-details : (report : Report) (reasons lens : Vec ℕ Global)
+    → details_of (record { report = report; reasons = reasons; lens = lens })
+    ≡ details_cut (report_of report) reasons.items lens.items
+worked-details report reasons lens = refl
+
+worked-left : (answers : Answers) (reasons lens : Bor (List ℕ))
+    → details_left (record { answers = answers; reasons = reasons; lens = lens })
+    ≡ details_cut (answers_left answers) reasons.now lens.now
+worked-left answers reasons lens = refl
+
+worked-first : (first_len [] ≡ 0) × (first_len (3 ∷ 1 ∷ []) ≡ 3)
+worked-first = (refl, refl)

@@ -15,6 +15,7 @@ pub mod Named
 pub mod Maps
 pub mod Listing
 pub mod Indexes
+pub mod AnswerStores
 pub mod Reported
 pub mod Questions
 pub mod Asked

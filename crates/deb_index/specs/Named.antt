@@ -1,7 +1,7 @@
 -- Which packages of a list have a name and which provide it, by their numbers in the list. Debian
 -- Policy 5.6.7 and 7.5.
-use Rattle.std.specs.Prelude.{◌≡◌, ℕ, ◌+◌, ◌-◌, Bool, true, false, cond, if◌then◌else◌, nat_eq, List, [], ◌∷◌, map, Option, None, Some, codes, refl}
-use Rattle.std.specs.List.{list_any, slice_get}
+use Rattle.std.specs.Prelude.{◌≡◌, ℕ, ◌+◌, ◌-◌, ◌≤◌, length, Bool, true, false, cond, if◌then◌else◌, nat_eq, List, [], ◌∷◌, map, Option, None, Some, codes, refl}
+use Rattle.std.specs.List.{All, list_any, slice_get}
 use Rattle.std.specs.Option.{option_map, option_map_or}
 use Rattle.std.specs.Str.{bytes_eq}
 use Rattle.deb_version.specs.Places.{version_in}
@@ -34,6 +34,10 @@ package_at number packages =
 -- the package of a number passes a test
 abbrev pub passes_at : (Listed → Bool) → List Listed → ℕ → Bool
 passes_at test packages k = option_map_or test (slice_get packages (k - 1)) false
+
+-- these are numbers of packages of the list
+abbrev pub AreNumbers : List Listed → List ℕ → Type 0
+AreNumbers packages numbers = All (λ k. (1 ≤ k) × (k ≤ length packages)) numbers
 
 -- Below, aa provides its own name twice and vv, aab provides vv and vv again, and a second aa
 -- provides nothing.

@@ -109,7 +109,8 @@ worked-texts = (refl, refl)
 
 -- each field that is kept
 kept_names : map kept_name
-    (fields.Package ∷ fields.Version ∷ fields.Architecture ∷ fields.MultiArch ∷ fields.Provides ∷ [])
+    (fields.Package ∷ fields.Version ∷ fields.Architecture ∷ fields.MultiArch ∷ fields.Provides
+    ∷ [])
     ≡ codes "Package" ∷ codes "Version" ∷ codes "Architecture" ∷ codes "Multi-Arch"
     ∷ codes "Provides" ∷ []
 kept_names = refl

@@ -1,8 +1,9 @@
 -- What is told of a relation over a list of packages: of each group whether it is met, and by which
 -- packages. Debian Policy 7.1; that a group of which nothing applies is ignored is this project's
 -- own, after dpkg.
-use Rattle.std.specs.Prelude.{◌≡◌, ℕ, ◌+◌, ◌&&◌, Bool, true, false, cond, not, List, [], ◌∷◌, map, Option, Some, None, codes, refl}
-use Rattle.std.specs.List.{list_all, list_any}
+use Rattle.std.specs.Prelude.{◌≡◌, ℕ, ◌+◌, ◌-◌, ◌&&◌, Bool, true, false, cond, not, List, [], ◌∷◌, map, Option, Some, None, codes, refl}
+use Rattle.std.specs.List.{list_all, list_any, slice_get}
+use Rattle.std.specs.Option.{option_map_or}
 use Rattle.deb_relation.specs.Applying.{Environment, applies}
 use Rattle.deb_relation.specs.Meaning.{Group, Relation}
 use Rattle.deb_relation.specs.Texts.{group_text}
@@ -33,6 +34,10 @@ abbrev pub passing_from : ℕ → (Listed → Bool) → List Listed → List Num
 passing_from n test [] = []
 passing_from n test (p ∷ packages) =
     cond (test p) ((n, p) ∷ passing_from (n + 1) test packages) (passing_from (n + 1) test packages)
+
+-- the package of a number, with the number
+abbrev pub picked : List Listed → ℕ → List Numbered
+picked packages k = option_map_or (λ p. (k, p) ∷ []) (slice_get packages (k - 1)) []
 
 -- A group is ignored if none of its alternatives applies, met if some package meets it, else unmet.
 abbrev pub met_unless_none : List Numbered → Verdict
@@ -117,6 +122,13 @@ worked-met : map reported
     ∷ (with_qualifier (codes "aa") (codes "any") ∷ []) ∷ [])
     ≡ (Met, 1 ∷ []) ∷ (Met, 1 ∷ 2 ∷ []) ∷ (Met, 2 ∷ []) ∷ (Met, 3 ∷ []) ∷ []
 worked-met = refl
+
+-- the second and the third package, and none beyond the last
+worked-picked : (map (λ k. numbers_of (picked packages k)) (2 ∷ 3 ∷ 4 ∷ [])
+    ≡ (2 ∷ []) ∷ (3 ∷ []) ∷ [] ∷ [])
+    × (map (λ k. map (λ p. p.1.name) (picked packages k)) (2 ∷ 3 ∷ 4 ∷ [])
+    ≡ (codes "bb" ∷ []) ∷ (codes "aa" ∷ []) ∷ [] ∷ [])
+worked-picked = (refl, refl)
 
 -- no package, also where one would meet an alternative that doesn't apply
 worked-unmet : map reported

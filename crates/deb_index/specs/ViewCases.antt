@@ -14,22 +14,24 @@ use Rattle.deb_version.specs.Canonical.{version_text}
 use Rattle.deb_version.specs.Faults.{first_fault}
 use Rattle.deb_version.specs.Places.{version_in}
 use Rattle.deb_field.specs.declared.flag.MultiArch.TheVariants.{Foreign}
+use Rattle.deb_index.specs.AnswerStores.{answers_in, numbered, span_of}
 use Rattle.deb_index.specs.Entries.{IsFaultless, Places, entry_name}
 use Rattle.deb_index.specs.Indexes.{packages_of}
 use Rattle.deb_index.specs.Kept.{listed_of}
 use Rattle.deb_index.specs.Listed.{Listed, Provision}
+use Rattle.deb_index.specs.Named.{AreNumbers}
 use Rattle.deb_index.specs.PackageBuilder.{itself}
 use Rattle.deb_index.specs.ProvidedNames.{IsNotAfter}
 use Rattle.deb_index.specs.Maps.{list_under, numbers_under, numbers_with}
-use Rattle.deb_index.specs.Reported.{answer_of, found_of, report_of}
+use Rattle.deb_index.specs.Reported.{answer_of, answers_left, found_of, report_of}
 use Rattle.deb_index.specs.Stores.{listed_by}
+use Rattle.deb_index.specs.declared.answer.Found.{Found}
+use Rattle.deb_index.specs.declared.answer.FoundPackages.{FoundPackages}
+use Rattle.deb_index.specs.declared.answer_store.AnswerStore.{AnswerStore}
 use Rattle.deb_index.specs.declared.index.Index.{Index}
 use Rattle.deb_index.specs.declared.names.Names.{Names}
 use Rattle.deb_index.specs.declared.package.Package.{Package}
 use Rattle.deb_index.specs.declared.provisions.Provisions.{Provisions}
-use Rattle.deb_index.specs.declared.report.Answer.{Answer}
-use Rattle.deb_index.specs.declared.report.Found.{Found}
-use Rattle.deb_index.specs.declared.report.Report.{Report}
 use Rattle.deb_index.specs.declared.store.Record.{Record}
 use Rattle.deb_index.specs.declared.verdict.Verdict.TheVariants.{Ignored, Met}
 
@@ -158,39 +160,51 @@ found number p = record { number = number; «package» = p }
 worked-found : (p : Package) → found_of (found 2 p) ≡ (2, listed_of p)
 worked-found p = refl
 
-abbrev met : Global → Package → Package → Answer
-met alloc p q =
+-- what is kept of two answers: the packages 1 and 3 meet the first group, and the second is ignored
+abbrev store : Global → AnswerStore
+store alloc =
     record {
-      text = text alloc (codes "aa | bb") refl;
-      verdict = Met;
-      packages = vector alloc (found 1 p ∷ found 3 q ∷ []) refl;
+      texts = text alloc (codes "aa | bbcc [i386]") refl;
+      numbers = vector alloc (1 ∷ 3 ∷ []) refl;
+      spans = vector alloc
+          (span_of (codes "aa | bb") Met (1 ∷ 3 ∷ [])
+          ∷ span_of (codes "cc [i386]") Ignored [] ∷ [])
+          refl;
     }
 
-abbrev ignored : Global → Answer
-ignored alloc =
-    record {
-      text = text alloc (codes "cc [i386]") refl;
-      verdict = Ignored;
-      packages = vector alloc [] refl;
-    }
-
-worked-answer : (alloc : Global) (p q : Package) → answer_of (met alloc p q)
-    ≡ record {
-      text = codes "aa | bb";
-      verdict = Met;
-      packages = (1, listed_of p) ∷ (3, listed_of q) ∷ [];
-    }
-worked-answer alloc p q = refl
-
--- a report of two groups
-abbrev reported : Global → Package → Package → Report
-reported alloc p q = record { answers = vector alloc (met alloc p q ∷ ignored alloc ∷ []) refl }
-
-worked-report : (alloc : Global) (p q : Package) → report_of (reported alloc p q)
-    ≡ record {
-      text = codes "aa | bb";
-      verdict = Met;
-      packages = (1, listed_of p) ∷ (3, listed_of q) ∷ [];
-    }
+worked-store : (alloc : Global) (p q r : Listed) → answers_in (p ∷ q ∷ r ∷ []) (store alloc)
+    ≡ record { text = codes "aa | bb"; verdict = Met; packages = (1, p) ∷ (3, r) ∷ [] }
     ∷ record { text = codes "cc [i386]"; verdict = Ignored; packages = [] } ∷ []
-worked-report alloc p q = refl
+worked-store alloc p q r = refl
+
+-- the answers of a report, all of them and those that are left, and the packages of one
+worked-report : (index : Index) (alloc : Global)
+    (listed : AreNumbers (packages_of index) (1 ∷ 3 ∷ []))
+    → report_of (record { index = lent index; answers = store alloc; listed = listed })
+    ≡ answers_in (packages_of index) (store alloc)
+worked-report index alloc listed = refl
+
+worked-left : (index : Index) (alloc : Global)
+    (listed : AreNumbers (packages_of index) (1 ∷ 3 ∷ []))
+    → answers_left (record {
+      index = lent index;
+      texts = lent (store alloc).texts.items;
+      numbers = lent (1 ∷ 3 ∷ []);
+      spans = lent (store alloc).spans.items;
+      listed = listed;
+    }) ≡ answers_in (packages_of index) (store alloc)
+worked-left index alloc listed = refl
+
+abbrev two_found : (index : Index) → AreNumbers (packages_of index) (1 ∷ 3 ∷ []) → FoundPackages
+two_found index listed =
+    record { index = lent index; numbers = lent (1 ∷ 3 ∷ []); listed = listed }
+
+worked-answer : (index : Index) (listed : AreNumbers (packages_of index) (1 ∷ 3 ∷ []))
+    → answer_of
+    (record { text = lent (codes "aa | bb"); verdict = Met; packages = two_found index listed })
+    ≡ record {
+      text = codes "aa | bb";
+      verdict = Met;
+      packages = numbered (packages_of index) (1 ∷ 3 ∷ []);
+    }
+worked-answer index listed = refl

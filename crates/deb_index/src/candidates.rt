@@ -1,62 +1,41 @@
 //! Finds the packages that meet a group, by the names of its alternatives.
 
-ghost use Rattle.std.specs.Prelude.{◌≡◌, ◌≤◌, ◌++◌, length, map, IfOk, OnOk};
-ghost use Rattle.std.specs.List.{All, filter};
+ghost use Rattle.std.specs.Prelude.{◌≡◌, ◌++◌, map, IfOk, OnOk};
+ghost use Rattle.std.specs.List.{filter};
 ghost use Rattle.deb_relation.specs.Environments.{environment_of};
 ghost use Rattle.deb_relation.specs.Views.{alternative_of};
 ghost use Rattle.deb_index.specs.Indexes.{packages_of};
 ghost use Rattle.deb_index.specs.Meeting.{meets};
-ghost use Rattle.deb_index.specs.Named.{numbers_of, passes_at};
-ghost use Rattle.deb_index.specs.Reports.{meets_group, passing_from};
-ghost use Rattle.deb_index.specs.Reported.{found_of};
+ghost use Rattle.deb_index.specs.Named.{AreNumbers, numbers_of, passes_at};
+ghost use Rattle.deb_index.specs.Reports.{meets_group, some_applies};
 
 use crate::index::Index;
-use crate::report::Found;
 use deb_relation::{Alternative, Env};
 use std::alloc::{AllocError, Global};
 
-/// The packages of an index that meet an alternative of a group that applies, with their numbers,
-/// which ascend.
+/// Whether some alternative of a group applies, and the numbers of the packages of an index that
+/// meet one that does, in ascending order and each once.
 ///
 /// It asks only packages that have or provide the name of such an alternative.
-pub(crate) fn packages_meeting<'a>(
-    alloc: Global,
-    index: &'a Index,
-    group: &[Alternative<'_>],
-    environment: &Env,
-) -> Result<Vec<Found<'a>>, AllocError>
-    ensures { IfOk result
-        (λ found. map found_of found.items
-        ≡ passing_from 1
-        (meets_group (environment_of environment.now) (map alternative_of group.now))
-        (packages_of index.now)) }
-{
-    let numbers = numbers_meeting(alloc, index, group, environment)?;
-    let mut found = Vec::with_capacity(alloc, numbers.len())?;
-    for &number in &numbers {
-        let package = index.numbered(number);
-        found.push(Found { number, package })?;
-    }
-    Ok(found)
-}
-
-/// The numbers of the packages that meet an alternative of a group that applies, in ascending order
-/// and each once.
-fn numbers_meeting(
+pub(crate) fn numbers_meeting(
     alloc: Global,
     index: &Index,
     group: &[Alternative<'_>],
     environment: &Env,
-) -> Result<Vec<u64>, AllocError>
-    ensures { IfOk result
-        (λ numbers. numbers.items
+) -> Result<(bool, Vec<u64>), AllocError>
+    ensures applies { IfOk result (λ answer. answer.0
+        ≡ some_applies (environment_of environment.now) (map alternative_of group.now)) }
+    ensures numbers { IfOk result
+        (λ answer. answer.1.items
         ≡ numbers_of
         (meets_group (environment_of environment.now) (map alternative_of group.now))
         (packages_of index.now)) }
 {
+    let mut applies = false;
     let mut numbers = Vec::new(alloc);
     for alternative in group {
         if alternative.applies(environment) {
+            applies = true;
             let name = alternative.name();
             append_meeting(
                 index,
@@ -76,7 +55,7 @@ fn numbers_meeting(
     }
     numbers.sort_unstable();
     numbers.dedup();
-    Ok(numbers)
+    Ok((applies, numbers))
 }
 
 /// Appends those of some numbers whose packages meet an alternative.
@@ -87,7 +66,7 @@ fn append_meeting(
     environment: &Env,
     numbers: &mut Vec<u64>,
 ) -> Result<(), AllocError>
-    requires { All (λ k. (1 ≤ k) × (k ≤ length (packages_of index.now))) candidates.now }
+    requires { AreNumbers (packages_of index.now) candidates.now }
     ensures { OnOk result (numbers.new.items
         ≡ numbers.old.items ++ filter
         (passes_at

@@ -1,4 +1,4 @@
-//! Indexes: reading one, and the packages under a name. `report` answers queries.
+//! Indexes: reading one, and the packages under a name. `query` answers queries.
 
 ghost use Rattle.std.specs.Prelude.{◌≡◌, ◌-◌, ◌≤◌, ℕ, List, Some, Err, IfOk, IfErr, IsTrue, length};
 ghost use Rattle.std.specs.List.{slice_get};
@@ -10,30 +10,19 @@ ghost use Rattle.deb_syntax.specs.Lines.{file_limit};
 ghost use Rattle.deb_control.specs.Calls.{IfRefused};
 ghost use Rattle.deb_control.specs.Checking.{IsRefusalOfDocument};
 ghost use Rattle.deb_control.specs.Documents.{refusal_of};
-ghost use Rattle.deb_relation.specs.Environments.{environment_of};
-ghost use Rattle.deb_relation.specs.Relations.{relation_of};
-ghost use Rattle.deb_relation.specs.Tests.{some_wildcard};
-ghost use Rattle.deb_index.specs.Asked.{environment_asked, relation_asked};
 ghost use Rattle.deb_index.specs.Kept.{listed_of};
 ghost use Rattle.deb_index.specs.Listing.{ListsAll};
 ghost use Rattle.deb_index.specs.Maps.{numbers_under};
 ghost use Rattle.deb_index.specs.Named.{has_name, numbers_of, package_at, provides};
-ghost use Rattle.deb_index.specs.Questions.{ReportsOf, wildcard};
-ghost use Rattle.deb_index.specs.Reports.{report};
-ghost use Rattle.deb_index.specs.Reported.{report_of};
 ghost use Rattle.deb_index.specs.Stores.{IsStore, listed_in};
 
-use crate::fault::QueryFault;
 use crate::names::Names;
 use crate::package::Package;
 use crate::paragraph::PackageBuilder;
-use crate::question::{Question, refusal};
-use crate::report::Report;
 use crate::store::Store;
-use deb_base::{Code, Fault, Source};
+use deb_base::{Fault, Source};
 use deb_control::Checked;
 use deb_field::Doc;
-use deb_relation::{Env, Relation};
 use std::alloc::{AllocError, Global};
 
 /// The packages that a file lists, in file order.
@@ -152,57 +141,6 @@ impl Index {
         ensures { slice_get (packages_of self.now) (number - 1) ≡ Some (listed_of result) }
     {
         self.store.package(number as usize - 1)
-    }
-
-    /// Reports on a relation in an environment: for each group, in the order of the groups'
-    /// canonical texts, whether it is ignored, because none of its alternatives applies; met,
-    /// because a package meets one that applies, and by which packages; or unmet (Debian Policy
-    /// 7.1).
-    ///
-    /// # Errors
-    ///
-    /// `Wildcard` exactly if an architecture list of the relation contains a wildcard, with or
-    /// without memory; else out of memory.
-    pub fn query(
-        &self,
-        alloc: Global,
-        relation: &Relation<'_>,
-        environment: &Env,
-    ) -> Result<Report<'_>, QueryFault>
-        ensures ok { IfOk result
-            (λ reported. report_of reported ≡ report (packages_of self.now)
-            (relation_of relation.now) (environment_of environment.now)) }
-        ensures wildcard { IsTrue (some_wildcard (relation_of relation.now))
-            → result ≡ Err QueryFault.Wildcard }
-        ensures refused { IfErr result
-            (λ fault. fault ≡ QueryFault.Wildcard
-            → IsTrue (some_wildcard (relation_of relation.now))) }
-    {
-        if relation.has_wildcard() {
-            return Err(QueryFault::Wildcard);
-        }
-        let report = Report::of(alloc, self, relation.groups(), environment)?;
-        Ok(report)
-    }
-
-    /// Reports on a question, as [`Index::query`] does on its relation in its environment.
-    ///
-    /// # Errors
-    ///
-    /// - `Fault::Refused`: an architecture list of the relation contains a wildcard. The code is
-    ///   22, and the line 0.
-    /// - `Fault::Memory`: a growth of memory was refused.
-    pub fn ask(&self, alloc: Global, question: &Question<'_>) -> Result<Report<'_>, Fault>
-        ensures reports { ReportsOf (packages_of self.now) (relation_asked question.now)
-            (environment_asked question.now) result }
-        ensures wildcard { IsTrue (some_wildcard (relation_asked question.now))
-            → result ≡ Err (Fault.Refused wildcard) }
-    {
-        match self.query(alloc, &question.relation, &question.environment) {
-            Ok(report) => Ok(report),
-            Err(QueryFault::Wildcard) => Err(refusal(Code::Wildcard)),
-            Err(QueryFault::Memory) => Err(Fault::Memory),
-        }
     }
 
     /// Returns the number of packages.

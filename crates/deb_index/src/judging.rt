@@ -1,18 +1,17 @@
 //! Verdicts on groups, without memory.
 
-ghost use Rattle.std.specs.Prelude.{◌≡◌, ◌≤◌, ◌&&◌, ℕ, length, map};
-ghost use Rattle.std.specs.List.{All, list_any};
+ghost use Rattle.std.specs.Prelude.{◌≡◌, ◌&&◌, map};
+ghost use Rattle.std.specs.List.{list_any};
 ghost use Rattle.deb_relation.specs.Applying.{applies};
 ghost use Rattle.deb_relation.specs.Environments.{environment_of};
 ghost use Rattle.deb_relation.specs.Groups.{group_of};
 ghost use Rattle.deb_relation.specs.Views.{alternative_of};
 ghost use Rattle.deb_index.specs.Indexes.{packages_of};
 ghost use Rattle.deb_index.specs.Meeting.{meets};
-ghost use Rattle.deb_index.specs.Named.{passes_at};
-ghost use Rattle.deb_index.specs.Reports.{group_verdict};
+ghost use Rattle.deb_index.specs.Named.{AreNumbers, passes_at};
+ghost use Rattle.deb_index.specs.Reports.{group_verdict, some_applies};
 
 use crate::index::Index;
-use crate::report::some_applies;
 use crate::verdict::Verdict;
 use deb_relation::{Alternative, Env, Group};
 
@@ -48,6 +47,23 @@ impl Index {
     }
 }
 
+/// Whether some alternative applies.
+fn some_applies(group: &[Alternative<'_>], environment: &Env) -> bool
+    ensures { result
+        ≡ some_applies (environment_of environment.now) (map alternative_of group.now) }
+{
+    some_is_asked(group, environment)
+}
+
+fn some_is_asked(group: &[Alternative<'_>], environment: &Env) -> bool
+    ensures { result ≡ list_any
+        (λ a. applies (alternative_of a) (environment_of environment.now)) group.now }
+{
+    group
+        .iter()
+        .any(|alternative| alternative.applies(environment))
+}
+
 /// Whether a package meets an alternative that applies.
 fn is_met(index: &Index, group: &[Alternative<'_>], environment: &Env) -> bool
     ensures { result ≡ list_any
@@ -67,7 +83,7 @@ fn some_meets(
     alternative: &Alternative<'_>,
     environment: &Env,
 ) -> bool
-    requires { All (λ k. (1 ≤ k) × (k ≤ length (packages_of index.now))) candidates.now }
+    requires { AreNumbers (packages_of index.now) candidates.now }
     ensures { result ≡ list_any
         (passes_at
         (meets (environment_of environment.now) (alternative_of alternative.now))

@@ -13,6 +13,8 @@
 //! mean, which replacing them by their canonical text doesn't change (`laws`).
 #![tactic(auto)]
 
+mod answer;
+mod answer_store;
 mod candidates;
 mod cut;
 mod entry;
@@ -24,6 +26,7 @@ mod names;
 mod package;
 mod paragraph;
 mod provisions;
+mod query;
 mod question;
 mod reason;
 mod report;
@@ -34,10 +37,11 @@ mod verdict;
 mod why;
 mod why_lines;
 
+pub use answer::{Answer, Answers, Found, FoundPackages};
 pub use fault::QueryFault;
 pub use index::Index;
 pub use package::Package;
 pub use question::Question;
-pub use report::{Answer, Found, Report};
+pub use report::Report;
 pub use verdict::Verdict;
-pub use why::{DetailedAnswer, DetailedReport};
+pub use why::{DetailedAnswer, DetailedAnswers, DetailedReport};

@@ -1,178 +1,115 @@
 //! Reports: which groups of a relation the packages of an index meet. `report_text` writes them.
 
-ghost use Rattle.std.specs.Prelude.{◌≡◌, IfOk, map, not};
-ghost use Rattle.std.specs.List.{list_all, list_any};
-ghost use Rattle.deb_relation.specs.Applying.{applies};
+ghost use Rattle.std.specs.Prelude.{◌≡◌, ◌++◌, ◌==◌, [], ◌∷◌, IfOk, OnOk, cond, length, not};
+ghost use Rattle.std.specs.List.{list_all};
 ghost use Rattle.deb_relation.specs.Environments.{environment_of};
 ghost use Rattle.deb_relation.specs.Groups.{group_of};
-ghost use Rattle.deb_relation.specs.Views.{alternative_of};
+ghost use Rattle.deb_relation.specs.Meaning.{Relation as Meaning};
+ghost use Rattle.deb_relation.specs.Relations.{relation_of};
+ghost use Rattle.deb_index.specs.AnswerStores.{HasAnswers};
 ghost use Rattle.deb_index.specs.Indexes.{packages_of};
-ghost use Rattle.deb_index.specs.Kept.{listed_of};
-ghost use Rattle.deb_index.specs.Reports.{all_met, answer, is_unmet, some_applies, verdict_of};
-ghost use Rattle.deb_index.specs.Reported.{answer_of, found_of, report_of};
+ghost use Rattle.deb_index.specs.Named.{AreNumbers};
+ghost use Rattle.deb_index.specs.Reports.{all_met, group_verdict, is_unmet, report};
 
-use crate::candidates::packages_meeting;
+use crate::answer::Answers;
+use crate::answer_store::{AnswerSpan, AnswerStore};
+use crate::candidates::numbers_meeting;
 use crate::index::Index;
-use crate::package::Package;
 use crate::verdict::Verdict;
-use deb_relation::{Alternative, Env, Group};
+use deb_relation::{Env, Group, Relation};
 use std::alloc::{AllocError, Global};
-
-/// A listed package that meets a group.
-#[derive(Clone, Copy, Debug)]
-pub struct Found<'a> {
-    pub(crate) number: u64,
-    pub(crate) package: Package<'a>,
-}
-
-impl<'a> Found<'a> {
-    /// Returns its number in the index, counted from 1.
-    pub fn number(&self) -> u64
-        ensures { result ≡ (found_of self.now).0 }
-    {
-        self.number
-    }
-
-    /// Returns what the index keeps of it.
-    pub fn package(&self) -> Package<'a>
-        ensures { listed_of result ≡ (found_of self.now).1 }
-    {
-        self.package
-    }
-}
-
-/// The answer for a group: its canonical text, the verdict, and the packages that meet it.
-#[derive(Debug, Drop)]
-pub struct Answer<'a> {
-    pub(crate) text: Vec<u8>,
-    pub(crate) verdict: Verdict,
-    pub(crate) packages: Vec<Found<'a>>,
-}
-
-impl<'a> Answer<'a> {
-    /// Returns the canonical text of the group.
-    pub fn text(&self) -> &[u8]
-        ensures { result.now ≡ (answer_of self.now).text }
-    {
-        &self.text
-    }
-
-    /// Returns whether the group is ignored, met or unmet.
-    pub fn verdict(&self) -> Verdict
-        ensures { result ≡ (answer_of self.now).verdict }
-    {
-        self.verdict
-    }
-
-    /// Returns the listed packages that meet an alternative of the group that applies, in ascending
-    /// order of their numbers, without repeats.
-    pub fn packages(&self) -> &[Found<'a>]
-        ensures { map found_of result.now ≡ (answer_of self.now).packages }
-    {
-        &self.packages
-    }
-
-    /// Returns the answer for a group, over the packages of an index.
-    pub(crate) fn of(
-        alloc: Global,
-        index: &'a Index,
-        group: &Group<'_>,
-        environment: &Env,
-    ) -> Result<Answer<'a>, AllocError>
-        ensures { IfOk result
-            (λ reported. answer_of reported ≡ answer (environment_of environment.now)
-            (packages_of index.now) (group_of group.now)) }
-    {
-        let mut text = Vec::with_capacity(alloc, group.canon_len() as usize)?;
-        group.canon_into(&mut text)?;
-        let applies = some_applies(group.alternatives(), environment);
-        let packages = if applies {
-            packages_meeting(alloc, index, group.alternatives(), environment)?
-        } else {
-            Vec::new(alloc)
-        };
-        let verdict = verdict_of(applies, &packages);
-        Ok(Answer {
-            text,
-            verdict,
-            packages,
-        })
-    }
-}
 
 /// The report of an index on a relation: for each of its groups, in their order, whether it is met
 /// and by which packages (Debian Policy 7.1).
 #[derive(Debug, Drop)]
 pub struct Report<'a> {
-    pub(crate) answers: Vec<Answer<'a>>,
+    pub(crate) index: &'a Index,
+    pub(crate) answers: AnswerStore,
+    ghost listed: { AreNumbers (packages_of index.now) answers.numbers.items },
 }
 
 impl<'a> Report<'a> {
+    ghost use Rattle.deb_index.specs.Reported.{answers_left, report_of};
+
     /// Returns the answer for each group, in the order of the groups' canonical texts.
-    pub fn answers(&self) -> &[Answer<'a>]
-        ensures { map answer_of result.now ≡ report_of self.now }
+    pub fn answers(&self) -> Answers<'_>
+        ensures { answers_left result ≡ report_of self.now }
     {
-        &self.answers
+        Answers {
+            index: self.index,
+            texts: &self.answers.texts,
+            numbers: &self.answers.numbers,
+            spans: &self.answers.spans,
+        }
     }
 
     /// Returns whether no group is unmet.
     pub fn all_met(&self) -> bool
         ensures { result ≡ all_met (report_of self.now) }
     {
-        none_unmet(&self.answers)
+        none_unmet(&self.answers.spans)
     }
 
-    /// Returns the answers for groups, over the packages of an index.
+    /// Returns the answers for the groups of a relation, over the packages of an index.
     pub(crate) fn of(
         alloc: Global,
         index: &'a Index,
-        groups: &[Group<'_>],
+        relation: &Relation<'_>,
         environment: &Env,
     ) -> Result<Report<'a>, AllocError>
         ensures { IfOk result
-            (λ reported. report_of reported ≡ map (answer (environment_of environment.now)
-            (packages_of index.now)) (map group_of groups.now)) }
+            (λ reported. report_of reported ≡ report (packages_of index.now)
+            (relation_of relation.now) (environment_of environment.now)) }
     {
-        let mut answers = Vec::with_capacity(alloc, groups.len())?;
+        let groups = relation.groups();
+        let text_len = relation.canon_len() as usize;
+        let mut answers = AnswerStore::with_capacity(alloc, text_len, groups.len())?;
         for group in groups {
-            answers.push(Answer::of(alloc, index, group, environment)?)?;
+            append_answer(alloc, index, group, environment, &mut answers)?;
         }
-        Ok(Report { answers })
+        Ok(Report { index, answers })
     }
 }
 
-/// Returns the verdict on a group, given whether an alternative applies and which packages meet it.
-fn verdict_of(applies: bool, found: &[Found<'_>]) -> Verdict
-    ensures { result ≡ verdict_of applies (map found_of found.now) }
+/// Appends the answer for a group, over the packages of an index, and returns the verdict.
+pub(crate) fn append_answer(
+    alloc: Global,
+    index: &Index,
+    group: &Group<'_>,
+    environment: &Env,
+    answers: &mut AnswerStore,
+) -> Result<Verdict, AllocError>
+    ensures verdict { IfOk result
+        (λ verdict. verdict ≡ group_verdict (environment_of environment.now)
+        (packages_of index.now) (group_of group.now)) }
+    ensures appended { (groups : Meaning)
+        → HasAnswers (environment_of environment.now) (packages_of index.now) groups answers.old
+        → OnOk result (HasAnswers (environment_of environment.now) (packages_of index.now)
+        (groups ++ group_of group.now ∷ []) answers.new) }
+{
+    let (applies, numbers) = numbers_meeting(alloc, index, group.alternatives(), environment)?;
+    let verdict = verdict_of(applies, &numbers);
+    answers.push(group, verdict, &numbers)?;
+    Ok(verdict)
+}
+
+/// Returns the verdict on a group, given whether an alternative applies and the numbers of the
+/// packages that meet it.
+fn verdict_of(applies: bool, numbers: &[u64]) -> Verdict
+    ensures { result ≡ cond applies
+        (cond (length numbers.now == 0) Verdict.Unmet Verdict.Met) Verdict.Ignored }
 {
     if !applies {
         Verdict::Ignored
-    } else if found.is_empty() {
+    } else if numbers.is_empty() {
         Verdict::Unmet
     } else {
         Verdict::Met
     }
 }
 
-/// Whether some alternative applies.
-pub(crate) fn some_applies(group: &[Alternative<'_>], environment: &Env) -> bool
-    ensures { result
-        ≡ some_applies (environment_of environment.now) (map alternative_of group.now) }
-{
-    some_is_asked(group, environment)
-}
-
-fn some_is_asked(group: &[Alternative<'_>], environment: &Env) -> bool
-    ensures { result ≡ list_any
-        (λ a. applies (alternative_of a) (environment_of environment.now)) group.now }
-{
-    group
-        .iter()
-        .any(|alternative| alternative.applies(environment))
-}
-
-fn none_unmet(answers: &[Answer<'_>]) -> bool
-    ensures { result ≡ list_all (λ reported. not (is_unmet reported.verdict)) answers.now }
+fn none_unmet(answers: &[AnswerSpan]) -> bool
+    ensures { result ≡ list_all (λ answer. not (is_unmet answer.verdict)) answers.now }
 {
     answers
         .iter()

@@ -4,9 +4,10 @@ ghost use Rattle.std.specs.Prelude.{◌≡◌, IfErr};
 ghost use Rattle.std.specs.List.{flat_map};
 ghost use Rattle.deb_base.specs.Devices.{write_failures_after, Puts, WriteFaultIffFailed};
 ghost use Rattle.deb_index.specs.ReportText.{answer_text, group_line, package_line, report_text, verdict_word};
-ghost use Rattle.deb_index.specs.Reported.{answer_of, found_of, report_of};
+ghost use Rattle.deb_index.specs.Reported.{answer_of, answers_left, found_left, found_of, report_of};
 
-use crate::report::{Answer, Found, Report};
+use crate::answer::{Answer, Answers, Found, FoundPackages};
+use crate::report::Report;
 use crate::verdict::Verdict;
 use deb_base::{Fault, Sink, put_pieces};
 use itoa::Buffer;
@@ -30,18 +31,18 @@ impl Report<'_> {
         ensures fault_iff_write_failed { WriteFaultIffFailed (W.failures out.old)
             (W.failures out.new) result }
     {
-        write_answers(&self.answers, out)
+        write_answers(self.answers(), out)
     }
 }
 
-fn write_answers<W: Sink>(answers: &[Answer<'_>], out: &mut W) -> Result<(), Fault>
+fn write_answers<W: Sink>(answers: Answers<'_>, out: &mut W) -> Result<(), Fault>
     ensures written { Puts (W.held out.old) (W.held out.new) result
-        (flat_map (λ reported. answer_text (answer_of reported)) answers.now) }
+        (report_text (answers_left answers.entry)) }
     ensures fault { IfErr result (λ fault. fault ≡ Fault.Write) }
     ensures counts_failure { W.failures out.new ≡ write_failures_after (W.failures out.old) result }
 {
     for answer in answers {
-        write_answer(answer, out)?;
+        write_answer(&answer, out)?;
     }
     Ok(())
 }
@@ -55,7 +56,7 @@ pub(crate) fn write_answer<W: Sink>(answer: &Answer<'_>, out: &mut W) -> Result<
     ensures counts_failure { W.failures out.new ≡ write_failures_after (W.failures out.old) result }
 {
     write_group(answer, out)?;
-    write_packages(&answer.packages, out)
+    write_packages(answer.packages(), out)
 }
 
 /// Writes the line of a group.
@@ -67,18 +68,18 @@ fn write_group<W: Sink>(answer: &Answer<'_>, out: &mut W) -> Result<(), Fault>
 {
     put_pieces(
         out,
-        &[verdict_word(&answer.verdict), b" ", answer.text(), b"\n"],
+        &[verdict_word(answer.verdict()), b" ", answer.text(), b"\n"],
     )
 }
 
-fn write_packages<W: Sink>(packages: &[Found<'_>], out: &mut W) -> Result<(), Fault>
+fn write_packages<W: Sink>(packages: FoundPackages<'_>, out: &mut W) -> Result<(), Fault>
     ensures written { Puts (W.held out.old) (W.held out.new) result
-        (flat_map (λ found. package_line (found_of found)) packages.now) }
+        (flat_map package_line (found_left packages.entry)) }
     ensures fault { IfErr result (λ fault. fault ≡ Fault.Write) }
     ensures counts_failure { W.failures out.new ≡ write_failures_after (W.failures out.old) result }
 {
     for found in packages {
-        write_package(found, out)?;
+        write_package(&found, out)?;
     }
     Ok(())
 }
@@ -108,8 +109,8 @@ fn write_package<W: Sink>(found: &Found<'_>, out: &mut W) -> Result<(), Fault>
     )
 }
 
-fn verdict_word(verdict: &Verdict) -> &[u8]
-    ensures { result.now ≡ verdict_word verdict.now }
+fn verdict_word<'a>(verdict: Verdict) -> &'a [u8]
+    ensures { result.now ≡ verdict_word verdict }
 {
     match verdict {
         Verdict::Ignored => b"ignored",

@@ -128,8 +128,8 @@ impl Store {
     }
 }
 
-/// The offset that a length is, or out of memory if a record can't hold it.
-fn offset(len: usize) -> Result<u32, AllocError>
+/// The offset or length in 32 bits, or out of memory if it has more.
+pub(crate) fn offset(len: usize) -> Result<u32, AllocError>
     ensures { IfOk result (λ offset. offset ≡ len) }
 {
     u32::try_from(len).map_err(|_| AllocError)

@@ -1,73 +1,100 @@
 //! Reports with reasons: for each group that is unmet or ignored, why it is.
 
-ghost use Rattle.std.specs.Prelude.{◌≡◌, Err, IfErr, IfOk, IsTrue, map, not};
-ghost use Rattle.std.specs.List.{flat_map, list_all};
+ghost use Rattle.std.specs.Prelude.{◌≡◌, Err, IfErr, IfOk, IsTrue, map};
 ghost use Rattle.deb_base.specs.Devices.{write_failures_after, Puts, WriteFaultIffFailed};
 ghost use Rattle.deb_relation.specs.Environments.{environment_of};
-ghost use Rattle.deb_relation.specs.Groups.{group_of};
+ghost use Rattle.deb_relation.specs.Relations.{relation_of};
 ghost use Rattle.deb_relation.specs.Tests.{some_wildcard};
 ghost use Rattle.deb_index.specs.Asked.{environment_asked, relation_asked};
-ghost use Rattle.deb_index.specs.Detailed.{DetailsOf, detailed_of, details_of};
+ghost use Rattle.deb_index.specs.Detailed.{DetailsOf, detailed_of, details_left, details_of, first_len};
 ghost use Rattle.deb_index.specs.Indexes.{packages_of};
 ghost use Rattle.deb_index.specs.Questions.{wildcard};
-ghost use Rattle.deb_index.specs.Reports.{all_met, is_unmet};
+ghost use Rattle.deb_index.specs.Reports.{all_met};
 ghost use Rattle.deb_index.specs.Reported.{answer_of};
-ghost use Rattle.deb_index.specs.Why.{answer_in, detailed, detailed_answer_text, detailed_text};
+ghost use Rattle.deb_index.specs.Why.{answer_in, detailed_answer_text, detailed_report, detailed_text};
 
+use crate::answer::{Answer, Answers};
+use crate::answer_store::AnswerStore;
 use crate::index::Index;
 use crate::question::{Question, refusal};
-use crate::report::Answer;
+use crate::report::{Report, append_answer};
 use crate::report_text::write_answer;
-use crate::verdict::Verdict;
-use crate::why_lines::lines_below;
+use crate::span::cut;
+use crate::why_lines::append_below;
 use deb_base::{Code, Fault, Sink, put_all};
-use deb_relation::{Env, Group};
+use deb_relation::{Env, Relation};
 use std::alloc::{AllocError, Global};
 
 /// The answer for a group, and the lines that say why it is unmet or ignored.
-#[derive(Debug, Drop)]
+#[derive(Clone, Copy, Debug)]
 pub struct DetailedAnswer<'a> {
     pub(crate) answer: Answer<'a>,
-    pub(crate) reasons: Vec<u8>,
+    pub(crate) reasons: &'a [u8],
 }
 
 impl<'a> DetailedAnswer<'a> {
     /// Returns the answer.
-    pub fn answer(&self) -> &Answer<'a>
-        ensures { answer_of result.now ≡ (detailed_of self.now).answer }
+    pub fn answer(&self) -> Answer<'a>
+        ensures { answer_of result ≡ (detailed_of self.now).answer }
     {
-        &self.answer
+        self.answer
     }
 
     /// Returns the lines with the reasons, as [`DetailedReport::write`] writes them; empty if the
     /// group is met.
-    pub fn reasons(&self) -> &[u8]
+    pub fn reasons(&self) -> &'a [u8]
         ensures { result.now ≡ (detailed_of self.now).reasons }
     {
-        &self.reasons
+        self.reasons
     }
+}
 
-    /// Returns the answer for a group, over the packages of an index, with its reasons.
-    fn of(
-        alloc: Global,
-        index: &'a Index,
-        group: &Group<'_>,
-        environment: &Env,
-    ) -> Result<DetailedAnswer<'a>, AllocError>
-        ensures { IfOk result
-            (λ reported. detailed_of reported ≡ detailed (environment_of environment.now)
-            (packages_of index.now) (group_of group.now)) }
-    {
-        let answer = Answer::of(alloc, index, group, environment)?;
-        let reasons = lines_below(alloc, index, group, environment, answer.verdict())?;
-        Ok(DetailedAnswer { answer, reasons })
+/// The remaining answers of a report with reasons, in the order of the groups' canonical texts.
+#[derive(Clone, Copy, Debug)]
+pub struct DetailedAnswers<'a> {
+    pub(crate) answers: Answers<'a>,
+    pub(crate) reasons: &'a [u8],
+    pub(crate) lens: &'a [usize],
+}
+
+impl<'a> Iterator for DetailedAnswers<'a> {
+    ghost use Rattle.std.specs.Iterator.{item_count, YieldsFirstBy};
+    ghost use Rattle.deb_index.specs.Detailed.{details_left};
+
+    type Item = DetailedAnswer<'a>;
+
+    ghost next_gives = { YieldsFirstBy detailed_of details_left };
+
+    ghost remaining = { item_count details_left };
+
+    fn next(&mut self) -> Option<DetailedAnswer<'a>> {
+        let answer = self.answers.next()?;
+        let (first, lens) = cut(self.lens, 1);
+        let (reasons, rest) = cut(self.reasons, first_len(first));
+        self.lens = lens;
+        self.reasons = rest;
+        Some(DetailedAnswer { answer, reasons })
+    }
+}
+
+/// The first of some lengths, or 0.
+fn first_len(lens: &[usize]) -> usize
+    ensures { result ≡ first_len lens.now }
+{
+    match lens {
+        [first, ..] => *first,
+        [] => 0,
     }
 }
 
 /// The report of an index on a relation, with the reasons for which groups are unmet or ignored.
 #[derive(Debug, Drop)]
 pub struct DetailedReport<'a> {
-    pub(crate) answers: Vec<DetailedAnswer<'a>>,
+    pub(crate) report: Report<'a>,
+    /// The lines of all groups, one after another.
+    pub(crate) reasons: Vec<u8>,
+    /// How many bytes of the lines are those of each group.
+    pub(crate) lens: Vec<usize>,
 }
 
 impl Index {
@@ -92,8 +119,7 @@ impl Index {
         if question.relation.has_wildcard() {
             return Err(refusal(Code::Wildcard));
         }
-        let groups = question.relation.groups();
-        let report = DetailedReport::of(alloc, self, groups, &question.environment)?;
+        let report = DetailedReport::of(alloc, self, &question.relation, &question.environment)?;
         Ok(report)
     }
 }
@@ -101,17 +127,21 @@ impl Index {
 impl<'a> DetailedReport<'a> {
     /// Returns the answer for each group with its reasons, in the order of the groups' canonical
     /// texts.
-    pub fn answers(&self) -> &[DetailedAnswer<'a>]
-        ensures { map detailed_of result.now ≡ details_of self.now }
+    pub fn answers(&self) -> DetailedAnswers<'_>
+        ensures { details_left result ≡ details_of self.now }
     {
-        &self.answers
+        DetailedAnswers {
+            answers: self.report.answers(),
+            reasons: &self.reasons,
+            lens: &self.lens,
+        }
     }
 
     /// Returns whether no group is unmet.
     pub fn all_met(&self) -> bool
         ensures { result ≡ all_met (map answer_in (details_of self.now)) }
     {
-        none_unmet(&self.answers)
+        self.report.all_met()
     }
 
     /// Writes the report as [`crate::Report::write`] does, and below the line of each group that
@@ -139,43 +169,47 @@ impl<'a> DetailedReport<'a> {
         ensures fault_iff_write_failed { WriteFaultIffFailed (W.failures out.old)
             (W.failures out.new) result }
     {
-        write_all(&self.answers, out)
+        write_all(self.answers(), out)
     }
 
-    /// Returns the answers for groups, over the packages of an index, with their reasons.
+    /// Returns the answers for the groups of a relation, over the packages of an index, with their
+    /// reasons.
     fn of(
         alloc: Global,
         index: &'a Index,
-        groups: &[Group<'_>],
+        relation: &Relation<'_>,
         environment: &Env,
     ) -> Result<DetailedReport<'a>, AllocError>
         ensures { IfOk result
-            (λ reported. details_of reported ≡ map (detailed (environment_of environment.now)
-            (packages_of index.now)) (map group_of groups.now)) }
+            (λ reported. details_of reported ≡ detailed_report (packages_of index.now)
+            (relation_of relation.now) (environment_of environment.now)) }
     {
-        let mut answers = Vec::new(alloc);
+        let groups = relation.groups();
+        let text_len = relation.canon_len() as usize;
+        let mut answers = AnswerStore::with_capacity(alloc, text_len, groups.len())?;
+        let mut reasons = Vec::new(alloc);
+        let mut lens = Vec::with_capacity(alloc, groups.len())?;
         for group in groups {
-            answers.push(DetailedAnswer::of(alloc, index, group, environment)?)?;
+            let verdict = append_answer(alloc, index, group, environment, &mut answers)?;
+            lens.push(append_below(alloc, index, group, environment, verdict, &mut reasons)?)?;
         }
-        Ok(DetailedReport { answers })
+        let report = Report { index, answers };
+        Ok(DetailedReport {
+            report,
+            reasons,
+            lens,
+        })
     }
 }
 
-fn none_unmet(answers: &[DetailedAnswer<'_>]) -> bool
-    ensures { result ≡ list_all
-        (λ reported. not (is_unmet (detailed_of reported).answer.verdict)) answers.now }
-{
-    answers.iter().all(|answer| !matches!(answer.answer.verdict(), Verdict::Unmet))
-}
-
-fn write_all<W: Sink>(answers: &[DetailedAnswer<'_>], out: &mut W) -> Result<(), Fault>
+fn write_all<W: Sink>(answers: DetailedAnswers<'_>, out: &mut W) -> Result<(), Fault>
     ensures written { Puts (W.held out.old) (W.held out.new) result
-        (flat_map (λ reported. detailed_answer_text (detailed_of reported)) answers.now) }
+        (detailed_text (details_left answers.entry)) }
     ensures fault { IfErr result (λ fault. fault ≡ Fault.Write) }
     ensures counts_failure { W.failures out.new ≡ write_failures_after (W.failures out.old) result }
 {
     for answer in answers {
-        write_one(answer, out)?;
+        write_one(&answer, out)?;
     }
     Ok(())
 }
@@ -189,5 +223,5 @@ fn write_one<W: Sink>(answer: &DetailedAnswer<'_>, out: &mut W) -> Result<(), Fa
     ensures counts_failure { W.failures out.new ≡ write_failures_after (W.failures out.old) result }
 {
     write_answer(&answer.answer, out)?;
-    put_all(out, &answer.reasons)
+    put_all(out, answer.reasons)
 }

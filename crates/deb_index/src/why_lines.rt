@@ -8,36 +8,38 @@ ghost use Rattle.deb_relation.specs.Applying.{is_among};
 ghost use Rattle.deb_relation.specs.Environments.{environment_of};
 ghost use Rattle.deb_relation.specs.Groups.{group_of};
 ghost use Rattle.deb_relation.specs.Views.{alternative_of, lent_list_of, name_key, names_of};
+ghost use Rattle.deb_index.specs.Detailed.{AppendsBelow};
 ghost use Rattle.deb_index.specs.Indexes.{packages_of};
 ghost use Rattle.deb_index.specs.Named.{numbers_of};
 ghost use Rattle.deb_index.specs.Reported.{found_of};
 ghost use Rattle.deb_index.specs.Why.{alternative_lines, asked_lines, has_or_provides, line_unless_met, list_lines, lines_below, names_system, nameless_line, system_line, system_lines};
 
+use crate::answer::Found;
 use crate::index::Index;
 use crate::reason::Reason;
-use crate::report::Found;
 use crate::verdict::Verdict;
 use deb_relation::{Alternative, Env, Group};
 use itoa::Buffer;
 use std::alloc::{AllocError, Global};
 
-/// The lines below that of a group with a verdict.
-pub(crate) fn lines_below(
+/// Appends the lines below that of a group with a verdict, and returns how many bytes they have.
+pub(crate) fn append_below(
     alloc: Global,
     index: &Index,
     group: &Group<'_>,
     environment: &Env,
     verdict: Verdict,
-) -> Result<Vec<u8>, AllocError>
-    ensures { IfOk result (λ lines. lines.items
-        ≡ lines_below (environment_of environment.now) (packages_of index.now)
-        (group_of group.now) verdict) }
+    out: &mut Vec<u8>,
+) -> Result<usize, AllocError>
+    ensures { IfOk result (AppendsBelow out.old.items out.new.items
+        (lines_below (environment_of environment.now) (packages_of index.now)
+        (group_of group.now) verdict)) }
 {
-    let mut lines = Vec::new(alloc);
+    let before = out.len();
     if !matches!(verdict, Verdict::Met) {
-        append_all(alloc, index, group.alternatives(), environment, &mut lines)?;
+        append_all(alloc, index, group.alternatives(), environment, out)?;
     }
-    Ok(lines)
+    Ok(out.len() - before)
 }
 
 /// Appends the lines of alternatives.

@@ -31,7 +31,8 @@ use Rattle.debctl_commands.specs.declared.query_job.QueryWords.{QueryWords}
 
 -- the question that the arguments which the code holds ask about a relation
 abbrev pub question_of : QueryWords → List ℕ → Question
-question_of given relation = question given.target.now (map string_bytes given.profiles.now) relation
+question_of given relation =
+    question given.target.now (map string_bytes given.profiles.now) relation
 
 -- ---- refusals
 
@@ -96,8 +97,8 @@ pub record QueriesFile {W : Type 0} (detail : Detail) (q : Question) (left : Opt
 -- What is written of a relation over the packages of an index: the report, or a prefix of it before
 -- a write failed; nothing, where a list of the relation holds a wildcard or out of memory.
 pub record ReportsOver {W : Type 0} (detail : Detail) (packages : List Listed)
-    (relation : Relation) (environment : Environment) (held : W → Option (List ℕ)) (failures : W → ℕ) (old new : W)
-    (answer : Result Bool Fault) : Type 0 where
+    (relation : Relation) (environment : Environment) (held : W → Option (List ℕ))
+    (failures : W → ℕ) (old new : W) (answer : Result Bool Fault) : Type 0 where
   pub ok : IfOk answer (λ met. IsFalse (some_wildcard relation)
       × (met ≡ all_met (report packages relation environment))
       × Appends (held old) (held new) (detail_text detail packages relation environment))

@@ -1,12 +1,13 @@
-use Rattle.std.proofs.Common.{◌≡◌, take}
-use Rattle.std.specs.List.{flat_map}
-use Rattle.std.specs.Io.KnownBytes.{Appends}
+use Rattle.std.proofs.Common.{◌≡◌}
 use Rattle.deb_index.specs.ReportText.{package_line}
-use Rattle.deb_index.specs.Reported.{found_of}
+use Rattle.deb_index.specs.Reported.{found_left}
+use Rattle.deb_index.proofs.WrittenParts.{WrittenBefore}
 use Rattle.deb_index.proofs.report_text.write_packages.Given as goal
 
 abbrev pub invariant-loop-found : goal.invariant-loop-found
 invariant-loop-found g l = record {
-  bytes : Appends (g.W.Sink.held l.initial.out) (g.W.Sink.held l.out) (flat_map (λ found. package_line (found_of found)) (take l.found-index l.packages));
+  can : (goal.iterator-loop-found g).can_next l.found-iterator;
+  finite : (goal.iterator-loop-found g).is_finite l.found-iterator;
+  bytes : WrittenBefore package_line (found_left l.fn.packages) (found_left l.found-iterator) (g.W.Sink.held l.initial.out) (g.W.Sink.held l.out);
   counted : g.W.Sink.failures l.out ≡ g.W.Sink.failures l.initial.out;
 }

@@ -7,8 +7,9 @@ use Rattle.deb_relation.specs.Views.{alternative_of}
 use Rattle.deb_index.specs.Indexes.{packages_of}
 use Rattle.deb_index.specs.Listed.{Listed}
 use Rattle.deb_index.specs.Named.{numbers_of}
+use Rattle.deb_index.specs.Reports.{picked}
 use Rattle.deb_index.specs.Why.{has_or_provides, package_reason}
-use Rattle.deb_index.proofs.Picked.{numbers-listed, picked}
+use Rattle.deb_index.proofs.Picked.{numbers-listed}
 use Rattle.deb_index.proofs.Reasoned.{lines-named, lines-nameless}
 use Rattle.deb_index.proofs.why_lines.append_asked.Goals as goal
 

@@ -6,7 +6,7 @@ use Rattle.deb_relation.specs.Views.{alternative_of}
 use Rattle.deb_index.specs.Indexes.{packages_of}
 use Rattle.deb_index.specs.Named.{numbers_of}
 use Rattle.deb_index.specs.Why.{has_or_provides, package_reason}
-use Rattle.deb_index.proofs.Picked.{picked}
+use Rattle.deb_index.specs.Reports.{picked}
 use Rattle.deb_index.proofs.why_lines.append_asked.Given as goal
 
 abbrev pub invariant-loop-number : goal.invariant-loop-number

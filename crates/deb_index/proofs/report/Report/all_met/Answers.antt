@@ -1,10 +1,12 @@
-use Rattle.std.proofs.Common.{not, ap, ◌∙◌}
+use Rattle.std.proofs.Common.{not, sym, ap, ◌∙◌}
 use Rattle.std.specs.List.{list_all}
-use Rattle.deb_relation.proofs.Mapped.{all-map}
+use Rattle.deb_index.specs.Indexes.{packages_of}
 use Rattle.deb_index.specs.Reports.{is_unmet}
-use Rattle.deb_index.specs.Reported.{answer_of}
+use Rattle.deb_index.proofs.Answered.{verdicts}
 use Rattle.deb_index.proofs.report.Report.all_met.Goals as goal
 
 pub returns : goal.returns
 returns c =
-    c.none_unmet.ensures ∙ ap (list_all (λ reported. not (is_unmet reported.verdict))) c.deref.ensures.value ∙ all-map answer_of (λ reported. not (is_unmet reported.verdict)) c.args.self.now.answers.items
+    let report = c.args.self.now in
+    c.none_unmet.ensures ∙ ap (list_all (λ span. not (is_unmet span.verdict))) c.deref.ensures.value
+    ∙ sym (verdicts (packages_of report.index.now) report.answers.texts.items report.answers.numbers.items report.answers.spans.items)

@@ -1,10 +1,9 @@
-use Rattle.std.proofs.Common.{◌≡◌, map, take}
+use Rattle.std.proofs.Common.{map, take}
 use Rattle.deb_relation.specs.Environments.{environment_of}
 use Rattle.deb_relation.specs.Groups.{group_of}
+use Rattle.deb_index.specs.AnswerStores.{HasAnswers}
 use Rattle.deb_index.specs.Indexes.{packages_of}
-use Rattle.deb_index.specs.Reports.{answer}
-use Rattle.deb_index.specs.Reported.{answer_of}
 use Rattle.deb_index.proofs.report.Report.of.Given as goal
 
 abbrev pub invariant-loop-group : goal.invariant-loop-group
-invariant-loop-group l = map answer_of l.answers.items ≡ map (answer (environment_of l.environment) (packages_of l.index)) (map group_of (take l.group-index l.groups))
+invariant-loop-group l = HasAnswers (environment_of l.environment) (packages_of l.index) (map group_of (take l.group-index l.groups)) l.answers
