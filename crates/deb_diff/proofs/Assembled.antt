@@ -14,7 +14,7 @@ use Rattle.deb_field.specs.Values.{value_text}
 use Rattle.deb_control.specs.Documents.{Meaning}
 use Rattle.deb_control.specs.Pairs.{Pairwise}
 use Rattle.deb_control.specs.ValueFiles.{body_under}
-use Rattle.deb_control.proofs.Entries.{AreEntries, IsAscending, IsEntry}
+use Rattle.deb_control.proofs.Entries.{IsAscending, IsEntry}
 use Rattle.deb_diff.specs.Cuts.{AreAscending, AreCut, IsCut}
 use Rattle.deb_diff.specs.Differences.{Fate, difference_of_others, fates}
 use Rattle.deb_diff.specs.Fates.{AreFated, IsAt, IsWhole}
@@ -23,12 +23,13 @@ use Rattle.deb_diff.specs.Both.{ReadsBoth}
 use Rattle.deb_diff.specs.Kinds.{doc_of}
 use Rattle.deb_diff.specs.declared.sides.Read.{Read}
 use Rattle.deb_diff.specs.Kepts.{AreKept, IsKept}
-use Rattle.deb_diff.specs.Lines.{added_line, diff_text, difference_text, fate_line}
+use Rattle.deb_diff.specs.Lines.{added_text, diff_text, difference_text, fate_text}
 use Rattle.deb_diff.specs.Pairing.{all_but, without}
 use Rattle.deb_diff.specs.Pairings.{PairsByRelease, PairsBySeries}
-use Rattle.deb_diff.specs.Partners.{after_keys, partners_of}
+use Rattle.deb_diff.specs.Partners.{partners_of}
 use Rattle.deb_diff.specs.Pools.{pick}
 use Rattle.deb_diff.specs.Walks.{all_of, left_after_all}
+use Rattle.deb_diff.specs.declared.detail.Detail.{Detail}
 use Rattle.deb_diff.specs.declared.kept.Kept.{Kept}
 use Rattle.deb_diff.specs.declared.kind.Kind.{Kind}
 use Rattle.deb_diff.specs.declared.pairing.Outcome.{Outcome}
@@ -111,14 +112,14 @@ all_at : (kept : List Kept) (items : List Item) (flags : List Bool) → Pairwise
 all_at kept items flags are = at_from [] kept items flags are
 
 -- the lines of old paragraphs, then those of added ones
-pub all_text : (new kept added : List Kept) (items others : List Item) (partners : Partners) (outcome : Outcome) (mid out : List ℕ) → Pairwise IsWhole kept items → Pairwise IsWhole new others
+pub all_text : (detail : Detail) (new kept added : List Kept) (items others : List Item) (partners : Partners) (outcome : Outcome) (mid out : List ℕ) → Pairwise IsWhole kept items → Pairwise IsWhole new others
     → PairsByRelease items others partners → PairsBySeries items others partners.found.items partners.waits.items outcome → added ≡ map (λ e. e.1) (pick 0 new outcome.waits.items)
-    → ((all : List (Item × Fate)) → AreFated kept outcome.became.items new all → mid ≡ flat_map fate_line all) → ((all : List Item) → AreKept added all → out ≡ mid ++ flat_map added_line all)
-    → out ≡ difference_text (difference_of_others items others)
-all_text new kept added items others partners outcome mid out are are_new by_release by_series added_is mid_is out_is =
+    → ((all : List (Item × Fate)) → AreFated kept outcome.became.items new all → mid ≡ flat_map (fate_text detail) all) → ((all : List Item) → AreKept added all → out ≡ mid ++ flat_map (added_text detail) all)
+    → out ≡ difference_text detail (difference_of_others items others)
+all_text detail new kept added items others partners outcome mid out are are_new by_release by_series added_is mid_is out_is =
     out_is (map (λ e. e.1) (pick 0 others outcome.waits.items)) (subst (λ l. AreKept l (map (λ e. e.1) (pick 0 others outcome.waits.items))) (sym added_is) (pick-whole IsKept 0 new others outcome.waits.items (kept-whole new others are_new)))
-    ∙ ap (λ l. l ++ flat_map added_line (map (λ e. e.1) (pick 0 others outcome.waits.items))) (mid_is (fates items others (without release others items)) are_fated)
-    ∙ ap (λ l. flat_map fate_line (fates items others (without release others items)) ++ flat_map added_line l) added_items
+    ∙ ap (λ l. l ++ flat_map (added_text detail) (map (λ e. e.1) (pick 0 others outcome.waits.items))) (mid_is (fates items others (without release others items)) are_fated)
+    ∙ ap (λ l. flat_map (fate_text detail) (fates items others (without release others items)) ++ flat_map (added_text detail) l) added_items
   where
     same : List (ℕ × Item)
     same = pick 0 others by_release.flags
@@ -151,16 +152,16 @@ all_text new kept added items others partners outcome mid out are are_new by_rel
         ∙ ap (λ l. without series (without release others items) l) (unpaired-left release items others)
 
 -- which are all lines of the two files
-pub both_text : (kind : Kind) (text other : List ℕ) (read : Read) (lines : List ℕ) (both : ReadsBoth kind text other read)
-    → ((items added : List Item) → Pairwise IsWhole read.old.items items → Pairwise IsWhole read.others.new.items added → lines ≡ difference_text (difference_of_others (map (λ e. e.1) (pick 0 items read.others.waits.items)) added))
-    → lines ≡ diff_text kind both.old_meaning both.new.meaning
-both_text kind text other read lines both is =
+pub both_text : (kind : Kind) (detail : Detail) (text other : List ℕ) (read : Read) (lines : List ℕ) (both : ReadsBoth kind text other read)
+    → ((items added : List Item) → Pairwise IsWhole read.old.items items → Pairwise IsWhole read.others.new.items added → lines ≡ difference_text detail (difference_of_others (map (λ e. e.1) (pick 0 items read.others.waits.items)) added))
+    → lines ≡ diff_text kind detail both.old_meaning both.new.meaning
+both_text kind detail text other read lines both is =
     let old = items_of kind both.old_meaning in
     let new = items_of kind both.new.meaning in
     let cut = all_cut (doc_of kind) kind 1 both.old_meaning (all_spelled (doc_of kind) text both.old_meaning both.accepted.means) in
     let cut_new = all_cut (doc_of kind) kind 1 both.new.meaning (all_spelled (doc_of kind) other both.new.meaning both.new.accepted.means) in
     is old (without whole new old) (whole-kept read.old.items old both.are_kept cut) (whole-kept read.others.new.items (without whole new old) both.new.are_kept (cut_without whole new old cut_new))
-    ∙ ap (λ l. difference_text (difference_of_others l (without whole new old))) both.new.left
+    ∙ ap (λ l. difference_text detail (difference_of_others l (without whole new old))) both.new.left
 
 some_length : (n : ℕ) → (suc n == 0) ≡ false
 some_length n = grind (arith, nat_tests)

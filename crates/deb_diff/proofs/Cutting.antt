@@ -13,7 +13,7 @@ use Rattle.deb_base.specs.FieldNames.{colon, is_name, is_name_byte}
 use Rattle.deb_base.proofs.FieldBytes.{each_from_list_all, each_name_byte}
 use Rattle.deb_syntax.specs.Meaning.{Entries, byte_order}
 use Rattle.deb_control.specs.Canonical.{behind_colon, field_text, paragraph_text}
-use Rattle.deb_diff.specs.Cuts.{AreCut, IsCut, field_len, rest_of, texts_in}
+use Rattle.deb_diff.specs.Cuts.{IsCut, field_len, rest_of, texts_in}
 use Rattle.deb_diff.specs.Fields.{fields_of_both}
 
 -- a space or a tab comes after each newline
@@ -136,9 +136,6 @@ pub record Adds (initial : Lents) (entries : Entries) (text : List ℕ) (start :
   pub each : AllByRecursion IsCut rest
   pub text_is : drop start text ≡ paragraph_text rest
   pub fields : fields_of_both (texts_in now) (map rest_of rest) ≡ fields_of_both (texts_in initial) (map rest_of entries)
-
-pub adds_none : (initial : Lents) (entries : Entries) (text : List ℕ) → AreCut entries → text ≡ paragraph_text entries → Adds initial entries text 0 initial
-adds_none initial entries text cut is = record { rest = entries; each = cut.each; text_is = is; fields = refl }
 
 no_text : (entry : List ℕ × List ℕ) (entries : Entries) → paragraph_text (entry ∷ entries) ≡ [] → ⊥
 no_text entry entries e = go entry.0 e

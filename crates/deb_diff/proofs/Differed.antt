@@ -21,7 +21,7 @@ use Rattle.deb_diff.specs.Cuts.{AreAscending, AreCut, rest_of}
 use Rattle.deb_diff.specs.Fields.{differing, differs, fields_of_both, is_same_body}
 
 -- a field's text after its name
-abbrev tail : List ℕ → List ℕ
+abbrev pub tail : List ℕ → List ℕ
 tail body = colon ∷ (behind_colon body ++ newline ∷ [])
 
 insert_rest : (entries : Entries) (name body : List ℕ) → insert_entry byte_order (map rest_of entries) name (tail body) ≡ map rest_of (insert_entry byte_order entries name body)
@@ -42,7 +42,7 @@ names_rests : (entries : Entries) → map (λ field. field.0) (map rest_of entri
 names_rests [] = refl
 names_rests (e ∷ entries) = ap (λ l. e.0 ∷ l) (names_rests entries)
 
-find_rests : (name : List ℕ) (entries : Entries) → find byte_order name (map rest_of entries) ≡ option_map tail (find byte_order name entries)
+pub find_rests : (name : List ℕ) (entries : Entries) → find byte_order name (map rest_of entries) ≡ option_map tail (find byte_order name entries)
 find_rests name [] = refl
 find_rests name (e ∷ entries) = go (eq_by_cmp byte_order name e.0) (find_rests name entries)
   where

@@ -1,5 +1,5 @@
 -- The lines of paragraphs that are kept.
-use Rattle.std.proofs.Common.{◌≡◌, ℕ, List, [], ◌∷◌, ◌++◌, map, Bor, codes, refl, sym, ap, ◌∙◌, subst, append-nil}
+use Rattle.std.proofs.Common.{◌≡◌, ℕ, List, [], ◌∷◌, ◌++◌, map, Bor, codes, refl, sym, ap, ◌∙◌, subst}
 use Rattle.std.specs.List.{flat_map}
 use Rattle.std.specs.Fmt.{decimal}
 use Rattle.std.proofs.lemmas.List.{append_assoc}
@@ -9,7 +9,7 @@ use Rattle.deb_diff.specs.Fields.{differing}
 use Rattle.deb_diff.specs.Items.{Item}
 use Rattle.deb_diff.specs.Kepts.{AreKept, IsKept}
 use Rattle.deb_diff.specs.Lefts.{rest_of_line}
-use Rattle.deb_diff.specs.Lines.{added_line, fate_line, item_line, line_of}
+use Rattle.deb_diff.specs.Lines.{fate_line, item_line, line_of}
 use Rattle.deb_diff.specs.declared.became.Became.{Became}
 use Rattle.deb_diff.specs.declared.kept.Kept.{Kept}
 use Rattle.deb_diff.proofs.Lined.{line_of_rest}
@@ -37,51 +37,38 @@ upgraded_line old new item other names was is names_is =
     ∙ ap (λ n. line_of (codes "upgraded" ∷ decimal other.number ∷ other.name ∷ item.version ∷ other.version ∷ n ∷ names)) is.architecture
     ∙ ap (λ n. line_of (codes "upgraded" ∷ decimal other.number ∷ other.name ∷ item.version ∷ other.version ∷ other.architecture ∷ n)) names_is
 
+-- a line, and the lines of values under it
+pub line-values : (initial now new line wanted values more : List ℕ) → now ≡ initial ++ line → line ≡ wanted → new ≡ now ++ values → values ≡ more → new ≡ initial ++ (wanted ++ more)
+line-values initial now new line wanted values more now_is line_is new_is values_is =
+    new_is ∙ ap (λ l. now ++ l) values_is ∙ ap (λ l. l ++ more) (now_is ∙ ap (λ l. initial ++ l) line_is) ∙ append_assoc initial wanted more
+
 -- The lines so far are there, and those of these are to come.
 pub record Lines {X : Type 0} (line : X → List ℕ) (Are : List X → Type 0) (initial : List ℕ) (all : List X) (now : List ℕ) : Type 0 where
   pub rest : List X
   pub are : Are rest
   pub text : now ++ flat_map line rest ≡ initial ++ flat_map line all
 
-pub added_more : (left more : List (Bor Kept)) (k : Bor Kept) (initial now new : List ℕ) (items : List Item) → left ≡ k ∷ more → new ≡ now ++ line_of (codes "added" ∷ decimal k.now.number ∷ k.now.name.items ∷ k.now.version.items ∷ k.now.architecture.items ∷ [])
-    → Lines added_line (AreKept (map (λ k. k.now) left)) initial items now → Lines added_line (AreKept (map (λ k. k.now) more)) initial items new
-added_more left more k initial now new items left_is new_is lines = go lines.rest (subst (λ l. AreKept (map (λ k. k.now) l) lines.rest) left_is lines.are) lines.text
+pub added_more : (text : Item → List ℕ) (left more : List (Bor Kept)) (k : Bor Kept) (initial now new : List ℕ) (items : List Item) → left ≡ k ∷ more → ((item : Item) → IsKept k.now item → new ≡ now ++ text item)
+    → Lines text (AreKept (map (λ k. k.now) left)) initial items now → Lines text (AreKept (map (λ k. k.now) more)) initial items new
+added_more text left more k initial now new items left_is new_is lines = go lines.rest (subst (λ l. AreKept (map (λ k. k.now) l) lines.rest) left_is lines.are) lines.text
   where
-    go : (rest : List Item) → AreKept (k.now ∷ map (λ k. k.now) more) rest → now ++ flat_map added_line rest ≡ initial ++ flat_map added_line items → Lines added_line (AreKept (map (λ k. k.now) more)) initial items new
-    go [] are text = absurd are
-    go (item ∷ rest) are text = record {
+    go : (rest : List Item) → AreKept (k.now ∷ map (λ k. k.now) more) rest → now ++ flat_map text rest ≡ initial ++ flat_map text items → Lines text (AreKept (map (λ k. k.now) more)) initial items new
+    go [] are lines = absurd are
+    go (item ∷ rest) are lines = record {
       rest = rest;
       are = are.1;
-      text = ap (λ l. l ++ flat_map added_line rest) (new_is ∙ ap (λ l. now ++ l) (kept_line (codes "added") k.now item are.0)) ∙ append_assoc now (added_line item) (flat_map added_line rest) ∙ text;
+      text = ap (λ l. l ++ flat_map text rest) (new_is item are.0) ∙ append_assoc now (text item) (flat_map text rest) ∙ lines;
     }
 
-pub fates_more : (left more : List (Bor Kept)) (k : Bor Kept) (became_left became_more : List Became) (one : Became) (others : List Kept) (initial now new : List ℕ) (fates : List (Item × Fate)) → left ≡ k ∷ more → became_left ≡ one ∷ became_more → ((fate : Item × Fate) → IsFated k.now one others fate → new ≡ now ++ fate_line fate)
-    → Lines fate_line (AreFated (map (λ k. k.now) left) became_left others) initial fates now → Lines fate_line (AreFated (map (λ k. k.now) more) became_more others) initial fates new
-fates_more left more k became_left became_more one others initial now new fates left_is became_is new_is lines =
+pub fates_more : (text : Item × Fate → List ℕ) (left more : List (Bor Kept)) (k : Bor Kept) (became_left became_more : List Became) (one : Became) (others : List Kept) (initial now new : List ℕ) (fates : List (Item × Fate)) → left ≡ k ∷ more → became_left ≡ one ∷ became_more → ((fate : Item × Fate) → IsFated k.now one others fate → new ≡ now ++ text fate)
+    → Lines text (AreFated (map (λ k. k.now) left) became_left others) initial fates now → Lines text (AreFated (map (λ k. k.now) more) became_more others) initial fates new
+fates_more text left more k became_left became_more one others initial now new fates left_is became_is new_is lines =
     go lines.rest (subst (λ b. AreFated (k.now ∷ map (λ k. k.now) more) b others lines.rest) became_is (subst (λ l. AreFated (map (λ k. k.now) l) became_left others lines.rest) left_is lines.are)) lines.text
   where
-    go : (rest : List (Item × Fate)) → AreFated (k.now ∷ map (λ k. k.now) more) (one ∷ became_more) others rest → now ++ flat_map fate_line rest ≡ initial ++ flat_map fate_line fates → Lines fate_line (AreFated (map (λ k. k.now) more) became_more others) initial fates new
-    go [] are text = absurd are
-    go (fate ∷ rest) are text = record {
+    go : (rest : List (Item × Fate)) → AreFated (k.now ∷ map (λ k. k.now) more) (one ∷ became_more) others rest → now ++ flat_map text rest ≡ initial ++ flat_map text fates → Lines text (AreFated (map (λ k. k.now) more) became_more others) initial fates new
+    go [] are lines = absurd are
+    go (fate ∷ rest) are lines = record {
       rest = rest;
       are = are.1;
-      text = ap (λ l. l ++ flat_map fate_line rest) (new_is fate are.0) ∙ append_assoc now (fate_line fate) (flat_map fate_line rest) ∙ text;
+      text = ap (λ l. l ++ flat_map text rest) (new_is fate are.0) ∙ append_assoc now (text fate) (flat_map text rest) ∙ lines;
     }
-
-none_kept : (items : List Item) → AreKept [] items → items ≡ []
-none_kept [] are = refl
-none_kept (item ∷ items) are = absurd are
-
-none_fated : (became : List Became) (new : List Kept) (fates : List (Item × Fate)) → AreFated [] became new fates → fates ≡ []
-none_fated became new [] are = refl
-none_fated became new (fate ∷ fates) are = absurd are
-
-pub added_end : (left : List (Bor Kept)) (initial now : List ℕ) (items : List Item) → left ≡ [] → Lines added_line (AreKept (map (λ k. k.now) left)) initial items now → now ≡ initial ++ flat_map added_line items
-added_end left initial now items none lines =
-    let rest = none_kept lines.rest (subst (λ l. AreKept (map (λ k. k.now) l) lines.rest) none lines.are) in
-    sym (append-nil now) ∙ ap (λ l. now ++ flat_map added_line l) (sym rest) ∙ lines.text
-
-pub fates_end : (left : List (Bor Kept)) (became : List Became) (others : List Kept) (initial now : List ℕ) (fates : List (Item × Fate)) → left ≡ [] → Lines fate_line (AreFated (map (λ k. k.now) left) became others) initial fates now → now ≡ initial ++ flat_map fate_line fates
-fates_end left became others initial now fates none lines =
-    let rest = none_fated became others lines.rest (subst (λ l. AreFated (map (λ k. k.now) l) became others lines.rest) none lines.are) in
-    sym (append-nil now) ∙ ap (λ l. now ++ flat_map fate_line l) (sym rest) ∙ lines.text

@@ -13,6 +13,7 @@ pub mod Lined
 pub mod Cutting
 pub mod Naming
 pub mod Differed
+pub mod Marking
 pub mod Fating
 pub mod Linked
 pub mod Released

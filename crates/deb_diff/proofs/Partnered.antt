@@ -5,7 +5,7 @@ use Rattle.std.specs.Option.{option_map}
 use Rattle.deb_diff.specs.Items.{Item}
 use Rattle.deb_diff.specs.Pairing.{all_but, earliest}
 use Rattle.deb_diff.specs.Partners.{Pairs, after_keys, partners_of}
-use Rattle.deb_diff.specs.Pools.{IsPoolOf, Takes, left_in}
+use Rattle.deb_diff.specs.Pools.{Takes, left_in}
 use Rattle.deb_diff.specs.declared.pool.Pool.{Pool}
 
 partners-push : (key : Item → List ℕ) (keys : List (List ℕ)) (wanted : List ℕ) (left : List (ℕ × Item)) → partners_of key (keys ++ wanted ∷ []) left ≡ partners_of key keys left ++ option_map (λ e. e.0) (earliest (λ e. key e.1) wanted (after_keys key keys left)) ∷ []
@@ -15,9 +15,6 @@ partners-push key (k ∷ keys) wanted left = ap (λ l. option_map (λ e. e.0) (e
 after-push : (key : Item → List ℕ) (keys : List (List ℕ)) (wanted : List ℕ) (left : List (ℕ × Item)) → after_keys key (keys ++ wanted ∷ []) left ≡ all_but (λ e. key e.1) wanted (after_keys key keys left)
 after-push key [] wanted left = refl
 after-push key (k ∷ keys) wanted left = after-push key keys wanted (all_but (λ e. key e.1) k left)
-
-pub pairs-none : (items : List Item) (key : Item → List ℕ) (pool : Pool) → IsPoolOf (map key items) pool → Pairs items key [] pool [] pool
-pairs-none items key pool is_pool = record { partners = refl; left = refl; is_pool = is_pool }
 
 pub pairs-push : (items : List Item) (key : Item → List ℕ) (keys more : List (List ℕ)) (wanted : List ℕ) (old now new : Pool) (found found_now : List (Option ℕ)) (number : Option ℕ)
     → more ≡ keys ++ wanted ∷ [] → found_now ≡ found ++ number ∷ [] → Pairs items key keys old found now → Takes items key wanted now number new → Pairs items key more old found_now new

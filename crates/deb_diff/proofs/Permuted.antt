@@ -21,8 +21,9 @@ use Rattle.deb_diff.specs.Differences.{Fate, Changed, Removed, Upgraded, differe
 use Rattle.deb_diff.specs.Items.{Item, items_from, items_of, release, series, whole}
 use Rattle.deb_diff.specs.Kinds.{doc_of}
 use Rattle.deb_diff.specs.Laws.{NoLineIfPermuted}
-use Rattle.deb_diff.specs.Lines.{added_line, difference_text, fate_line, is_nothing}
+use Rattle.deb_diff.specs.Lines.{added_text, difference_text, fate_text, is_nothing}
 use Rattle.deb_diff.specs.Pairing.{all_but, earliest, without}
+use Rattle.deb_diff.specs.declared.detail.Detail.{Detail}
 use Rattle.deb_diff.specs.declared.kind.Kind.{Kind}
 use Rattle.deb_diff.proofs.Pairs.{none_left, same_elements, same_keys, without-nil}
 
@@ -62,34 +63,34 @@ text_tells doc values other are also same =
 not_nothing : (bytes : List ℕ) → is_nothing bytes ≡ false → bytes ≡ [] → ⊥
 not_nothing bytes some none = false≢true (sym some ∙ ap is_nothing none)
 
-fate_line-some : (fate : Item × Fate) (rest more : List ℕ) → is_nothing ((fate_line fate ++ rest) ++ more) ≡ false
-fate_line-some (old, Removed) rest more = refl
-fate_line-some (old, Changed new) rest more = refl
-fate_line-some (old, Upgraded new) rest more = refl
+fate_text-some : (detail : Detail) (fate : Item × Fate) (rest more : List ℕ) → is_nothing ((fate_text detail fate ++ rest) ++ more) ≡ false
+fate_text-some detail (old, Removed) rest more = refl
+fate_text-some detail (old, Changed new) rest more = refl
+fate_text-some detail (old, Upgraded new) rest more = refl
 
-some_fate : (fate : Item × Fate) (fates : List (Item × Fate)) (more : List ℕ) → flat_map fate_line (fate ∷ fates) ++ more ≡ [] → ⊥
-some_fate fate fates more none = not_nothing ((fate_line fate ++ flat_map fate_line fates) ++ more) (fate_line-some fate (flat_map fate_line fates) more) none
+some_fate : (detail : Detail) (fate : Item × Fate) (fates : List (Item × Fate)) (more : List ℕ) → flat_map (fate_text detail) (fate ∷ fates) ++ more ≡ [] → ⊥
+some_fate detail fate fates more none = not_nothing ((fate_text detail fate ++ flat_map (fate_text detail) fates) ++ more) (fate_text-some detail fate (flat_map (fate_text detail) fates) more) none
 
 -- where nothing is written, nothing is left of either list
-pub left-nothing : (old new : List Item) → difference_text (difference old new) ≡ [] → (without whole old new ≡ []) × (without whole new old ≡ [])
-left-nothing old new none = go (without whole old new) (without whole new old) none
+pub left-nothing : (detail : Detail) (old new : List Item) → difference_text detail (difference old new) ≡ [] → (without whole old new ≡ []) × (without whole new old ≡ [])
+left-nothing detail old new none = go (without whole old new) (without whole new old) none
   where
-    go : (xs ys : List Item) → flat_map fate_line (fates xs ys (without release ys xs)) ++ flat_map added_line (without series (without release ys xs) (without release xs ys)) ≡ [] → (xs ≡ []) × (ys ≡ [])
+    go : (xs ys : List Item) → flat_map (fate_text detail) (fates xs ys (without release ys xs)) ++ flat_map (added_text detail) (without series (without release ys xs) (without release xs ys)) ≡ [] → (xs ≡ []) × (ys ≡ [])
     go [] [] none = (refl, refl)
     go [] (y ∷ ys) none =
-        absurd (not_nothing (flat_map added_line (y ∷ ys)) refl (ap (λ l. flat_map added_line (without series (y ∷ ys) l)) (sym (without-nil release (y ∷ ys))) ∙ none))
+        absurd (not_nothing (flat_map (added_text detail) (y ∷ ys)) refl (ap (λ l. flat_map (added_text detail) (without series (y ∷ ys) l)) (sym (without-nil release (y ∷ ys))) ∙ none))
     go (x ∷ xs) ys none =
-        absurd (some_fate (x, fate_of (earliest release (release x) ys) (earliest series (series x) (without release ys (x ∷ xs))))
+        absurd (some_fate detail (x, fate_of (earliest release (release x) ys) (earliest series (series x) (without release ys (x ∷ xs))))
         (fates xs (all_but release (release x) ys) (cond (is_some (earliest release (release x) ys)) (without release ys (x ∷ xs)) (all_but series (series x) (without release ys (x ∷ xs)))))
-        (flat_map added_line (without series (without release ys (x ∷ xs)) (without release (x ∷ xs) ys))) none)
+        (flat_map (added_text detail) (without series (without release ys (x ∷ xs)) (without release (x ∷ xs) ys))) none)
 
-pub nothing-left : (old new : List Item) → without whole old new ≡ [] → without whole new old ≡ [] → difference_text (difference old new) ≡ []
-nothing-left old new e f = rw (e, f) refl
+pub nothing-left : (detail : Detail) (old new : List Item) → without whole old new ≡ [] → without whole new old ≡ [] → difference_text detail (difference old new) ≡ []
+nothing-left detail old new e f = rw (e, f) refl
 
 pub no_line_if_permuted : NoLineIfPermuted
-no_line_if_permuted kind text other old new accepted accepted_too = (
+no_line_if_permuted kind detail text other old new accepted accepted_too = (
   λ none.
-      let left = left-nothing (items_of kind old) (items_of kind new) none in
+      let left = left-nothing detail (items_of kind old) (items_of kind new) none in
       let keys = same_keys whole (items_of kind old) (items_of kind new) left.0 left.1 in
       same_elements text_of_values (AreSpelled doc) (text_tells doc) old new
       (all_spelled doc text old accepted.means) (all_spelled doc other new accepted_too.means)
@@ -97,7 +98,7 @@ no_line_if_permuted kind text other old new accepted accepted_too = (
   λ same.
       let texts = IsPermutation-map text_of_values old new same in
       let keys : IsPermutation (map whole (items_of kind old)) (map whole (items_of kind new)) = subst (λ l. IsPermutation l (map whole (items_of kind new))) (sym (texts-from kind 1 old)) (subst (IsPermutation (map text_of_values old)) (sym (texts-from kind 1 new)) texts) in
-      nothing-left (items_of kind old) (items_of kind new) (none_left whole (items_of kind old) (items_of kind new) keys) (none_left whole (items_of kind new) (items_of kind old) (IsPermutation-sym _ _ keys)),
+      nothing-left detail (items_of kind old) (items_of kind new) (none_left whole (items_of kind old) (items_of kind new) keys) (none_left whole (items_of kind new) (items_of kind old) (IsPermutation-sym _ _ keys)),
 )
   where
     doc : Doc

@@ -3,6 +3,7 @@ pub mod Items
 pub mod Pairing
 pub mod Differences
 pub mod Fields
+pub mod Values
 pub mod Lines
 pub mod Kepts
 pub mod Waiting
@@ -11,6 +12,7 @@ pub mod Sifting
 pub mod Both
 pub mod Partners
 pub mod Cuts
+pub mod Marks
 pub mod Lefts
 pub mod Walks
 pub mod Pairings

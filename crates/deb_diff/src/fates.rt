@@ -2,21 +2,26 @@
 
 ghost use Rattle.std.specs.Prelude.{◌≡◌, ◌++◌, List, length, map, OnOk};
 ghost use Rattle.std.specs.List.{flat_map};
-ghost use Rattle.deb_diff.specs.Differences.{Changed, Fate, Upgraded};
+ghost use Rattle.deb_diff.specs.Differences.{Changed, Fate, Removed, Upgraded};
 ghost use Rattle.deb_diff.specs.Fates.{AreFated, IsFated, IsWhole};
-ghost use Rattle.deb_diff.specs.Items.{Item};
-ghost use Rattle.deb_diff.specs.Kepts.{AreKept};
-ghost use Rattle.deb_diff.specs.Lines.{added_line, fate_line};
+ghost use Rattle.deb_diff.specs.Items.{Item, whole};
+ghost use Rattle.deb_diff.specs.Fields.{differing};
+ghost use Rattle.deb_diff.specs.Kepts.{AreKept, IsKept};
+ghost use Rattle.deb_diff.specs.Lines.{added_text, fate_text, if_values, item_line};
+ghost use Rattle.deb_diff.specs.Values.{differing_lines, marked};
 
 use crate::became::Became;
+use crate::detail::Detail;
 use crate::differing::differing;
 use crate::kept::Kept;
 use crate::lines::{append_changed, append_item, append_upgraded};
+use crate::values::{append_marked, append_values};
 use std::alloc::{AllocError, Global};
 
 /// Appends the lines of old paragraphs, given what became of each.
 pub(crate) fn append_fates(
     alloc: Global,
+    detail: Detail,
     out: &mut Vec<u8>,
     old: &[&Kept],
     became: &[Became],
@@ -25,63 +30,137 @@ pub(crate) fn append_fates(
     requires { length became.now ≡ length old.now }
     ensures { (fates : List (Item × Fate))
         → AreFated (map (λ k. k.now) old.now) became.now new.now fates
-        → OnOk result (out.new.items ≡ out.old.items ++ flat_map fate_line fates) }
+        → OnOk result (out.new.items ≡ out.old.items ++ flat_map (fate_text detail) fates) }
 {
     for (number, kept) in old.iter().enumerate() {
-        append_fate(alloc, out, *kept, became[number], new)?;
+        append_fate(alloc, detail, out, *kept, became[number], new)?;
     }
     Ok(())
 }
 
-/// Appends the line of an old paragraph.
+/// Appends the lines of an old paragraph.
 fn append_fate(
     alloc: Global,
+    detail: Detail,
     out: &mut Vec<u8>,
     kept: &Kept,
     became: Became,
     new: &[Kept],
 ) -> Result<(), AllocError>
     ensures { (fate : Item × Fate) → IsFated kept.now became new.now fate
-        → OnOk result (out.new.items ≡ out.old.items ++ fate_line fate) }
+        → OnOk result (out.new.items ≡ out.old.items ++ fate_text detail fate) }
 {
     match became {
-        Became::Nothing => append_item(out, b"removed", kept),
+        Became::Nothing => remove(detail, out, kept),
         Became::Changed(number) => match new.get(number) {
-            Some(other) => change(alloc, out, kept, other),
+            Some(other) => change(alloc, detail, out, kept, other),
             None => Ok(()),
         },
         Became::Upgraded(number) => match new.get(number) {
-            Some(other) => upgrade(alloc, out, kept, other),
+            Some(other) => upgrade(alloc, detail, out, kept, other),
             None => Ok(()),
         },
     }
 }
 
-/// Appends the line of a changed paragraph.
-fn change(alloc: Global, out: &mut Vec<u8>, old: &Kept, new: &Kept) -> Result<(), AllocError>
-    ensures { (item other : Item) → IsWhole old.now item → IsWhole new.now other
-        → OnOk result (out.new.items ≡ out.old.items ++ fate_line (item, Changed other)) }
+/// Appends the lines of a removed paragraph.
+fn remove(detail: Detail, out: &mut Vec<u8>, kept: &Kept) -> Result<(), AllocError>
+    ensures { (item : Item) → IsKept kept.now item
+        → OnOk result (out.new.items ≡ out.old.items ++ fate_text detail (item, Removed)) }
 {
-    let names = differing(alloc, &old.text, &new.text)?;
-    append_changed(out, new, &names)
+    append_item(out, b"removed", kept)?;
+    append_whole(detail, out, b" -", kept)
 }
 
-/// Appends the line of an upgraded paragraph.
-fn upgrade(alloc: Global, out: &mut Vec<u8>, old: &Kept, new: &Kept) -> Result<(), AllocError>
+/// Appends the lines of a changed paragraph.
+fn change(
+    alloc: Global,
+    detail: Detail,
+    out: &mut Vec<u8>,
+    old: &Kept,
+    new: &Kept,
+) -> Result<(), AllocError>
     ensures { (item other : Item) → IsWhole old.now item → IsWhole new.now other
-        → OnOk result (out.new.items ≡ out.old.items ++ fate_line (item, Upgraded other)) }
+        → OnOk result (out.new.items ≡ out.old.items ++ fate_text detail (item, Changed other)) }
 {
     let names = differing(alloc, &old.text, &new.text)?;
-    append_upgraded(out, old, new, &names)
+    append_changed(out, new, &names)?;
+    append_fields(alloc, detail, out, old, new, &names)
+}
+
+/// Appends the lines of an upgraded paragraph.
+fn upgrade(
+    alloc: Global,
+    detail: Detail,
+    out: &mut Vec<u8>,
+    old: &Kept,
+    new: &Kept,
+) -> Result<(), AllocError>
+    ensures { (item other : Item) → IsWhole old.now item → IsWhole new.now other
+        → OnOk result (out.new.items ≡ out.old.items ++ fate_text detail (item, Upgraded other)) }
+{
+    let names = differing(alloc, &old.text, &new.text)?;
+    append_upgraded(out, old, new, &names)?;
+    append_fields(alloc, detail, out, old, new, &names)
+}
+
+/// Appends the lines of the fields with these names, if they are wanted.
+fn append_fields(
+    alloc: Global,
+    detail: Detail,
+    out: &mut Vec<u8>,
+    old: &Kept,
+    new: &Kept,
+    names: &[&[u8]],
+) -> Result<(), AllocError>
+    ensures { (item other : Item) → IsWhole old.now item → IsWhole new.now other
+        → map (λ n. n.now) names.now ≡ differing item.bodies other.bodies
+        → OnOk result (out.new.items ≡ out.old.items ++ if_values detail
+        (differing_lines item.bodies other.bodies)) }
+{
+    match detail {
+        Detail::Fields => Ok(()),
+        Detail::Values => append_values(alloc, out, &old.text, &new.text, names),
+    }
+}
+
+/// Appends all lines of a paragraph, each after a mark, if they are wanted.
+fn append_whole(
+    detail: Detail,
+    out: &mut Vec<u8>,
+    mark: &[u8],
+    kept: &Kept,
+) -> Result<(), AllocError>
+    ensures { (item : Item) → IsKept kept.now item
+        → OnOk result (out.new.items ≡ out.old.items ++ if_values detail
+        (marked mark.now (whole item))) }
+{
+    match detail {
+        Detail::Fields => Ok(()),
+        Detail::Values => append_marked(out, mark, &kept.text),
+    }
 }
 
 /// Appends the lines of added paragraphs.
-pub(crate) fn append_added(out: &mut Vec<u8>, added: &[&Kept]) -> Result<(), AllocError>
+pub(crate) fn append_added(
+    detail: Detail,
+    out: &mut Vec<u8>,
+    added: &[&Kept],
+) -> Result<(), AllocError>
     ensures { (items : List Item) → AreKept (map (λ k. k.now) added.now) items
-        → OnOk result (out.new.items ≡ out.old.items ++ flat_map added_line items) }
+        → OnOk result (out.new.items ≡ out.old.items ++ flat_map (added_text detail) items) }
 {
     for kept in added {
-        append_item(out, b"added", *kept)?;
+        add(detail, out, *kept)?;
     }
     Ok(())
+}
+
+/// Appends the lines of an added paragraph.
+fn add(detail: Detail, out: &mut Vec<u8>, kept: &Kept) -> Result<(), AllocError>
+    ensures { (item : Item) → IsKept kept.now item
+        → OnOk result (out.new.items ≡ out.old.items ++ added_text detail item) }
+{
+    append_item(out, b"added", kept)?;
+    append_whole(detail, out, b" +", kept)
 }

@@ -2,7 +2,8 @@
 //! 5.6).
 //!
 //! ```text
-//! let unchanged = diff(alloc, Kind::Packages, &mut old, &mut new, &mut writer)?;
+//! let unchanged =
+//!     diff(alloc, Kind::Packages, Detail::Fields, &mut old, &mut new, &mut writer)?;
 //! ```
 //!
 //! `diff` writes a line for each paragraph that was removed, added, changed or upgraded, and returns
@@ -14,6 +15,7 @@ mod all_lines;
 mod became;
 mod both;
 mod cut;
+mod detail;
 mod differing;
 mod fates;
 mod kept;
@@ -26,8 +28,10 @@ mod partners;
 mod pool;
 mod reading;
 mod sides;
+mod values;
 mod waiting;
 mod writing;
 
+pub use detail::Detail;
 pub use kind::Kind;
 pub use writing::diff;

@@ -4,6 +4,7 @@ ghost use Rattle.std.specs.Prelude.{◌≡◌, ℕ, List, Some, length, IfOk, If
 ghost use Rattle.deb_base.specs.Devices.{read_failures_after};
 ghost use Rattle.deb_base.specs.Faults.{IsReadersFault};
 ghost use Rattle.deb_base.specs.Reading.{TakesNoMore};
+ghost use Rattle.deb_base.specs.declared.refusal.Refusal.{Refusal};
 ghost use Rattle.deb_syntax.specs.Lines.{file_limit};
 ghost use Rattle.deb_control.specs.Calls.{IfRefused};
 ghost use Rattle.deb_control.specs.Checking.{IsRefusalOfDocument};
@@ -50,6 +51,9 @@ pub(crate) fn read_both<R: Source, S: Source>(
     ensures second_reads_at_most { (text : List ℕ) → S.left second.old ≡ Some text
         → TakesNoMore text file_limit (S.left second.new) }
     ensures fault { IfErr result (λ told. IsReadersFault told.fault IsRefusalOfDocument) }
+    ensures second_untouched_if_refused { (text : List ℕ) (refusal : Refusal)
+        → R.left first.old ≡ Some text → refusal_of (doc_of kind) text ≡ Some refusal
+        → second.new ≡ second.old }
     ensures counts_first_failure { R.failures first.new
         ≡ read_failures_after (R.failures first.old) (of_first result) }
     ensures counts_second_failure { S.failures second.new

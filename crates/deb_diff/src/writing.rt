@@ -4,17 +4,18 @@ ghost use Rattle.std.specs.Prelude.{◌≡◌, ℕ, List, Some, length, IfOk, If
 ghost use Rattle.deb_base.specs.Devices.{read_failures_after, write_failures_after};
 ghost use Rattle.deb_base.specs.Devices.{ReadFaultIffFailed, WriteFaultIffFailed};
 ghost use Rattle.deb_base.specs.Reading.{TakesNoMore};
+ghost use Rattle.deb_base.specs.declared.refusal.Refusal.{Refusal};
 ghost use Rattle.deb_syntax.specs.Lines.{file_limit};
 ghost use Rattle.deb_control.specs.Calls.{IfRefused, IfWriteFailed};
-ghost use Rattle.deb_control.specs.Checking.{IsRefusalOfDocument};
 ghost use Rattle.deb_control.specs.Comparing.{RefusesSecond};
 ghost use Rattle.deb_control.specs.Documents.{refusal_of};
 ghost use Rattle.deb_control.specs.Sides.{of_first, of_second};
 ghost use Rattle.deb_diff.specs.Both.{ReadsBoth};
 ghost use Rattle.deb_diff.specs.Kinds.{doc_of};
-ghost use Rattle.deb_diff.specs.Written.{IsWritersFault, KeepsHeld, WritesDiff, WritesSome};
+ghost use Rattle.deb_diff.specs.Written.{IsDiffFault, IsWritersFault, KeepsHeld, WritesDiff, WritesSome};
 
 use crate::all_lines::all_lines;
+use crate::detail::Detail;
 use crate::kind::Kind;
 use crate::sides::{Read, at_second, read_both};
 use deb_base::{Fault, Sink, Source, put_all};
@@ -23,7 +24,8 @@ use std::alloc::Global;
 
 /// Writes the lines that say what changed between two files of a kind, the old one and the new one,
 /// and returns whether there is none: whether they hold the same paragraphs in some order.
-/// Paragraphs are the same if they mean the same (Debian Policy 5.1 and 5.3 to 5.6).
+/// Paragraphs are the same if they mean the same (Debian Policy 5.1 and 5.3 to 5.6). With
+/// `Detail::Values` the lines of the values that differ are under the line of their paragraph.
 ///
 /// The canonical texts of the first file are kept, and those of the paragraphs of the second file
 /// that the first one doesn't have. The first file is read to its end before the second one, and
@@ -43,13 +45,15 @@ use std::alloc::Global;
 pub fn diff<R: Source, S: Source, W: Sink>(
     alloc: Global,
     kind: Kind,
+    detail: Detail,
     first: &mut R,
     second: &mut S,
     writer: &mut W,
 ) -> Result<bool, SideFault>
     ensures ok { (text other : List ℕ) → R.left first.old ≡ Some text
         → S.left second.old ≡ Some other
-        → IfOk result (WritesDiff kind text other (W.held writer.old) (W.held writer.new)) }
+        → IfOk result (WritesDiff kind detail text other (W.held writer.old)
+        (W.held writer.new)) }
     ensures first { (text : List ℕ) → R.left first.old ≡ Some text
         → IfRefused (of_first result) (λ refusal. refusal_of (doc_of kind) text ≡ Some refusal) }
     ensures second { (text other : List ℕ) → R.left first.old ≡ Some text
@@ -57,13 +61,17 @@ pub fn diff<R: Source, S: Source, W: Sink>(
         → IfRefused (of_second result) (RefusesSecond (doc_of kind) text other) }
     ensures write { (text other : List ℕ) → R.left first.old ≡ Some text
         → S.left second.old ≡ Some other → IfWriteFailed (of_second result)
-        (WritesSome kind text other (W.held writer.old) (W.held writer.new)) }
+        (WritesSome kind detail text other (W.held writer.old) (W.held writer.new)) }
     ensures first_reads_at_most { (text : List ℕ) → R.left first.old ≡ Some text
         → TakesNoMore text file_limit (R.left first.new) }
     ensures second_reads_at_most { (text : List ℕ) → S.left second.old ≡ Some text
         → TakesNoMore text file_limit (S.left second.new) }
+    ensures second_untouched_if_refused { (text : List ℕ) (refusal : Refusal)
+        → R.left first.old ≡ Some text → refusal_of (doc_of kind) text ≡ Some refusal
+        → second.new ≡ second.old }
 
     // Whether or not the readers' bytes are known.
+    ensures fault { IfErr result IsDiffFault }
     ensures nothing_written { IfErr result
         (λ told. KeepsHeld (W.held writer.old) (W.held writer.new) told.fault) }
     ensures counts_first_failure { R.failures first.new
@@ -83,7 +91,7 @@ pub fn diff<R: Source, S: Source, W: Sink>(
         (of_second result) }
 {
     match read_both(alloc, kind, first, second) {
-        Ok(read) => match write_lines(alloc, &read, writer) {
+        Ok(read) => match write_lines(alloc, detail, &read, writer) {
             Ok(is_empty) => Ok(is_empty),
             Err(fault) => Err(at_second(fault)),
         },
@@ -92,19 +100,25 @@ pub fn diff<R: Source, S: Source, W: Sink>(
 }
 
 /// Writes the lines that say what changed, and returns whether there is none.
-fn write_lines<W: Sink>(alloc: Global, read: &Read, writer: &mut W) -> Result<bool, Fault>
+fn write_lines<W: Sink>(
+    alloc: Global,
+    detail: Detail,
+    read: &Read,
+    writer: &mut W,
+) -> Result<bool, Fault>
     requires { length read.now.others.waits.items ≡ length read.now.old.items }
     ensures ok { (kind : Kind) (text other : List ℕ) → ReadsBoth kind text other read.now
-        → IfOk result (WritesDiff kind text other (W.held writer.old) (W.held writer.new)) }
+        → IfOk result (WritesDiff kind detail text other (W.held writer.old)
+        (W.held writer.new)) }
     ensures write { (kind : Kind) (text other : List ℕ) → ReadsBoth kind text other read.now
-        → IfWriteFailed result (WritesSome kind text other (W.held writer.old)
+        → IfWriteFailed result (WritesSome kind detail text other (W.held writer.old)
         (W.held writer.new)) }
     ensures keeps { IfErr result (KeepsHeld (W.held writer.old) (W.held writer.new)) }
     ensures fault { IfErr result IsWritersFault }
     ensures counts_failure { W.failures writer.new ≡ write_failures_after
         (W.failures writer.old) result }
 {
-    let lines = all_lines(alloc, &read.old, &read.others)?;
+    let lines = all_lines(alloc, detail, &read.old, &read.others)?;
     put_all(writer, &lines)?;
     Ok(lines.is_empty())
 }

@@ -3,7 +3,7 @@
 use crate::devices::{Pieces, SIZES};
 use deb_base::{Code, Fault, Input, Refusal, VecSink};
 use deb_control::{Side, SideFault};
-use deb_diff::{Kind, diff};
+use deb_diff::{Detail, Kind, diff};
 use std::alloc::Global;
 
 const OLD: &[u8] = b"Package: gone\nVersion: 2.10-2\nArchitecture: amd64\n\n\
@@ -23,28 +23,62 @@ const LINES: &[u8] = b"removed 1 gone 2.10-2 amd64\n\
     changed 1 world 1.0 all Depends Size\n\
     added 2 fresh 2.10-3 amd64\n";
 
+const VALUES: &[u8] = b"removed 1 gone 2.10-2 amd64\n\
+    \x20-Architecture: amd64\n\
+    \x20-Package: gone\n\
+    \x20-Version: 2.10-2\n\
+    upgraded 3 hello 2.10-2 2.10-3 amd64 Version\n\
+    \x20-Version: 2.10-2\n\
+    \x20+Version: 2.10-3\n\
+    changed 1 world 1.0 all Depends Size\n\
+    \x20+Depends: aa\n\
+    \x20-Size: 1\n\
+    added 2 fresh 2.10-3 amd64\n\
+    \x20+Architecture: amd64\n\
+    \x20+Package: fresh\n\
+    \x20+Version: 2.10-3\n";
+
+const SHORT: &[u8] = b"Package: aa\nVersion: 1\nArchitecture: all\nDescription: short\n long\n";
+
+const LONG: &[u8] = b"Package: aa\nVersion: 1\nArchitecture: all\n\
+    Description: short\n .\n longer\nX-List:\n one\n";
+
+const TEXTS: &[u8] = b"changed 1 aa 1 all Description X-List\n\
+    \x20-Description: short\n\
+    \x20- long\n\
+    \x20+Description: short\n\
+    \x20+ .\n\
+    \x20+ longer\n\
+    \x20+X-List:\n\
+    \x20+ one\n";
+
 const LATER: &[u8] = b"added 1 gone 2.10-2 amd64\n\
     added 2 hello 2.10-2 amd64\n\
     added 3 world 1.0 all\n";
 
+const REFUSED_LATER: &[u8] = b"Package: fresh\nVersion: 1\nArchitecture: all\n\nPackage: gone\n";
+
 const BAD: &[u8] = b"Package: gone\nVersion: 2.10-2\nArchitecture: amd64\n\nPackage: gone\n";
 
-/// Two files, and the lines that say what changed.
-struct Pair(&'static [u8], &'static [u8], &'static [u8]);
+/// A detail, two files, and the lines that say what changed.
+struct Pair(Detail, &'static [u8], &'static [u8], &'static [u8]);
 
-const PAIRS: [Pair; 4] = [
-    Pair(OLD, MOVED, b""),
-    Pair(b"", b"\n \n", b""),
-    Pair(OLD, NEW, LINES),
-    Pair(b"", OLD, LATER),
+const PAIRS: [Pair; 7] = [
+    Pair(Detail::Fields, OLD, MOVED, b""),
+    Pair(Detail::Values, OLD, MOVED, b""),
+    Pair(Detail::Fields, b"", b"\n \n", b""),
+    Pair(Detail::Fields, OLD, NEW, LINES),
+    Pair(Detail::Values, OLD, NEW, VALUES),
+    Pair(Detail::Values, SHORT, LONG, TEXTS),
+    Pair(Detail::Fields, b"", OLD, LATER),
 ];
 
 /// Each pair, in pieces of several sizes.
 #[test]
 fn lines_of_two_files(rt: HostRuntime) {
-    for Pair(old, new, lines) in &PAIRS {
+    for Pair(detail, old, new, lines) in &PAIRS {
         for size in SIZES {
-            let (answer, written) = in_pieces(rt.alloc(), old, new, size);
+            let (answer, written) = in_pieces(rt.alloc(), *detail, old, new, size);
             assert!(rt;
                 answer == Ok(lines.is_empty()),
                 "in pieces of {size}: {answer:?}"
@@ -60,8 +94,13 @@ fn lines_of_two_files(rt: HostRuntime) {
 /// Nothing is written if a file is refused; the first one is read first.
 #[test]
 fn refused_files(rt: HostRuntime) {
-    for (old, new, side) in [(BAD, OLD, Side::First), (OLD, BAD, Side::Second)] {
-        let (answer, written) = in_pieces(rt.alloc(), old, new, 7);
+    for (old, new, side) in [
+        (BAD, OLD, Side::First),
+        (BAD, BAD, Side::First),
+        (OLD, BAD, Side::Second),
+        (OLD, REFUSED_LATER, Side::Second),
+    ] {
+        let (answer, written) = in_pieces(rt.alloc(), Detail::Values, old, new, 7);
         let fault = Fault::Refused(Refusal {
             code: Code::MissingField,
             line: 5,
@@ -73,6 +112,7 @@ fn refused_files(rt: HostRuntime) {
 
 fn in_pieces(
     alloc: Global,
+    detail: Detail,
     old: &[u8],
     new: &[u8],
     size: usize,
@@ -83,6 +123,7 @@ fn in_pieces(
     let answer = diff(
         alloc,
         Kind::Packages,
+        detail,
         &mut Input::new(&mut reader),
         &mut Input::new(&mut other),
         &mut writer,

@@ -3,7 +3,7 @@ use Rattle.std.proofs.Common.{◌≡◌, ◌++◌, map, sym, ap, ◌∙◌, subs
 use Rattle.std.specs.List.{flat_map}
 use Rattle.deb_diff.specs.Fates.{AreFated}
 use Rattle.deb_diff.specs.Kepts.{AreKept}
-use Rattle.deb_diff.specs.Lines.{fate_line}
+use Rattle.deb_diff.specs.Lines.{fate_text}
 use Rattle.deb_diff.specs.Pairings.{PairsBySeries}
 use Rattle.deb_diff.specs.Pools.{pick}
 use Rattle.deb_diff.proofs.Assembled.{all_text, kept-whole}
@@ -19,8 +19,8 @@ returns c = λ items others are are_new.
     let kept = kept-whole old items are in
     let kept_new = subst (λ l. AreKept l others) (sym c.requires) (kept-whole c.args.new.now others are_new) in
     let series = subst (λ f. PairsBySeries items others f c.in_ok-found.field-0.waits.items c.in_ok-outcome.outcome) found (c.in_ok-outcome.ensures.pairs items others kept kept_new) in
-    all_text c.args.new.now old (map (λ k. k.now) c.in_ok-added.added.items) items others c.in_ok-found.field-0 c.in_ok-outcome.outcome c.append_fates.new.out.items c.append_added.new.out.items are are_new
+    all_text c.args.detail c.args.new.now old (map (λ k. k.now) c.in_ok-added.added.items) items others c.in_ok-found.field-0 c.in_ok-outcome.outcome c.append_fates.new.out.items c.append_added.new.out.items are are_new
     (c.in_ok-found.ensures.pairs items others kept kept_new) series
     (c.in_ok-added.ensures ∙ ap (λ w. map (λ e. e.1) (pick 0 c.args.new.now w)) left)
-    (λ all fated. c.in_ok-append_fates.ensures all (subst (λ b. AreFated old b c.args.new.now all) (sym became) fated) ∙ ap (λ l. l ++ flat_map fate_line all) c.new-lines.ensures.items)
+    (λ all fated. c.in_ok-append_fates.ensures all (subst (λ b. AreFated old b c.args.new.now all) (sym became) fated) ∙ ap (λ l. l ++ flat_map (fate_text c.args.detail) all) c.new-lines.ensures.items)
     (λ all are. c.in_ok-append_added.ensures all (subst (λ l. AreKept (map (λ k. k.now) l) all) (sym added) are))

@@ -14,7 +14,7 @@ same_meaning doc text meaning again means means_again =
     (canonical_text_is_accepted ValueMeaning (SpellsValue doc) value_text (value_law doc) (rules_of doc) text meaning means)
 
 pub returns : goal.returns
-returns c = λ kind text other old new old_again new_again accepted accepted_too again again_too.
+returns c = λ kind detail text other old new old_again new_again accepted accepted_too again again_too.
     let same = same_meaning (doc_of kind) text old old_again accepted again in
     let same_too = same_meaning (doc_of kind) other new new_again accepted_too again_too in
-    (ap (λ m. diff_text kind m new) same, ap (diff_text kind old) same_too, ap (λ m. diff_text kind m new_again) same ∙ ap (diff_text kind old) same_too)
+    (ap (λ m. diff_text kind detail m new) same, ap (diff_text kind detail old) same_too, ap (λ m. diff_text kind detail m new_again) same ∙ ap (diff_text kind detail old) same_too)
