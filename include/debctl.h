@@ -13,10 +13,10 @@
  * is written to `out`, and `length` is the length that it needs. So a call with NULL and 0 returns
  * that length, and a second call does the work again.
  *
- * Lengths are in bytes, and lines are counted from 1. Nothing is kept between calls, so there is
- * nothing to free, and several threads may call at once. Memory is taken with malloc and realloc,
- * and freed before the call returns. Don't call a function from a signal handler, or between fork
- * and exec in the child of a process with several threads.
+ * Lengths are in bytes, and lines are counted from 1. Several threads may call at once. Memory is
+ * taken with malloc and realloc, and freed before the call returns: only a loaded index keeps some,
+ * until deb_index_free. Don't call a function from a signal handler, or between fork and exec in the
+ * child of a process with several threads.
  *
  * docs/FORMAT.md has the rules and the meaning of each error code, docs/LIBRARIES.md examples. */
 #ifndef DEBCTL_H
@@ -32,12 +32,14 @@ extern "C" {
 /* The status of a call. */
 enum deb_status {
     DEB_YES = 0,            /* done, or yes */
-    DEB_NO = 1,             /* deb_same: the files differ; deb_query, deb_unmet: a group is unmet */
+    DEB_NO = 1,             /* deb_same: the files differ; deb_query, deb_unmet: a group is unmet;
+                             * deb_index_package: there is no such package */
     DEB_REFUSED = 2,        /* a text is refused, or the first of two */
     DEB_SECOND_REFUSED = 3, /* the first text is accepted, and the second is refused */
     DEB_NO_ROOM = 4,        /* the buffer is too small; its length is what it needs */
     DEB_NO_MEMORY = 5,      /* out of memory */
-    DEB_NO_KIND = 6         /* no kind of document has this number */
+    DEB_NO_KIND = 6,        /* no kind of document has this number */
+    DEB_NO_INDEX = 7        /* the index that is asked holds none, since it was refused */
 };
 
 /* Kinds of documents. */
@@ -88,7 +90,8 @@ struct deb_answer {
     uint8_t code;   /* one of deb_code, if a text is refused */
     uint64_t line;  /* the line of the refusal in its file; 0 for a text that isn't a file */
     uint64_t count; /* the number of paragraphs of the file: for DEB_YES of deb_check, deb_normalise,
-                     * deb_explain and deb_fields, and for DEB_YES and DEB_NO of deb_unmet */
+                     * deb_explain and deb_fields, and for DEB_YES and DEB_NO of deb_unmet; of the
+                     * packages of an index, for DEB_YES of deb_index_read */
 };
 
 /* The answer of a comparison of two versions. */
@@ -201,6 +204,55 @@ struct deb_answer deb_unmet(uint8_t kind, uint8_t recommends,
                             const uint8_t *index, size_t index_length,
                             const uint8_t *text, size_t text_length,
                             uint8_t *out, size_t out_size, size_t *length);
+
+/* An index that is read once and asked often. It lies in memory of the caller, as many bytes as
+ * deb_index_size returns, aligned as malloc aligns. deb_index_read fills that memory, whatever its
+ * status is, and deb_index_free empties it; what lies there may not be copied or moved in between.
+ *
+ * The caller ensures that `index` points to memory that deb_index_read has filled and deb_index_free
+ * hasn't emptied since. No function can check that: a pointer that is NULL or freed is undefined
+ * behaviour. Any number of threads may ask one index at once, as long as no call of deb_index_read
+ * or deb_index_free on it runs at the same time. */
+struct deb_index;
+
+/* Returns how many bytes of memory an index has. */
+size_t deb_index_size(void);
+
+/* Reads an index of packages; the text isn't needed afterwards. `answer` becomes
+ * DEB_YES, with the number of packages; DEB_REFUSED or DEB_NO_MEMORY: the index holds none. */
+void deb_index_read(struct deb_index *index, const uint8_t *text, size_t text_length,
+                    struct deb_answer *answer);
+
+/* Frees the memory that an index took, and leaves that in which it lies to the caller. */
+void deb_index_free(struct deb_index *index);
+
+/* Writes the report that deb_query writes for this index, without reading it again.
+ * The statuses of deb_query; DEB_NO_INDEX. */
+struct deb_answer deb_index_query(const struct deb_index *index,
+                                  const uint8_t *target, size_t target_length,
+                                  const struct deb_text *profiles, size_t profile_count,
+                                  const uint8_t *relation, size_t relation_length,
+                                  uint8_t *out, size_t out_size, size_t *length);
+
+/* Writes the numbers of the packages that have a name, in ascending order. The first package of an
+ * index has the number 1. `numbers` has room for `numbers_size` numbers; `count` is how many there
+ * are, also if there is no room for them. Takes no memory.
+ * DEB_YES; DEB_NO_ROOM; DEB_NO_INDEX. */
+struct deb_answer deb_index_packages(const struct deb_index *index,
+                                     const uint8_t *name, size_t name_length,
+                                     uint64_t *numbers, size_t numbers_size, size_t *count);
+
+/* Writes the numbers of the packages that provide a name, in some version or without one, likewise.
+ * A package is among them for its own name only if its Provides contains it. */
+struct deb_answer deb_index_providers(const struct deb_index *index,
+                                      const uint8_t *name, size_t name_length,
+                                      uint64_t *numbers, size_t numbers_size, size_t *count);
+
+/* Writes the name, the canonical version and the architecture of the package with a number, with a
+ * space between: `hello 2.10-3 amd64`.
+ * DEB_YES; DEB_NO: the index has no such package; DEB_NO_ROOM; DEB_NO_MEMORY; DEB_NO_INDEX. */
+struct deb_answer deb_index_package(const struct deb_index *index, uint64_t number,
+                                    uint8_t *out, size_t out_size, size_t *length);
 
 #ifdef __cplusplus
 }

@@ -26,16 +26,19 @@ such as `bytes` or `memoryview`. A function raises TypeError for an argument of 
 """
 
 from ._files import Explanation, Report, check, explain, normalise, query, same, unmet
+from ._index import Index, Package
 from ._library import Text
 from ._paragraphs import Alternative, Paragraph, paragraphs, relations
 from ._refusals import Code, Refused
 from ._versions import Version, canonical, compare, key
 
 __all__ = [
-    "Alternative", "Code", "Explanation", "Paragraph", "Refused", "Report", "Text", "Version",
-    "canonical", "check", "compare", "explain", "key", "normalise", "paragraphs", "query",
+    "Alternative", "Code", "Explanation", "Index", "Package", "Paragraph", "Refused", "Report",
+    "Text", "Version", "canonical", "check", "compare", "explain", "key", "normalise", "paragraphs", "query",
     "relations", "same", "unmet",
 ]
 
-for _public in (Alternative, Code, Explanation, Paragraph, Refused, Report, Version):
+for _public in (
+    Alternative, Code, Explanation, Index, Package, Paragraph, Refused, Report, Version,
+):
     _public.__module__ = __name__

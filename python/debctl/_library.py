@@ -4,18 +4,18 @@ import ctypes
 import functools
 import os
 from pathlib import Path
-from typing import Callable, Iterable, Optional, Tuple, TypeVar, Union
+from typing import Any, Callable, Iterable, List, Optional, Tuple, TypeVar, Union
 
 from ._refusals import Refused
 
 Text = Union[str, bytes, bytearray, memoryview]
 
-YES, NO, REFUSED, SECOND_REFUSED, NO_ROOM, NO_MEMORY, NO_KIND = range(7)
+YES, NO, REFUSED, SECOND_REFUSED, NO_ROOM, NO_MEMORY, NO_KIND, NO_INDEX = range(8)
 _KINDS = {"binary": 0, "packages": 1, "source": 2, "sources": 3, "any": 4}
-_TEXT = [ctypes.c_char_p, ctypes.c_size_t]
+_TEXT: List[Any] = [ctypes.c_char_p, ctypes.c_size_t]
 _LENGTH = ctypes.POINTER(ctypes.c_size_t)
-_BUFFER = [ctypes.c_char_p, ctypes.c_size_t, _LENGTH]
-_TABLE = [ctypes.c_void_p, ctypes.c_size_t, _LENGTH]
+_BUFFER: List[Any] = [ctypes.c_char_p, ctypes.c_size_t, _LENGTH]
+_TABLE: List[Any] = [ctypes.c_void_p, ctypes.c_size_t, _LENGTH]
 
 
 class TextAt(ctypes.Structure):
@@ -53,8 +53,11 @@ def _library() -> ctypes.CDLL:
     beside = Path(__file__).with_name("libdebctl.so")
     path = os.environ.get("DEBCTL_LIBRARY") or (beside if beside.exists() else "libdebctl.so.0")
     library = ctypes.CDLL(str(path))
-    kind, profiles = [ctypes.c_uint8], [ctypes.POINTER(TextAt), ctypes.c_size_t]
-    for name, result, arguments in [
+    kind: List[Any] = [ctypes.c_uint8]
+    profiles: List[Any] = [ctypes.POINTER(TextAt), ctypes.c_size_t]
+    index: List[Any] = [ctypes.c_void_p]
+    number: List[Any] = [ctypes.c_uint64]
+    declared: List[Tuple[str, Any, List[Any]]] = [
         ("deb_version_compare", Comparison, _TEXT + _TEXT),
         ("deb_version_canonical", Answer, _TEXT + _BUFFER),
         ("deb_version_key", Answer, _TEXT + _BUFFER),
@@ -66,7 +69,15 @@ def _library() -> ctypes.CDLL:
         ("deb_same", Answer, kind + _TEXT + _TEXT),
         ("deb_query", Answer, _TEXT + profiles + _TEXT + _TEXT + _BUFFER),
         ("deb_unmet", Answer, kind + kind + _TEXT + profiles + _TEXT + _TEXT + _BUFFER),
-    ]:
+        ("deb_index_size", ctypes.c_size_t, []),
+        ("deb_index_read", None, index + _TEXT + [ctypes.POINTER(Answer)]),
+        ("deb_index_free", None, index),
+        ("deb_index_query", Answer, index + _TEXT + profiles + _TEXT + _BUFFER),
+        ("deb_index_packages", Answer, index + _TEXT + _TABLE),
+        ("deb_index_providers", Answer, index + _TEXT + _TABLE),
+        ("deb_index_package", Answer, index + number + _BUFFER),
+    ]
+    for name, result, arguments in declared:
         function = getattr(library, name)
         function.restype, function.argtypes = result, arguments
     return library

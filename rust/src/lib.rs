@@ -21,11 +21,13 @@
 //! # Ok::<(), Error>(())
 //! ```
 
+mod index;
 mod library;
 mod paragraphs;
 mod relations;
 mod versions;
 
+pub use index::{Index, Package};
 use library::{Answer, Text};
 pub use paragraphs::{paragraphs, Field, Iter, Paragraph, Paragraphs};
 pub use relations::{relations, Alternative};

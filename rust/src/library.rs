@@ -3,12 +3,14 @@
 use std::marker::PhantomData;
 
 pub const YES: u8 = 0;
+pub const NO: u8 = 1;
 pub const REFUSED: u8 = 2;
 pub const SECOND_REFUSED: u8 = 3;
 pub const NO_ROOM: u8 = 4;
 pub const NO_MEMORY: u8 = 5;
 
 #[repr(C)]
+#[derive(Default)]
 pub struct Answer {
     pub status: u8,
     pub code: u8,
@@ -143,6 +145,44 @@ extern "C" {
         relation_length: usize,
         index: *const u8,
         index_length: usize,
+        out: *mut u8,
+        out_size: usize,
+        length: *mut usize,
+    ) -> Answer;
+    fn deb_index_size() -> usize;
+    fn deb_index_read(index: *mut u64, text: *const u8, text_length: usize, answer: *mut Answer);
+    fn deb_index_free(index: *mut u64);
+    fn deb_index_query(
+        index: *const u64,
+        target: *const u8,
+        target_length: usize,
+        profiles: *const Text,
+        profile_count: usize,
+        relation: *const u8,
+        relation_length: usize,
+        out: *mut u8,
+        out_size: usize,
+        length: *mut usize,
+    ) -> Answer;
+    fn deb_index_packages(
+        index: *const u64,
+        name: *const u8,
+        name_length: usize,
+        numbers: *mut u64,
+        numbers_size: usize,
+        count: *mut usize,
+    ) -> Answer;
+    fn deb_index_providers(
+        index: *const u64,
+        name: *const u8,
+        name_length: usize,
+        numbers: *mut u64,
+        numbers_size: usize,
+        count: *mut usize,
+    ) -> Answer;
+    fn deb_index_package(
+        index: *const u64,
+        number: u64,
         out: *mut u8,
         out_size: usize,
         length: *mut usize,
@@ -302,5 +342,91 @@ pub fn query(
             out.len(),
             length,
         )
+    }
+}
+
+/// The memory of a loaded index. `deb_index_read` has filled it, and dropping it frees the index.
+#[derive(Debug)]
+pub struct Index(Box<[u64]>);
+
+// The calls that ask only read the memory, and what it leads to.
+unsafe impl Send for Index {}
+unsafe impl Sync for Index {}
+
+impl Drop for Index {
+    fn drop(&mut self) {
+        unsafe { deb_index_free(self.0.as_mut_ptr()) }
+    }
+}
+
+impl Index {
+    pub fn read(text: &[u8]) -> (Index, Answer) {
+        let size = unsafe { deb_index_size() };
+        let mut memory = vec![0; size.div_ceil(8)].into_boxed_slice();
+        let mut answer = Answer::default();
+        unsafe { deb_index_read(memory.as_mut_ptr(), text.as_ptr(), text.len(), &mut answer) };
+        (Index(memory), answer)
+    }
+
+    pub fn query(
+        &self,
+        target: &[u8],
+        profiles: &[Text],
+        relation: &[u8],
+        out: &mut [u8],
+        length: &mut usize,
+    ) -> Answer {
+        unsafe {
+            deb_index_query(
+                self.0.as_ptr(),
+                target.as_ptr(),
+                target.len(),
+                profiles.as_ptr(),
+                profiles.len(),
+                relation.as_ptr(),
+                relation.len(),
+                out.as_mut_ptr(),
+                out.len(),
+                length,
+            )
+        }
+    }
+
+    pub fn packages(&self, name: &[u8], out: &mut [u64], count: &mut usize) -> Answer {
+        unsafe {
+            deb_index_packages(
+                self.0.as_ptr(),
+                name.as_ptr(),
+                name.len(),
+                out.as_mut_ptr(),
+                out.len(),
+                count,
+            )
+        }
+    }
+
+    pub fn providers(&self, name: &[u8], out: &mut [u64], count: &mut usize) -> Answer {
+        unsafe {
+            deb_index_providers(
+                self.0.as_ptr(),
+                name.as_ptr(),
+                name.len(),
+                out.as_mut_ptr(),
+                out.len(),
+                count,
+            )
+        }
+    }
+
+    pub fn package(&self, number: u64, out: &mut [u8], length: &mut usize) -> Answer {
+        unsafe {
+            deb_index_package(
+                self.0.as_ptr(),
+                number,
+                out.as_mut_ptr(),
+                out.len(),
+                length,
+            )
+        }
     }
 }

@@ -1,7 +1,8 @@
 //! Versions and their keys, relations, unmet relations, and the paragraphs of a file.
 
 use debctl::{
-    compare, key, paragraphs, relations, unmet, Asked, Code, Error, Kind, Refusal, Version,
+    compare, key, paragraphs, query, relations, unmet, Asked, Code, Error, Index, Kind, Refusal,
+    Version,
 };
 use std::collections::HashSet;
 
@@ -96,5 +97,33 @@ fn paragraphs_have_fields() -> Result<(), Error> {
         .collect();
     let all = paragraphs(Kind::Any, &many)?;
     assert_eq!(all.iter().next().expect("one")?.fields().count(), 999);
+    Ok(())
+}
+
+#[test]
+fn an_index_is_asked_from_threads() -> Result<(), Error> {
+    let text = b"Package: aa\nVersion: 1\nArchitecture: all\nProvides: mta\n\n\
+        Package: aa\nVersion: 2\nArchitecture: amd64\n";
+    let index = Index::read(text)?;
+    assert_eq!((index.len(), index.is_empty()), (2, false));
+    assert_eq!(index.packages(b"aa"), [1, 2]);
+    assert_eq!(index.providers(b"mta"), [1]);
+    assert_eq!(index.package(2)?.map(|it| it.version), Some("2".to_owned()));
+    assert_eq!((index.package(0)?, index.package(3)?), (None, None));
+    std::thread::scope(|scope| {
+        for relation in [b"aa (>= 2)".as_slice(), b"mta | bb", b"bb", b"aa ("] {
+            let index = &index;
+            scope.spawn(move || {
+                let whole = query(b"amd64", &[b"nocheck"], relation, text);
+                assert_eq!(index.query(b"amd64", &[b"nocheck"], relation), whole);
+            });
+        }
+    });
+    let refusal = Refusal {
+        code: Code::BadVersion,
+        line: 2,
+    };
+    let refused = Index::read(b"Package: aa\nVersion: 1-\n");
+    assert_eq!(refused.unwrap_err(), Error::Refused(refusal));
     Ok(())
 }

@@ -54,6 +54,20 @@ static std::string fields(const std::string &text) {
     return out;
 }
 
+// The report of a loaded index on a relation.
+static std::string asked(const std::string &text, const std::string &relation) {
+    std::vector<uint64_t> memory(deb_index_size() / 8 + 1);
+    deb_index *index = reinterpret_cast<deb_index *>(memory.data());
+    deb_answer answer;
+    deb_index_read(index, bytes(text), text.size(), &answer);
+    std::vector<uint8_t> out(256);
+    size_t length = 0;
+    answer = deb_index_query(index, bytes("amd64"), 5, nullptr, 0, bytes(relation),
+                             relation.size(), out.data(), out.size(), &length);
+    deb_index_free(index);
+    return std::to_string(answer.status) + ' ' + std::string(out.begin(), out.begin() + length);
+}
+
 int main() {
     const std::string text = "vERSION: 01.0-0\npackage:hello\nArchitecture: amd64\n";
     int failed = 0;
@@ -66,6 +80,7 @@ int main() {
     failed += deb_version_compare(bytes("1"), 1, bytes("2"), 1).order >= 0;
     failed += key("1.0~rc1") >= key("1.0") || key("1.0") != key("0:1.00-0");
     failed += fields("Package: aa\nDepends: bb\n") != "Package=aa Depends=bb ";
-    std::printf("cpp: %d passed, %d failed\n", 8 - failed, failed);
+    failed += asked(text, "hello") != "0 met hello\n 1 hello 1.0 amd64\n";
+    std::printf("cpp: %d passed, %d failed\n", 9 - failed, failed);
     return failed != 0;
 }

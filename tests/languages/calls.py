@@ -103,6 +103,20 @@ def with_profiles(profiles):
     return debctl.query("hello <!nodoc>", HELLO, "amd64", profiles).text
 
 
+def from_one_index():
+    """Whether four threads that ask one index at once are answered as one alone is."""
+    index, answers = debctl.Index(HELLO), []
+    run = lambda: answers.extend(index.query("hello", "amd64").text for _ in range(500))
+    threads = [threading.Thread(target=run) for _ in range(4)]
+    for thread in threads:
+        thread.start()
+    for thread in threads:
+        thread.join()
+    return answers == [b"met hello\n 1 hello 1.0 amd64\n"] * 2000
+
+
+INDEX = debctl.Index(HELLO + "\n" + "Package: mailer\nVersion: 2\nArchitecture: all\nProvides: mta\n")
+
 long_index = "\n".join(f"Package: p{at}\nVersion: {at}\nArchitecture: all\n" for at in range(2000))
 long_version = "1" * 100000 + "-0"
 bad_version = (Code.BadVersion, 0, "BadVersion", False)
@@ -178,6 +192,24 @@ TESTS = {
     "bad index": refusal(debctl.query, "hello", BAD, "amd64") == (15, 4, "BadNumber", False),
     "wildcard": refusal(debctl.query, "hello [linux-any]", HELLO, "amd64") == (22, 0, "Wildcard", False),
     "threads": from_threads(),
+    "an index": (len(INDEX), repr(INDEX)) == (2, "<debctl.Index of 2 packages>"),
+    "an index is asked": INDEX.query("hello, mta (>= 1)", "amd64")
+    == (False, b"met hello\n 1 hello 1.0 amd64\nunmet mta (>= 1)\n"),
+    "an index with profiles": INDEX.query("hello <!nodoc>", "amd64", ["nodoc"]).text
+    == b"ignored hello <!nodoc>\n",
+    "an index by names": (INDEX.packages("hello"), INDEX.providers("mta"), INDEX.packages(b"mta"))
+    == ([1], [2], []),
+    "an index by numbers": [INDEX.package(at) for at in (0, 1, 3, -1)]
+    == [None, ("hello", "1.0", "amd64"), None, None],
+    "an empty index": (len(debctl.Index("")), debctl.Index("").packages("aa")) == (0, []),
+    "many numbers": debctl.Index(long_index.replace("Package: p", "Package: pp\nX: ")).packages("pp")
+    == list(range(1, 2001)),
+    "long report of an index": debctl.Index(long_index)
+    .query(" | ".join(f"p{at}" for at in range(2000)), "amd64").text.count(b"\n") == 2001,
+    "refused index": refusal(debctl.Index, BAD) == (15, 4, "BadNumber", False),
+    "an index and a bad relation": refusal(INDEX.query, "a (", "amd64") == (19, 0, "BadRelation", False),
+    "an index and no text": error(debctl.Index, 5) is TypeError,
+    "threads ask one index": from_one_index(),
 }
 
 failed = [name for name, passed in TESTS.items() if not passed]

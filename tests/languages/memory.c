@@ -44,6 +44,21 @@ static struct deb_answer fields_of(const char *text) {
     return answer;
 }
 
+static struct deb_index *loaded; /* read with no growth refused */
+
+/* Reads an index to other memory, whatever its answer is. */
+static struct deb_answer read_index(const char *text) {
+    static union {
+        uint64_t words[128];
+        unsigned char bytes[1024];
+    } memory;
+    struct deb_index *index = (struct deb_index *)(void *)&memory;
+    struct deb_answer answer;
+    deb_index_read(index, bytes(text), strlen(text), &answer);
+    deb_index_free(index);
+    return answer;
+}
+
 static struct deb_answer call(int which) {
     const uint8_t *text = bytes(index_of_two);
     size_t size = strlen(index_of_two);
@@ -73,6 +88,13 @@ static struct deb_answer call(int which) {
     case 10:
         return deb_unmet(DEB_PACKAGES, 1, bytes("amd64"), 5, &profile, 1, text, size, text, size,
                          out, sizeof out, &length);
+    case 11:
+        return read_index(index_of_two);
+    case 12:
+        return deb_index_query(loaded, bytes("amd64"), 5, &profile, 1,
+                               bytes("hello (>= 1) | xx, mta"), 22, out, sizeof out, &length);
+    case 13:
+        return deb_index_package(loaded, 2, out, sizeof out, &length);
     default:
         return deb_query(bytes("amd64"), 5, &profile, 1, bytes("hello (>= 1) | xx, mta"), 22, text,
                          size, out, sizeof out, &length);
@@ -83,13 +105,19 @@ int main(void) {
     static const char *names[] = {"version_canonical", "check",   "normalise", "explain",
                                   "explain, refused",  "same",    "version_key",
                                   "relation_canonical", "fields", "fields, refused",
-                                  "unmet",             "query"};
+                                  "unmet",             "index_read", "index_query",
+                                  "index_package",     "query"};
     enum { CALLS = sizeof names / sizeof *names };
     static const int statuses[CALLS] = {
         DEB_YES, DEB_YES, DEB_YES, DEB_YES, DEB_REFUSED, DEB_YES,
         DEB_YES, DEB_YES, DEB_YES, DEB_REFUSED, DEB_NO, DEB_YES,
+        DEB_YES, DEB_YES, DEB_YES,
     };
+    struct deb_answer reading;
     int which, passed = 0, failed = 0;
+    loaded = malloc(deb_index_size());
+    deb_index_read(loaded, bytes(index_of_two), strlen(index_of_two), &reading);
+    failed += reading.status != DEB_YES || deb_index_size() > 1024;
     for (which = 0; which < CALLS; which++) {
         long growth = 0;
         struct deb_answer answer;
@@ -119,6 +147,8 @@ int main(void) {
             failed++;
         }
     }
+    deb_index_free(loaded);
+    free(loaded);
     printf("memory: %d passed, %d failed\n", passed, failed);
     return failed != 0;
 }

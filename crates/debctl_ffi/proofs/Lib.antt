@@ -4,3 +4,5 @@ mod Explained
 mod FieldTables
 mod FieldsSoFar
 mod ShownFields
+mod Loading
+pub mod HandsOn

@@ -10,3 +10,4 @@ pub mod Fields
 pub mod Tables
 pub mod Relations
 pub mod FieldLaws
+pub mod Loads

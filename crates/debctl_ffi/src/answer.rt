@@ -93,6 +93,13 @@ pub(crate) fn no_kind() -> Answer
     bare(6)
 }
 
+/// The answer 7: no index was loaded.
+pub(crate) fn no_index() -> Answer
+    ensures { result ≡ plain 7 }
+{
+    bare(7)
+}
+
 /// A status that nothing goes with.
 fn bare(status: u8) -> Answer
     ensures { result ≡ plain status }

@@ -16,3 +16,16 @@ pub(crate) fn give(bytes: &[u8], out: &mut [u8], len: &mut usize) -> bool
     out[..bytes.len()].copy_from_slice(bytes);
     true
 }
+
+/// Copies numbers to the start of a buffer, as [`give`] does bytes.
+pub(crate) fn give_numbers(numbers: &[u64], out: &mut [u64], count: &mut usize) -> bool
+    ensures room { IsTrue result → Gives numbers.now out.old out.new count.new }
+    ensures no_room { IsFalse result → LacksRoom numbers.now out.old out.new count.new }
+{
+    *count = numbers.len();
+    if numbers.len() > out.len() {
+        return false;
+    }
+    out[..numbers.len()].copy_from_slice(numbers);
+    true
+}

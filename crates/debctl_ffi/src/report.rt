@@ -1,6 +1,6 @@
 //! Reports on an index in memory.
 
-ghost use Rattle.std.specs.Prelude.{◌≡◌, IfErr, IfOk, Some};
+ghost use Rattle.std.specs.Prelude.{◌≡◌, ℕ, List, IfErr, IfOk, Some};
 ghost use Rattle.deb_base.specs.Faults.{RefusedOrMemory};
 ghost use Rattle.deb_base.specs.declared.doc.Doc.{Doc};
 ghost use Rattle.deb_control.specs.Documents.{refusal_of};
@@ -35,6 +35,27 @@ pub(crate) fn report_on(
 {
     let question = Question::parse(alloc, target, profiles, relation)?;
     let index = read_index(alloc, index)?;
+    let report = index.ask(alloc, &question)?;
+    let text = text_of(alloc, &report)?;
+    Ok((report.all_met(), text))
+}
+
+/// The report of a relation on an index that is read, as [`report_on`] gives it.
+pub(crate) fn report_in(
+    alloc: Global,
+    target: &[u8],
+    profiles: &[&[u8]],
+    relation: &[u8],
+    index: &Index,
+) -> Result<(bool, Vec<u8>), Fault>
+    ensures ok { (text : List ℕ) → ListsAll text (packages_of index.now) → IfOk result
+        (λ answer. ReportsOn (question target.now (names_of profiles.now) relation.now) text
+        answer.0 answer.1.items) }
+    ensures fault { (text : List ℕ) → ListsAll text (packages_of index.now) → IfErr result
+        (λ fault. RefusedOrMemory fault
+        (RefusesQuery (question target.now (names_of profiles.now) relation.now) text)) }
+{
+    let question = Question::parse(alloc, target, profiles, relation)?;
     let report = index.ask(alloc, &question)?;
     let text = text_of(alloc, &report)?;
     Ok((report.all_met(), text))

@@ -1,0 +1,184 @@
+//! A loaded index, for programs in C.
+
+ghost use Rattle.std.specs.Prelude.{◌≡◌, true, false, [], ◌∷◌, ℕ, List, None};
+ghost use Rattle.std.specs.Borrow.{full_share};
+ghost use Rattle.std.specs.Ptr.{lies_at, room_at};
+ghost use types.Logic.{sem};
+ghost use Rattle.deb_index.specs.Listed.{Listed};
+ghost use Rattle.deb_index.specs.Named.{has_name, numbers_of, package_at, provides};
+ghost use Rattle.deb_index.specs.Questions.{question};
+ghost use Rattle.deb_relation.specs.Views.{names_of};
+ghost use Rattle.debctl_ffi.specs.Answers.{HasStatus, plain};
+ghost use Rattle.debctl_ffi.specs.Buffers.{Gives, GivesNothing, LacksRoom};
+ghost use Rattle.debctl_ffi.specs.Loads.{GivesPackage, HasPackages, HoldsIndex, HoldsNone, IsLoading, LacksRoomForPackage, Loan, lies_lent, loaded_of, share_of};
+ghost use Rattle.debctl_ffi.specs.Queries.{GivesReport, IsRefusedQuery, LacksRoomForReport};
+ghost use Rattle.debctl_ffi.specs.contracts.loaded.Loaded.{the_row};
+ghost use Rattle.debctl_ffi.specs.declared.loaded.Loaded.{Loaded as LoadedData};
+
+use crate::answer::Answer;
+use crate::loaded::{Loaded, discard};
+use std::alloc::Global;
+
+/// Returns how many bytes the memory of a loaded index has.
+#[unsafe(no_mangle)]
+pub extern "C" fn deb_index_size() -> usize {
+    size_of::<Loaded>()
+}
+
+/// Reads an index of packages into memory of the caller, of [`deb_index_size`] bytes, which may be
+/// asked from then on and is freed by [`deb_index_free`]. Status 0: the file is accepted, with the
+/// number of its packages. 2: it is refused, with its first refusal; nothing is loaded. 5: out of
+/// memory; nothing is loaded.
+#[unsafe(no_mangle)]
+pub unsafe extern "C" fn deb_index_read(
+    index: *mut u8,
+    alloc: Global,
+    text: &[u8],
+    answer: &mut Answer,
+)
+    requires* room { sem 𝓛 (room_at the_row index) }
+    ensures* loading { ∃ₛ (λ (loaded : LoadedData).
+        sem 𝓛 (lies_at the_row full_share index loaded)
+        ∗ ⌜ IsLoading text.now answer.new loaded ⌝) }
+{
+    let loaded = Loaded::read(alloc, text, answer);
+    unsafe { (index as *mut Loaded).write(loaded) }
+}
+
+/// Frees what [`deb_index_read`] loaded. The memory is the caller's again.
+#[unsafe(no_mangle)]
+pub unsafe extern "C" fn deb_index_free(index: *mut u8)
+    ghost loaded: { LoadedData }
+    requires* loaded { sem 𝓛 (lies_at the_row full_share index loaded) }
+    ensures* room { sem 𝓛 (room_at the_row index) }
+{
+    discard(unsafe { (index as *mut Loaded).read() })
+}
+
+/// Writes the report of [`crate::query::deb_query`] on a loaded index. Its statuses, and 7: nothing
+/// is loaded.
+#[unsafe(no_mangle)]
+pub unsafe extern "C" fn deb_index_query(
+    index: *const u8,
+    target: &[u8],
+    profiles: &[&[u8]],
+    relation: &[u8],
+    out: &mut [u8],
+    len: &mut usize,
+) -> Answer
+    ghost loan: { Loan }
+    requires* lent { sem 𝓛 (share_of loan) ∗ sem 𝓛 (lies_lent index loan) }
+    ensures* share { sem 𝓛 (share_of loan) }
+    ensures met { (text : List ℕ) → HoldsIndex text (loaded_of loan) → result.status ≡ 0
+        → (result ≡ plain 0)
+        × GivesReport (question target.now (names_of profiles.now) relation.now) text true
+        out.old out.new len.new }
+    ensures unmet { (text : List ℕ) → HoldsIndex text (loaded_of loan) → result.status ≡ 1
+        → (result ≡ plain 1)
+        × GivesReport (question target.now (names_of profiles.now) relation.now) text false
+        out.old out.new len.new }
+    ensures refused { (text : List ℕ) → HoldsIndex text (loaded_of loan) → result.status ≡ 2
+        → IsRefusedQuery (question target.now (names_of profiles.now) relation.now) text result
+        × GivesNothing out.old out.new len.new }
+    ensures no_room { (text : List ℕ) → HoldsIndex text (loaded_of loan) → result.status ≡ 4
+        → (result ≡ plain 4)
+        × LacksRoomForReport (question target.now (names_of profiles.now) relation.now) text
+        out.old out.new len.new }
+    ensures no_memory { result.status ≡ 5 → (result ≡ plain 5)
+        × GivesNothing out.old out.new len.new }
+    ensures no_index { result.status ≡ 7 → (result ≡ plain 7) × HoldsNone (loaded_of loan)
+        × GivesNothing out.old out.new len.new }
+    ensures status { HasStatus result.status (0 ∷ 1 ∷ 2 ∷ 4 ∷ 5 ∷ 7 ∷ []) }
+{
+    Loaded::query(
+        unsafe { &*(index as *const Loaded) },
+        target,
+        profiles,
+        relation,
+        out,
+        len,
+    )
+}
+
+/// Writes the numbers of the packages of a loaded index that have a name, counted from 1, in
+/// ascending order, and returns how many there are. Status 0; 4: there is no room for them, and
+/// `count` is how many there are; 7: nothing is loaded.
+#[unsafe(no_mangle)]
+pub unsafe extern "C" fn deb_index_packages(
+    index: *const u8,
+    name: &[u8],
+    numbers: &mut [u64],
+    count: &mut usize,
+) -> Answer
+    ghost loan: { Loan }
+    requires* lent { sem 𝓛 (share_of loan) ∗ sem 𝓛 (lies_lent index loan) }
+    ensures* share { sem 𝓛 (share_of loan) }
+    ensures found { (packages : List Listed) → HasPackages (loaded_of loan) packages
+        → result.status ≡ 0 → (result ≡ plain 0)
+        × Gives (numbers_of (has_name name.now) packages) numbers.old numbers.new count.new }
+    ensures no_room { (packages : List Listed) → HasPackages (loaded_of loan) packages
+        → result.status ≡ 4 → (result ≡ plain 4)
+        × LacksRoom (numbers_of (has_name name.now) packages) numbers.old numbers.new count.new }
+    ensures no_index { result.status ≡ 7 → (result ≡ plain 7) × HoldsNone (loaded_of loan)
+        × GivesNothing numbers.old numbers.new count.new }
+    ensures status { HasStatus result.status (0 ∷ 4 ∷ 7 ∷ []) }
+{
+    Loaded::packages(unsafe { &*(index as *const Loaded) }, name, numbers, count)
+}
+
+/// Writes the numbers of the packages of a loaded index that provide a name, counted from 1, in
+/// ascending order, and returns how many there are. Status 0; 4: there is no room for them, and
+/// `count` is how many there are; 7: nothing is loaded.
+#[unsafe(no_mangle)]
+pub unsafe extern "C" fn deb_index_providers(
+    index: *const u8,
+    name: &[u8],
+    numbers: &mut [u64],
+    count: &mut usize,
+) -> Answer
+    ghost loan: { Loan }
+    requires* lent { sem 𝓛 (share_of loan) ∗ sem 𝓛 (lies_lent index loan) }
+    ensures* share { sem 𝓛 (share_of loan) }
+    ensures found { (packages : List Listed) → HasPackages (loaded_of loan) packages
+        → result.status ≡ 0 → (result ≡ plain 0)
+        × Gives (numbers_of (provides name.now) packages) numbers.old numbers.new count.new }
+    ensures no_room { (packages : List Listed) → HasPackages (loaded_of loan) packages
+        → result.status ≡ 4 → (result ≡ plain 4)
+        × LacksRoom (numbers_of (provides name.now) packages) numbers.old numbers.new count.new }
+    ensures no_index { result.status ≡ 7 → (result ≡ plain 7) × HoldsNone (loaded_of loan)
+        × GivesNothing numbers.old numbers.new count.new }
+    ensures status { HasStatus result.status (0 ∷ 4 ∷ 7 ∷ []) }
+{
+    Loaded::providers(unsafe { &*(index as *const Loaded) }, name, numbers, count)
+}
+
+/// Writes the name, the canonical version and the architecture of the package of a loaded index
+/// that has a number, counted from 1, with a space between. Status 0; 1: there is no such package;
+/// 4: `out` is too small; 5: out of memory; 7: nothing is loaded.
+#[unsafe(no_mangle)]
+pub unsafe extern "C" fn deb_index_package(
+    index: *const u8,
+    number: u64,
+    out: &mut [u8],
+    len: &mut usize,
+) -> Answer
+    ghost loan: { Loan }
+    requires* lent { sem 𝓛 (share_of loan) ∗ sem 𝓛 (lies_lent index loan) }
+    ensures* share { sem 𝓛 (share_of loan) }
+    ensures found { (packages : List Listed) → HasPackages (loaded_of loan) packages
+        → result.status ≡ 0 → (result ≡ plain 0)
+        × GivesPackage number packages out.old out.new len.new }
+    ensures none { (packages : List Listed) → HasPackages (loaded_of loan) packages
+        → result.status ≡ 1 → (result ≡ plain 1) × (package_at number packages ≡ None)
+        × GivesNothing out.old out.new len.new }
+    ensures no_room { (packages : List Listed) → HasPackages (loaded_of loan) packages
+        → result.status ≡ 4 → (result ≡ plain 4)
+        × LacksRoomForPackage number packages out.old out.new len.new }
+    ensures no_memory { result.status ≡ 5 → (result ≡ plain 5)
+        × GivesNothing out.old out.new len.new }
+    ensures no_index { result.status ≡ 7 → (result ≡ plain 7) × HoldsNone (loaded_of loan)
+        × GivesNothing out.old out.new len.new }
+    ensures status { HasStatus result.status (0 ∷ 1 ∷ 4 ∷ 5 ∷ 7 ∷ []) }
+{
+    Loaded::package_at(unsafe { &*(index as *const Loaded) }, number, out, len)
+}

@@ -1,0 +1,169 @@
+/* An index that is read once and asked often: each status, each buffer, and four threads at once. */
+#include "debctl.h"
+
+#include <pthread.h>
+#include <stdio.h>
+#include <stdlib.h>
+#include <string.h>
+
+static int passed, failed;
+
+#define IS(what) \
+    ((what) ? (void)passed++ : (void)(failed++, printf("index.c:%d: %s\n", __LINE__, #what)))
+
+static const uint8_t *bytes(const char *text) { return (const uint8_t *)text; }
+
+static const char *text_of_three =
+    "Package: hello\nVersion: 1.0-0\nArchitecture: amd64\n\n"
+    "Package: mailer\nVersion: 2\nArchitecture: all\nProvides: mta (= 2), other\n\n"
+    "Package: hello\nVersion: 0:2.10\nArchitecture: i386\nProvides: mta\n";
+
+static const char *bad = "Package: hello\nVersion: 1.1\nArchitecture: amd64\nSize: 1k\n";
+
+static int is(struct deb_answer answer, int status, int code, uint64_t line, uint64_t count) {
+    return answer.status == status && answer.code == code && answer.line == line &&
+           answer.count == count;
+}
+
+/* An index in as much memory as it needs, so that a byte too many is one for the sanitiser. */
+static struct deb_index *loaded(const char *text, size_t length, struct deb_answer *answer) {
+    struct deb_index *index = malloc(deb_index_size());
+    deb_index_read(index, bytes(text), length, answer);
+    return index;
+}
+
+static void release(struct deb_index *index) {
+    deb_index_free(index);
+    free(index);
+}
+
+static struct deb_answer query(const struct deb_index *index, const char *relation, uint8_t *out,
+                               size_t room, size_t *length) {
+    return deb_index_query(index, bytes("amd64"), 5, NULL, 0, bytes(relation), strlen(relation),
+                           out, room, length);
+}
+
+static void try_queries(const struct deb_index *index) {
+    static const char *relations[] = {"hello", "hello (>= 2)", "mta | aa, xx", "aa [linux-any]",
+                                      "aa (", "other", ""};
+    struct deb_text profile = {bytes("nocheck"), 7};
+    uint8_t out[512], other[512];
+    size_t at, length, size = strlen(text_of_three), other_length;
+    for (at = 0; at < sizeof relations / sizeof *relations; at++) {
+        const uint8_t *relation = bytes(relations[at]);
+        struct deb_answer answer, direct;
+        memset(out, 7, sizeof out);
+        memset(other, 7, sizeof other);
+        answer = query(index, relations[at], out, sizeof out, &length);
+        direct = deb_query(bytes("amd64"), 5, NULL, 0, relation, strlen(relations[at]),
+                           bytes(text_of_three), size, other, sizeof other, &other_length);
+        IS(is(answer, direct.status, direct.code, direct.line, direct.count));
+        IS(length == other_length && memcmp(out, other, sizeof out) == 0);
+    }
+    IS(is(query(index, "hello", NULL, 0, &length), DEB_NO_ROOM, 0, 0, 0) && length == 29);
+    IS(is(deb_index_query(index, bytes("any"), 3, NULL, 0, bytes("aa"), 2, out, 9, &length),
+          DEB_REFUSED, DEB_BAD_ENVIRONMENT, 0, 0) && length == 0);
+    IS(is(deb_index_query(index, bytes("amd64"), 5, &profile, 1, bytes("hello <!nocheck>"), 16, out,
+                          sizeof out, &length), DEB_YES, 0, 0, 0));
+    IS(length == 25 && memcmp(out, "ignored hello <!nocheck>\n", length) == 0);
+    IS(is(deb_index_query(index, bytes("amd64"), 5, NULL, 0, NULL, 0, NULL, 0, &length), DEB_YES, 0,
+          0, 0) && length == 0);
+}
+
+static void try_names(const struct deb_index *index) {
+    uint64_t numbers[3] = {9, 9, 9};
+    size_t count = 99;
+    IS(is(deb_index_packages(index, bytes("hello"), 5, numbers, 3, &count), DEB_YES, 0, 0, 0));
+    IS(count == 2 && numbers[0] == 1 && numbers[1] == 3 && numbers[2] == 9);
+    IS(is(deb_index_providers(index, bytes("mta"), 3, numbers, 2, &count), DEB_YES, 0, 0, 0));
+    IS(count == 2 && numbers[0] == 2 && numbers[1] == 3);
+    numbers[0] = 9;
+    IS(is(deb_index_packages(index, bytes("hello"), 5, numbers, 1, &count), DEB_NO_ROOM, 0, 0, 0));
+    IS(count == 2 && numbers[0] == 9);
+    IS(is(deb_index_providers(index, bytes("mta"), 3, NULL, 0, &count), DEB_NO_ROOM, 0, 0, 0));
+    IS(count == 2);
+    IS(is(deb_index_providers(index, bytes("hello"), 5, NULL, 0, &count), DEB_YES, 0, 0, 0));
+    IS(count == 0);
+    IS(is(deb_index_packages(index, NULL, 0, NULL, 0, &count), DEB_YES, 0, 0, 0) && count == 0);
+}
+
+static void try_numbers(const struct deb_index *index) {
+    uint8_t out[64];
+    size_t length = 99;
+    IS(is(deb_index_package(index, 3, out, sizeof out, &length), DEB_YES, 0, 0, 0));
+    IS(length == 15 && memcmp(out, "hello 2.10 i386", length) == 0);
+    IS(is(deb_index_package(index, 1, out, 15, &length), DEB_YES, 0, 0, 0));
+    IS(length == 15 && memcmp(out, "hello 1.0 amd64", length) == 0);
+    memset(out, 7, sizeof out);
+    IS(is(deb_index_package(index, 1, out, 14, &length), DEB_NO_ROOM, 0, 0, 0));
+    IS(length == 15 && out[0] == 7);
+    IS(is(deb_index_package(index, 2, NULL, 0, &length), DEB_NO_ROOM, 0, 0, 0) && length == 12);
+    IS(is(deb_index_package(index, 0, NULL, 0, &length), DEB_NO, 0, 0, 0) && length == 0);
+    IS(is(deb_index_package(index, 4, NULL, 0, &length), DEB_NO, 0, 0, 0) && length == 0);
+    IS(is(deb_index_package(index, UINT64_MAX, NULL, 0, &length), DEB_NO, 0, 0, 0));
+}
+
+/* An index that is refused holds none, and is freed as any other. */
+static void try_refused(void) {
+    struct deb_answer answer;
+    struct deb_index *index = loaded(bad, strlen(bad), &answer);
+    uint64_t number = 9;
+    uint8_t out[9] = {7};
+    size_t length = 99;
+    IS(is(answer, DEB_REFUSED, DEB_BAD_NUMBER, 4, 0));
+    IS(is(query(index, "hello", out, 9, &length), DEB_NO_INDEX, 0, 0, 0) && length == 0);
+    IS(is(deb_index_packages(index, bytes("aa"), 2, &number, 1, &length), DEB_NO_INDEX, 0, 0, 0));
+    IS(is(deb_index_providers(index, bytes("aa"), 2, &number, 1, &length), DEB_NO_INDEX, 0, 0, 0));
+    IS(is(deb_index_package(index, 1, out, 9, &length), DEB_NO_INDEX, 0, 0, 0) && length == 0);
+    IS(number == 9 && out[0] == 7);
+    deb_index_free(index);
+    deb_index_read(index, NULL, 0, &answer); /* its memory may be used again */
+    IS(is(answer, DEB_YES, 0, 0, 0));
+    IS(is(query(index, "hello", out, 0, &length), DEB_NO_ROOM, 0, 0, 0) && length == 12);
+    release(index);
+}
+
+static const struct deb_index *shared;
+
+static void *ask(void *wrong) {
+    int turn;
+    for (turn = 0; turn < 2000; turn++) {
+        uint8_t out[64];
+        uint64_t number;
+        size_t length;
+        *(int *)wrong += query(shared, "hello", out, sizeof out, &length).status != DEB_YES ||
+                         memcmp(out, "met hello\n 1 hello 1.0 amd64\n", 29) != 0;
+        *(int *)wrong += deb_index_packages(shared, bytes("mailer"), 6, &number, 1, &length)
+                                 .status != DEB_YES ||
+                         number != 2;
+        *(int *)wrong += deb_index_package(shared, 2, out, sizeof out, &length).status != DEB_YES;
+    }
+    return NULL;
+}
+
+static void try_threads(const struct deb_index *index) {
+    pthread_t threads[4];
+    int wrong[4] = {0}, at;
+    shared = index;
+    for (at = 0; at < 4; at++)
+        if (pthread_create(&threads[at], NULL, ask, &wrong[at]) != 0)
+            wrong[at] = 1;
+    for (at = 0; at < 4; at++) {
+        pthread_join(threads[at], NULL);
+        IS(wrong[at] == 0);
+    }
+}
+
+int main(void) {
+    struct deb_answer answer;
+    struct deb_index *index = loaded(text_of_three, strlen(text_of_three), &answer);
+    IS(is(answer, DEB_YES, 0, 0, 3));
+    try_queries(index);
+    try_names(index);
+    try_numbers(index);
+    try_threads(index);
+    release(index);
+    try_refused();
+    printf("index: %d passed, %d failed\n", passed, failed);
+    return failed != 0;
+}
