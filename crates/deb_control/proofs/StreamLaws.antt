@@ -1,11 +1,12 @@
 -- The first refusal of a stream is that of the file, and a stream goes on without what is refused.
-use Rattle.deb_control.proofs.Common.{◌≡◌, ℕ, ◌+◌, ◌++◌, Bool, true, false, cond, List, [], ◌∷◌, length, drop, Option, None, Some, Result, Ok, Err, refl, sym, ap, ◌∙◌, paragraph_limit, Refusal, Entries, Paragraph, Rules, paragraphs_within, rules_of, answer_behind, line_behind}
+use Rattle.deb_control.proofs.Common.{◌≡◌, ℕ, ◌+◌, ◌++◌, Bool, true, false, cond, List, [], ◌∷◌, length, drop, Option, None, Some, Result, Ok, Err, refl, sym, ap, ◌∙◌, arith, length-append, paragraph_limit, Refusal, Entries, Paragraph, Rules, paragraphs_within, rules_of, answer_behind, line_behind}
 use Rattle.deb_syntax.specs.Answers.{line_beyond}
 use Rattle.deb_syntax.specs.Lines.{file_limit}
+use Rattle.deb_control.proofs.FollowedParagraphs.{drop_one, never_behind_all}
 use Rattle.deb_control.specs.Refusals.{Outcome, followed, outcome_behind, stopped}
 use Rattle.deb_control.specs.Laws.{RefusedOrAccepted}
-use Rattle.deb_control.specs.Streams.{CheckedStream, end_of, is_end_under, item_of, refusals_in, stream_behind_under, with_answer, with_item}
-use Rattle.deb_control.specs.StreamLaws.{FirstIsTheRefusal, NoRefusalIsAccepted, RefusedIsLeftOut, first_of}
+use Rattle.deb_control.specs.Streams.{CheckedStream, end_of, ended_by, is_end_under, item_of, refusals_in, stream_behind_under, stream_from, with_answer, with_item}
+use Rattle.deb_control.specs.StreamLaws.{EndEndsTheStream, FirstIsTheRefusal, NoRefusalIsAccepted, PassedIsNext, RefusedIsLeftOut, first_of}
 
 -- the first of a stream's refusals
 first_in : CheckedStream → Option Refusal
@@ -24,7 +25,7 @@ behind_one is_end p before (Ok (Some entries)) stream outcome same = same entrie
 behind_one is_end p before (Ok None) stream outcome same = refl
 behind_one is_end p before (Err refusal) stream outcome same = go (is_end refusal)
   where
-    go : (t : Bool) → first_in (cond t (Rattle.deb_control.specs.Streams.ended_by (Some refusal)) (with_item (item_of p (Err refusal)) (stream before))) ≡ Some refusal
+    go : (t : Bool) → first_in (cond t (ended_by (Some refusal)) (with_item (item_of p (Err refusal)) (stream before))) ≡ Some refusal
     go true = refl
     go false = refl
 
@@ -66,7 +67,27 @@ refused_is_left_out doc text before p other refusal w refused goes_on =
     let answer : answer_behind rules beyond n before (p ∷ w.more) ≡ Err refusal = ap (answer_behind rules beyond n before) (sym here) ∙ refused in
     ap stream here
     ∙ ap (λ a. with_answer (is_end_under paragraph_limit rules p) p before a (λ passed. stream_behind_under paragraph_limit file_limit rules beyond n passed w.more)) answer
-    ∙ ap (λ t. cond t (Rattle.deb_control.specs.Streams.ended_by (Some refusal)) (with_item (item_of p (Err refusal)) (stream w.more))) goes_on
+    ∙ ap (λ t. cond t (ended_by (Some refusal)) (with_item (item_of p (Err refusal)) (stream w.more))) goes_on
     ∙ ap (with_item (item_of p (Err refusal)))
     (ap stream (sym there) ∙ ap (λ b. stream_behind_under paragraph_limit file_limit rules b n before (drop (length before) (paragraphs_within other))) (sym w.beyond)
     ∙ ap (λ k. stream_behind_under paragraph_limit file_limit rules (line_beyond 1 file_limit other) (k + 1) before (drop (length before) (paragraphs_within other))) (sym w.lines))
+
+pub passed_is_next : PassedIsNext
+passed_is_next doc text before entries passes = go (drop (length before) (paragraphs_within text)) refl passes
+  where
+    go : (left : List Paragraph) → drop (length before) (paragraphs_within text) ≡ left → answer_behind (rules_of doc) (line_beyond 1 file_limit text) (line_behind text) before left ≡ Ok (Some entries) → (p : Paragraph) × (stream_behind_under paragraph_limit file_limit (rules_of doc) (line_beyond 1 file_limit text) (line_behind text) before left ≡ with_item (item_of p (Ok entries)) (stream_from (rules_of doc) text (before ++ entries ∷ [])))
+    go [] is answer = absurd (never_behind_all (rules_of doc) (line_beyond 1 file_limit text) (line_behind text) before entries answer)
+    go (p ∷ left) is answer =
+        let count : length before + 1 ≡ length (before ++ entries ∷ []) = omega (arith, length-append before (entries ∷ [])) in
+        let rest : left ≡ drop (length (before ++ entries ∷ [])) (paragraphs_within text) = ap (drop 1) (sym is) ∙ drop_one (length before) (paragraphs_within text) ∙ ap (λ m. drop m (paragraphs_within text)) count in (
+          p,
+          ap (λ a. with_answer (is_end_under paragraph_limit (rules_of doc) p) p before a (λ passed. stream_behind_under paragraph_limit file_limit (rules_of doc) (line_beyond 1 file_limit text) (line_behind text) passed left)) answer
+              ∙ ap (λ ps. with_item (item_of p (Ok entries)) (stream_behind_under paragraph_limit file_limit (rules_of doc) (line_beyond 1 file_limit text) (line_behind text) (before ++ entries ∷ []) ps)) rest,
+        )
+
+pub end_ends_stream : EndEndsTheStream
+end_ends_stream doc text before none = go (drop (length before) (paragraphs_within text)) none
+  where
+    go : (left : List Paragraph) → answer_behind (rules_of doc) (line_beyond 1 file_limit text) (line_behind text) before left ≡ Ok None → stream_behind_under paragraph_limit file_limit (rules_of doc) (line_beyond 1 file_limit text) (line_behind text) before left ≡ ended_by None
+    go [] answer = ap end_of answer
+    go (p ∷ left) answer = ap (λ a. with_answer (is_end_under paragraph_limit (rules_of doc) p) p before a (λ passed. stream_behind_under paragraph_limit file_limit (rules_of doc) (line_beyond 1 file_limit text) (line_behind text) passed left)) answer

@@ -1,5 +1,5 @@
 -- Laws of the stream of a document (this project's own).
-use Rattle.std.specs.Prelude.{◌≡◌, ◌↔◌, ℕ, false, List, [], ◌∷◌, length, Option, Some, None, Err, refl}
+use Rattle.std.specs.Prelude.{◌≡◌, ◌↔◌, ℕ, false, List, [], ◌∷◌, ◌++◌, length, Option, Some, None, Ok, Err, refl}
 use Rattle.deb_base.specs.Bodies.{paragraph_limit}
 use Rattle.deb_base.specs.declared.doc.Doc.{Doc}
 use Rattle.deb_base.specs.declared.refusal.Refusal.{Refusal}
@@ -8,7 +8,7 @@ use Rattle.deb_syntax.specs.Meaning.{Entries}
 use Rattle.deb_syntax.specs.Resuming.{IsWithout}
 use Rattle.deb_control.specs.Documents.{Accepted, Meaning, refusal_of, rules_of}
 use Rattle.deb_control.specs.Refusals.{next_checked}
-use Rattle.deb_control.specs.Streams.{is_end_under, item_of, refusals_by, stream_from, with_item}
+use Rattle.deb_control.specs.Streams.{ended_by, is_end_under, item_of, refusals_by, stream_from, with_item}
 
 abbrev pub first_of : List Refusal → Option Refusal
 first_of [] = None
@@ -35,6 +35,22 @@ RefusedIsLeftOut =
     → is_end_under paragraph_limit (rules_of doc) p refusal ≡ false
     → stream_from (rules_of doc) text before
     ≡ with_item (item_of p (Err refusal)) (stream_from (rules_of doc) other before)
+
+-- Behind paragraphs that have passed, one that passes is the next item, and the stream behind it
+-- follows.
+abbrev pub PassedIsNext : Type 0
+PassedIsNext =
+    (doc : Doc) (text : List ℕ) (before : List Entries) (entries : Entries)
+    → next_checked (rules_of doc) text before ≡ Ok (Some entries)
+    → (p : Paragraph) × (stream_from (rules_of doc) text before
+    ≡ with_item (item_of p (Ok entries)) (stream_from (rules_of doc) text (before ++ entries ∷ [])))
+
+-- Where none follows behind them, the stream ends.
+abbrev pub EndEndsTheStream : Type 0
+EndEndsTheStream =
+    (doc : Doc) (text : List ℕ) (before : List Entries)
+    → next_checked (rules_of doc) text before ≡ Ok None
+    → stream_from (rules_of doc) text before ≡ ended_by None
 
 first_refusals : (refusal other : Refusal) → (first_of [] ≡ None)
     × (first_of (refusal ∷ other ∷ []) ≡ Some refusal)

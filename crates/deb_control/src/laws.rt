@@ -1,7 +1,7 @@
 //! Laws of documents. Each function does nothing; its contract is the law.
 
 ghost use Rattle.deb_control.specs.Laws.{RefusedOrAccepted, AcceptedMeansOneThing, AcceptedIsWritten, CanonicalTextIsAccepted, CanonicalTextTellsMeanings, CanonicalTextIsItsOwn, WhatIsWrittenIsNormal, RefusalsAreOfTheFile, RefusalsOfAnyAreOfText, RefusalBehindIsOfTheFile, EndBehindIsOfTheFile};
-ghost use Rattle.deb_control.specs.StreamLaws.{FirstIsTheRefusal, NoRefusalIsAccepted, RefusedIsLeftOut};
+ghost use Rattle.deb_control.specs.StreamLaws.{EndEndsTheStream, FirstIsTheRefusal, NoRefusalIsAccepted, PassedIsNext, RefusedIsLeftOut};
 
 /// A file has no refusal exactly if it is accepted with some meaning.
 pub fn a_file_is_refused_or_accepted()
@@ -81,4 +81,15 @@ pub fn no_refusal_is_acceptance()
 /// without that paragraph.
 pub fn what_is_refused_is_left_out()
     ensures { RefusedIsLeftOut }
+{}
+
+/// If `Checked` returns a paragraph after those that it has returned, that is the stream's next
+/// item, and the stream after it follows.
+pub fn what_passes_is_next_in_the_stream()
+    ensures { PassedIsNext }
+{}
+
+/// If `Checked` returns that no paragraph follows those that it has returned, the stream ends.
+pub fn the_end_ends_the_stream()
+    ensures { EndEndsTheStream }
 {}
