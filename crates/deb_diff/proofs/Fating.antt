@@ -7,7 +7,7 @@ use Rattle.deb_diff.specs.Differences.{Changed, Fate, Upgraded}
 use Rattle.deb_diff.specs.Fates.{AreFated, IsFated}
 use Rattle.deb_diff.specs.Fields.{differing}
 use Rattle.deb_diff.specs.Items.{Item}
-use Rattle.deb_diff.specs.Kepts.{AreKept, IsKept}
+use Rattle.deb_diff.specs.Kepts.{AreKept, IsKept, architecture_in, name_in, version_in}
 use Rattle.deb_diff.specs.Lefts.{rest_of_line}
 use Rattle.deb_diff.specs.Lines.{fate_line, item_line, line_of}
 use Rattle.deb_diff.specs.declared.became.Became.{Became}
@@ -15,25 +15,25 @@ use Rattle.deb_diff.specs.declared.kept.Kept.{Kept}
 use Rattle.deb_diff.proofs.Lined.{line_of_rest}
 
 -- the line of a paragraph that is kept
-pub kept_line : (word : List ℕ) (kept : Kept) (item : Item) → IsKept kept item → line_of (word ∷ decimal kept.number ∷ kept.name.items ∷ kept.version.items ∷ kept.architecture.items ∷ []) ≡ item_line word item
+pub kept_line : (word : List ℕ) (kept : Kept) (item : Item) → IsKept kept item → line_of (word ∷ decimal kept.number ∷ name_in kept ∷ version_in kept ∷ architecture_in kept ∷ []) ≡ item_line word item
 kept_line word kept item is = rw (is.number, is.name, is.version, is.architecture) refl
 
-pub changed_line : (new : Kept) (item other : Item) (names : List (List ℕ)) → IsKept new other → names ≡ differing item.bodies other.bodies → codes "changed" ++ rest_of_line (decimal new.number ∷ new.name.items ∷ new.version.items ∷ new.architecture.items ∷ names) ≡ fate_line (item, Changed other)
+pub changed_line : (new : Kept) (item other : Item) (names : List (List ℕ)) → IsKept new other → names ≡ differing item.bodies other.bodies → codes "changed" ++ rest_of_line (decimal new.number ∷ name_in new ∷ version_in new ∷ architecture_in new ∷ names) ≡ fate_line (item, Changed other)
 changed_line new item other names is names_is =
-    sym (line_of_rest (codes "changed") (decimal new.number ∷ new.name.items ∷ new.version.items ∷ new.architecture.items ∷ names))
-    ∙ ap (λ n. line_of (codes "changed" ∷ decimal n ∷ new.name.items ∷ new.version.items ∷ new.architecture.items ∷ names)) is.number
-    ∙ ap (λ n. line_of (codes "changed" ∷ decimal other.number ∷ n ∷ new.version.items ∷ new.architecture.items ∷ names)) is.name
-    ∙ ap (λ n. line_of (codes "changed" ∷ decimal other.number ∷ other.name ∷ n ∷ new.architecture.items ∷ names)) is.version
+    sym (line_of_rest (codes "changed") (decimal new.number ∷ name_in new ∷ version_in new ∷ architecture_in new ∷ names))
+    ∙ ap (λ n. line_of (codes "changed" ∷ decimal n ∷ name_in new ∷ version_in new ∷ architecture_in new ∷ names)) is.number
+    ∙ ap (λ n. line_of (codes "changed" ∷ decimal other.number ∷ n ∷ version_in new ∷ architecture_in new ∷ names)) is.name
+    ∙ ap (λ n. line_of (codes "changed" ∷ decimal other.number ∷ other.name ∷ n ∷ architecture_in new ∷ names)) is.version
     ∙ ap (λ n. line_of (codes "changed" ∷ decimal other.number ∷ other.name ∷ other.version ∷ n ∷ names)) is.architecture
     ∙ ap (λ n. line_of (codes "changed" ∷ decimal other.number ∷ other.name ∷ other.version ∷ other.architecture ∷ n)) names_is
 
-pub upgraded_line : (old new : Kept) (item other : Item) (names : List (List ℕ)) → IsKept old item → IsKept new other → names ≡ differing item.bodies other.bodies → codes "upgraded" ++ rest_of_line (decimal new.number ∷ new.name.items ∷ old.version.items ∷ new.version.items ∷ new.architecture.items ∷ names) ≡ fate_line (item, Upgraded other)
+pub upgraded_line : (old new : Kept) (item other : Item) (names : List (List ℕ)) → IsKept old item → IsKept new other → names ≡ differing item.bodies other.bodies → codes "upgraded" ++ rest_of_line (decimal new.number ∷ name_in new ∷ version_in old ∷ version_in new ∷ architecture_in new ∷ names) ≡ fate_line (item, Upgraded other)
 upgraded_line old new item other names was is names_is =
-    sym (line_of_rest (codes "upgraded") (decimal new.number ∷ new.name.items ∷ old.version.items ∷ new.version.items ∷ new.architecture.items ∷ names))
-    ∙ ap (λ n. line_of (codes "upgraded" ∷ decimal n ∷ new.name.items ∷ old.version.items ∷ new.version.items ∷ new.architecture.items ∷ names)) is.number
-    ∙ ap (λ n. line_of (codes "upgraded" ∷ decimal other.number ∷ n ∷ old.version.items ∷ new.version.items ∷ new.architecture.items ∷ names)) is.name
-    ∙ ap (λ n. line_of (codes "upgraded" ∷ decimal other.number ∷ other.name ∷ n ∷ new.version.items ∷ new.architecture.items ∷ names)) was.version
-    ∙ ap (λ n. line_of (codes "upgraded" ∷ decimal other.number ∷ other.name ∷ item.version ∷ n ∷ new.architecture.items ∷ names)) is.version
+    sym (line_of_rest (codes "upgraded") (decimal new.number ∷ name_in new ∷ version_in old ∷ version_in new ∷ architecture_in new ∷ names))
+    ∙ ap (λ n. line_of (codes "upgraded" ∷ decimal n ∷ name_in new ∷ version_in old ∷ version_in new ∷ architecture_in new ∷ names)) is.number
+    ∙ ap (λ n. line_of (codes "upgraded" ∷ decimal other.number ∷ n ∷ version_in old ∷ version_in new ∷ architecture_in new ∷ names)) is.name
+    ∙ ap (λ n. line_of (codes "upgraded" ∷ decimal other.number ∷ other.name ∷ n ∷ version_in new ∷ architecture_in new ∷ names)) was.version
+    ∙ ap (λ n. line_of (codes "upgraded" ∷ decimal other.number ∷ other.name ∷ item.version ∷ n ∷ architecture_in new ∷ names)) is.version
     ∙ ap (λ n. line_of (codes "upgraded" ∷ decimal other.number ∷ other.name ∷ item.version ∷ other.version ∷ n ∷ names)) is.architecture
     ∙ ap (λ n. line_of (codes "upgraded" ∷ decimal other.number ∷ other.name ∷ item.version ∷ other.version ∷ other.architecture ∷ n)) names_is
 

@@ -1,5 +1,6 @@
 -- The values and the text of a paragraph that passes, as they are kept.
-use Rattle.std.proofs.Common.{◌≡◌, ℕ, List, Option, Result, Ok, Err, IfOk, IsTrue, ap, ◌∙◌, subst, is_ok, refl}
+use Rattle.std.proofs.Common.{◌≡◌, ℕ, List, ◌++◌, length, take, drop, Option, Result, Ok, Err, IfOk, IsTrue, ap, ◌∙◌, subst, is_ok, refl}
+use Rattle.std.proofs.Math.Seq.{drop-append_seam, take-append_seam}
 use Rattle.std.proofs.lemmas.Slice.Eq.{bytes_eq-Decides}
 use Rattle.std.specs.FinMap.{find}
 use Rattle.std.specs.Option.{option_map}
@@ -20,8 +21,9 @@ use Rattle.deb_control.specs.ValueFiles.{ValueEntries}
 use Rattle.deb_control.specs.declared.checked_text.CheckedText.{CheckedText}
 use Rattle.deb_control.proofs.PassingParagraphs.{values-passing}
 use Rattle.deb_control.proofs.ValueBodies.{one_paragraph}
-use Rattle.deb_diff.specs.Items.{value_under}
-use Rattle.deb_diff.specs.Kepts.{HasValues}
+use Rattle.deb_diff.specs.Items.{Item, value_under, whole}
+use Rattle.deb_diff.specs.Kepts.{HasValues, IsKept}
+use Rattle.deb_diff.specs.declared.kept.Kept.{Kept}
 
 -- the value that is found under a name is that of any list of the paragraph's values
 pub value_found : {E : Type 0} (paragraph : CheckedText) (name : List ℕ) (found : Result (Option Value) E)
@@ -56,3 +58,16 @@ pub given_values : (paragraph : CheckedText) (doc : Doc) → doc_of paragraph �
 given_values paragraph doc same =
     let found = values-passing (doc_of paragraph) (passing_of paragraph).seen (judged-text _ (passing_of paragraph).text paragraph.passes) in
     record { values = found.0; has = found.1; are = subst (λ d. AreValuesOf d (passing_of paragraph).seen found.0) same found.1 }
+
+-- words that follow one another are its name, its version and its architecture
+pub words_kept : (kept : Kept) (item : Item) (name version architecture : List ℕ) → kept.words.items ≡ name ++ (version ++ architecture) → kept.name_len ≡ length name → kept.version_len ≡ length version
+    → name ≡ item.name → version ≡ item.version → architecture ≡ item.architecture → kept.number ≡ item.number → kept.text.items ≡ whole item → IsKept kept item
+words_kept kept item name version architecture words name_len version_len name_is version_is architecture_is number text =
+    let rest : drop kept.name_len kept.words.items ≡ version ++ architecture = ap (drop kept.name_len) words ∙ ap (λ n. drop n (name ++ (version ++ architecture))) name_len ∙ drop-append_seam name (version ++ architecture) in
+    record {
+      number = number;
+      name = ap (take kept.name_len) words ∙ ap (λ n. take n (name ++ (version ++ architecture))) name_len ∙ take-append_seam name (version ++ architecture) ∙ name_is;
+      version = ap (take kept.version_len) rest ∙ ap (λ n. take n (version ++ architecture)) version_len ∙ take-append_seam version architecture ∙ version_is;
+      architecture = ap (drop kept.version_len) rest ∙ ap (λ n. drop n (version ++ architecture)) version_len ∙ drop-append_seam version architecture ∙ architecture_is;
+      text = text;
+    }

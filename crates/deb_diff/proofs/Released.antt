@@ -3,7 +3,7 @@ use Rattle.std.proofs.Common.{◌≡◌, ℕ, List, [], ◌∷◌, ◌++◌, map
 use Rattle.std.proofs.lemmas.List.{append_assoc}
 use Rattle.std.specs.List.{concat}
 use Rattle.deb_diff.specs.Items.{Item, release, series}
-use Rattle.deb_diff.specs.Kepts.{AreKept, IsKept}
+use Rattle.deb_diff.specs.Kepts.{AreKept, IsKept, architecture_in, version_in}
 use Rattle.deb_diff.specs.Lefts.{release_in, series_in}
 use Rattle.deb_diff.specs.declared.kept.Kept.{Kept}
 
@@ -12,8 +12,8 @@ joined n v a = simp (append_assoc, append-nil)
 
 release_is : (kept : Kept) (item : Item) → IsKept kept item → release_in kept ≡ release item
 release_is kept item is =
-    ap (λ n. n ++ codes " " ++ kept.version.items ++ codes " " ++ kept.architecture.items) is.name
-    ∙ ap (λ v. item.name ++ codes " " ++ v ++ codes " " ++ kept.architecture.items) is.version
+    ap (λ n. n ++ codes " " ++ version_in kept ++ codes " " ++ architecture_in kept) is.name
+    ∙ ap (λ v. item.name ++ codes " " ++ v ++ codes " " ++ architecture_in kept) is.version
     ∙ ap (λ a. item.name ++ codes " " ++ item.version ++ codes " " ++ a) is.architecture
     ∙ joined item.name item.version item.architecture
 
@@ -28,7 +28,7 @@ joined_series n a = simp (append_assoc, append-nil)
 
 series_is : (kept : Kept) (item : Item) → IsKept kept item → series_in kept ≡ series item
 series_is kept item is =
-    ap (λ n. n ++ codes " " ++ kept.architecture.items) is.name
+    ap (λ n. n ++ codes " " ++ architecture_in kept) is.name
     ∙ ap (λ a. item.name ++ codes " " ++ a) is.architecture
     ∙ joined_series item.name item.architecture
 

@@ -1,14 +1,15 @@
 -- What paragraphs that are kept are paired by.
 use Rattle.std.specs.Prelude.{◌≡◌, List, [], ◌∷◌, ℕ, ◌++◌, codes, refl}
 use Rattle.std.specs.List.{flat_map}
+use Rattle.deb_diff.specs.Kepts.{architecture_in, name_in, version_in}
 use Rattle.deb_diff.specs.declared.kept.Kept.{Kept}
 
 abbrev pub release_in : Kept → List ℕ
 release_in kept =
-    kept.name.items ++ codes " " ++ kept.version.items ++ codes " " ++ kept.architecture.items
+    name_in kept ++ codes " " ++ version_in kept ++ codes " " ++ architecture_in kept
 
 abbrev pub series_in : Kept → List ℕ
-series_in kept = kept.name.items ++ codes " " ++ kept.architecture.items
+series_in kept = name_in kept ++ codes " " ++ architecture_in kept
 
 -- words, each after a space, and a newline
 abbrev pub rest_of_line : List (List ℕ) → List ℕ

@@ -42,11 +42,11 @@ fn release(alloc: Global, kept: &Kept) -> Result<Vec<u8>, AllocError>
     ensures { IfOk result (λ key. key.items ≡ release_in kept.now) }
 {
     let mut key = Vec::new(alloc);
-    key.extend_from_slice(&kept.name)?;
+    key.extend_from_slice(kept.name())?;
     key.push(b' ')?;
-    key.extend_from_slice(&kept.version)?;
+    key.extend_from_slice(kept.version())?;
     key.push(b' ')?;
-    key.extend_from_slice(&kept.architecture)?;
+    key.extend_from_slice(kept.architecture())?;
     Ok(key)
 }
 
@@ -66,9 +66,9 @@ fn series(alloc: Global, kept: &Kept) -> Result<Vec<u8>, AllocError>
     ensures { IfOk result (λ key. key.items ≡ series_in kept.now) }
 {
     let mut key = Vec::new(alloc);
-    key.extend_from_slice(&kept.name)?;
+    key.extend_from_slice(kept.name())?;
     key.push(b' ')?;
-    key.extend_from_slice(&kept.architecture)?;
+    key.extend_from_slice(kept.architecture())?;
     Ok(key)
 }
 

@@ -2,6 +2,7 @@
 
 ghost use Rattle.std.specs.Prelude.{◌≡◌, ◌++◌, ◌∷◌, [], ℕ, List, map, codes, OnOk};
 ghost use Rattle.std.specs.Fmt.{decimal};
+ghost use Rattle.deb_diff.specs.Kepts.{architecture_in, name_in, version_in};
 ghost use Rattle.deb_diff.specs.Lines.{line_of};
 ghost use Rattle.deb_diff.specs.Lefts.{rest_of_line};
 
@@ -12,12 +13,12 @@ use std::alloc::AllocError;
 /// Appends a line with a word, the number, name, version and architecture of a paragraph.
 pub(crate) fn append_item(out: &mut Vec<u8>, word: &[u8], kept: &Kept) -> Result<(), AllocError>
     ensures { OnOk result (out.new.items ≡ out.old.items ++ line_of
-        (word.now ∷ decimal kept.now.number ∷ kept.now.name.items ∷ kept.now.version.items
-        ∷ kept.now.architecture.items ∷ [])) }
+        (word.now ∷ decimal kept.now.number ∷ name_in kept.now ∷ version_in kept.now
+        ∷ architecture_in kept.now ∷ [])) }
 {
     append_head(out, word, kept)?;
-    append_word(out, &kept.version)?;
-    append_word(out, &kept.architecture)?;
+    append_word(out, kept.version())?;
+    append_word(out, kept.architecture())?;
     out.push(b'\n')?;
     Ok(())
 }
@@ -29,8 +30,8 @@ pub(crate) fn append_changed(
     names: &[&[u8]],
 ) -> Result<(), AllocError>
     ensures { OnOk result (out.new.items ≡ out.old.items ++ codes "changed"
-        ++ rest_of_line (decimal kept.now.number ∷ kept.now.name.items ∷ kept.now.version.items
-        ∷ kept.now.architecture.items ∷ map (λ n. n.now) names.now)) }
+        ++ rest_of_line (decimal kept.now.number ∷ name_in kept.now ∷ version_in kept.now
+        ∷ architecture_in kept.now ∷ map (λ n. n.now) names.now)) }
 {
     append_head(out, b"changed", kept)?;
     append_tail(out, kept, names)
@@ -44,34 +45,34 @@ pub(crate) fn append_upgraded(
     names: &[&[u8]],
 ) -> Result<(), AllocError>
     ensures { OnOk result (out.new.items ≡ out.old.items ++ codes "upgraded"
-        ++ rest_of_line (decimal kept.now.number ∷ kept.now.name.items
-        ∷ old.now.version.items ∷ kept.now.version.items ∷ kept.now.architecture.items
+        ++ rest_of_line (decimal kept.now.number ∷ name_in kept.now
+        ∷ version_in old.now ∷ version_in kept.now ∷ architecture_in kept.now
         ∷ map (λ n. n.now) names.now)) }
 {
     append_head(out, b"upgraded", kept)?;
-    append_word(out, &old.version)?;
+    append_word(out, old.version())?;
     append_tail(out, kept, names)
 }
 
 /// Appends the version and the architecture of a paragraph, the names of fields and a newline.
 fn append_tail(out: &mut Vec<u8>, kept: &Kept, names: &[&[u8]]) -> Result<(), AllocError>
     ensures { OnOk result (out.new.items ≡ out.old.items ++ rest_of_line
-        (kept.now.version.items ∷ kept.now.architecture.items ∷ map (λ n. n.now) names.now)) }
+        (version_in kept.now ∷ architecture_in kept.now ∷ map (λ n. n.now) names.now)) }
 {
-    append_word(out, &kept.version)?;
-    append_word(out, &kept.architecture)?;
+    append_word(out, kept.version())?;
+    append_word(out, kept.architecture())?;
     append_names(out, names)
 }
 
 /// Appends a word, the number and the name of a paragraph.
 fn append_head(out: &mut Vec<u8>, word: &[u8], kept: &Kept) -> Result<(), AllocError>
     ensures { OnOk result (out.new.items ≡ out.old.items
-        ++ (word.now ++ (32 ∷ decimal kept.now.number ++ 32 ∷ kept.now.name.items))) }
+        ++ (word.now ++ (32 ∷ decimal kept.now.number ++ 32 ∷ name_in kept.now))) }
 {
     let mut buffer = Buffer::new();
     out.extend_from_slice(word)?;
     append_word(out, buffer.format(kept.number).as_bytes())?;
-    append_word(out, &kept.name)
+    append_word(out, kept.name())
 }
 
 /// Appends a space and a word.
