@@ -75,7 +75,7 @@ def diff(old: Text, new: Text, kind: str = "packages", values: bool = False) -> 
     `values` the values that differ are in lines below it, ` -NAME: VALUE` and ` +NAME: VALUE`.
 
         >>> import debctl
-        >>> old = "Package: hello\nVersion: 1\nArchitecture: all\n"
+        >>> old = "Package: hello\\nVersion: 1\\nArchitecture: all\\n"
         >>> debctl.diff(old, old.replace("1", "2"), values=True)
         ['upgraded 1 hello 1 2 all Version', ' -Version: 1', ' +Version: 2']
 

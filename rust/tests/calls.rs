@@ -135,7 +135,7 @@ fn what_changed_has_lines() -> Result<(), Error> {
         Package: bb\nVersion: 1\nArchitecture: all\n";
     let lines = diff(Compared::Packages, false, old, new)?;
     assert_eq!(lines, ["upgraded 1 aa 1 1.0 all Size Version", "added 2 bb 1 all"]);
-    let lines = diff(Compared::Binary, true, old, &new[..51])?;
+    let lines = diff(Compared::Binary, true, old, &new[..53])?;
     assert_eq!(lines[1..], [" -Size: 1", " +Size: 2", " -Version: 1", " +Version: 1.0"]);
     assert!(diff(Compared::Packages, true, old, old)?.is_empty());
     let refusal = Refusal {
