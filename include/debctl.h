@@ -32,13 +32,13 @@ extern "C" {
 /* The status of a call. */
 enum deb_status {
     DEB_YES = 0,            /* done, or yes */
-    DEB_NO = 1,             /* deb_same: the files differ; deb_query, deb_unmet: a group is unmet;
-                             * deb_index_package: there is no such package */
+    DEB_NO = 1,             /* deb_same, deb_diff: the files differ; deb_query, deb_unmet: a group is
+                             * unmet; deb_index_package: there is no such package */
     DEB_REFUSED = 2,        /* a text is refused, or the first of two */
     DEB_SECOND_REFUSED = 3, /* the first text is accepted, and the second is refused */
     DEB_NO_ROOM = 4,        /* the buffer is too small; its length is what it needs */
     DEB_NO_MEMORY = 5,      /* out of memory */
-    DEB_NO_KIND = 6,        /* no kind of document has this number */
+    DEB_NO_KIND = 6,        /* no kind of document has this number, or no detail */
     DEB_NO_INDEX = 7        /* the index that is asked holds none, since it was refused */
 };
 
@@ -176,6 +176,24 @@ struct deb_answer deb_explain(uint8_t kind, const uint8_t *text, size_t text_len
  * DEB_NO_KIND. */
 struct deb_answer deb_same(uint8_t kind, const uint8_t *text, size_t text_length,
                            const uint8_t *other, size_t other_length);
+
+/* How much deb_diff writes of a paragraph. */
+enum deb_detail {
+    DEB_FIELDS = 0, /* a line, with the names of the fields that differ */
+    DEB_VALUES = 1  /* below it also the lines of these fields, and all lines of a paragraph that was
+                     * removed or added: ` -NAME: VALUE` of the old one, ` +NAME: VALUE` of the new */
+};
+
+/* Writes what changed in meaning between two files of a kind, an old one and a new one: the lines
+ * that the program `debctl diff` writes. There is a line for each paragraph that was removed, added,
+ * changed or upgraded to another version. `kind` is DEB_PACKAGES, DEB_BINARY, DEB_SOURCES or
+ * DEB_SOURCE, and `detail` one of deb_detail.
+ * DEB_YES: there is no line, the files have the same paragraphs in some order; DEB_NO: there is one.
+ * DEB_REFUSED: the old file is refused; DEB_SECOND_REFUSED: the old one is accepted and the new one
+ * is refused; DEB_NO_ROOM; DEB_NO_MEMORY; DEB_NO_KIND: no such kind, or no such detail. */
+struct deb_answer deb_diff(uint8_t kind, uint8_t detail, const uint8_t *old, size_t old_length,
+                           const uint8_t *changed, size_t changed_length,
+                           uint8_t *out, size_t out_size, size_t *length);
 
 /* Writes which packages of an index meet a relation, for a target architecture and with these build
  * profiles active: for each group of the relation a line, and after one that is met a line for

@@ -25,7 +25,7 @@ such as `bytes` or `memoryview`. A function raises TypeError for an argument of 
     [b'field: Version', b'place: 0', b'at: 2:10', b'reason: RevisionEmpty']
 """
 
-from ._files import Explanation, Report, check, explain, normalise, query, same, unmet
+from ._files import Explanation, Report, check, diff, explain, normalise, query, same, unmet
 from ._index import Index, Package
 from ._library import Text
 from ._paragraphs import Alternative, Paragraph, paragraphs, relations
@@ -34,8 +34,8 @@ from ._versions import Version, canonical, compare, key
 
 __all__ = [
     "Alternative", "Code", "Explanation", "Index", "Package", "Paragraph", "Refused", "Report",
-    "Text", "Version", "canonical", "check", "compare", "explain", "key", "normalise", "paragraphs", "query",
-    "relations", "same", "unmet",
+    "Text", "Version", "canonical", "check", "compare", "diff", "explain", "key", "normalise",
+    "paragraphs", "query", "relations", "same", "unmet",
 ]
 
 for _public in (

@@ -1,7 +1,7 @@
 """Files of control data, and questions to an index of packages."""
 
 import functools
-from typing import Iterable, NamedTuple, Optional
+from typing import Iterable, List, NamedTuple, Optional
 
 from ._library import (
     NO_KIND, REFUSED, YES, Answer, Text, answered_file, explained, field_in, kind_of, lib,
@@ -67,6 +67,28 @@ def same(text: Text, other: Text, kind: str = "packages") -> bool:
     number, (data, length), (second, size) = kind_of(kind), text_of(text), text_of(other)
     answer: Answer = lib.deb_same(number, data, length, second, size)
     return answered_file(answer, number, data, second).status == YES
+
+
+def diff(old: Text, new: Text, kind: str = "packages", values: bool = False) -> List[str]:
+    """Returns what changed in meaning between two files of this kind, in the lines that the program
+    `debctl diff` writes: one for each paragraph that was removed, added, changed or upgraded. With
+    `values` the values that differ are in lines below it, ` -NAME: VALUE` and ` +NAME: VALUE`.
+
+        >>> import debctl
+        >>> old = "Package: hello\\nVersion: 1\\nArchitecture: all\\n"
+        >>> debctl.diff(old, old.replace("1", "2"), values=True)
+        ['upgraded 1 hello 1 2 all Version', ' -Version: 1', ' +Version: 2']
+
+    Raises Refused if one of them is refused; its `second` says which. Raises ValueError for the kind
+    `any`.
+    """
+    number, (data, length), (second, size) = kind_of(kind), text_of(old), text_of(new)
+    call = functools.partial(lib.deb_diff, number, bool(values), data, length, second, size)
+    answer, lines = written(4096, call)
+    if answer.status == NO_KIND:
+        raise ValueError(f"files of {kind!r} aren't compared")
+    answered_file(answer, number, data, second)
+    return lines.decode().split("\n")[:-1]
 
 
 def query(relation: Text, index: Text, arch: Text, profiles: Iterable[Text] = ()) -> Report:

@@ -67,6 +67,7 @@ def _library() -> ctypes.CDLL:
         ("deb_fields", Answer, kind + _TEXT + _TABLE + _TABLE + _TABLE),
         ("deb_explain", Answer, kind + _TEXT + _BUFFER),
         ("deb_same", Answer, kind + _TEXT + _TEXT),
+        ("deb_diff", Answer, kind + kind + _TEXT + _TEXT + _BUFFER),
         ("deb_query", Answer, _TEXT + profiles + _TEXT + _TEXT + _BUFFER),
         ("deb_unmet", Answer, kind + kind + _TEXT + profiles + _TEXT + _TEXT + _BUFFER),
         ("deb_index_size", ctypes.c_size_t, []),

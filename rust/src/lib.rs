@@ -284,6 +284,46 @@ pub fn unmet(
     })
 }
 
+/// The kind of two files that are compared.
+#[derive(Clone, Copy, Debug, PartialEq, Eq)]
+pub enum Compared {
+    /// Indexes of binary packages.
+    Packages,
+    /// Control files of binary packages.
+    Binary,
+    /// Indexes of source packages.
+    Sources,
+    /// Descriptions of source packages.
+    Source,
+}
+
+/// Returns what changed in meaning between two files, in the lines that the program `debctl diff`
+/// writes: one for each paragraph that was removed, added, changed or upgraded. With `values` the
+/// values that differ are in lines below it. If the new file is refused, the error is
+/// [`Error::SecondRefused`].
+///
+/// ```
+/// use debctl::{diff, Compared};
+///
+/// let (old, new) = (b"Package: aa\nVersion: 1\nArchitecture: all\n", b"");
+/// let lines = diff(Compared::Packages, false, old, new)?;
+/// assert_eq!(lines, ["removed 1 aa 1 all"]);
+/// # Ok::<(), debctl::Error>(())
+/// ```
+pub fn diff(kind: Compared, values: bool, old: &[u8], new: &[u8]) -> Result<Vec<String>, Error> {
+    let kind = match kind {
+        Compared::Packages => Kind::Packages,
+        Compared::Binary => Kind::Binary,
+        Compared::Sources => Kind::Sources,
+        Compared::Source => Kind::Source,
+    };
+    let compared = (kind as u8, u8::from(values));
+    let call =
+        |out: &mut [u8], length: &mut usize| library::diff(compared, (old, new), out, length);
+    let text = String::from_utf8(given(4096, call)?.1).expect("an accepted file is UTF-8");
+    Ok(text.lines().map(str::to_owned).collect())
+}
+
 /// Finds the packages of an index that meet a relation, for a target architecture and with these
 /// build profiles active.
 pub fn query(

@@ -136,6 +136,17 @@ extern "C" {
         other: *const u8,
         other_length: usize,
     ) -> Answer;
+    fn deb_diff(
+        kind: u8,
+        detail: u8,
+        old: *const u8,
+        old_length: usize,
+        new: *const u8,
+        new_length: usize,
+        out: *mut u8,
+        out_size: usize,
+        length: *mut usize,
+    ) -> Answer;
     fn deb_query(
         target: *const u8,
         target_length: usize,
@@ -318,6 +329,28 @@ pub fn explain(kind: u8, text: &[u8], out: &mut [u8], length: &mut usize) -> Ans
 
 pub fn same(kind: u8, text: &[u8], other: &[u8]) -> Answer {
     unsafe { deb_same(kind, text.as_ptr(), text.len(), other.as_ptr(), other.len()) }
+}
+
+/// `compared` is the kind of the files, and how much is written.
+pub fn diff(
+    compared: (u8, u8),
+    (old, new): (&[u8], &[u8]),
+    out: &mut [u8],
+    length: &mut usize,
+) -> Answer {
+    unsafe {
+        deb_diff(
+            compared.0,
+            compared.1,
+            old.as_ptr(),
+            old.len(),
+            new.as_ptr(),
+            new.len(),
+            out.as_mut_ptr(),
+            out.len(),
+            length,
+        )
+    }
 }
 
 pub fn query(

@@ -1,8 +1,8 @@
 //! Versions and their keys, relations, unmet relations, and the paragraphs of a file.
 
 use debctl::{
-    compare, key, paragraphs, query, relations, unmet, Asked, Code, Error, Index, Kind, Refusal,
-    Version,
+    compare, diff, key, paragraphs, query, relations, unmet, Asked, Code, Compared, Error, Index,
+    Kind, Refusal, Version,
 };
 use std::collections::HashSet;
 
@@ -125,5 +125,24 @@ fn an_index_is_asked_from_threads() -> Result<(), Error> {
     };
     let refused = Index::read(b"Package: aa\nVersion: 1-\n");
     assert_eq!(refused.unwrap_err(), Error::Refused(refusal));
+    Ok(())
+}
+
+#[test]
+fn what_changed_has_lines() -> Result<(), Error> {
+    let old = b"Package: aa\nVersion: 1\nArchitecture: all\nSize: 1\n";
+    let new = b"Size: 2\nPackage: aa\nVersion: 1.0-0\nArchitecture: all\n\n\
+        Package: bb\nVersion: 1\nArchitecture: all\n";
+    let lines = diff(Compared::Packages, false, old, new)?;
+    assert_eq!(lines, ["upgraded 1 aa 1 1.0 all Size Version", "added 2 bb 1 all"]);
+    let lines = diff(Compared::Binary, true, old, &new[..53])?;
+    assert_eq!(lines[1..], [" -Size: 1", " +Size: 2", " -Version: 1", " +Version: 1.0"]);
+    assert!(diff(Compared::Packages, true, old, old)?.is_empty());
+    let refusal = Refusal {
+        code: Code::NoParagraph,
+        line: 1,
+    };
+    let refused = diff(Compared::Binary, false, old, b"");
+    assert_eq!(refused, Err(Error::SecondRefused(refusal)));
     Ok(())
 }

@@ -139,6 +139,42 @@ static void try_files(void) {
     IS(is(deb_same(DEB_PACKAGES, NULL, 0, NULL, 0), DEB_YES, 0, 0, 0));
 }
 
+static struct deb_answer diff(int kind, int detail, const char *old, const char *changed,
+                              struct buffer *it) {
+    return deb_diff((uint8_t)kind, (uint8_t)detail, bytes(old), strlen(old), bytes(changed),
+                    strlen(changed), it->bytes, it->room, &it->length);
+}
+
+static void try_differences(void) {
+    const char *line = "upgraded 1 hello 1.0 1.1 amd64 Version\n";
+    const char *values =
+        "upgraded 1 hello 1.0 1.1 amd64 Version\n -Version: 1.0\n +Version: 1.1\n";
+    size_t rooms[] = {0, strlen(line) - 1, strlen(line), 4096}, at;
+    for (at = 0; at < sizeof rooms / sizeof *rooms; at++) {
+        struct buffer it = buffer_of(rooms[at]), none = buffer_of(rooms[at]);
+        struct deb_answer answer = diff(DEB_PACKAGES, DEB_FIELDS, hello, newer, &it);
+        if (rooms[at] < strlen(line))
+            IS(is(answer, DEB_NO_ROOM, 0, 0, 0) && untouched(it, strlen(line)));
+        else
+            IS(is(answer, DEB_NO, 0, 0, 0) && holds(it, line));
+        IS(is(diff(DEB_BINARY, DEB_VALUES, hello, canonical, &none), DEB_YES, 0, 0, 0));
+        IS(untouched(none, 0));
+        IS(is(diff(DEB_PACKAGES, 0, bad, "x", &none), DEB_REFUSED, DEB_BAD_NUMBER, 4, 0));
+        IS(is(diff(DEB_PACKAGES, 1, hello, bad, &none), DEB_SECOND_REFUSED, DEB_BAD_NUMBER, 4, 0));
+        IS(is(diff(DEB_ANY, DEB_FIELDS, hello, newer, &none), DEB_NO_KIND, 0, 0, 0));
+        IS(is(diff(DEB_PACKAGES, 2, hello, newer, &none), DEB_NO_KIND, 0, 0, 0));
+        IS(untouched(none, 0));
+        if (rooms[at] == 4096) {
+            struct buffer full = buffer_of(4096);
+            IS(is(diff(DEB_PACKAGES, DEB_VALUES, hello, newer, &full), DEB_NO, 0, 0, 0));
+            IS(holds(full, values));
+            free(full.bytes);
+        }
+        free(it.bytes);
+        free(none.bytes);
+    }
+}
+
 struct explained {
     uint8_t kind;
     const char *text;
@@ -309,6 +345,7 @@ static void try_long_names(void) {
 int main(void) {
     try_versions();
     try_files();
+    try_differences();
     try_explanations();
     try_queries();
     try_long_report();

@@ -167,6 +167,15 @@ TESTS = {
     "different": debctl.same(HELLO, "") is False,
     "first refused": refusal(debctl.same, BAD, "x") == (Code.BadNumber, 4, "BadNumber", False),
     "second refused": refusal(debctl.same, HELLO, BAD) == (Code.BadNumber, 4, "BadNumber", True),
+    "no change": debctl.diff(HELLO, CANONICAL) == [],
+    "changes": debctl.diff(HELLO, HELLO + "Size: 1\n") == ["changed 1 hello 1.0 amd64 Size"],
+    "changed values": debctl.diff(HELLO, HELLO + "Size: 1\n", "binary", values=True)[1:]
+    == [" +Size: 1"],
+    "all removed": len(debctl.diff(long_index, "")) == 2000,
+    "diff's first": refusal(debctl.diff, BAD, "x") == (Code.BadNumber, 4, "BadNumber", False),
+    "diff's second": refusal(debctl.diff, HELLO, BAD) == (Code.BadNumber, 4, "BadNumber", True),
+    "diff's kind": [error(debctl.diff, "", "", kind) for kind in ("any", "foo")]
+    == [ValueError, ValueError],
     "met": debctl.query("hello (>= 1)", HELLO, "amd64")
     == (True, b"met hello (>= 1)\n 1 hello 1.0 amd64\n"),
     "unmet": debctl.query("hello", HELLO, "i386") == (False, b"unmet hello\n"),

@@ -29,6 +29,8 @@ static const char *index_of_two =
 static const char *refused = "Package: hello\nVersion: 1\nArchitecture: all\n\n"
                              "Package: mailer\nDepends: aa (>= 1), bb cc\n";
 
+static const char *other_index = "Package: mailer\nVersion: 3\nArchitecture: all\n";
+
 static uint8_t out[1024];
 static size_t length;
 
@@ -95,6 +97,9 @@ static struct deb_answer call(int which) {
                                bytes("hello (>= 1) | xx, mta"), 22, out, sizeof out, &length);
     case 13:
         return deb_index_package(loaded, 2, out, sizeof out, &length);
+    case 14:
+        return deb_diff(DEB_PACKAGES, DEB_VALUES, text, size, bytes(other_index),
+                        strlen(other_index), out, sizeof out, &length);
     default:
         return deb_query(bytes("amd64"), 5, &profile, 1, bytes("hello (>= 1) | xx, mta"), 22, text,
                          size, out, sizeof out, &length);
@@ -106,12 +111,12 @@ int main(void) {
                                   "explain, refused",  "same",    "version_key",
                                   "relation_canonical", "fields", "fields, refused",
                                   "unmet",             "index_read", "index_query",
-                                  "index_package",     "query"};
+                                  "index_package",     "diff",    "query"};
     enum { CALLS = sizeof names / sizeof *names };
     static const int statuses[CALLS] = {
         DEB_YES, DEB_YES, DEB_YES, DEB_YES, DEB_REFUSED, DEB_YES,
         DEB_YES, DEB_YES, DEB_YES, DEB_REFUSED, DEB_NO, DEB_YES,
-        DEB_YES, DEB_YES, DEB_YES,
+        DEB_YES, DEB_YES, DEB_NO,  DEB_YES,
     };
     struct deb_answer reading;
     int which, passed = 0, failed = 0;

@@ -5,4 +5,5 @@ mod FieldTables
 mod FieldsSoFar
 mod ShownFields
 mod Loading
+mod Written
 pub mod HandsOn

@@ -2,7 +2,7 @@
 use Rattle.std.proofs.Common.{◌≡◌, ℕ, List, Bool, Some, Ok, Err, arith}
 use Rattle.std.specs.Prelude.{IfErr, Result}
 use Rattle.deb_base.specs.Devices.{read_failures_after}
-use Rattle.deb_base.specs.Faults.{IsReadersFault, RefusedOrMemory}
+use Rattle.deb_base.specs.Faults.{IsReadersFault, MatchFault, RefusedOrMemory}
 use Rattle.deb_base.specs.declared.fault.Fault.{Fault}
 use Rattle.deb_base.specs.declared.fault.Fault.TheVariants.{Refused, Memory, Read, Write}
 use Rattle.deb_base.specs.declared.doc.Doc.{Doc}
@@ -36,3 +36,14 @@ pub side_fault : (doc : Doc) (text other : List ℕ) (r : Result Bool SideFault)
 side_fault doc text other (Ok same) first second reads_first reads_second is = tt
 side_fault doc text other (Err found) first second reads_first reads_second is =
     by_side doc text other found.side found.fault first second reads_first reads_second is
+
+-- a refusal is that of the file of its side
+pub refusal_of_side : (doc : Doc) (text other : List ℕ) (side : Side) (fault : Fault)
+    → IfRefused (if_first side fault) (λ refusal. refusal_of doc text ≡ Some refusal)
+    → IfRefused (if_second side fault) (RefusesSecond doc text other)
+    → MatchFault fault (RefusesSide side doc text other) (Unit {0}) (Unit {0}) (Unit {0})
+refusal_of_side doc text other First (Refused refusal) first second = first
+refusal_of_side doc text other Second (Refused refusal) first second = second
+refusal_of_side doc text other side Memory first second = tt
+refusal_of_side doc text other side Read first second = tt
+refusal_of_side doc text other side Write first second = tt

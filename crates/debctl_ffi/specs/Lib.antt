@@ -11,3 +11,4 @@ pub mod Tables
 pub mod Relations
 pub mod FieldLaws
 pub mod Loads
+pub mod Diffs

@@ -1,8 +1,8 @@
 -- What is told to a program in C of an index that it reads once and asks often: where it lies, and
 -- what the calls owe of its memory. The statuses are this project's own.
-use Rattle.std.specs.Prelude.{◌≡◌, ℕ, List, [], ◌∷◌, Option, None, Some, codes, length, refl}
+use Rattle.std.specs.Prelude.{◌≡◌, ℕ, List, [], ◌∷◌, None, Some, codes, length, refl}
 use Rattle.std.specs.List.{concat}
-use base.Fml.{Fml, Lft, Share, flft, fsep}
+use base.Fml.{Fml, Lft, Share, flft}
 use denote.RawPtr.{Ptr}
 use denote.Struct.Lending.{lent_at}
 use Rattle.deb_base.specs.declared.doc.Doc.TheVariants.{Packages}

@@ -2,8 +2,9 @@
 //! it.
 //!
 //! Each function takes texts in memory and returns its answer by value; it writes a text to a
-//! buffer of the caller. Nothing is kept between calls. The answers are those of the crates that
-//! this one depends on, and the clauses repeat their promises.
+//! buffer of the caller. Only a loaded index (`index`) is kept between calls, in memory of the
+//! caller. The answers are those of the crates that this one depends on, and the clauses repeat
+//! their promises.
 //!
 //! ```c
 //! struct deb_comparison told = deb_version_compare(left, left_length, right, right_length);
@@ -15,6 +16,7 @@
 mod answer;
 mod asker;
 mod buffer;
+mod diff;
 mod documents;
 mod explanation;
 mod field;

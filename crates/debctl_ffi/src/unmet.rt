@@ -4,7 +4,8 @@ ghost use Rattle.std.specs.Prelude.{◌≡◌, true, false, [], ◌∷◌};
 ghost use Rattle.deb_relation.specs.Views.{names_of};
 ghost use Rattle.debctl_ffi.specs.Answers.{HasStatus, counting, plain};
 ghost use Rattle.debctl_ffi.specs.Buffers.{GivesNothing};
-ghost use Rattle.debctl_ffi.specs.Unmet.{AsksNothing, GivesLines, LacksRoomForUnmet, RefusesFile, RefusesFirst, asker, is_set};
+ghost use Rattle.debctl_ffi.specs.Unmet.{AsksNothing, GivesLines, LacksRoomForUnmet, asker, is_set};
+ghost use Rattle.debctl_ffi.specs.Unmet.{RefusesFile, RefusesFirst};
 
 use crate::answer::{Answer, no_kind, no_memory, no_room, refused, second_refused, some, yes};
 use crate::asker::{Asker, asked_of};
@@ -35,20 +36,24 @@ pub extern "C" fn deb_unmet(
     len: &mut usize,
 ) -> Answer
     ensures none { result.status ≡ 0 → (result ≡ counting 0 result.count)
-        × GivesLines kind (is_set recommends) (asker target.now (names_of profiles.now) index.now) text.now
-        true out.old out.new len.new result }
+        × GivesLines kind (is_set recommends)
+        (asker target.now (names_of profiles.now) index.now) text.now true
+        out.old out.new len.new result }
     ensures lines { result.status ≡ 1 → (result ≡ counting 1 result.count)
-        × GivesLines kind (is_set recommends) (asker target.now (names_of profiles.now) index.now) text.now
-        false out.old out.new len.new result }
+        × GivesLines kind (is_set recommends)
+        (asker target.now (names_of profiles.now) index.now) text.now false
+        out.old out.new len.new result }
     ensures refused { result.status ≡ 2
-        → RefusesFirst kind (is_set recommends) (asker target.now (names_of profiles.now) index.now) result
+        → RefusesFirst kind (is_set recommends)
+        (asker target.now (names_of profiles.now) index.now) result
         × GivesNothing out.old out.new len.new }
     ensures second_refused { result.status ≡ 3
-        → RefusesFile kind (is_set recommends) (asker target.now (names_of profiles.now) index.now) text.now
-        result × GivesNothing out.old out.new len.new }
+        → RefusesFile kind (is_set recommends)
+        (asker target.now (names_of profiles.now) index.now) text.now result
+        × GivesNothing out.old out.new len.new }
     ensures no_room { result.status ≡ 4 → (result ≡ plain 4)
-        × LacksRoomForUnmet kind (is_set recommends) (asker target.now (names_of profiles.now) index.now)
-        text.now out.old out.new len.new }
+        × LacksRoomForUnmet kind (is_set recommends)
+        (asker target.now (names_of profiles.now) index.now) text.now out.old out.new len.new }
     ensures no_memory { result.status ≡ 5 → (result ≡ plain 5)
         × GivesNothing out.old out.new len.new }
     ensures no_kind { result.status ≡ 6 → (result ≡ plain 6) × AsksNothing kind (is_set recommends)

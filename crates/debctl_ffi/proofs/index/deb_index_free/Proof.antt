@@ -1,11 +1,10 @@
 -- A walk: the value is read from where the pointer points to, and handed to the call.
-use Rattle.debctl_ffi.proofs.HandsOn.{◌≡◌, ℕ, ◌<◌, ◌^◌, List, [], ◌∷◌, ◌++◌, length, refl, proved, leaves, SProp, id⊢, fst∗, never, Fml, Lft, Share, ftrue, flft, named, Val, vptr, tables, Logic, sem, ‵, raw, ◌⊛◌, some, later, prop, at_ret, ◌$◌, ◌∵◌, !, qed, by, move, keep, drop, use1, use2, split, join, fsplit, fjoin, feq_i, pick, await, regoal, enter, of_opd, addr, stop, fld, hop, from, no_more, and_then, first, blocks, exec, returns, alloc_all, pass_all, free_all, look_at, look_in_at, get, get_in, through, sets, sets_last, lands_as, env, agg, sub, whole, u8, usize, yes, left, Is, shows, hide, RattleType, owns, Ptr, block_ptr, null_ptr, in_a_block, rawptr_vals, rawptr_Tells, mut_vals, mut_Tells, Slot, types_at, ShrSlice, shr_slice_vals, shr_slice_Tells, mut_slice_vals, mut_slice_Tells, nothing, peeks, lent_at, calls_at, Lasts, lasts, at_exit, alive, triple_of, framed, Stay, Stays, walk_of, handed_on}
-use Rattle.std.proofs.Common.{sym, ap, ◌∙◌}
+use Rattle.debctl_ffi.proofs.HandsOn.{List, [], ◌∷◌, ◌++◌, refl, proved, leaves, id⊢, Val, tables, ‵, raw, ◌⊛◌, some, later, prop, at_ret, ◌$◌, ◌∵◌, !, qed, by, move, drop, use1, use2, split, join, fjoin, feq_i, pick, await, regoal, enter, of_opd, stop, no_more, and_then, first, blocks, exec, returns, alloc_all, pass_all, free_all, look_at, get, through, sets, sets_last, lands_as, env, Is, shows, owns, Ptr, block_ptr, in_a_block, rawptr_vals, rawptr_Tells, types_at, nothing, peeks, calls_at, Lasts, lasts, at_exit, alive, triple_of, framed, Stays, walk_of, handed_on}
+use Rattle.std.proofs.Common.{ap}
 use base.Fraction.{full_share}
-use base.Fml.{fat, froom}
-use base.Logic.{emp}
+use base.Fml.{fat}
 use mir.Val.{vunit}
-use types.Kit.{rewrite, feq_l}
+use types.Kit.{feq_l}
 use types.Run.{look, load, unit_lit}
 use denote.Param.{layout}
 use denote.Builtin.{unit}

@@ -1,5 +1,5 @@
 -- A walk: what the call gives is written where the pointer points to.
-use Rattle.debctl_ffi.proofs.HandsOn.{◌≡◌, ℕ, ◌<◌, ◌^◌, List, [], ◌∷◌, ◌++◌, length, refl, leaves, SProp, id⊢, fst∗, never, Fml, Lft, Share, ftrue, flft, named, Val, vptr, tables, Logic, sem, ‵, raw, ◌⊛◌, some, later, prop, at_ret, ◌$◌, ◌∵◌, !, qed, by, move, keep, drop, use1, use2, split, join, fsplit, fjoin, feq_i, pick, await, regoal, enter, of_opd, addr, stop, fld, hop, from, no_more, and_then, first, blocks, exec, returns, alloc_all, pass_all, free_all, look_at, look_in_at, get, get_in, through, sets, sets_last, lands_as, env, agg, sub, whole, u8, usize, yes, left, Is, shows, hide, RattleType, owns, Ptr, block_ptr, null_ptr, in_a_block, rawptr_vals, rawptr_Tells, mut_vals, mut_Tells, Slot, types_at, ShrSlice, shr_slice_vals, shr_slice_Tells, mut_slice_vals, mut_slice_Tells, nothing, peeks, lent_at, calls_at, Lasts, lasts, at_exit, alive, triple_of, framed, Stay, Stays, walk_of, handed_on}
+use Rattle.debctl_ffi.proofs.HandsOn.{◌≡◌, List, [], ◌∷◌, ◌++◌, refl, leaves, SProp, id⊢, named, Val, vptr, tables, sem, ‵, raw, ◌⊛◌, some, later, prop, at_ret, ◌$◌, ◌∵◌, !, qed, by, move, drop, use1, use2, split, join, fsplit, fjoin, feq_i, pick, await, regoal, enter, of_opd, addr, stop, no_more, and_then, first, blocks, exec, returns, alloc_all, pass_all, free_all, look_at, get, through, sets, lands_as, env, u8, Is, shows, owns, Ptr, in_a_block, rawptr_vals, rawptr_Tells, mut_vals, mut_Tells, types_at, shr_slice_vals, shr_slice_Tells, nothing, peeks, calls_at, Lasts, lasts, at_exit, alive, triple_of, framed, Stays, walk_of, handed_on}
 use Rattle.std.proofs.Common.{sym, ap, ◌∙◌}
 use base.Fraction.{full_share}
 use base.Logic.{ex_i, sep, ex}
@@ -10,7 +10,6 @@ use denote.Memory.{part_at}
 use denote.Param.{layout}
 use denote.RawPtr.{lies_at, room_at}
 use borrow.Table.OneValue.{part_in}
-use contract.Monad.{fact}
 use prog.Wp.{WpFn}
 use Rattle.std.proofs.raw_atomic.Walks.{proved_at}
 use Rattle.std.proofs.cell.Inside.{one}

@@ -1,0 +1,123 @@
+//! What changed between two files, for programs in C.
+
+ghost use Rattle.std.specs.Prelude.{◌≡◌, true, false, [], ◌∷◌, IfErr, IfNone, IfOk, IfSome};
+ghost use Rattle.std.specs.Prelude.{◌≤◌};
+ghost use Rattle.debctl_ffi.specs.Answers.{HasStatus, plain};
+ghost use Rattle.debctl_ffi.specs.Buffers.{GivesNothing};
+ghost use Rattle.debctl_ffi.specs.Diffs.{ComparesNothing, GivesDiff, HasDiff, IsDiffRefusal};
+ghost use Rattle.debctl_ffi.specs.Diffs.{LacksRoomForDiff, RefusesNew, RefusesOld, detail_number};
+ghost use Rattle.debctl_ffi.specs.Documents.{kind_number};
+ghost use Rattle.deb_diff.specs.Kinds.{doc_of};
+
+use crate::answer::{Answer, no, no_kind, no_memory, no_room, refused, second_refused, yes};
+use crate::buffer::give;
+use deb_base::{Fault, SliceSource, VecSink};
+use deb_control::{Side, SideFault};
+use deb_diff::{Detail, Kind, diff};
+use std::alloc::Global;
+
+/// Writes what changed in meaning between two files of a kind, the old one and the new one, to the
+/// start of `out`, and returns the length of these lines (Debian Policy 5.1 and 5.3 to 5.6): for
+/// each paragraph that was removed, added, changed or upgraded a line, and below it the values that
+/// differ if `detail` is 1. Status 0: there is none. 1: there is one. 2: the old file is refused,
+/// with its first refusal. 3: the old one is accepted and the new one is refused, with its first
+/// refusal. 4: `out` is too small; `len` is the length that it needs. 5: out of memory. 6: no such
+/// kind, or no such detail.
+///
+/// Except for status 0 and 1, `out` is unchanged.
+#[unsafe(no_mangle)]
+pub extern "C" fn deb_diff(
+    alloc: Global,
+    kind: u8,
+    detail: u8,
+    text: &[u8],
+    other: &[u8],
+    out: &mut [u8],
+    len: &mut usize,
+) -> Answer
+    ensures none { result.status ≡ 0 → (result ≡ plain 0)
+        × GivesDiff kind detail text.now other.now true out.old out.new len.new }
+    ensures lines { result.status ≡ 1 → (result ≡ plain 1)
+        × GivesDiff kind detail text.now other.now false out.old out.new len.new }
+    ensures first_refused { result.status ≡ 2 → RefusesOld kind detail text.now result
+        × GivesNothing out.old out.new len.new }
+    ensures second_refused { result.status ≡ 3
+        → RefusesNew kind detail text.now other.now result × GivesNothing out.old out.new len.new }
+    ensures no_room { result.status ≡ 4 → (result ≡ plain 4)
+        × LacksRoomForDiff kind detail text.now other.now out.old out.new len.new }
+    ensures no_memory { result.status ≡ 5 → (result ≡ plain 5)
+        × GivesNothing out.old out.new len.new }
+    ensures no_kind { result.status ≡ 6 → (result ≡ plain 6) × ComparesNothing kind detail
+        × GivesNothing out.old out.new len.new }
+    ensures status { HasStatus result.status (0 ∷ 1 ∷ 2 ∷ 3 ∷ 4 ∷ 5 ∷ 6 ∷ []) }
+{
+    *len = 0;
+    let Some(of) = kind_of_files(kind) else {
+        return no_kind();
+    };
+    let Some(how) = detail_of(detail) else {
+        return no_kind();
+    };
+    match diff_texts(alloc, of, how, text, other) {
+        Ok((is_empty, lines)) => {
+            if !give(&lines, out, len) {
+                return no_room();
+            }
+            if is_empty { yes(0) } else { no() }
+        }
+        Err(told) => match told.fault {
+            Fault::Refused(refusal) => match told.side {
+                Side::First => refused(&refusal),
+                Side::Second => second_refused(&refusal),
+            },
+            _ => no_memory(),
+        },
+    }
+}
+
+/// The kind of two files that has this number, in which any control data is none.
+fn kind_of_files(kind: u8) -> Option<Kind>
+    ensures some { IfSome result (λ of. kind ≡ kind_number (doc_of of)) }
+    ensures none { IfNone result (4 ≤ kind) }
+{
+    match kind {
+        0 => Some(Kind::Binary),
+        1 => Some(Kind::Packages),
+        2 => Some(Kind::Source),
+        3 => Some(Kind::Sources),
+        _ => None,
+    }
+}
+
+/// The detail of this number.
+fn detail_of(detail: u8) -> Option<Detail>
+    ensures some { IfSome result (λ how. detail ≡ detail_number how) }
+    ensures none { IfNone result (2 ≤ detail) }
+{
+    match detail {
+        0 => Some(Detail::Fields),
+        1 => Some(Detail::Values),
+        _ => None,
+    }
+}
+
+/// Whether there is no line, and the lines; or the refusal of a file, or out of memory.
+fn diff_texts(
+    alloc: Global,
+    of: Kind,
+    how: Detail,
+    text: &[u8],
+    other: &[u8],
+) -> Result<(bool, Vec<u8>), SideFault>
+    ensures ok { IfOk result
+        (λ found. HasDiff of how text.now other.now found.0 found.1.items) }
+    ensures refused { IfErr result (IsDiffRefusal (doc_of of) text.now other.now) }
+{
+    let mut sink = VecSink::new(alloc);
+    let mut first = SliceSource::new(text);
+    let mut second = SliceSource::new(other);
+    match diff(alloc, of, how, &mut first, &mut second, &mut sink) {
+        Ok(is_empty) => Ok((is_empty, sink.into_bytes())),
+        Err(told) => Err(told),
+    }
+}
