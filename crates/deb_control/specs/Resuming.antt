@@ -1,4 +1,5 @@
--- How a reader of checked paragraphs goes on after a paragraph that is refused (this project's own).
+-- How a reader of checked paragraphs goes on after a paragraph that is refused (this project's
+-- own).
 use Rattle.std.specs.Prelude.{◌≡◌, ℕ, ◌==◌, ◌&&◌, Bool, true, false, not, List, [], length, Option, Some, None, refl}
 use Rattle.deb_base.specs.Codes.{number_of}
 use Rattle.deb_base.specs.Docs.{is_single}

@@ -1,6 +1,6 @@
--- The stream of a document: its paragraphs and its refused runs of lines, one after another, and its
--- end. Debian Policy 5.1; the order of the refusals, their lines and the limits are this project's
--- own.
+-- The stream of a document: its paragraphs and its refused runs of lines, one after another, and
+-- its end. Debian Policy 5.1; the order of the refusals, their lines and the limits are this
+-- project's own.
 use Rattle.std.specs.Prelude.{◌≡◌, ℕ, ◌==◌, ◌||◌, Bool, true, false, cond, List, [], ◌∷◌, ◌++◌, length, drop, Option, Some, None, is_some, Result, Ok, Err, codes, refl}
 use Rattle.std.specs.Str.{is_utf8, chars}
 use lib.Utf8.{encode}
@@ -38,8 +38,8 @@ ended_by refusal = record { items = []; end = refusal }
 -- Where a word ends in `_under`, its first arguments are how many bytes a paragraph may have, and a
 -- file; the word without `_under` is the same at the limits of this project.
 
--- whether a refusal of a paragraph ends the stream: exactly one paragraph is asked for, or its lines
--- are too long, or the file, or its canonical text, is
+-- whether a refusal of a paragraph ends the stream: exactly one paragraph is asked for, or its
+-- lines are too long, or the file, or its canonical text, is
 abbrev pub is_end_under : ℕ → Rules → Paragraph → Refusal → Bool
 is_end_under limit rules p refusal =
     rules.single || (is_some (line_too_long p.first limit p.lines)

@@ -166,10 +166,10 @@ impl Checked {
         }
     }
 
-    /// Goes on after the paragraph that `advance` or `next` refused: forgets that error, so that the
-    /// next call returns what follows that paragraph, as if its lines were blank. It counts neither
-    /// as a paragraph nor with the canonical text of the file. Returns whether there was such an
-    /// error. Otherwise it changes nothing: these errors repeat. Reads nothing.
+    /// Goes on after the paragraph that `advance` or `next` refused: forgets that error, so that
+    /// the next call returns what follows that paragraph, as if its lines were blank. It counts
+    /// neither as a paragraph nor with the canonical text of the file. Returns whether there was
+    /// such an error. Otherwise it changes nothing: these errors repeat. Reads nothing.
     ///
     /// - A paragraph whose lines are too long, and a file that is too long, also if only its
     ///   canonical text is.

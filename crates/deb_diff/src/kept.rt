@@ -14,9 +14,9 @@ use deb_field::Value;
 use deb_version::CanonicalVersion;
 use std::alloc::{AllocError, Global};
 
-/// A paragraph: its number in its file, counted from 1, its words, and its canonical text. Its words
-/// are its package or source, its canonical version and its architecture, one after another, since
-/// a vector for each would take a tenth of a usual paragraph's memory.
+/// A paragraph: its number in its file, counted from 1, its words, and its canonical text. Its
+/// words are its package or source, its canonical version and its architecture, one after another,
+/// since a vector for each would take a tenth of a usual paragraph's memory.
 #[derive(Drop)]
 pub(crate) struct Kept {
     pub(crate) number: u64,

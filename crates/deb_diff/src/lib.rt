@@ -6,9 +6,9 @@
 //!     diff(alloc, Kind::Packages, Detail::Fields, &mut old, &mut new, &mut writer)?;
 //! ```
 //!
-//! `diff` writes a line for each paragraph that was removed, added, changed or upgraded, and returns
-//! whether there is none. `specs/` defines what changed and the lines that say so; `laws` has the
-//! theorems about these definitions.
+//! `diff` writes a line for each paragraph that was removed, added, changed or upgraded, and
+//! returns whether there is none. `specs/` defines what changed and the lines that say so; `laws`
+//! has the theorems about these definitions.
 #![tactic(auto)]
 
 mod all_lines;
