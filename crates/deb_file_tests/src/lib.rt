@@ -15,6 +15,8 @@ mod diff;
 #[cfg(test)]
 mod index;
 #[cfg(test)]
+mod refusals;
+#[cfg(test)]
 mod syntax;
 #[cfg(test)]
 mod unmet;

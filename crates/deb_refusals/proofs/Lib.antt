@@ -1,0 +1,4 @@
+pub mod Steps
+pub mod NoLines
+pub mod Singles
+pub mod Accepted
