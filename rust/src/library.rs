@@ -494,14 +494,6 @@ impl Index {
     }
 
     pub fn package(&self, number: u64, out: &mut [u8], length: &mut usize) -> Answer {
-        unsafe {
-            deb_index_package(
-                self.0.as_ptr(),
-                number,
-                out.as_mut_ptr(),
-                out.len(),
-                length,
-            )
-        }
+        unsafe { deb_index_package(self.0.as_ptr(), number, out.as_mut_ptr(), out.len(), length) }
     }
 }
