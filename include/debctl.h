@@ -252,6 +252,14 @@ struct deb_answer deb_index_query(const struct deb_index *index,
                                   const uint8_t *relation, size_t relation_length,
                                   uint8_t *out, size_t out_size, size_t *length);
 
+/* Writes the lines that deb_unmet writes for this index, without reading it again.
+ * The statuses of deb_unmet; DEB_NO_INDEX. */
+struct deb_answer deb_index_unmet(const struct deb_index *index, uint8_t kind, uint8_t recommends,
+                                  const uint8_t *target, size_t target_length,
+                                  const struct deb_text *profiles, size_t profile_count,
+                                  const uint8_t *text, size_t text_length,
+                                  uint8_t *out, size_t out_size, size_t *length);
+
 /* Writes the numbers of the packages that have a name, in ascending order. The first package of an
  * index has the number 1. `numbers` has room for `numbers_size` numbers; `count` is how many there
  * are, also if there is no room for them. Takes no memory.

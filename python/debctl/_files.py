@@ -1,7 +1,7 @@
 """Files of control data, and questions to an index of packages."""
 
 import functools
-from typing import Iterable, List, NamedTuple, Optional
+from typing import Iterable, List, NamedTuple, Optional, Tuple
 
 from ._library import (
     NO_KIND, REFUSED, YES, Answer, Text, answered_file, explained, field_in, kind_of, lib,
@@ -127,9 +127,17 @@ def unmet(
         lib.deb_unmet, number, bool(recommends), *text_of(arch), active, len(active), data, length,
         text, size,
     )
-    answer, lines = written(4096, call)
+    return unmet_report(written(4096, call), (kind, recommends), data, text)
+
+
+def unmet_report(
+    answered: Tuple[Answer, bytes], asked: Tuple[str, bool], index: bytes, file: bytes
+) -> Report:
+    """Returns the report of a call that finds unmet relations, or raises the exception of its answer.
+    """
+    (answer, lines), (kind, recommends) = answered, asked
     if answer.status == NO_KIND:
         what = "Recommends of sources" if recommends and kind != "any" else f"relations of {kind!r}"
         raise ValueError(f"there are no {what}")
-    refused_as = _PACKAGES if answer.status == REFUSED else number
-    return Report(answered_file(answer, refused_as, data, text).status == YES, lines)
+    refused_as = _PACKAGES if answer.status == REFUSED else kind_of(kind)
+    return Report(answered_file(answer, refused_as, index, file).status == YES, lines)

@@ -5,9 +5,10 @@ import functools
 import weakref
 from typing import Any, Iterable, List, NamedTuple, Optional
 
-from ._files import Report
+from ._files import Report, unmet_report
 from ._library import (
-    NO, NO_ROOM, YES, Answer, Text, answered, answered_file, given, lib, text_of, texts_of,
+    NO, NO_ROOM, YES, Answer, Text, answered, answered_file, given, kind_of, lib, text_of, texts_of,
+    written,
 )
 
 _PACKAGES = 1
@@ -63,6 +64,27 @@ class Index:
         )
         answer, report = given(4096, call)
         return Report(answer.status == YES, report)
+
+    def unmet(
+        self,
+        file: Text,
+        arch: Text,
+        profiles: Iterable[Text] = (),
+        kind: str = "packages",
+        recommends: bool = False,
+    ) -> Report:
+        """Finds the relations of a file that no package meets, as `debctl.unmet` does, without reading
+        the index again.
+
+        Raises Refused if the architecture, a profile or the file is refused; its `second` is true if
+        the file is. Raises ValueError for another kind, or if Recommends is asked of sources.
+        """
+        number, active, (data, length) = kind_of(kind), texts_of(profiles), text_of(file)
+        call = functools.partial(
+            lib.deb_index_unmet, self._memory, number, bool(recommends), *text_of(arch), active,
+            len(active), data, length,
+        )
+        return unmet_report(written(4096, call), (kind, recommends), b"", data)
 
     def packages(self, name: Text) -> List[int]:
         """Returns the numbers of the packages that have a name, in ascending order."""

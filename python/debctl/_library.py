@@ -74,6 +74,7 @@ def _library() -> ctypes.CDLL:
         ("deb_index_read", None, index + _TEXT + [ctypes.POINTER(Answer)]),
         ("deb_index_free", None, index),
         ("deb_index_query", Answer, index + _TEXT + profiles + _TEXT + _BUFFER),
+        ("deb_index_unmet", Answer, index + kind + kind + _TEXT + profiles + _TEXT + _BUFFER),
         ("deb_index_packages", Answer, index + _TEXT + _TABLE),
         ("deb_index_providers", Answer, index + _TEXT + _TABLE),
         ("deb_index_package", Answer, index + number + _BUFFER),

@@ -1,7 +1,7 @@
 //! An index that is read once and asked often.
 
 use crate::library::{self, Text};
-use crate::{answered, given, Error, Report};
+use crate::{answered, given, Asked, Error, Report};
 
 /// What an index keeps of a package.
 #[derive(Clone, Debug, PartialEq, Eq)]
@@ -58,6 +58,28 @@ impl Index {
         let profiles: Vec<Text> = profiles.iter().map(|profile| Text::of(profile)).collect();
         let call = |out: &mut [u8], length: &mut usize| {
             self.memory.query(target, &profiles, relation, out, length)
+        };
+        let (answer, text) = given(4096, call)?;
+        Ok(Report {
+            met: answer.status == library::YES,
+            text,
+        })
+    }
+
+    /// Finds the relations of a file that no package meets, as [`crate::unmet`] does, without reading
+    /// the index again. If the file is refused, the error is [`Error::SecondRefused`].
+    pub fn unmet(
+        &self,
+        asked: Asked,
+        target: &[u8],
+        profiles: &[&[u8]],
+        file: &[u8],
+    ) -> Result<Report, Error> {
+        let profiles: Vec<Text> = profiles.iter().map(|profile| Text::of(profile)).collect();
+        let asked = asked.numbers();
+        let call = |out: &mut [u8], length: &mut usize| {
+            self.memory
+                .unmet(asked, target, &profiles, file, out, length)
         };
         let (answer, text) = given(4096, call)?;
         Ok(Report {

@@ -256,6 +256,19 @@ pub enum Asked {
     Source,
 }
 
+impl Asked {
+    /// Returns the number of the kind, and 1 if Recommends is asked.
+    fn numbers(self) -> (u8, u8) {
+        let (kind, recommends) = match self {
+            Asked::Packages { recommends } => (Kind::Packages, recommends),
+            Asked::Binary { recommends } => (Kind::Binary, recommends),
+            Asked::Sources => (Kind::Sources, false),
+            Asked::Source => (Kind::Source, false),
+        };
+        (kind as u8, u8::from(recommends))
+    }
+}
+
 /// Finds the relations of a file that no package of an index meets, for a target architecture and
 /// with these build profiles active: the lines that the program `debctl unmet` writes. If the file
 /// is refused, the error is [`Error::SecondRefused`].
@@ -266,14 +279,8 @@ pub fn unmet(
     index: &[u8],
     file: &[u8],
 ) -> Result<Report, Error> {
-    let (kind, recommends) = match asked {
-        Asked::Packages { recommends } => (Kind::Packages, recommends),
-        Asked::Binary { recommends } => (Kind::Binary, recommends),
-        Asked::Sources => (Kind::Sources, false),
-        Asked::Source => (Kind::Source, false),
-    };
     let profiles: Vec<Text> = profiles.iter().map(|profile| Text::of(profile)).collect();
-    let asked = (kind as u8, u8::from(recommends));
+    let asked = asked.numbers();
     let call = |out: &mut [u8], length: &mut usize| {
         library::unmet(asked, target, &profiles, (index, file), out, length)
     };

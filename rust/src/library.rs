@@ -175,6 +175,20 @@ extern "C" {
         out_size: usize,
         length: *mut usize,
     ) -> Answer;
+    fn deb_index_unmet(
+        index: *const u64,
+        kind: u8,
+        recommends: u8,
+        target: *const u8,
+        target_length: usize,
+        profiles: *const Text,
+        profile_count: usize,
+        text: *const u8,
+        text_length: usize,
+        out: *mut u8,
+        out_size: usize,
+        length: *mut usize,
+    ) -> Answer;
     fn deb_index_packages(
         index: *const u64,
         name: *const u8,
@@ -425,6 +439,34 @@ impl Index {
         }
     }
 
+    /// `asked` is the kind of the file, and whether Recommends is asked.
+    pub fn unmet(
+        &self,
+        asked: (u8, u8),
+        target: &[u8],
+        profiles: &[Text],
+        text: &[u8],
+        out: &mut [u8],
+        length: &mut usize,
+    ) -> Answer {
+        unsafe {
+            deb_index_unmet(
+                self.0.as_ptr(),
+                asked.0,
+                asked.1,
+                target.as_ptr(),
+                target.len(),
+                profiles.as_ptr(),
+                profiles.len(),
+                text.as_ptr(),
+                text.len(),
+                out.as_mut_ptr(),
+                out.len(),
+                length,
+            )
+        }
+    }
+
     pub fn packages(&self, name: &[u8], out: &mut [u64], count: &mut usize) -> Answer {
         unsafe {
             deb_index_packages(
@@ -452,14 +494,6 @@ impl Index {
     }
 
     pub fn package(&self, number: u64, out: &mut [u8], length: &mut usize) -> Answer {
-        unsafe {
-            deb_index_package(
-                self.0.as_ptr(),
-                number,
-                out.as_mut_ptr(),
-                out.len(),
-                length,
-            )
-        }
+        unsafe { deb_index_package(self.0.as_ptr(), number, out.as_mut_ptr(), out.len(), length) }
     }
 }

@@ -63,6 +63,13 @@ fn unmet_relations_have_lines() -> Result<(), Error> {
     assert!(unmet(Asked::Sources, b"amd64", &[], index, b"")?.met);
     let second = unmet(Asked::Source, b"amd64", &[], index, b"x\n");
     assert!(matches!(second, Err(Error::SecondRefused(it)) if it.line == 1));
+    let loaded = Index::read(index)?;
+    for asked in [asked, all, Asked::Source] {
+        for (target, file) in [(b"amd64", index.as_slice()), (b"amd64", b"x\n"), (b"a_d64", b"")] {
+            let whole = unmet(asked, target, &[b"nocheck"], index, file);
+            assert_eq!(loaded.unmet(asked, target, &[b"nocheck"], file), whole);
+        }
+    }
     Ok(())
 }
 

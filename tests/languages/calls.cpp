@@ -54,17 +54,41 @@ static std::string fields(const std::string &text) {
     return out;
 }
 
+// An index that is loaded as long as this lives.
+class Loaded {
+public:
+    explicit Loaded(const std::string &text) : memory(deb_index_size() / 8 + 1) {
+        deb_answer answer;
+        deb_index_read(index(), bytes(text), text.size(), &answer);
+    }
+    ~Loaded() { deb_index_free(index()); }
+    Loaded(const Loaded &) = delete;
+    Loaded &operator=(const Loaded &) = delete;
+    deb_index *index() { return reinterpret_cast<deb_index *>(memory.data()); }
+
+private:
+    std::vector<uint64_t> memory;
+};
+
 // The report of a loaded index on a relation.
 static std::string asked(const std::string &text, const std::string &relation) {
-    std::vector<uint64_t> memory(deb_index_size() / 8 + 1);
-    deb_index *index = reinterpret_cast<deb_index *>(memory.data());
-    deb_answer answer;
-    deb_index_read(index, bytes(text), text.size(), &answer);
+    Loaded loaded(text);
     std::vector<uint8_t> out(256);
     size_t length = 0;
-    answer = deb_index_query(index, bytes("amd64"), 5, nullptr, 0, bytes(relation),
-                             relation.size(), out.data(), out.size(), &length);
-    deb_index_free(index);
+    deb_answer answer = deb_index_query(loaded.index(), bytes("amd64"), 5, nullptr, 0,
+                                        bytes(relation), relation.size(), out.data(), out.size(),
+                                        &length);
+    return std::to_string(answer.status) + ' ' + std::string(out.begin(), out.begin() + length);
+}
+
+// The relations of the packages of a loaded index that none of them meets.
+static std::string unmet(const std::string &text) {
+    Loaded loaded(text);
+    std::vector<uint8_t> out(256);
+    size_t length = 0;
+    deb_answer answer = deb_index_unmet(loaded.index(), DEB_PACKAGES, 0, bytes("amd64"), 5, nullptr,
+                                        0, bytes(text), text.size(), out.data(), out.size(),
+                                        &length);
     return std::to_string(answer.status) + ' ' + std::string(out.begin(), out.begin() + length);
 }
 
@@ -81,6 +105,8 @@ int main() {
     failed += key("1.0~rc1") >= key("1.0") || key("1.0") != key("0:1.00-0");
     failed += fields("Package: aa\nDepends: bb\n") != "Package=aa Depends=bb ";
     failed += asked(text, "hello") != "0 met hello\n 1 hello 1.0 amd64\n";
-    std::printf("cpp: %d passed, %d failed\n", 9 - failed, failed);
+    failed += unmet(text) != "0 " ||
+              unmet(text + "Depends: aa\n") != "1 unmet 1 hello 1.0 amd64 Depends aa\n";
+    std::printf("cpp: %d passed, %d failed\n", 10 - failed, failed);
     return failed != 0;
 }

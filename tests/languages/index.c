@@ -43,6 +43,12 @@ static struct deb_answer query(const struct deb_index *index, const char *relati
                            out, room, length);
 }
 
+static struct deb_answer unmet(const struct deb_index *index, const char *file, uint8_t *out,
+                               size_t room, size_t *length) {
+    return deb_index_unmet(index, DEB_PACKAGES, 0, bytes("amd64"), 5, NULL, 0, bytes(file),
+                           strlen(file), out, room, length);
+}
+
 static void try_queries(const struct deb_index *index) {
     static const char *relations[] = {"hello", "hello (>= 2)", "mta | aa, xx", "aa [linux-any]",
                                       "aa (", "other", ""};
@@ -68,6 +74,55 @@ static void try_queries(const struct deb_index *index) {
     IS(length == 25 && memcmp(out, "ignored hello <!nocheck>\n", length) == 0);
     IS(is(deb_index_query(index, bytes("amd64"), 5, NULL, 0, NULL, 0, NULL, 0, &length), DEB_YES, 0,
           0, 0) && length == 0);
+}
+
+static const char *files[] = {
+    "", "x",
+    "Package: aa\nVersion: 1\nArchitecture: all\nDepends: zz, mta\n"
+    "Recommends: yy <!nocheck>, hello (>> 3)\n",
+    "Format: 1.0\nSource: ss\nVersion: 1\nBuild-Depends: zz, hello\n",
+};
+
+/* The answers of deb_unmet, and the room that one of them needs. */
+static void try_unmet(const struct deb_index *index) {
+    static const char *targets[] = {"amd64", "any"};
+    struct deb_text profile = {bytes("nocheck"), 7};
+    size_t size = strlen(text_of_three), at, active, target, length, other_length;
+    int kind, recommends, seen[8] = {0};
+    for (at = 0; at < 4 * 2 * 2 * 6 * 2; at++) {
+        uint8_t out[256], other[256];
+        const char *file = files[at % 4];
+        struct deb_answer answer, direct;
+        active = at / 4 % 2;
+        target = at / 8 % 2;
+        kind = (int)(at / 16 % 6);
+        recommends = (int)(at / 96 % 2);
+        memset(out, 7, sizeof out);
+        memset(other, 7, sizeof other);
+        answer = deb_index_unmet(index, (uint8_t)kind, (uint8_t)recommends, bytes(targets[target]),
+                                 strlen(targets[target]), &profile, active, bytes(file),
+                                 strlen(file), out, sizeof out, &length);
+        direct = deb_unmet((uint8_t)kind, (uint8_t)recommends, bytes(targets[target]),
+                           strlen(targets[target]), &profile, active, bytes(text_of_three), size,
+                           bytes(file), strlen(file), other, sizeof other, &other_length);
+        IS(is(answer, direct.status, direct.code, direct.line, direct.count));
+        IS(length == other_length && memcmp(out, other, sizeof out) == 0);
+        seen[answer.status & 7]++;
+    }
+    IS(seen[DEB_YES] && seen[DEB_NO] && seen[DEB_REFUSED] && seen[DEB_SECOND_REFUSED] &&
+       seen[DEB_NO_KIND]);
+    IS(is(unmet(index, files[2], NULL, 0, &length), DEB_NO_ROOM, 0, 0, 0) && length == 28);
+    for (at = 27; at <= 28; at++) {
+        uint8_t *out = malloc(at);
+        memset(out, 7, at);
+        if (at == 27)
+            IS(is(unmet(index, files[2], out, at, &length), DEB_NO_ROOM, 0, 0, 0) && out[0] == 7);
+        else
+            IS(is(unmet(index, files[2], out, at, &length), DEB_NO, 0, 0, 1) &&
+               memcmp(out, "unmet 1 aa 1 all Depends zz\n", 28) == 0);
+        IS(length == 28);
+        free(out);
+    }
 }
 
 static void try_names(const struct deb_index *index) {
@@ -112,6 +167,7 @@ static void try_refused(void) {
     size_t length = 99;
     IS(is(answer, DEB_REFUSED, DEB_BAD_NUMBER, 4, 0));
     IS(is(query(index, "hello", out, 9, &length), DEB_NO_INDEX, 0, 0, 0) && length == 0);
+    IS(is(unmet(index, "", out, 9, &length), DEB_NO_INDEX, 0, 0, 0) && length == 0);
     IS(is(deb_index_packages(index, bytes("aa"), 2, &number, 1, &length), DEB_NO_INDEX, 0, 0, 0));
     IS(is(deb_index_providers(index, bytes("aa"), 2, &number, 1, &length), DEB_NO_INDEX, 0, 0, 0));
     IS(is(deb_index_package(index, 1, out, 9, &length), DEB_NO_INDEX, 0, 0, 0) && length == 0);
@@ -136,6 +192,7 @@ static void *ask(void *wrong) {
         *(int *)wrong += deb_index_packages(shared, bytes("mailer"), 6, &number, 1, &length)
                                  .status != DEB_YES ||
                          number != 2;
+        *(int *)wrong += unmet(shared, text_of_three, out, 0, &length).status != DEB_YES;
         *(int *)wrong += deb_index_package(shared, 2, out, sizeof out, &length).status != DEB_YES;
     }
     return NULL;
@@ -159,6 +216,7 @@ int main(void) {
     struct deb_index *index = loaded(text_of_three, strlen(text_of_three), &answer);
     IS(is(answer, DEB_YES, 0, 0, 3));
     try_queries(index);
+    try_unmet(index);
     try_names(index);
     try_numbers(index);
     try_threads(index);

@@ -100,6 +100,9 @@ static struct deb_answer call(int which) {
     case 14:
         return deb_diff(DEB_PACKAGES, DEB_VALUES, text, size, bytes(other_index),
                         strlen(other_index), out, sizeof out, &length);
+    case 15:
+        return deb_index_unmet(loaded, DEB_PACKAGES, 1, bytes("amd64"), 5, &profile, 1, text, size,
+                               out, sizeof out, &length);
     default:
         return deb_query(bytes("amd64"), 5, &profile, 1, bytes("hello (>= 1) | xx, mta"), 22, text,
                          size, out, sizeof out, &length);
@@ -111,12 +114,13 @@ int main(void) {
                                   "explain, refused",  "same",    "version_key",
                                   "relation_canonical", "fields", "fields, refused",
                                   "unmet",             "index_read", "index_query",
-                                  "index_package",     "diff",    "query"};
+                                  "index_package",     "diff",    "index_unmet",
+                                  "query"};
     enum { CALLS = sizeof names / sizeof *names };
     static const int statuses[CALLS] = {
         DEB_YES, DEB_YES, DEB_YES, DEB_YES, DEB_REFUSED, DEB_YES,
         DEB_YES, DEB_YES, DEB_YES, DEB_REFUSED, DEB_NO, DEB_YES,
-        DEB_YES, DEB_YES, DEB_NO,  DEB_YES,
+        DEB_YES, DEB_YES, DEB_NO,  DEB_NO,  DEB_YES,
     };
     struct deb_answer reading;
     int which, passed = 0, failed = 0;

@@ -145,6 +145,27 @@ def unmet(**more):
     return debctl.unmet(INDEX, INDEX, "amd64", **more).text.decode().splitlines()
 
 
+def answer(call, *words):
+    """What a call answers, or the exception that it raises with what belongs to it."""
+    try:
+        return call(*words)
+    except ValueError as raised:
+        return type(raised), str(raised), vars(raised)
+
+
+def as_in_a_loaded_index():
+    """Whether a loaded index answers of unmet relations as one that is read anew."""
+    index, answers = debctl.Index(INDEX), set()
+    kinds, files = ["binary", "packages", "source", "sources", "any"], [INDEX, SOURCE, CONTROL, "\nx"]
+    for kind, file, more in itertools.product(kinds, files, (False, True)):
+        for words in (["amd64", ["nocheck"]], ["any", []]):
+            told = answer(index.unmet, file, *words, kind, more)
+            answers.add(str(told))
+            if told != answer(debctl.unmet, INDEX, file, *words, kind, more):
+                return False
+    return len(answers) > 9
+
+
 BB, CC, EE = (
     f"unmet 1 aa 1 amd64 {it}" for it in ("Depends bb", "Depends cc | dd", "Recommends ee")
 )
@@ -172,6 +193,7 @@ TESTS = {
     "unmet, index refused": (error(debctl.unmet, "x", "x", "amd64").second, second.second)
     == (False, True) and second.line == 2,
     "unmet, no target": error(debctl.unmet, INDEX, INDEX, "any").line == 0,
+    "unmet in a loaded index": as_in_a_loaded_index(),
     "paragraphs": read(FILE)
     == [(2, {"Package": "hello", "Depends": "aa,\n bb"}), (6, {"x": ""})],
     "no paragraphs": read("") == read("\n \n") == [],

@@ -1,5 +1,5 @@
--- What is answered to a program in C of what changed between two files. The lines and the numbers of
--- the details are this project's own.
+-- What is answered to a program in C of what changed between two files. The lines and the numbers
+-- of the details are this project's own.
 use Rattle.std.specs.Prelude.{◌≡◌, ◌⊎◌, ◌↔◌, ℕ, ◌≤◌, Bool, IsTrue, List, [], ◌∷◌, map, Some, refl}
 use Rattle.deb_base.specs.Faults.{MatchFault}
 use Rattle.deb_base.specs.declared.refusal.Refusal.{Refusal}

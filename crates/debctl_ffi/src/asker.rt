@@ -59,25 +59,43 @@ impl Asker {
             (λ fault. RefusedOrMemory fault
             (λ refusal. refusal_of (doc_of asked) text.now ≡ Some refusal)) }
     {
-        let mut sink = VecSink::new(alloc);
-        let mut source = SliceSource::new(text);
-        match unmet(
-            alloc,
-            &self.index,
-            &self.environment,
-            asked,
-            &mut source,
-            &mut sink,
-        ) {
-            Ok(summary) => Ok((summary, sink.into_bytes())),
-            Err(Fault::Refused(refusal)) => Err(Fault::Refused(refusal)),
-            Err(Fault::Memory | Fault::Write) => Err(Fault::Memory),
-            Err(Fault::Read) => unreachable!(),
-        }
+        lines_in(alloc, &self.index, &self.environment, asked, text)
     }
 }
 
-fn make_environment(alloc: Global, target: &[u8], profiles: &[&[u8]]) -> Result<Env, Fault>
+/// The lines of a file in memory, and its summary, of this index in this environment; or its
+/// refusal, or out of memory.
+pub(crate) fn lines_in(
+    alloc: Global,
+    index: &Index,
+    environment: &Env,
+    asked: Asked,
+    text: &[u8],
+) -> Result<(Summary, Vec<u8>), Fault>
+    ensures ok { IfOk result
+        (λ answer. HasLines asked (environment_of environment.now) (packages_of index.now)
+        text.now answer.0 answer.1.items) }
+    ensures fault { IfErr result
+        (λ fault. RefusedOrMemory fault
+        (λ refusal. refusal_of (doc_of asked) text.now ≡ Some refusal)) }
+{
+    let mut sink = VecSink::new(alloc);
+    let mut source = SliceSource::new(text);
+    match unmet(alloc, index, environment, asked, &mut source, &mut sink) {
+        Ok(summary) => Ok((summary, sink.into_bytes())),
+        Err(Fault::Refused(refusal)) => Err(Fault::Refused(refusal)),
+        Err(Fault::Memory | Fault::Write) => Err(Fault::Memory),
+        Err(Fault::Read) => unreachable!(),
+    }
+}
+
+/// The environment of a target architecture and these active profiles; or their refusal, or out of
+/// memory.
+pub(crate) fn make_environment(
+    alloc: Global,
+    target: &[u8],
+    profiles: &[&[u8]],
+) -> Result<Env, Fault>
     ensures { MakesEnvironment target.now (names_of profiles.now) result }
 {
     match Env::new(alloc, target, profiles) {

@@ -8,10 +8,12 @@ ghost use Rattle.deb_index.specs.Listed.{Listed};
 ghost use Rattle.deb_index.specs.Named.{has_name, numbers_of, package_at, provides};
 ghost use Rattle.deb_index.specs.Questions.{question};
 ghost use Rattle.deb_relation.specs.Views.{names_of};
-ghost use Rattle.debctl_ffi.specs.Answers.{HasStatus, plain};
+ghost use Rattle.debctl_ffi.specs.Answers.{HasStatus, counting, plain};
 ghost use Rattle.debctl_ffi.specs.Buffers.{Gives, GivesNothing, LacksRoom};
 ghost use Rattle.debctl_ffi.specs.Loads.{GivesPackage, HasPackages, HoldsIndex, HoldsNone, IsLoading, LacksRoomForPackage, Loan, lies_lent, loaded_of, share_of};
 ghost use Rattle.debctl_ffi.specs.Queries.{GivesReport, IsRefusedQuery, LacksRoomForReport};
+ghost use Rattle.debctl_ffi.specs.Unmet.{AsksNothing, GivesLines, LacksRoomForUnmet, asker, is_set};
+ghost use Rattle.debctl_ffi.specs.Unmet.{RefusesFile, RefusesFirst};
 ghost use Rattle.debctl_ffi.specs.contracts.loaded.Loaded.{the_row};
 ghost use Rattle.debctl_ffi.specs.declared.loaded.Loaded.{Loaded as LoadedData};
 
@@ -95,6 +97,64 @@ pub unsafe extern "C" fn deb_index_query(
         target,
         profiles,
         relation,
+        out,
+        len,
+    )
+}
+
+/// Writes the lines of [`crate::unmet::deb_unmet`] for a loaded index. Its statuses, and 7: nothing
+/// is loaded.
+#[unsafe(no_mangle)]
+pub unsafe extern "C" fn deb_index_unmet(
+    index: *const u8,
+    kind: u8,
+    recommends: u8,
+    target: &[u8],
+    profiles: &[&[u8]],
+    file: &[u8],
+    out: &mut [u8],
+    len: &mut usize,
+) -> Answer
+    ghost loan: { Loan }
+    requires* lent { sem 𝓛 (share_of loan) ∗ sem 𝓛 (lies_lent index loan) }
+    ensures* share { sem 𝓛 (share_of loan) }
+    ensures none { (text : List ℕ) → HoldsIndex text (loaded_of loan) → result.status ≡ 0
+        → (result ≡ counting 0 result.count)
+        × GivesLines kind (is_set recommends)
+        (asker target.now (names_of profiles.now) text) file.now true
+        out.old out.new len.new result }
+    ensures lines { (text : List ℕ) → HoldsIndex text (loaded_of loan) → result.status ≡ 1
+        → (result ≡ counting 1 result.count)
+        × GivesLines kind (is_set recommends)
+        (asker target.now (names_of profiles.now) text) file.now false
+        out.old out.new len.new result }
+    ensures refused { (text : List ℕ) → HoldsIndex text (loaded_of loan) → result.status ≡ 2
+        → RefusesFirst kind (is_set recommends)
+        (asker target.now (names_of profiles.now) text) result
+        × GivesNothing out.old out.new len.new }
+    ensures second_refused { (text : List ℕ) → HoldsIndex text (loaded_of loan) → result.status ≡ 3
+        → RefusesFile kind (is_set recommends)
+        (asker target.now (names_of profiles.now) text) file.now result
+        × GivesNothing out.old out.new len.new }
+    ensures no_room { (text : List ℕ) → HoldsIndex text (loaded_of loan) → result.status ≡ 4
+        → (result ≡ plain 4)
+        × LacksRoomForUnmet kind (is_set recommends)
+        (asker target.now (names_of profiles.now) text) file.now out.old out.new len.new }
+    ensures no_memory { result.status ≡ 5 → (result ≡ plain 5)
+        × GivesNothing out.old out.new len.new }
+    ensures no_kind { result.status ≡ 6 → (result ≡ plain 6)
+        × AsksNothing kind (is_set recommends) × GivesNothing out.old out.new len.new }
+    ensures no_index { result.status ≡ 7 → (result ≡ plain 7) × HoldsNone (loaded_of loan)
+        × GivesNothing out.old out.new len.new }
+    ensures status { HasStatus result.status (0 ∷ 1 ∷ 2 ∷ 3 ∷ 4 ∷ 5 ∷ 6 ∷ 7 ∷ []) }
+{
+    Loaded::unmet(
+        unsafe { &*(index as *const Loaded) },
+        kind,
+        recommends,
+        target,
+        profiles,
+        file,
         out,
         len,
     )

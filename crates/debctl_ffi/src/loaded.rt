@@ -6,12 +6,17 @@ ghost use Rattle.deb_index.specs.Listed.{Listed};
 ghost use Rattle.deb_index.specs.Named.{has_name, numbers_of, package_at, provides};
 ghost use Rattle.deb_index.specs.Kept.{listed_of};
 ghost use Rattle.deb_relation.specs.Views.{names_of};
-ghost use Rattle.debctl_ffi.specs.Answers.{HasStatus, plain};
+ghost use Rattle.debctl_ffi.specs.Answers.{HasStatus, counting, plain};
 ghost use Rattle.debctl_ffi.specs.Buffers.{Gives, GivesNothing, LacksRoom};
 ghost use Rattle.debctl_ffi.specs.Loads.{GivesPackage, LacksRoomForPackage, package_words};
 ghost use Rattle.debctl_ffi.specs.Queries.{GivesReport, IsRefusedQuery, LacksRoomForReport};
+ghost use Rattle.debctl_ffi.specs.Unmet.{AsksNothing, GivesLines, LacksRoomForUnmet, asker, is_set};
+ghost use Rattle.debctl_ffi.specs.Unmet.{RefusesFile, RefusesFirst};
 
-use crate::answer::{Answer, no, no_index, no_memory, no_room, refused, yes};
+use crate::answer::{
+    Answer, no, no_index, no_kind, no_memory, no_room, refused, second_refused, some, yes,
+};
+use crate::asker::{asked_of, lines_in, make_environment};
 use crate::buffer::{give, give_numbers};
 use crate::report::{read_index, report_in};
 use deb_base::Fault;
@@ -93,6 +98,75 @@ impl Loaded {
                 if met { yes(0) } else { no() }
             }
             Err(Fault::Refused(refusal)) => refused(&refusal),
+            Err(_) => no_memory(),
+        }
+    }
+
+    /// The answer of [`crate::index::deb_index_unmet`].
+    pub(crate) fn unmet(
+        &self,
+        kind: u8,
+        recommends: u8,
+        target: &[u8],
+        profiles: &[&[u8]],
+        file: &[u8],
+        out: &mut [u8],
+        len: &mut usize,
+    ) -> Answer
+        ensures none { (text : List ℕ) → HoldsIndex text self.now → result.status ≡ 0
+            → (result ≡ counting 0 result.count)
+            × GivesLines kind (is_set recommends)
+            (asker target.now (names_of profiles.now) text) file.now true
+            out.old out.new len.new result }
+        ensures lines { (text : List ℕ) → HoldsIndex text self.now → result.status ≡ 1
+            → (result ≡ counting 1 result.count)
+            × GivesLines kind (is_set recommends)
+            (asker target.now (names_of profiles.now) text) file.now false
+            out.old out.new len.new result }
+        ensures refused { (text : List ℕ) → HoldsIndex text self.now → result.status ≡ 2
+            → RefusesFirst kind (is_set recommends)
+            (asker target.now (names_of profiles.now) text) result
+            × GivesNothing out.old out.new len.new }
+        ensures second_refused { (text : List ℕ) → HoldsIndex text self.now → result.status ≡ 3
+            → RefusesFile kind (is_set recommends)
+            (asker target.now (names_of profiles.now) text) file.now result
+            × GivesNothing out.old out.new len.new }
+        ensures no_room { (text : List ℕ) → HoldsIndex text self.now → result.status ≡ 4
+            → (result ≡ plain 4)
+            × LacksRoomForUnmet kind (is_set recommends)
+            (asker target.now (names_of profiles.now) text) file.now out.old out.new len.new }
+        ensures no_memory { result.status ≡ 5 → (result ≡ plain 5)
+            × GivesNothing out.old out.new len.new }
+        ensures no_kind { result.status ≡ 6 → (result ≡ plain 6)
+            × AsksNothing kind (is_set recommends) × GivesNothing out.old out.new len.new }
+        ensures no_index { result.status ≡ 7 → (result ≡ plain 7) × HoldsNone self.now
+            × GivesNothing out.old out.new len.new }
+        ensures status { HasStatus result.status (0 ∷ 1 ∷ 2 ∷ 3 ∷ 4 ∷ 5 ∷ 6 ∷ 7 ∷ []) }
+    {
+        *len = 0;
+        let Some(asked) = asked_of(kind, recommends != 0) else {
+            return no_kind();
+        };
+        let Some(index) = &self.index else {
+            return no_index();
+        };
+        let environment = match make_environment(self.alloc, target, profiles) {
+            Ok(environment) => environment,
+            Err(Fault::Refused(refusal)) => return refused(&refusal),
+            Err(_) => return no_memory(),
+        };
+        match lines_in(self.alloc, index, &environment, asked, file) {
+            Ok((summary, lines)) => {
+                if !give(&lines, out, len) {
+                    return no_room();
+                }
+                if summary.is_empty {
+                    yes(summary.paragraphs)
+                } else {
+                    some(summary.paragraphs)
+                }
+            }
+            Err(Fault::Refused(refusal)) => second_refused(&refusal),
             Err(_) => no_memory(),
         }
     }
