@@ -16,7 +16,7 @@
  *                   refused is written, from the address to which that call returns
  *
  * growth: malloc, calloc, realloc, aligned_alloc, memalign and posix_memalign; their errno is
- * always ENOMEM. read: read, readv and pread. write: write, writev and pwrite. open: open and
+ * always ENOMEM. A realloc to a smaller size is none: a program may go on without it. read: read, readv and pread. write: write, writev and pwrite. open: open and
  * openat. stat: statx.
  *
  * Counting begins when this library is initialised. That is behind what the loader and the C
@@ -28,6 +28,7 @@
 #include <errno.h>
 #include <fcntl.h>
 #include <limits.h>
+#include <malloc.h>
 #include <stdarg.h>
 #include <stdio.h>
 #include <stdlib.h>
@@ -173,6 +174,9 @@ void *calloc(size_t count, size_t size)
 
 void *realloc(void *old, size_t size)
 {
+    /* A block has room for less than 16 bytes more than were asked for, or for 24 in all. */
+    if (old != NULL && size + 16 < malloc_usable_size(old))
+        return __libc_realloc(old, size);
     return is_refused(__builtin_frame_address(0)) ? NULL : __libc_realloc(old, size);
 }
 

@@ -3,6 +3,7 @@
  * -Wl,--wrap=malloc,--wrap=realloc. */
 #include "debctl.h"
 
+#include <malloc.h>
 #include <stdio.h>
 #include <stdlib.h>
 #include <string.h>
@@ -16,7 +17,11 @@ static int is_refused(void) { return until_refused >= 0 && until_refused-- == 0;
 
 void *__wrap_malloc(size_t size) { return is_refused() ? NULL : __real_malloc(size); }
 
+/* A realloc to a smaller size is no growth: a call may go on without it. A block has room for less
+ * than 16 bytes more than were asked for, or for 24 in all. */
 void *__wrap_realloc(void *old, size_t size) {
+    if (old != NULL && size + 16 < malloc_usable_size(old))
+        return __real_realloc(old, size);
     return is_refused() ? NULL : __real_realloc(old, size);
 }
 
