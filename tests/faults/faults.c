@@ -16,8 +16,9 @@
  *                   refused is written, from the address to which that call returns
  *
  * growth: malloc, calloc, realloc, aligned_alloc, memalign and posix_memalign; their errno is
- * always ENOMEM. A realloc to a smaller size is none: a program may go on without it. read: read, readv and pread. write: write, writev and pwrite. open: open and
- * openat. stat: statx.
+ * always ENOMEM. A realloc to a smaller size is none: a program may go on without it.
+ * read: read, readv and pread. write: write, writev and pwrite. open: open and openat.
+ * stat: statx.
  *
  * Counting begins when this library is initialised. That is behind what the loader and the C
  * library do before `main`, so a program's k-th growth is the k-th of its own. It ends with
@@ -28,8 +29,8 @@
 #include <errno.h>
 #include <fcntl.h>
 #include <limits.h>
-#include <malloc.h>
 #include <stdarg.h>
+#include <stdint.h>
 #include <stdio.h>
 #include <stdlib.h>
 #include <string.h>
@@ -162,37 +163,63 @@ static int is_refused(const char *frame)
     return 1;
 }
 
+/* What was asked for at an address, of the last block there; an address that another one has pushed
+ * out isn't known, and a realloc of it is a growth. */
+static struct {
+    void *at;
+    size_t size;
+} asked[65536];
+
+static size_t place_of(void *at) { return ((uintptr_t)at >> 4) % 65536; }
+
+static void *noted(void *at, size_t size)
+{
+    asked[place_of(at)].at = at;
+    asked[place_of(at)].size = size;
+    return at;
+}
+
+static int is_smaller(void *old, size_t size)
+{
+    return old != NULL && asked[place_of(old)].at == old && size < asked[place_of(old)].size;
+}
+
 void *malloc(size_t size)
 {
-    return is_refused(__builtin_frame_address(0)) ? NULL : __libc_malloc(size);
+    return is_refused(__builtin_frame_address(0)) ? NULL : noted(__libc_malloc(size), size);
 }
 
 void *calloc(size_t count, size_t size)
 {
-    return is_refused(__builtin_frame_address(0)) ? NULL : __libc_calloc(count, size);
+    return is_refused(__builtin_frame_address(0)) ? NULL
+                                                  : noted(__libc_calloc(count, size), count * size);
 }
 
 void *realloc(void *old, size_t size)
 {
-    /* A block has room for less than 16 bytes more than were asked for, or for 24 in all. */
-    if (old != NULL && size + 16 < malloc_usable_size(old))
-        return __libc_realloc(old, size);
-    return is_refused(__builtin_frame_address(0)) ? NULL : __libc_realloc(old, size);
+    if (is_smaller(old, size))
+        return noted(__libc_realloc(old, size), size);
+    return is_refused(__builtin_frame_address(0)) ? NULL
+                                                  : noted(__libc_realloc(old, size), size);
 }
 
 void *memalign(size_t alignment, size_t size)
 {
-    return is_refused(__builtin_frame_address(0)) ? NULL : __libc_memalign(alignment, size);
+    return is_refused(__builtin_frame_address(0)) ? NULL
+                                                  : noted(__libc_memalign(alignment, size), size);
 }
 
 void *aligned_alloc(size_t alignment, size_t size)
 {
-    return is_refused(__builtin_frame_address(0)) ? NULL : __libc_memalign(alignment, size);
+    return is_refused(__builtin_frame_address(0)) ? NULL
+                                                  : noted(__libc_memalign(alignment, size), size);
 }
 
 int posix_memalign(void **place, size_t alignment, size_t size)
 {
-    void *memory = is_refused(__builtin_frame_address(0)) ? NULL : __libc_memalign(alignment, size);
+    void *memory = is_refused(__builtin_frame_address(0))
+                       ? NULL
+                       : noted(__libc_memalign(alignment, size), size);
 
     if (memory == NULL)
         return ENOMEM;

@@ -3,7 +3,6 @@
  * -Wl,--wrap=malloc,--wrap=realloc. */
 #include "debctl.h"
 
-#include <malloc.h>
 #include <stdio.h>
 #include <stdlib.h>
 #include <string.h>
@@ -15,14 +14,31 @@ static long until_refused = -1; /* how many growths are granted first; below 0: 
 
 static int is_refused(void) { return until_refused >= 0 && until_refused-- == 0; }
 
-void *__wrap_malloc(size_t size) { return is_refused() ? NULL : __real_malloc(size); }
+/* What was asked for at an address, of the last block there; an address that another one has pushed
+ * out isn't known, and a realloc of it is a growth. */
+static struct {
+    void *at;
+    size_t size;
+} asked[4096];
 
-/* A realloc to a smaller size is no growth: a call may go on without it. A block has room for less
- * than 16 bytes more than were asked for, or for 24 in all. */
+static size_t place_of(void *at) { return ((uintptr_t)at >> 4) % 4096; }
+
+static void *noted(void *at, size_t size) {
+    asked[place_of(at)].at = at;
+    asked[place_of(at)].size = size;
+    return at;
+}
+
+void *__wrap_malloc(size_t size) {
+    return is_refused() ? NULL : noted(__real_malloc(size), size);
+}
+
+/* A realloc to a smaller size is no growth: a call may go on without it. */
 void *__wrap_realloc(void *old, size_t size) {
-    if (old != NULL && size + 16 < malloc_usable_size(old))
-        return __real_realloc(old, size);
-    return is_refused() ? NULL : __real_realloc(old, size);
+    int is_known = old != NULL && asked[place_of(old)].at == old;
+    int is_smaller = is_known && size < asked[place_of(old)].size;
+
+    return !is_smaller && is_refused() ? NULL : noted(__real_realloc(old, size), size);
 }
 
 static const uint8_t *bytes(const char *text) { return (const uint8_t *)text; }
