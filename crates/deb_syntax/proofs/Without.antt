@@ -153,6 +153,7 @@ module _ (text passed : List ℕ) (p : Paragraph) (new : State) (left : Option (
               ∙ ap (λ n. paragraphs_of passed ++ tail n (length blanked)) same_lines ∙ ap (λ m. paragraphs_of passed ++ tail (length (lines_of now)) m) same_bytes;
           beyond = line_beyond-same now blanked ahead behind (blanked_behind behind) same_bytes same_lines h.within ∙ ap (line_beyond 1 file_limit) (sym h.again.whole);
           lines = ap length (lines_behind blanked ahead (blanked_behind behind)) ∙ omega (arith, length-append (lines_of blanked) (lines_of ahead), same_lines, length-append (lines_of now) (lines_of ahead)) ∙ ap length (sym (lines_behind now ahead behind)) ∙ ap (λ t. length (lines_of t)) (sym h.again.whole);
+          bytes = omega (arith, length-append blanked ahead, same_bytes, length-append now ahead, ap length h.again.whole);
         };
         passed_now = blanked;
         again = record {

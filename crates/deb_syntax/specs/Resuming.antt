@@ -48,8 +48,8 @@ pub record HasPassed (text passed : List ℕ) (p : Paragraph) (new : State)
   pub ends : new.lines ≤ p.first + length p.lines
   pub near : length new.unread ≤ piece_limit
 
--- A text without the paragraph behind the first `count` ones: it has as many lines, is too long from
--- the same line on, if it is, and has the other paragraphs, at their lines.
+-- A text without the paragraph behind the first `count` ones: it has as many bytes and lines, is
+-- too long from the same line on, if it is, and has the other paragraphs, at their lines.
 pub record IsWithout (text : List ℕ) (count : ℕ) (p : Paragraph) (other : List ℕ) : Type 0 where
   pub before : List Paragraph
   pub more : List Paragraph
@@ -58,6 +58,7 @@ pub record IsWithout (text : List ℕ) (count : ℕ) (p : Paragraph) (other : Li
   pub is : paragraphs_within other ≡ before ++ more
   pub beyond : line_beyond 1 file_limit other ≡ line_beyond 1 file_limit text
   pub lines : length (lines_of other) ≡ length (lines_of text)
+  pub bytes : length other ≡ length text
 
 -- The same of the text ahead, where the paragraph is its first.
 pub record PassesRun (text : List ℕ) (before : CursorState) (p : Paragraph) (after : CursorState)
@@ -101,4 +102,5 @@ second_left_out =
       is = refl;
       beyond = refl;
       lines = refl;
+      bytes = refl;
     }

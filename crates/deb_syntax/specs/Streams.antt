@@ -1,6 +1,6 @@
 -- The stream of a file: its paragraphs and its refused runs of lines, one after another, and its
--- end. Debian Policy 5.1; the limits, the order of the refusals and the lines at which they are told
--- are this project's own.
+-- end. Debian Policy 5.1; the limits, the order of the refusals and their lines are this project's
+-- own.
 use Rattle.std.specs.Prelude.{◌≡◌, ℕ, ◌+◌, ◌≤◌, Bool, true, false, List, [], ◌∷◌, length, drop, Option, Some, None, Result, Ok, Err, codes, refl}
 use Rattle.std.specs.Str.{is_utf8, chars}
 use lib.Utf8.{encode}
@@ -37,7 +37,7 @@ end_by last None true = Some (record { code = FileTooLong; line = last })
 end_by last None false = None
 
 -- Where a word ends in `_under`, its first arguments are how many bytes a paragraph may have, and a
--- file, as far as it asks them; the word without `_under` is the same at the limits of this project.
+-- file, as far as it asks them; the word without `_under` is the same at this project's limits.
 
 abbrev pub end_at_under : ℕ → Option ℕ → Paragraph → Option Refusal
 end_at_under limit beyond p =

@@ -273,8 +273,8 @@ impl Paragraphs {
         }
     }
 
-    /// Returns the number of the first line of the paragraph that the last `advance` or `next` found,
-    /// or of which it refused a line. `None` if there is no such paragraph.
+    /// Returns the number of the first line of the paragraph that the last `advance` or `next`
+    /// found, or of which it refused a line. `None` if there is no such paragraph.
     pub fn first_line(&self) -> Option<u64>
         ensures { result ≡ option_map (λ p. p.first) (judged_last self.now) }
     {
