@@ -5,3 +5,4 @@ pub mod Accepted
 pub mod Renumbered
 pub mod RemainingLines
 pub mod Remaining
+pub mod Ascending
