@@ -1,5 +1,5 @@
 -- What remains of a file without its refused runs is accepted with exactly the paragraphs that pass.
-use Rattle.std.proofs.Common.{◌≡◌, ◌&&◌, ◌+◌, ◌<◌, ◌==◌, ◌≤◌, ◌++◌, Bool, ℕ, true, false, cond, inl, inr, not, List, [], ◌∷◌, length, map, take, Option, None, Some, Result, Ok, Err, refl, sym, ap, ◌∙◌, subst, arith, append_assoc, length-append}
+use Rattle.std.proofs.Common.{◌≡◌, ◌&&◌, ◌+◌, ◌==◌, ◌≤◌, ◌++◌, Bool, ℕ, true, false, cond, inl, inr, not, List, [], ◌∷◌, length, map, take, Option, None, Some, Result, Ok, Err, refl, sym, ap, ◌∙◌, subst, arith, append_assoc, length-append}
 use Rattle.std.proofs.lemmas.Bool.{cases_lt}
 use Rattle.std.proofs.lemmas.List.{length-map, length-take-le}
 use Rattle.std.proofs.lemmas.List.Sums.{sum_by-append, sum_by-cons}
@@ -14,10 +14,11 @@ use Rattle.deb_syntax.proofs.JudgingLaws.{all_right}
 use Rattle.deb_syntax.proofs.LinesLaws.{joined-pieces_of, pieces_of-joined, pieces_of-some}
 use Rattle.deb_syntax.proofs.LinesLawsRuns.{paragraphs_from-AreRuns}
 use Rattle.deb_syntax.proofs.LinesLawsTexts.{lines_of-no_newline, lines_of-some, pieces_of-no_newline}
+use Rattle.deb_syntax.proofs.NextParagraph.{no_paragraph}
 use Rattle.deb_syntax.proofs.Parts.{part_within-some}
 use Rattle.deb_syntax.specs.Answers.{line_beyond, part_within, whole_lines, with_whole}
 use Rattle.deb_syntax.specs.Extents.{AreBlank}
-use Rattle.deb_syntax.specs.Lines.{file_limit, begins_blank, lines_of, paragraphs_from, paragraphs_of, total_length, with_line}
+use Rattle.deb_syntax.specs.Lines.{file_limit, lines_of, paragraphs_from, paragraphs_of, total_length, with_line}
 use Rattle.deb_syntax.specs.Meaning.{Entries}
 use Rattle.deb_control.proofs.Accepting.{accepted-from_none, outcome-accepted}
 use Rattle.deb_control.proofs.DocumentRules.{document_rules}
@@ -27,11 +28,10 @@ use Rattle.deb_control.proofs.PartsWithin.{part-front}
 use Rattle.deb_control.proofs.Passing.{AllPass, last-from_parts, outcome-from_pass}
 use Rattle.deb_control.specs.Canonical.{file_text}
 use Rattle.deb_control.specs.Documents.{rules_of}
-use Rattle.deb_control.specs.Refusals.{Outcome, has_some, line_behind, outcome, outcome_behind}
-use Rattle.deb_control.specs.Rules.{Rules}
+use Rattle.deb_control.specs.Refusals.{has_some, line_behind, outcome, outcome_behind}
 use Rattle.deb_control.specs.Streams.{CheckedItem, CheckedStream, stream_of}
 use Rattle.deb_control.specs.ValueFiles.{bodies_of, body_under}
-use Rattle.deb_refusals.proofs.RemainingLines.{Remains, all_remain, blank_begins, no_paragraphs, remains, tail_length}
+use Rattle.deb_refusals.proofs.RemainingLines.{Remains, all_remain, blank_begins, remains, tail_length}
 use Rattle.deb_refusals.specs.Lines.{passed_among, passed_with}
 use Rattle.deb_refusals.specs.Remaining.{AllRemains, RemainingIsAccepted, bodies_before, passed_bodies, remaining_lines, remaining_of}
 
@@ -73,8 +73,8 @@ pieces_length text =
 
 -- blank lines at the end have no paragraph
 paragraphs_before : (n : ℕ) (lines tail : List Line) → AreBlank tail → paragraphs_from n (lines ++ tail) ≡ paragraphs_from n lines
-paragraphs_before n [] tail blank = no_paragraphs n tail blank
-paragraphs_before n (line ∷ []) tail blank = rw (no_paragraphs (n + 1) tail blank, blank_begins tail blank) refl
+paragraphs_before n [] tail blank = no_paragraph n tail blank
+paragraphs_before n (line ∷ []) tail blank = rw (no_paragraph (n + 1) tail blank, blank_begins tail blank) refl
 paragraphs_before n (line ∷ next ∷ lines) tail blank =
     ap (λ ps. cond (is_blank line) ps (with_line n line (is_blank next) ps)) (paragraphs_before (n + 1) (next ∷ lines) tail blank)
 

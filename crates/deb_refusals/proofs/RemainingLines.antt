@@ -1,11 +1,13 @@
 -- What remains of lines without their refused runs: the paragraphs that pass, and no newline or byte more.
-use Rattle.std.proofs.Common.{◌≡◌, ◌≢◌, ◌+◌, ◌-◌, ◌≤◌, ◌++◌, Bool, ℕ, true, false, cond, List, [], ◌∷◌, length, take, drop, Option, None, Some, Result, Ok, Err, refl, sym, ap, ◌∙◌, subst, arith, append-nil, append_assoc, length-append, true≢false}
+use Rattle.std.proofs.Common.{◌≡◌, ◌≢◌, ◌+◌, ◌-◌, ◌≤◌, ◌++◌, Bool, ℕ, true, false, cond, List, [], ◌∷◌, length, take, drop, Option, None, Some, Result, Ok, Err, refl, sym, ap, ◌∙◌, subst, arith, append_assoc, true≢false}
+use Rattle.std.proofs.Math.Seq.{drop-append-add, drop-append_seam, take-append_seam}
 use Rattle.std.proofs.lemmas.List.Sums.{sum_by-append}
 use Rattle.std.specs.List.{AllByRecursion}
 use Rattle.deb_base.proofs.AllElements.{All-append}
 use Rattle.deb_base.specs.Bodies.{HasNoNewline, Line, is_blank, line_length, paragraph_limit}
 use Rattle.deb_base.specs.declared.refusal.Refusal.{Refusal}
 use Rattle.deb_syntax.proofs.JudgingLaws.{all_left, all_right}
+use Rattle.deb_syntax.proofs.NextParagraph.{no_paragraph}
 use Rattle.deb_syntax.proofs.Runs.{paragraphs_from-blanks, paragraphs_from-run}
 use Rattle.deb_syntax.specs.Extents.{AreBlank, AreNotBlank}
 use Rattle.deb_syntax.specs.Laws.{AreRuns}
@@ -18,28 +20,9 @@ use Rattle.deb_control.specs.Streams.{CheckedItem, CheckedStream, end_of, ended_
 use Rattle.deb_refusals.proofs.Renumbered.{passes_moved}
 use Rattle.deb_refusals.specs.Remaining.{passed_bodies, remaining_lines}
 
--- lines that are put together, and what is cut off at the seams
-take_seam : (front more : List Line) → take (length front) (front ++ more) ≡ front
-take_seam [] more = refl
-take_seam (line ∷ front) more = ap (λ ls. line ∷ ls) (take_seam front more)
-
-drop_seam : (front more : List Line) → drop (length front) (front ++ more) ≡ more
-drop_seam [] more = refl
-drop_seam (line ∷ front) more = drop_seam front more
-
-drop_seams : (front own more : List Line) → drop (length front + length own) (front ++ (own ++ more)) ≡ more
-drop_seams front own more =
-    ap (λ ls. drop (length front + length own) ls) (sym (append_assoc front own more))
-    ∙ ap (λ k. drop k ((front ++ own) ++ more)) (sym (length-append front own))
-    ∙ drop_seam (front ++ own) more
-
 pub blank_begins : (lines : List Line) → AreBlank lines → begins_blank lines ≡ true
 blank_begins [] h = refl
 blank_begins (line ∷ lines) h = h.0
-
--- blank lines have no paragraph
-pub no_paragraphs : (m : ℕ) (lines : List Line) → AreBlank lines → paragraphs_from m lines ≡ []
-no_paragraphs m lines h = ap (paragraphs_from m) (sym (append-nil lines)) ∙ paragraphs_from-blanks m lines [] h
 
 -- one line of a run comes first, unless a blank line does
 begins_front : (blanks own rest more lines : List Line) → lines ≡ blanks ++ (own ++ rest) → AreBlank blanks → own ≢ [] → AreNotBlank own → begins_blank lines ≡ true → begins_blank (blanks ++ more) ≡ true
@@ -87,7 +70,7 @@ module _ (rules : Rules) (beyond : Option ℕ) (nb : ℕ) (tail : List Line) (bl
   all_blank before lines fits blank_lines none =
       let all : AreBlank (lines ++ tail) = All-append (λ line. is_blank line ≡ true) lines tail blank_lines (blank fits) in
       record {
-        passes = λ m. subst (λ ps. AllPass rules None before ps []) (sym (no_paragraphs m (lines ++ tail) all)) refl;
+        passes = λ m. subst (λ ps. AllPass rules None before ps []) (sym (no_paragraph m (lines ++ tail) all)) refl;
         begins = λ _. blank_begins (lines ++ tail) all;
         no_newline = All-append HasNoNewline lines tail none whole;
         short = omega (arith, total lines tail, ap (λ b. tail_length b tail) fits);
@@ -127,10 +110,10 @@ module _ (rules : Rules) (beyond : Option ℕ) (nb : ℕ) (tail : List Line) (bl
     gap = omega (arith, runs.4)
 
     front_is : take (p.first - n) (lines ++ tail) ≡ blanks
-    front_is = ap (λ k. take k (lines ++ tail)) gap ∙ ap (take (length blanks)) whole_is ∙ take_seam blanks (p.lines ++ (rest ++ tail))
+    front_is = ap (λ k. take k (lines ++ tail)) gap ∙ ap (take (length blanks)) whole_is ∙ take-append_seam blanks (p.lines ++ (rest ++ tail))
 
     rest_is : drop (p.first - n + length p.lines) (lines ++ tail) ≡ rest ++ tail
-    rest_is = ap (λ k. drop (k + length p.lines) (lines ++ tail)) gap ∙ ap (drop (length blanks + length p.lines)) whole_is ∙ drop_seams blanks p.lines (rest ++ tail)
+    rest_is = ap (λ k. drop (k + length p.lines) (lines ++ tail)) gap ∙ ap (drop (length blanks + length p.lines)) whole_is ∙ drop-append-add blanks (p.lines ++ (rest ++ tail)) (length p.lines) ∙ drop-append_seam p.lines (rest ++ tail)
 
     pub parted : (kept : List Line) (items : List CheckedItem) (end : Option Refusal) → take (p.first - n) (lines ++ tail) ++ (kept ++ remaining_lines (p.first + length p.lines) (drop (p.first - n + length p.lines) (lines ++ tail)) items end) ≡ blanks ++ (kept ++ remaining_lines behind (rest ++ tail) items end)
     parted kept items end =

@@ -1,7 +1,7 @@
 -- The order of the refusals of a file, and of its runs of lines. Debian Policy 5.1; the lines at
 -- which refusals are told are this project's own.
 use Rattle.std.specs.Prelude.{◌≡◌, ◌≢◌, ℕ, ◌+◌, ◌≤◌, ◌<◌, List, [], ◌∷◌, length, Option, Some, None, IfSome, IfErr, Ok, Err, codes, refl}
-use Rattle.deb_base.specs.declared.code.Code.TheVariants.{Comment, FileTooLong}
+use Rattle.deb_base.specs.declared.code.Code.TheVariants.{Comment}
 use Rattle.deb_base.specs.declared.doc.Doc.{Doc}
 use Rattle.deb_base.specs.declared.refusal.Refusal.{Refusal}
 use Rattle.deb_control.specs.Documents.{rules_of}
