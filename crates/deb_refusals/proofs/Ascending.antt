@@ -1,5 +1,5 @@
 -- Each refusal is told within its run, and the runs of a file lie one after another.
-use Rattle.std.proofs.Common.{◌≡◌, ◌≢◌, ◌&&◌, ◌+◌, ◌-◌, ◌==◌, ◌<◌, ◌≤◌, ◌++◌, Bool, ℕ, true, false, cond, not, nat_le, is_some, IfErr, IfSome, List, [], ◌∷◌, length, Option, None, Some, Result, Ok, Err, refl, sym, ap, ◌∙◌, subst, arith, length-append, true≢false}
+use Rattle.std.proofs.Common.{◌≡◌, ◌≢◌, ◌&&◌, ◌+◌, ◌-◌, ◌==◌, ◌<◌, ◌≤◌, ◌++◌, Bool, ℕ, true, false, cond, not, nat_le, is_some, IfErr, IfSome, List, [], ◌∷◌, length, Option, None, Some, Result, Ok, Err, refl, sym, ap, ◌∙◌, subst, arith, append_assoc, length-append, true≢false}
 use Rattle.std.proofs.lemmas.Bool.{or_parts}
 use Rattle.std.specs.List.{AllByRecursion}
 use Rattle.deb_base.specs.Bodies.{HasNoNewline, Line, line_length, paragraph_limit}
@@ -28,7 +28,7 @@ use Rattle.deb_control.specs.Documents.{rules_of}
 use Rattle.deb_control.specs.Refusals.{answer_behind, answer_of_seen, built, canonical_entries, has_some, have_names, line_behind, refusal_or, refused_or_built, value_refusal_of, within_file}
 use Rattle.deb_control.specs.Rules.{Rules}
 use Rattle.deb_control.specs.Streams.{CheckedItem, CheckedStream, end_of, ended_by, is_end_under, item_of, refusals_after, refusals_in, stream_behind_under, stream_of, with_answer, with_item}
-use Rattle.deb_refusals.specs.Ascending.{AreInOrder, Ascend, RefusalsAscend, RunsAreInOrder}
+use Rattle.deb_refusals.specs.Ascending.{AreInOrder, Ascend, HasRefusalWithin, RefusalsAscend, RunsAreInOrder}
 
 -- a line of a paragraph
 abbrev IsOf : Paragraph → ℕ → Type 0
@@ -70,17 +70,19 @@ built-line rules p seen refusal at lines h = go (value_refusal_of rules seen.fie
     go (Some other) is e = value-line rules p seen.fields refusal lines (is ∙ ap Some (same_refusal _ other refusal refl e))
     go None is e = late (have_names seen.fields rules.required) (nat_le (length (paragraph_text (canonical_entries rules seen.fields))) paragraph_limit) e
 
-long-from : (n room : ℕ) (lines : List Line) (line : ℕ) → line_too_long n room lines ≡ Some line → n ≤ line
-long-from n room [] line h = absurd (cc)
-long-from n room (l ∷ lines) line h = go (nat_le (line_length l) room) (long-from (n + 1) (room - line_length l) lines line) h
+-- the line with which lines are too long is one of them
+long-within : (n room : ℕ) (lines : List Line) (line : ℕ) → line_too_long n room lines ≡ Some line → (n ≤ line) × (line < n + length lines)
+long-within n room [] line h = absurd (cc)
+long-within n room (l ∷ lines) line h = go (nat_le (line_length l) room) (long-within (n + 1) (room - line_length l) lines line) h
   where
-    go : (t : Bool) → (line_too_long (n + 1) (room - line_length l) lines ≡ Some line → n + 1 ≤ line) → cond t (line_too_long (n + 1) (room - line_length l) lines) (Some n) ≡ Some line → n ≤ line
-    go true more e = omega (arith, more e)
-    go false more e = let same : n ≡ line = some_same (Some n) n line refl e in omega (arith, same)
+    go : (t : Bool) → (line_too_long (n + 1) (room - line_length l) lines ≡ Some line → (n + 1 ≤ line) × (line < n + 1 + length lines)) → cond t (line_too_long (n + 1) (room - line_length l) lines) (Some n) ≡ Some line → (n ≤ line) × (line < n + length (l ∷ lines))
+    go true more e = let is = more e in (omega (arith, is.0), omega (arith, is.1))
+    go false more e = let same : n ≡ line = some_same (Some n) n line refl e in (omega (arith, same), omega (arith, same))
 
--- A refusal of a paragraph is at its first line or after it, and at one of its lines unless it ends the stream.
+-- A refusal of a paragraph is at one of its lines, or it ends the stream at the line after them.
 record IsTold (rules : Rules) (p : Paragraph) (refusal : Refusal) : Type 0 where
   from : p.first ≤ refusal.line
+  most : refusal.line ≤ p.first + length p.lines
   within : is_end_under paragraph_limit rules p refusal ≡ false → refusal.line < p.first + length p.lines
 
 module _ (rules : Rules) (beyond : Option ℕ) (nb : ℕ) (before : List Entries) (p : Paragraph) (run : IsRun p.lines) (refusal : Refusal) where
@@ -95,11 +97,7 @@ module _ (rules : Rules) (beyond : Option ℕ) (nb : ℕ) (before : List Entries
   at_first = (omega arith, omega (arith, some-lines))
 
   of_lines : IsOf p refusal.line → IsTold rules p refusal
-  of_lines at = record { from = at.0; within = λ _. at.1 }
-
-  -- a refusal that ends the stream
-  at_its_end : p.first ≤ refusal.line → is_end_under paragraph_limit rules p refusal ≡ true → IsTold rules p refusal
-  at_its_end from ends = record { from = from; within = λ goes_on. absurd (true≢false (sym ends ∙ goes_on)) }
+  of_lines at = record { from = at.0; most = omega (arith, at.1); within = λ _. at.1 }
 
   told_built : (fields : List Field) → AllByRecursion (λ field. IsOf p field.line) fields → (b : Result Entries Refusal) → built rules (record { first = p.first; fields = fields }) ≡ b → within_file before p.first b ≡ Err refusal → IsTold rules p refusal
   told_built fields lines (Err other) is h = of_lines (built-line rules p (record { first = p.first; fields = fields }) refusal at_first lines (is ∙ ap Err (same_refusal (Err other) other refusal refl h)))
@@ -122,6 +120,7 @@ module _ (rules : Rules) (beyond : Option ℕ) (nb : ℕ) (before : List Entries
       let same = same_refusal (Err (record { code = FileTooLong; line = p.first + length p.lines })) (record { code = FileTooLong; line = p.first + length p.lines }) refusal refl h in
       record {
         from = omega (arith, ap (λ r. r.line) same);
+        most = omega (arith, ap (λ r. r.line) same);
         within = λ goes_on.
             let others = or_parts rules.single _ goes_on in
             let code = or_parts (is_some (line_too_long p.first paragraph_limit p.lines)) _ others.1 in
@@ -133,13 +132,8 @@ module _ (rules : Rules) (beyond : Option ℕ) (nb : ℕ) (before : List Entries
   told_first None is h = told_short is (is_line (p.first + length p.lines) beyond) h
   told_first (Some line) is h =
       let same = same_refusal (Err (record { code = ParagraphTooLong; line = line })) (record { code = ParagraphTooLong; line = line }) refusal refl h in
-      record {
-        from = omega (arith, long-from p.first paragraph_limit p.lines line is, ap (λ r. r.line) same);
-        within = λ goes_on.
-            let others = or_parts rules.single _ goes_on in
-            let long = or_parts (is_some (line_too_long p.first paragraph_limit p.lines)) _ others.1 in
-            absurd (true≢false (sym (ap is_some is) ∙ long.0));
-      }
+      let long = long-within p.first paragraph_limit p.lines line is in
+      of_lines (subst (λ r. IsOf p r.line) same long)
 
   told : (left : List Paragraph) → answer_behind rules beyond nb before (p ∷ left) ≡ Err refusal → IsTold rules p refusal
   told left h = go (rules.single && has_some before) h
@@ -148,101 +142,114 @@ module _ (rules : Rules) (beyond : Option ℕ) (nb : ℕ) (before : List Entries
       go true e = of_lines (subst (λ r. IsOf p r.line) (same_refusal _ _ _ refl e) at_first)
       go false e = told_first (line_too_long p.first paragraph_limit p.lines) refl (ap (answer_of_seen rules nb before) (sym (answer_of_first-cons beyond p left)) ∙ e)
 
-module _ (rules : Rules) (beyond : Option ℕ) (nb : ℕ) where
+module _ (rules : Rules) (beyond : Option ℕ) (nb : ℕ) (more : List Line) where
   abbrev stream : List Entries → List Paragraph → CheckedStream
   stream before left = stream_behind_under paragraph_limit file_limit rules beyond nb before left
 
-  -- the lines from line n on, of which the file has no more before the line where it is too long
-  record AreWithin (n : ℕ) (lines : List Line) : Type 0 where
-    all : n + length lines ≤ nb
-    cut : IfSome beyond (λ line. n + length lines ≤ line)
+  -- the lines from line n on that are looked at, and those after them
+  record AreLeft (n : ℕ) (lines : List Line) : Type 0 where
+    all : n + length (lines ++ more) ≡ nb
+    cut : IfSome beyond (λ line. n + length lines ≡ line)
     none : AllByRecursion HasNoNewline lines
 
-  end_behind : (before : List Entries) (n : ℕ) (lines : List Line) → n + length lines ≤ nb → (o : Option ℕ) → IfSome o (λ line. n + length lines ≤ line) → (refusal : Refusal) → answer_behind rules o nb before [] ≡ Err refusal → n ≤ refusal.line
+  abbrev IsAfter : ℕ → List Line → Refusal → Type 0
+  IsAfter n lines refusal = (n ≤ refusal.line) × (refusal.line ≤ n + length (lines ++ more))
+
+  end_behind : (before : List Entries) (n : ℕ) (lines : List Line) → n + length (lines ++ more) ≡ nb → (o : Option ℕ) → IfSome o (λ line. n + length lines ≡ line) → (refusal : Refusal) → answer_behind rules o nb before [] ≡ Err refusal → IsAfter n lines refusal
   end_behind before n lines all None cut refusal h = go (rules.single && not (has_some before)) h
     where
-      go : (t : Bool) → cond {A = Result (Option Entries) Refusal} t (Err (record { code = NoParagraph; line = nb })) (Ok None) ≡ Err refusal → n ≤ refusal.line
-      go true e = subst (λ r. n ≤ r.line) (same_refusal _ _ _ refl e) (omega (arith, all))
+      go : (t : Bool) → cond {A = Result (Option Entries) Refusal} t (Err (record { code = NoParagraph; line = nb })) (Ok None) ≡ Err refusal → IsAfter n lines refusal
+      go true e = subst (IsAfter n lines) (same_refusal _ _ _ refl e) (omega (arith, all), omega (arith, all))
       go false e = absurd (cc)
   end_behind before n lines all (Some line) cut refusal h =
       let same = same_refusal (Err (record { code = FileTooLong; line = line })) (record { code = FileTooLong; line = line }) refusal refl h in
-      omega (arith, cut, ap (λ r. r.line) same)
+      subst (IsAfter n lines) same (omega (arith, cut), omega (arith, cut, length-append lines more))
 
-  at_end : (before : List Entries) (n : ℕ) (lines : List Line) → AreWithin n lines → (a : Result (Option Entries) Refusal) → answer_behind rules beyond nb before [] ≡ a → AreInOrder n (end_of a).items (end_of a).end
-  at_end before n lines within (Ok next) is = tt
-  at_end before n lines within (Err refusal) is = end_behind before n lines within.all beyond within.cut refusal is
+  at_end : (before : List Entries) (n : ℕ) (lines : List Line) → AreLeft n lines → (a : Result (Option Entries) Refusal) → answer_behind rules beyond nb before [] ≡ a → AreInOrder n (lines ++ more) (end_of a).items (end_of a).end
+  at_end before n lines are (Ok next) is = tt
+  at_end before n lines are (Err refusal) is = end_behind before n lines are.all beyond are.cut refusal is
 
-  module _ (before : List Entries) (n : ℕ) (lines : List Line) (p : Paragraph) (left : List Paragraph) (runs : AreRuns n lines (p ∷ left)) (within : AreWithin n lines) where
-    abbrev behind : ℕ
-    behind = n + length runs.0 + length p.lines
+  module _ (before : List Entries) (n : ℕ) (lines : List Line) (p : Paragraph) (left : List Paragraph) (runs : AreRuns n lines (p ∷ left)) (are : AreLeft n lines) where
+    abbrev after : ℕ
+    after = n + length runs.0 + length p.lines
 
-    after_it : behind + length runs.1 ≡ n + length lines
+    after_it : after + length runs.1 ≡ n + length lines
     after_it = omega (arith, ap length runs.2, length-append runs.0 (p.lines ++ runs.1), length-append p.lines runs.1)
 
     own_parts : AllByRecursion HasNoNewline (p.lines ++ runs.1)
-    own_parts = all_right HasNoNewline runs.0 (p.lines ++ runs.1) (subst (AllByRecursion HasNoNewline) runs.2 within.none)
+    own_parts = all_right HasNoNewline runs.0 (p.lines ++ runs.1) (subst (AllByRecursion HasNoNewline) runs.2 are.none)
 
-    rest_within : AreWithin behind runs.1
-    rest_within = record {
-      all = omega (arith, after_it, within.all);
-      cut = subst (λ k. IfSome beyond (λ line. k ≤ line)) (sym after_it) within.cut;
+    rest_left : AreLeft after runs.1
+    rest_left = record {
+      all = omega (arith, after_it, are.all, length-append lines more, length-append runs.1 more);
+      cut = subst (λ k. IfSome beyond (λ line. k ≡ line)) (sym after_it) are.cut;
       none = all_right HasNoNewline p.lines runs.1 own_parts;
     }
-
-    from_n : n ≤ p.first
-    from_n = omega (arith, runs.4)
 
     one_told : (refusal : Refusal) → answer_behind rules beyond nb before (p ∷ left) ≡ Err refusal → IsTold rules p refusal
     one_told refusal is = told rules beyond nb before p (record { some = runs.5; no_newline = all_left HasNoNewline p.lines runs.1 own_parts; not_blank = runs.6 }) refusal left is
 
-    next_is : (s : CheckedStream) → AreInOrder behind s.items s.end → AreInOrder (p.first + length p.lines) s.items s.end
-    next_is s more = subst (λ k. AreInOrder (k + length p.lines) s.items s.end) (sym runs.4) more
+    -- a run before the others
+    with_run : (bodies : Result Entries Refusal) (s : CheckedStream) → HasRefusalWithin (item_of p bodies) → AreInOrder after (runs.1 ++ more) s.items s.end → AreInOrder n (lines ++ more) (item_of p bodies ∷ s.items) s.end
+    with_run bodies s within rest = (
+      runs.0,
+      runs.1 ++ more,
+      ap (λ ls. ls ++ more) runs.2 ∙ append_assoc runs.0 (p.lines ++ runs.1) more ∙ ap (λ ls. runs.0 ++ ls) (append_assoc p.lines runs.1 more),
+      runs.4,
+      runs.5,
+      within,
+      subst (λ k. AreInOrder (k + length p.lines) (runs.1 ++ more) s.items s.end) (sym runs.4) rest,
+    )
 
-    at_one : ((passed : List Entries) → AreInOrder behind (stream passed left).items (stream passed left).end) → (a : Result (Option Entries) Refusal) → answer_behind rules beyond nb before (p ∷ left) ≡ a → AreInOrder n (with_answer (is_end_under paragraph_limit rules p) p before a (λ passed. stream passed left)).items (with_answer (is_end_under paragraph_limit rules p) p before a (λ passed. stream passed left)).end
-    at_one more (Ok None) is = tt
-    at_one more (Ok (Some entries)) is = (from_n, runs.5, tt, next_is (stream (before ++ entries ∷ []) left) (more (before ++ entries ∷ [])))
-    at_one more (Err refusal) is = go (is_end_under paragraph_limit rules p refusal) refl
+    at_one : ((passed : List Entries) → AreInOrder after (runs.1 ++ more) (stream passed left).items (stream passed left).end) → (a : Result (Option Entries) Refusal) → answer_behind rules beyond nb before (p ∷ left) ≡ a → AreInOrder n (lines ++ more) (with_answer (is_end_under paragraph_limit rules p) p before a (λ passed. stream passed left)).items (with_answer (is_end_under paragraph_limit rules p) p before a (λ passed. stream passed left)).end
+    at_one rest (Ok None) is = tt
+    at_one rest (Ok (Some entries)) is = with_run (Ok entries) (stream (before ++ entries ∷ []) left) tt (rest (before ++ entries ∷ []))
+    at_one rest (Err refusal) is = go (is_end_under paragraph_limit rules p refusal) refl
       where
-        go : (t : Bool) → is_end_under paragraph_limit rules p refusal ≡ t → AreInOrder n (cond t (ended_by (Some refusal)) (with_item (item_of p (Err refusal)) (stream before left))).items (cond t (ended_by (Some refusal)) (with_item (item_of p (Err refusal)) (stream before left))).end
-        go true e = omega (arith, from_n, (one_told refusal is).from)
-        go false e = (from_n, runs.5, ((one_told refusal is).from, (one_told refusal is).within e), next_is (stream before left) (more before))
+        go : (t : Bool) → is_end_under paragraph_limit rules p refusal ≡ t → AreInOrder n (lines ++ more) (cond t (ended_by (Some refusal)) (with_item (item_of p (Err refusal)) (stream before left))).items (cond t (ended_by (Some refusal)) (with_item (item_of p (Err refusal)) (stream before left))).end
+        go true e =
+            let is_told = one_told refusal is in
+            (omega (arith, runs.4, is_told.from), omega (arith, runs.4, is_told.most, after_it, length-append lines more))
+        go false e = with_run (Err refusal) (stream before left) ((one_told refusal is).from, (one_told refusal is).within e) (rest before)
 
-  in_order : (before : List Entries) (n : ℕ) (lines : List Line) (left : List Paragraph) → AreRuns n lines left → AreWithin n lines → AreInOrder n (stream before left).items (stream before left).end
-  in_order before n lines [] runs within = at_end before n lines within (answer_behind rules beyond nb before []) refl
-  in_order before n lines (p ∷ left) runs within =
-      at_one before n lines p left runs within (λ passed. in_order passed (n + length runs.0 + length p.lines) runs.1 left runs.8 (rest_within before n lines p left runs within)) (answer_behind rules beyond nb before (p ∷ left)) refl
+  in_order : (before : List Entries) (n : ℕ) (lines : List Line) (left : List Paragraph) → AreRuns n lines left → AreLeft n lines → AreInOrder n (lines ++ more) (stream before left).items (stream before left).end
+  in_order before n lines [] runs are = at_end before n lines are (answer_behind rules beyond nb before []) refl
+  in_order before n lines (p ∷ left) runs are =
+      at_one before n lines p left runs are (λ passed. in_order passed (n + length runs.0 + length p.lines) runs.1 left runs.8 (rest_left before n lines p left runs are)) (answer_behind rules beyond nb before (p ∷ left)) refl
 
--- the line of the first byte beyond is after those that are looked at
-cut_after : (text : List ℕ) → IfSome (line_beyond 1 file_limit text) (λ line. 1 + length (lines_of (part_within file_limit text)) ≤ line)
+-- the line of the first byte beyond is the one after those that are looked at
+cut_after : (text : List ℕ) → IfSome (line_beyond 1 file_limit text) (λ line. 1 + length (lines_of (part_within file_limit text)) ≡ line)
 cut_after text = go (nat_le (length text) file_limit)
   where
-    go : (t : Bool) → IfSome (cond t None (Some (1 + length (lines_of (part_within file_limit text))))) (λ line. 1 + length (lines_of (part_within file_limit text)) ≤ line)
+    go : (t : Bool) → IfSome (cond t None (Some (1 + length (lines_of (part_within file_limit text))))) (λ line. 1 + length (lines_of (part_within file_limit text)) ≡ line)
     go true = tt
-    go false = omega arith
+    go false = refl
 
 pub runs_are_in_order : RunsAreInOrder
 runs_are_in_order doc text =
     let part = part_within file_limit text in
     let front = part-front file_limit text in
-    in_order (rules_of doc) (line_beyond 1 file_limit text) (line_behind text) [] 1 (lines_of part) (paragraphs_of part) (paragraphs_from-AreRuns (lines_of part) 1) (record {
-      all = omega (arith, ap length front.1, length-append (lines_of part) front.0);
+    let stream = stream_of (rules_of doc) text in
+    subst (λ lines. AreInOrder 1 lines stream.items stream.end) (sym front.1)
+    (in_order (rules_of doc) (line_beyond 1 file_limit text) (line_behind text) front.0 [] 1 (lines_of part) (paragraphs_of part) (paragraphs_from-AreRuns (lines_of part) 1) (record {
+      all = omega (arith, ap length front.1);
       cut = cut_after text;
       none = lines_of-no_newline part;
-    })
+    }))
 
 -- from a later line on is from an earlier one on
 from_earlier : (n m : ℕ) (refusals : List Refusal) → n ≤ m → Ascend m refusals → Ascend n refusals
 from_earlier n m [] h ascend = tt
 from_earlier n m (refusal ∷ refusals) h ascend = (omega (arith, h, ascend.0), ascend.1)
 
-ascend_in_order : (n : ℕ) (items : List CheckedItem) (end : Option Refusal) → AreInOrder n items end → Ascend n (refusals_in items end)
-ascend_in_order n [] None h = tt
-ascend_in_order n [] (Some refusal) h = (h, tt)
-ascend_in_order n (item ∷ items) end h = go item.bodies h.2 (ascend_in_order (item.first + length item.lines) items end h.3)
+ascend_in_order : (n : ℕ) (lines : List Line) (items : List CheckedItem) (end : Option Refusal) → AreInOrder n lines items end → Ascend n (refusals_in items end)
+ascend_in_order n lines [] None h = tt
+ascend_in_order n lines [] (Some refusal) h = (h.0, tt)
+ascend_in_order n lines (item ∷ items) end h = go item.bodies h.5 (ascend_in_order (item.first + length item.lines) h.1 items end h.6)
   where
     go : (bodies : Result Entries Refusal) → IfErr bodies (λ refusal. (item.first ≤ refusal.line) × (refusal.line < item.first + length item.lines)) → Ascend (item.first + length item.lines) (refusals_in items end) → Ascend n (refusals_after bodies (refusals_in items end))
-    go (Ok entries) told more = from_earlier n (item.first + length item.lines) (refusals_in items end) (omega (arith, h.0)) more
-    go (Err refusal) told more = (omega (arith, h.0, told.0), from_earlier (refusal.line + 1) (item.first + length item.lines) (refusals_in items end) (omega (arith, told.1)) more)
+    go (Ok entries) within more = from_earlier n (item.first + length item.lines) (refusals_in items end) (omega (arith, h.3)) more
+    go (Err refusal) within more = (omega (arith, h.3, within.0), from_earlier (refusal.line + 1) (item.first + length item.lines) (refusals_in items end) (omega (arith, within.1)) more)
 
 pub refusals_ascend : RefusalsAscend
-refusals_ascend doc text = ascend_in_order 1 (stream_of (rules_of doc) text).items (stream_of (rules_of doc) text).end (runs_are_in_order doc text)
+refusals_ascend doc text = ascend_in_order 1 (lines_of text) (stream_of (rules_of doc) text).items (stream_of (rules_of doc) text).end (runs_are_in_order doc text)

@@ -1,9 +1,11 @@
--- The order of the refusals of a file, and of its runs of lines. Debian Policy 5.1; the lines at
--- which refusals are told are this project's own.
-use Rattle.std.specs.Prelude.{◌≡◌, ◌≢◌, ℕ, ◌+◌, ◌≤◌, ◌<◌, List, [], ◌∷◌, length, Option, Some, None, IfSome, IfErr, Ok, Err, codes, refl}
+-- The order of the refusals of a file, and of its runs of lines. Debian Policy 5.1; the lines of the
+-- refusals are this project's own.
+use Rattle.std.specs.Prelude.{◌≡◌, ◌≢◌, ℕ, ◌+◌, ◌≤◌, ◌<◌, List, [], ◌∷◌, ◌++◌, length, Option, Some, None, IfSome, IfErr, Ok, Err, codes, refl}
+use Rattle.deb_base.specs.Bodies.{Line}
 use Rattle.deb_base.specs.declared.code.Code.TheVariants.{Comment}
 use Rattle.deb_base.specs.declared.doc.Doc.{Doc}
 use Rattle.deb_base.specs.declared.refusal.Refusal.{Refusal}
+use Rattle.deb_syntax.specs.Lines.{lines_of}
 use Rattle.deb_control.specs.Documents.{rules_of}
 use Rattle.deb_control.specs.Streams.{CheckedItem, stream_of}
 use Rattle.deb_refusals.specs.Lines.{refusals_of}
@@ -13,31 +15,34 @@ abbrev pub Ascend : ℕ → List Refusal → Type 0
 Ascend n [] = Unit {0}
 Ascend n (refusal ∷ refusals) = (n ≤ refusal.line) × Ascend (refusal.line + 1) refusals
 
--- Where a run is refused, this is told at one of its lines.
-abbrev pub IsToldWithin : CheckedItem → Type 0
-IsToldWithin item =
+-- If a run is refused, the refusal is at one of its lines.
+abbrev pub HasRefusalWithin : CheckedItem → Type 0
+HasRefusalWithin item =
     IfErr item.bodies
     (λ refusal. (item.first ≤ refusal.line) × (refusal.line < item.first + length item.lines))
 
--- Runs lie one after another from line n on: each has a line, and where it is refused, this is told
--- at one of its lines; the refusal that ends the stream is told after the last of them.
-abbrev pub AreInOrder : ℕ → List CheckedItem → Option Refusal → Type 0
-AreInOrder n [] end = IfSome end (λ refusal. n ≤ refusal.line)
-AreInOrder n (item ∷ items) end =
-    (n ≤ item.first) × (item.lines ≢ []) × IsToldWithin item
-    × AreInOrder (item.first + length item.lines) items end
+-- The lines from line n on contain these runs, one after another, each at its own number. A run has
+-- a line, and a refused one has its refusal at one of its lines. A refusal that ends the stream is
+-- at a line after the last run; this may be the line after the last one.
+abbrev pub AreInOrder : ℕ → List Line → List CheckedItem → Option Refusal → Type 0
+AreInOrder n lines [] end =
+    IfSome end (λ refusal. (n ≤ refusal.line) × (refusal.line ≤ n + length lines))
+AreInOrder n lines (item ∷ items) end =
+    (before : List Line) × (rest : List Line) × (lines ≡ before ++ (item.lines ++ rest))
+    × (item.first ≡ n + length before) × (item.lines ≢ []) × HasRefusalWithin item
+    × AreInOrder (item.first + length item.lines) rest items end
 
 -- The lines of a file's refusals, counted from 1, ascend strictly.
 abbrev pub RefusalsAscend : Type 0
 RefusalsAscend = (doc : Doc) (text : List ℕ) → Ascend 1 (refusals_of doc text)
 
--- The runs of a file lie one after another, and each refusal is told within its own.
+-- The runs of a file are among its lines one after another, each with at most one refusal.
 abbrev pub RunsAreInOrder : Type 0
 RunsAreInOrder =
-    (doc : Doc) (text : List ℕ) → AreInOrder 1 (stream_of (rules_of doc) text).items
+    (doc : Doc) (text : List ℕ) → AreInOrder 1 (lines_of text) (stream_of (rules_of doc) text).items
     (stream_of (rules_of doc) text).end
 
--- for the worked cases: a refusal of a line, and a run of two lines
+-- for the worked cases: a refusal of a line, a run that is refused, and one that passes
 abbrev at_line : ℕ → Refusal
 at_line n = record { code = Comment; line = n }
 
@@ -54,15 +59,29 @@ ascending : (Ascend 3 [] ≡ Unit {0})
     × (Ascend 1 (at_line 3 ∷ at_line 3 ∷ []) ≡ ((1 ≤ 3) × ((4 ≤ 3) × Unit {0})))
 ascending = (refl, refl, refl)
 
--- a refusal is at one of the lines of its run, and nothing is said of a run that passes
-told_within : (IsToldWithin (run_at 4 (at_line 5)) ≡ ((4 ≤ 5) × (5 < 6)))
-    × (IsToldWithin (run_at 4 (at_line 6)) ≡ ((4 ≤ 6) × (6 < 6)))
-    × (IsToldWithin (good_at 4) ≡ Unit {0})
-told_within = (refl, refl, refl)
+-- at one of two lines, at neither, and nothing for a run that passes
+refusals_within : (HasRefusalWithin (run_at 4 (at_line 5)) ≡ ((4 ≤ 5) × (5 < 6)))
+    × (HasRefusalWithin (run_at 4 (at_line 6)) ≡ ((4 ≤ 6) × (6 < 6)))
+    × (HasRefusalWithin (good_at 4) ≡ Unit {0})
+refusals_within = (refl, refl, refl)
 
--- no run begins before the one before it has ended, nor is the end told there
-in_order : (AreInOrder 1 [] None ≡ Unit {0}) × (AreInOrder 2 [] (Some (at_line 4)) ≡ (2 ≤ 4))
-    × (AreInOrder 1 (good_at 3 ∷ run_at 6 (at_line 7) ∷ []) (Some (at_line 9))
-    ≡ ((1 ≤ 3) × ((good_at 3).lines ≢ []) × Unit {0} × ((4 ≤ 6)
-    × ((run_at 6 (at_line 7)).lines ≢ []) × ((6 ≤ 7) × (7 < 8)) × (8 ≤ 9))))
-in_order = (refl, refl, refl)
+-- the refusal that ends the stream, and none
+ends : (AreInOrder 2 (codes "A" ∷ []) [] (Some (at_line 4)) ≡ ((2 ≤ 4) × (4 ≤ 3)))
+    × (AreInOrder 1 [] [] None ≡ Unit {0})
+ends = (refl, refl)
+
+-- a run that passes and one that is refused, with a line before each
+two_runs : (at_end : (6 ≤ 6) × (6 ≤ 6)) (within : (4 ≤ 5) × (5 < 6))
+    (some : (line : Line) (lines : List Line) → (line ∷ lines) ≢ [])
+    → AreInOrder 1 ([] ∷ codes "A:1" ∷ [] ∷ codes "A:1" ∷ codes "#" ∷ [])
+    (good_at 2 ∷ run_at 4 (at_line 5) ∷ []) (Some (at_line 6))
+two_runs at_end within some =
+    (
+      [] ∷ [],
+      [] ∷ codes "A:1" ∷ codes "#" ∷ [],
+      refl,
+      refl,
+      some (codes "A:1") [],
+      tt,
+      ([] ∷ [], [], refl, refl, some (codes "A:1") (codes "#" ∷ []), within, at_end),
+    )
