@@ -1,6 +1,7 @@
--- The order of the refusals of a file, and of its runs of lines. Debian Policy 5.1; the lines of the
--- refusals are this project's own.
+-- The order of the refusals of a file, and of its runs of lines. Debian Policy 5.1; the lines of
+-- the refusals are this project's own.
 use Rattle.std.specs.Prelude.{◌≡◌, ◌≢◌, ℕ, ◌+◌, ◌≤◌, ◌<◌, List, [], ◌∷◌, ◌++◌, length, Option, Some, None, IfSome, IfErr, Ok, Err, codes, refl}
+use Rattle.std.proofs.lemmas.Bool.{leb-true}
 use Rattle.deb_base.specs.Bodies.{Line}
 use Rattle.deb_base.specs.declared.code.Code.TheVariants.{Comment}
 use Rattle.deb_base.specs.declared.doc.Doc.{Doc}
@@ -70,18 +71,27 @@ ends : (AreInOrder 2 (codes "A" ∷ []) [] (Some (at_line 4)) ≡ ((2 ≤ 4) × 
     × (AreInOrder 1 [] [] None ≡ Unit {0})
 ends = (refl, refl)
 
--- a run that passes and one that is refused, with a line before each
-two_runs : (at_end : (6 ≤ 6) × (6 ≤ 6)) (within : (4 ≤ 5) × (5 < 6))
-    (some : (line : Line) (lines : List Line) → (line ∷ lines) ≢ [])
-    → AreInOrder 1 ([] ∷ codes "A:1" ∷ [] ∷ codes "A:1" ∷ codes "#" ∷ [])
+some_lines : (line : Line) (lines : List Line) → (line ∷ lines) ≢ []
+some_lines line lines none = cc
+
+-- a run that passes and one that is refused, with a line before each, and a refusal that ends the
+-- stream at the line after the last one
+two_runs : AreInOrder 1 ([] ∷ codes "A:1" ∷ [] ∷ codes "A:1" ∷ codes "#" ∷ [])
     (good_at 2 ∷ run_at 4 (at_line 5) ∷ []) (Some (at_line 6))
-two_runs at_end within some =
-    (
-      [] ∷ [],
-      [] ∷ codes "A:1" ∷ codes "#" ∷ [],
-      refl,
-      refl,
-      some (codes "A:1") [],
-      tt,
-      ([] ∷ [], [], refl, refl, some (codes "A:1") (codes "#" ∷ []), within, at_end),
-    )
+two_runs = (
+  [] ∷ [],
+  [] ∷ codes "A:1" ∷ codes "#" ∷ [],
+  refl,
+  refl,
+  some_lines (codes "A:1") [],
+  tt,
+  (
+    [] ∷ [],
+    [],
+    refl,
+    refl,
+    some_lines (codes "A:1") (codes "#" ∷ []),
+    (leb-true 4 5 refl, leb-true 6 6 refl),
+    (leb-true 6 6 refl, leb-true 6 6 refl),
+  ),
+)

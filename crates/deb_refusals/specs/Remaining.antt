@@ -1,4 +1,4 @@
--- A file without its refused runs of lines: what of it would be accepted. Debian Policy 5.1; this
+-- A file without its refused runs of lines, and what is accepted of it. Debian Policy 5.1; this
 -- project's own.
 use Rattle.std.specs.Prelude.{◌≡◌, ℕ, ◌+◌, ◌-◌, ◌≤◌, false, List, [], ◌∷◌, ◌++◌, length, take, drop, Option, Some, None, Result, Ok, Err, codes, refl}
 use Rattle.std.specs.Str.{is_utf8, chars}
@@ -6,6 +6,7 @@ use lib.Utf8.{encode}
 use Rattle.deb_base.specs.Bodies.{Line, joined, paragraph_limit, pieces_of}
 use Rattle.deb_base.specs.Docs.{is_single}
 use Rattle.deb_base.specs.declared.doc.Doc.{Doc}
+use Rattle.deb_base.specs.declared.doc.Doc.TheVariants.{Packages}
 use Rattle.deb_base.specs.declared.refusal.Refusal.{Refusal}
 use Rattle.deb_field.specs.Values.{value_text}
 use Rattle.deb_syntax.specs.Lines.{file_limit}
@@ -22,8 +23,8 @@ abbrev pub lines_if_passed : Result Entries Refusal → List Line → List Line
 lines_if_passed (Ok entries) lines = lines
 lines_if_passed (Err refusal) lines = []
 
--- Of the lines from line n on: those before each run stay, and those of a run that passes; all after
--- the last run stay, if no refusal ends the stream, and otherwise none.
+-- What remains of the lines from line n on. The lines before each run remain, and those of a run
+-- that passes. After the last run all remain if no refusal ends the stream, and otherwise none.
 abbrev pub remaining_lines : ℕ → List Line → List CheckedItem → Option Refusal → List Line
 remaining_lines n lines [] None = lines
 remaining_lines n lines [] (Some refusal) = []
@@ -33,8 +34,8 @@ remaining_lines n lines (item ∷ items) end =
     ++ remaining_lines (item.first + length item.lines)
     (drop (item.first - n + length item.lines) lines) items end)
 
--- What remains of a text that has this stream. The lines are its pieces between newlines, so that it
--- ends with a newline where the text does.
+-- What remains of a text that has this stream. The lines are the pieces between newlines, so a text
+-- that ends with a newline has an empty one after it.
 abbrev pub remaining_in : CheckedStream → List ℕ → List ℕ
 remaining_in stream text = joined (remaining_lines 1 (pieces_of text) stream.items stream.end)
 
@@ -52,9 +53,8 @@ abbrev pub passed_bodies : List CheckedItem → List Entries
 passed_bodies [] = []
 passed_bodies (item ∷ items) = bodies_before item.bodies (passed_bodies items)
 
--- The other text is accepted with exactly the paragraphs of a file that pass: as many, each with
--- the same canonical bodies, so that its canonical text is that of these. It isn't longer than the
--- file.
+-- The other text is accepted with exactly the paragraphs of a file that pass: as many, with their
+-- canonical bodies and their canonical text. It isn't longer than the file.
 pub record HasWhatPassed (doc : Doc) (text other : List ℕ) : Type 0 where
   pub meaning : Meaning
   pub accepted : Accepted doc other meaning
@@ -65,14 +65,14 @@ pub record HasWhatPassed (doc : Doc) (text other : List ℕ) : Type 0 where
       ≡ file_text (passed_bodies (stream_of (rules_of doc) text).items)
   pub short : length other ≤ length text
 
--- Where any number of paragraphs may stand, the text before a refusal that ends the stream, without
--- the refused runs, is accepted with exactly the paragraphs that pass.
+-- For a kind of document that has any number of paragraphs, the text before a refusal that ends the
+-- stream, without the refused runs, is accepted with exactly the paragraphs that pass.
 abbrev pub RemainingIsAccepted : Type 0
 RemainingIsAccepted =
     (doc : Doc) (text : List ℕ) → is_single doc ≡ false
     → HasWhatPassed doc text (remaining_of doc text)
 
--- Where nothing is refused, all of the file remains.
+-- If nothing is refused, all of the file remains.
 abbrev pub AllRemains : Type 0
 AllRemains =
     (doc : Doc) (text : List ℕ) → refusals_of doc text ≡ [] → remaining_of doc text ≡ text
@@ -98,8 +98,8 @@ without_fault : (remaining_under 99 99 (codes "\n\nPackage:a\n \nPackage:a\n\n")
 unfolding is_utf8 chars encode
 without_fault = (refl, refl, refl, refl, refl)
 
--- the lines of a refused run go, and the blank lines around it stay, so that two paragraphs stay
--- apart; no newline comes after a last line that has none
+-- a refused run is left out, and the blank lines around it remain, which keep two paragraphs apart;
+-- a last line without a newline gets none
 with_faults : (remaining_under 99 99 (codes "Package:a\n\nX:1\n# 2\n\nPackage:b\n")
     ≡ codes "Package:a\n\n\nPackage:b\n")
     × (remaining_under 99 99 (codes "#\n\nX:1\n \nPackage:b") ≡ codes "\n \nPackage:b")
@@ -109,8 +109,8 @@ with_faults : (remaining_under 99 99 (codes "Package:a\n\nX:1\n# 2\n\nPackage:b\
 unfolding is_utf8 chars encode
 with_faults = (refl, refl, refl, refl, refl, refl)
 
--- nothing after the last item remains before a paragraph whose lines are too long, and before a
--- blank line that is longer than a paragraph may be, which makes its paragraph too long
+-- if a paragraph's lines are too long, the blank lines before it don't remain; a blank line that is
+-- longer than a paragraph may be is such a paragraph
 long_paragraphs : (remaining_under 11 99 (codes "#\n\nPackage:a\n\nPackage: abc\n\nPackage:b\n")
     ≡ codes "\nPackage:a")
     × (remaining_under 11 99 (codes "Package:a\n\n           \nPackage:b\n")
@@ -120,8 +120,8 @@ long_paragraphs : (remaining_under 11 99 (codes "#\n\nPackage:a\n\nPackage: abc\
 unfolding is_utf8 chars encode
 long_paragraphs = (refl, refl, refl)
 
--- the same before the end of a file that is too long: within a paragraph, behind one that a blank
--- line ends in sight, and within blank lines
+-- the same if the file is too long: within a paragraph, within the blank lines after one, at the
+-- first of these, and within blank lines alone
 long_files : (remaining_under 99 25 (codes "Package:a\n\n#\n\nPackage:b\nX:1\n")
     ≡ codes "Package:a\n")
     × (remaining_under 99 12 (codes "Package:a\n\n\n\n") ≡ codes "Package:a")
@@ -130,11 +130,12 @@ long_files : (remaining_under 99 25 (codes "Package:a\n\n#\n\nPackage:b\nX:1\n")
 unfolding is_utf8 chars encode
 long_files = (refl, refl, refl, refl)
 
--- a file of exactly as many bytes as it may have stays within them, also without a last newline,
--- where its canonical text does; where that is too long, the paragraph with which it is doesn't stay
+-- a file of exactly as many bytes as it may have, with and without a newline at its end; if the
+-- canonical text of the file is too long with a paragraph, that doesn't remain
 at_the_limit : (remaining_under 99 24 (codes "Package: a\n\nPackage: b\n")
     ≡ codes "Package: a\n\nPackage: b\n")
-    × (remaining_under 99 23 (codes "Package:a\n\n#\n\nPackage:b") ≡ codes "Package:a\n\n\nPackage:b")
+    × (remaining_under 99 23 (codes "Package:a\n\n#\n\nPackage:b")
+    ≡ codes "Package:a\n\n\nPackage:b")
     × (remaining_under 99 22 (codes "Package:a\n\nPackage:b") ≡ codes "Package:a")
 unfolding is_utf8 chars encode
 at_the_limit = (refl, refl, refl)
@@ -155,6 +156,11 @@ lines_that_remain : (refusal : Refusal) (entries : Entries)
     × (passed_bodies (passing 4 entries ∷ refused 6 refusal ∷ passing 8 [] ∷ [])
     ≡ entries ∷ [] ∷ [])
 lines_that_remain refusal entries = (refl, refl, refl)
+
+-- the same of a kind of document
+small_file : remaining_of Packages (codes "#\n\nVersion 1\n") ≡ codes "\n"
+unfolding paragraph_limit file_limit is_utf8 chars encode
+small_file = refl
 
 -- at the limits of this project
 limits_of_what_remains : (doc : Doc) (text : List ℕ)

@@ -26,14 +26,13 @@ pub fn an_accepted_file_has_its_last_line_alone()
     ensures { AcceptedHasOneLine }
 {}
 
-/// The refusals of a file are at lines that ascend strictly, counted from 1.
+/// The lines of a file's refusals ascend strictly.
 pub fn refusals_ascend()
     ensures { RefusalsAscend }
 {}
 
-/// The runs of a file's lines lie one after another, and a refused run has its refusal at one of
-/// its lines: at most one a run, in the order of the file. A refusal that ends the stream is after
-/// them.
+/// The runs are lines of the file, one after another, and a refused run has its refusal at one of
+/// its lines. A refusal that ends the stream is after them.
 pub fn a_refusal_is_within_its_run()
     ensures { RunsAreInOrder }
 {}
@@ -44,7 +43,7 @@ pub fn the_file_without_its_refused_runs_is_accepted()
     ensures { RemainingIsAccepted }
 {}
 
-/// If nothing is refused, the text without its refused runs is the file.
+/// If nothing is refused, the text without the refused runs is the file.
 pub fn a_file_without_refusals_remains()
     ensures { AllRemains }
 {}
