@@ -33,7 +33,7 @@ use Rattle.deb_control.specs.Streams.{CheckedItem, CheckedStream, stream_of}
 use Rattle.deb_control.specs.ValueFiles.{bodies_of, body_under}
 use Rattle.deb_refusals.proofs.RemainingLines.{Remains, all_remain, blank_begins, remains, tail_length}
 use Rattle.deb_refusals.specs.Lines.{passed_among, passed_with}
-use Rattle.deb_refusals.specs.Remaining.{AllRemains, RemainingIsAccepted, bodies_before, passed_bodies, remaining_lines, remaining_of}
+use Rattle.deb_refusals.specs.Remaining.{AllRemains, RemainingIsAccepted, bodies_before, passed_bodies, passed_lines, remaining_lines, remaining_of}
 
 with_byte-front : (b : ℕ) (first : Line) (others lines tail : List Line) → lines ≡ first ∷ others → with_byte b (lines ++ tail) ≡ with_byte b lines ++ tail
 with_byte-front b first others [] tail some = absurd (cc)
@@ -149,9 +149,9 @@ module _ (doc : Doc) (text : List ℕ) where
   abbrev out : List Line
   out = remaining_lines 1 (pieces_of text) stream.items stream.end
 
-  kept : Remains (rules_of doc) beyond [] (lines_of part) tail out (passed_bodies stream.items)
+  kept : Remains (rules_of doc) beyond [] (lines_of part) tail out stream.items
   kept =
-      subst (λ ls. Remains (rules_of doc) beyond [] (lines_of part) tail (remaining_lines 1 ls stream.items stream.end) (passed_bodies stream.items)) (sym cut)
+      subst (λ ls. Remains (rules_of doc) beyond [] (lines_of part) tail (remaining_lines 1 ls stream.items stream.end) stream.items) (sym cut)
       (remains (rules_of doc) beyond (line_behind text) tail blank whole [] 1 (lines_of part) (paragraphs_of part) (paragraphs_from-AreRuns (lines_of part) 1) (lines_of-no_newline part))
 
   -- no byte more remains
@@ -172,6 +172,13 @@ module _ (doc : Doc) (text : List ℕ) where
   within : length (remaining_of doc text) ≤ file_limit
   within = joined_short file_limit out (bounds beyond refl).1
 
+  -- its paragraphs
+  paragraphs : paragraphs_of (remaining_of doc text) ≡ paragraphs_from 1 out
+  paragraphs = paragraphs_of-joined out kept.no_newline
+
+  pub lines_kept : map (λ p. p.lines) (paragraphs_of (remaining_of doc text)) ≡ passed_lines stream.items
+  lines_kept = ap (map (λ p. p.lines)) paragraphs ∙ kept.own 1
+
   -- what comes of it
   pub outcome_of_rest : is_single doc ≡ false → outcome (rules_of doc) (remaining_of doc text) ≡ record { passed = passed_bodies stream.items; refusal = None }
   outcome_of_rest many =
@@ -181,7 +188,7 @@ module _ (doc : Doc) (text : List ℕ) where
       ap (λ t. outcome_behind rules (line_beyond 1 file_limit other) (line_behind other) [] (paragraphs_of t)) (part_within-whole other within)
       ∙ ap (λ b. outcome_behind rules b (line_behind other) [] (paragraphs_of other)) (line_beyond-none other within)
       ∙ outcome-from_pass rules None (line_behind other) [] (paragraphs_of other) passed
-      (subst (λ ps. AllPass rules None [] ps passed) (sym (paragraphs_of-joined out kept.no_newline)) (kept.passes 1))
+      (subst (λ ps. AllPass rules None [] ps passed) (sym paragraphs) (kept.passes 1))
       (last-from_parts rules (line_behind other) passed (ap (λ s. s && not (has_some passed)) many))
 
 pub remaining_is_accepted : RemainingIsAccepted
@@ -196,6 +203,7 @@ remaining_is_accepted doc text many =
       meaning = found.0;
       accepted = found.1;
       count = sym (length-map found.0 (map (body_under value_text))) ∙ ap length bodies ∙ passed_count items;
+      lines = lines_kept doc text;
       bodies = bodies;
       canonical = ap file_text bodies;
       short = short doc text;

@@ -1,5 +1,5 @@
 -- What remains of lines without their refused runs: the paragraphs that pass, and no newline or byte more.
-use Rattle.std.proofs.Common.{◌≡◌, ◌≢◌, ◌+◌, ◌-◌, ◌≤◌, ◌++◌, Bool, ℕ, true, false, cond, List, [], ◌∷◌, length, take, drop, Option, None, Some, Result, Ok, Err, refl, sym, ap, ◌∙◌, subst, arith, append_assoc, true≢false}
+use Rattle.std.proofs.Common.{◌≡◌, ◌≢◌, ◌+◌, ◌-◌, ◌≤◌, ◌++◌, Bool, ℕ, true, false, cond, List, [], ◌∷◌, length, map, take, drop, Option, None, Some, Result, Ok, Err, refl, sym, ap, ◌∙◌, subst, arith, append_assoc, true≢false}
 use Rattle.std.proofs.Math.Seq.{drop-append-add, drop-append_seam, take-append_seam}
 use Rattle.std.proofs.lemmas.List.Sums.{sum_by-append}
 use Rattle.std.specs.List.{AllByRecursion}
@@ -18,7 +18,7 @@ use Rattle.deb_control.specs.Refusals.{answer_behind}
 use Rattle.deb_control.specs.Rules.{Rules}
 use Rattle.deb_control.specs.Streams.{CheckedItem, CheckedStream, end_of, ended_by, is_end_under, item_of, refusals_in, stream_behind_under, with_answer, with_item}
 use Rattle.deb_refusals.proofs.Renumbered.{passes_moved}
-use Rattle.deb_refusals.specs.Remaining.{passed_bodies, remaining_lines}
+use Rattle.deb_refusals.specs.Remaining.{passed_bodies, passed_lines, remaining_lines}
 
 pub blank_begins : (lines : List Line) → AreBlank lines → begins_blank lines ≡ true
 blank_begins [] h = refl
@@ -41,9 +41,10 @@ abbrev pub tail_length : Option ℕ → List Line → ℕ
 tail_length None tail = total_length tail
 tail_length (Some line) tail = 0
 
--- What remains of lines: paragraphs that pass behind others, wherever they stand.
-pub record Remains (rules : Rules) (beyond : Option ℕ) (before : List Entries) (lines tail out : List Line) (passed : List Entries) : Type 0 where
-  pub passes : (m : ℕ) → AllPass rules None before (paragraphs_from m out) passed
+-- What remains of lines: the paragraphs that pass behind others, at whatever line.
+pub record Remains (rules : Rules) (beyond : Option ℕ) (before : List Entries) (lines tail out : List Line) (items : List CheckedItem) : Type 0 where
+  pub passes : (m : ℕ) → AllPass rules None before (paragraphs_from m out) (passed_bodies items)
+  pub own : (m : ℕ) → map (λ p. p.lines) (paragraphs_from m out) ≡ passed_lines items
   pub begins : begins_blank lines ≡ true → begins_blank out ≡ true
   pub no_newline : AllByRecursion HasNoNewline out
   pub short : total_length out ≤ total_length lines + tail_length beyond tail
@@ -64,19 +65,20 @@ module _ (rules : Rules) (beyond : Option ℕ) (nb : ℕ) (tail : List Line) (bl
   out_of n lines s = remaining_lines n lines s.items s.end
 
   nothing : (before : List Entries) (lines : List Line) → Remains rules beyond before lines tail [] []
-  nothing before lines = record { passes = λ m. refl; begins = λ _. refl; no_newline = tt; short = omega arith }
+  nothing before lines = record { passes = λ m. refl; own = λ m. refl; begins = λ _. refl; no_newline = tt; short = omega arith }
 
   all_blank : (before : List Entries) (lines : List Line) → beyond ≡ None → AreBlank lines → AllByRecursion HasNoNewline lines → Remains rules beyond before lines tail (lines ++ tail) []
   all_blank before lines fits blank_lines none =
       let all : AreBlank (lines ++ tail) = All-append (λ line. is_blank line ≡ true) lines tail blank_lines (blank fits) in
       record {
         passes = λ m. subst (λ ps. AllPass rules None before ps []) (sym (no_paragraph m (lines ++ tail) all)) refl;
+        own = λ m. ap (map (λ p. p.lines)) (no_paragraph m (lines ++ tail) all);
         begins = λ _. blank_begins (lines ++ tail) all;
         no_newline = All-append HasNoNewline lines tail none whole;
         short = omega (arith, total lines tail, ap (λ b. tail_length b tail) fits);
       }
 
-  at_end : (before : List Entries) (n : ℕ) (lines : List Line) → AreBlank lines → AllByRecursion HasNoNewline lines → (a : Result (Option Entries) Refusal) → answer_behind rules beyond nb before [] ≡ a → Remains rules beyond before lines tail (out_of n (lines ++ tail) (end_of a)) (passed_bodies (end_of a).items)
+  at_end : (before : List Entries) (n : ℕ) (lines : List Line) → AreBlank lines → AllByRecursion HasNoNewline lines → (a : Result (Option Entries) Refusal) → answer_behind rules beyond nb before [] ≡ a → Remains rules beyond before lines tail (out_of n (lines ++ tail) (end_of a)) (end_of a).items
   at_end before n lines blank_lines none (Err refusal) is = nothing before lines
   at_end before n lines blank_lines none (Ok next) is = all_blank before lines (never_beyond rules beyond nb before next is) blank_lines none
 
@@ -121,40 +123,43 @@ module _ (rules : Rules) (beyond : Option ℕ) (nb : ℕ) (tail : List Line) (bl
         ∙ ap (λ ls. blanks ++ (kept ++ remaining_lines (p.first + length p.lines) ls items end)) rest_is
         ∙ ap (λ k. blanks ++ (kept ++ remaining_lines (k + length p.lines) (rest ++ tail) items end)) runs.4
 
-    kept_run : (entries : Entries) (out : List Line) (passed : List Entries) → Passes rules beyond before p entries → Remains rules beyond (before ++ entries ∷ []) rest tail out passed → Remains rules beyond before lines tail (blanks ++ (p.lines ++ out)) (entries ∷ passed)
-    kept_run entries out passed passes more =
+    kept_run : (entries : Entries) (out : List Line) (items : List CheckedItem) → Passes rules beyond before p entries → Remains rules beyond (before ++ entries ∷ []) rest tail out items → Remains rules beyond before lines tail (blanks ++ (p.lines ++ out)) (item_of p (Ok entries) ∷ items)
+    kept_run entries out items passes more =
         let own : AllByRecursion HasNoNewline p.lines = all_left HasNoNewline p.lines rest own_parts in
+        let paragraphs = λ (m : ℕ). paragraphs_kept m blanks p.lines out runs.3 runs.5 runs.6 (more.begins runs.7) in
         record {
-          passes = λ m. subst (λ ps. AllPass rules None before ps (entries ∷ passed)) (sym (paragraphs_kept m blanks p.lines out runs.3 runs.5 runs.6 (more.begins runs.7)))
+          passes = λ m. subst (λ ps. AllPass rules None before ps (entries ∷ passed_bodies items)) (sym (paragraphs m))
               (passes_moved rules beyond before p entries (m + length blanks) (record { some = runs.5; no_newline = own; not_blank = runs.6 }) passes, more.passes (m + length blanks + length p.lines));
+          own = λ m. ap (map (λ q. q.lines)) (paragraphs m) ∙ ap (λ ls. p.lines ∷ ls) (more.own (m + length blanks + length p.lines));
           begins = begins_front blanks p.lines rest (p.lines ++ out) lines runs.2 runs.3 runs.5 runs.6;
           no_newline = All-append HasNoNewline blanks (p.lines ++ out) (all_left HasNoNewline blanks (p.lines ++ rest) parts) (All-append HasNoNewline p.lines out own more.no_newline);
           short = omega (arith, total blanks (p.lines ++ out), total p.lines out, more.short, size);
         }
 
-    refused_run : (out : List Line) (passed : List Entries) → Remains rules beyond before rest tail out passed → Remains rules beyond before lines tail (blanks ++ out) passed
-    refused_run out passed more = record {
-      passes = λ m. subst (λ ps. AllPass rules None before ps passed) (sym (paragraphs_from-blanks m blanks out runs.3)) (more.passes (m + length blanks));
+    refused_run : (refusal : Refusal) (out : List Line) (items : List CheckedItem) → Remains rules beyond before rest tail out items → Remains rules beyond before lines tail (blanks ++ out) (item_of p (Err refusal) ∷ items)
+    refused_run refusal out items more = record {
+      passes = λ m. subst (λ ps. AllPass rules None before ps (passed_bodies items)) (sym (paragraphs_from-blanks m blanks out runs.3)) (more.passes (m + length blanks));
+      own = λ m. ap (map (λ q. q.lines)) (paragraphs_from-blanks m blanks out runs.3) ∙ more.own (m + length blanks);
       begins = begins_front blanks p.lines rest out lines runs.2 runs.3 runs.5 runs.6;
       no_newline = All-append HasNoNewline blanks out (all_left HasNoNewline blanks (p.lines ++ rest) parts) more.no_newline;
       short = omega (arith, total blanks out, more.short, size);
     }
 
     -- by what is answered of the run, and what remains after it
-    at_one : ((passed : List Entries) → Remains rules beyond passed rest tail (out_of behind (rest ++ tail) (stream passed left)) (passed_bodies (stream passed left).items)) → (a : Result (Option Entries) Refusal) → answer_behind rules beyond nb before (p ∷ left) ≡ a → Remains rules beyond before lines tail (out_of n (lines ++ tail) (with_answer (is_end_under paragraph_limit rules p) p before a (λ passed. stream passed left))) (passed_bodies (with_answer (is_end_under paragraph_limit rules p) p before a (λ passed. stream passed left)).items)
+    at_one : ((passed : List Entries) → Remains rules beyond passed rest tail (out_of behind (rest ++ tail) (stream passed left)) (stream passed left).items) → (a : Result (Option Entries) Refusal) → answer_behind rules beyond nb before (p ∷ left) ≡ a → Remains rules beyond before lines tail (out_of n (lines ++ tail) (with_answer (is_end_under paragraph_limit rules p) p before a (λ passed. stream passed left))) (with_answer (is_end_under paragraph_limit rules p) p before a (λ passed. stream passed left)).items
     at_one more (Ok None) is = absurd (never_past rules beyond nb before p left is)
     at_one more (Ok (Some entries)) is =
         let next = stream (before ++ entries ∷ []) left in
-        subst (λ out. Remains rules beyond before lines tail out (entries ∷ passed_bodies next.items)) (sym (parted p.lines next.items next.end))
-        (kept_run entries (out_of behind (rest ++ tail) next) (passed_bodies next.items) (passes-from_answer rules beyond nb before p left entries is) (more (before ++ entries ∷ [])))
+        subst (λ out. Remains rules beyond before lines tail out (item_of p (Ok entries) ∷ next.items)) (sym (parted p.lines next.items next.end))
+        (kept_run entries (out_of behind (rest ++ tail) next) next.items (passes-from_answer rules beyond nb before p left entries is) (more (before ++ entries ∷ [])))
     at_one more (Err refusal) is = go (is_end_under paragraph_limit rules p refusal)
       where
-        go : (t : Bool) → Remains rules beyond before lines tail (out_of n (lines ++ tail) (cond t (ended_by (Some refusal)) (with_item (item_of p (Err refusal)) (stream before left)))) (passed_bodies (cond t (ended_by (Some refusal)) (with_item (item_of p (Err refusal)) (stream before left))).items)
+        go : (t : Bool) → Remains rules beyond before lines tail (out_of n (lines ++ tail) (cond t (ended_by (Some refusal)) (with_item (item_of p (Err refusal)) (stream before left)))) (cond t (ended_by (Some refusal)) (with_item (item_of p (Err refusal)) (stream before left))).items
         go true = nothing before lines
         go false =
             let next = stream before left in
-            subst (λ out. Remains rules beyond before lines tail out (passed_bodies next.items)) (sym (parted [] next.items next.end))
-            (refused_run (out_of behind (rest ++ tail) next) (passed_bodies next.items) (more before))
+            subst (λ out. Remains rules beyond before lines tail out (item_of p (Err refusal) ∷ next.items)) (sym (parted [] next.items next.end))
+            (refused_run refusal (out_of behind (rest ++ tail) next) next.items (more before))
 
     -- where nothing is refused, all of the run and of what comes after it remains
     all_of_one : ((passed : List Entries) → refusals_in (stream passed left).items (stream passed left).end ≡ [] → out_of behind (rest ++ tail) (stream passed left) ≡ rest ++ tail) → (a : Result (Option Entries) Refusal) → refusals_in (with_answer (is_end_under paragraph_limit rules p) p before a (λ passed. stream passed left)).items (with_answer (is_end_under paragraph_limit rules p) p before a (λ passed. stream passed left)).end ≡ [] → out_of n (lines ++ tail) (with_answer (is_end_under paragraph_limit rules p) p before a (λ passed. stream passed left)) ≡ lines ++ tail
@@ -168,7 +173,7 @@ module _ (rules : Rules) (beyond : Option ℕ) (nb : ℕ) (tail : List Line) (bl
         go true e = absurd (cc)
         go false e = absurd (cc)
 
-  pub remains : (before : List Entries) (n : ℕ) (lines : List Line) (left : List Paragraph) → AreRuns n lines left → AllByRecursion HasNoNewline lines → Remains rules beyond before lines tail (out_of n (lines ++ tail) (stream before left)) (passed_bodies (stream before left).items)
+  pub remains : (before : List Entries) (n : ℕ) (lines : List Line) (left : List Paragraph) → AreRuns n lines left → AllByRecursion HasNoNewline lines → Remains rules beyond before lines tail (out_of n (lines ++ tail) (stream before left)) (stream before left).items
   remains before n lines [] runs none = at_end before n lines runs none (answer_behind rules beyond nb before []) refl
   remains before n lines (p ∷ left) runs none =
       at_one before n lines p left runs none (λ passed. remains passed (n + length runs.0 + length p.lines) runs.1 left runs.8 (rest_parts before n lines p left runs none)) (answer_behind rules beyond nb before (p ∷ left)) refl

@@ -1,6 +1,6 @@
 -- A file without its refused runs of lines, and what is accepted of it. Debian Policy 5.1; this
 -- project's own.
-use Rattle.std.specs.Prelude.{◌≡◌, ℕ, ◌+◌, ◌-◌, ◌≤◌, false, List, [], ◌∷◌, ◌++◌, length, take, drop, Option, Some, None, Result, Ok, Err, codes, refl}
+use Rattle.std.specs.Prelude.{◌≡◌, ℕ, ◌+◌, ◌-◌, ◌≤◌, false, List, [], ◌∷◌, ◌++◌, length, map, take, drop, Option, Some, None, Result, Ok, Err, codes, refl}
 use Rattle.std.specs.Str.{is_utf8, chars}
 use lib.Utf8.{encode}
 use Rattle.deb_base.specs.Bodies.{Line, joined, paragraph_limit, pieces_of}
@@ -9,7 +9,7 @@ use Rattle.deb_base.specs.declared.doc.Doc.{Doc}
 use Rattle.deb_base.specs.declared.doc.Doc.TheVariants.{Packages}
 use Rattle.deb_base.specs.declared.refusal.Refusal.{Refusal}
 use Rattle.deb_field.specs.Values.{value_text}
-use Rattle.deb_syntax.specs.Lines.{file_limit}
+use Rattle.deb_syntax.specs.Lines.{file_limit, paragraphs_of}
 use Rattle.deb_syntax.specs.Meaning.{Entries}
 use Rattle.deb_control.specs.Canonical.{file_text}
 use Rattle.deb_control.specs.Documents.{Accepted, Meaning, canonical_text, rules_of}
@@ -53,12 +53,24 @@ abbrev pub passed_bodies : List CheckedItem → List Entries
 passed_bodies [] = []
 passed_bodies (item ∷ items) = bodies_before item.bodies (passed_bodies items)
 
+-- the lines of an item before others, if it passes
+abbrev pub lines_before : Result Entries Refusal → List Line → List (List Line) → List (List Line)
+lines_before (Ok entries) lines others = lines ∷ others
+lines_before (Err refusal) lines others = others
+
+-- the lines of the items that pass
+abbrev pub passed_lines : List CheckedItem → List (List Line)
+passed_lines [] = []
+passed_lines (item ∷ items) = lines_before item.bodies item.lines (passed_lines items)
+
 -- The other text is accepted with exactly the paragraphs of a file that pass: as many, with their
--- canonical bodies and their canonical text. It isn't longer than the file.
+-- lines, their canonical bodies and their canonical text. It isn't longer than the file.
 pub record HasWhatPassed (doc : Doc) (text other : List ℕ) : Type 0 where
   pub meaning : Meaning
   pub accepted : Accepted doc other meaning
   pub count : length meaning ≡ passed_of doc text
+  pub lines : map (λ p. p.lines) (paragraphs_of other)
+      ≡ passed_lines (stream_of (rules_of doc) text).items
   pub bodies : bodies_of value_text meaning
       ≡ passed_bodies (stream_of (rules_of doc) text).items
   pub canonical : canonical_text meaning
@@ -155,7 +167,9 @@ lines_that_remain : (refusal : Refusal) (entries : Entries)
     (Some refusal) ≡ codes "A" ∷ [])
     × (passed_bodies (passing 4 entries ∷ refused 6 refusal ∷ passing 8 [] ∷ [])
     ≡ entries ∷ [] ∷ [])
-lines_that_remain refusal entries = (refl, refl, refl)
+    × (passed_lines (passing 4 entries ∷ refused 6 refusal ∷ passing 8 [] ∷ [])
+    ≡ (codes "A" ∷ []) ∷ (codes "A" ∷ []) ∷ [])
+lines_that_remain refusal entries = (refl, refl, refl, refl)
 
 -- the same of a kind of document
 small_file : remaining_of Packages (codes "#\n\nVersion 1\n") ≡ codes "\n"
