@@ -7,3 +7,7 @@ pub mod Counts
 pub mod Firsts
 pub mod Giving
 pub mod Writing
+pub mod Renumbered
+pub mod RemainingLines
+pub mod Remaining
+pub mod Ascending

@@ -4,3 +4,5 @@ pub mod Positions
 pub mod Given
 pub mod Written
 pub mod Laws
+pub mod Ascending
+pub mod Remaining
