@@ -154,3 +154,13 @@ worked-blocks : (first second : WhyRefused) (path : List ℕ)
     × (explained_blocks path [] ≡ [])
     × (refusals_explained (first ∷ second ∷ []) ≡ first.refusal ∷ second.refusal ∷ [])
 worked-blocks first second path = (refl, refl, refl)
+
+-- what is written of a file with two refusals
+worked-lines : explained_lines (codes "p") Packages (codes "# a\n\nPackage: bb\n")
+    ≡ ((explanation_text (codes "p") (why code.Comment 1 (AboutLine (codes "# a"))) ++ codes "\n")
+    ++ ((explanation_text (codes "p")
+    (why code.MissingField 3 (AboutMissing (codes "Version"))) ++ codes "\n") ++ []))
+    ++ codes "ok 0, 2 refused\n"
+unfolding file_limit paragraph_limit is_utf8 chars encode digits kind_of kind_at known_row
+    first_fault
+worked-lines = refl

@@ -1,8 +1,14 @@
 -- What a reader of refusals has given of a file, and what is left of it. Debian Policy 5.1.
-use Rattle.std.specs.Prelude.{◌≡◌, ℕ, ◌+◌, Bool, true, List, [], ◌∷◌, ◌++◌, length, Option, None, Some, IfSome, Result, Ok, Err, refl}
+use Rattle.std.specs.Prelude.{◌≡◌, ℕ, ◌+◌, Bool, true, List, [], ◌∷◌, ◌++◌, length, Option, None, Some, IfSome, Result, Ok, Err, codes, refl}
+use Rattle.std.specs.Str.{is_utf8, chars}
+use lib.Utf8.{encode}
+use Rattle.deb_base.specs.Bodies.{paragraph_limit}
 use Rattle.deb_base.specs.Docs.{is_single}
+use Rattle.deb_base.specs.Kinds.{kind_at, known_row, kind_of}
 use Rattle.deb_base.specs.Reading.{IsMemoryOrRead, TakesNoMore}
+use Rattle.deb_base.specs.declared.code.Code.TheVariants.{Comment, MissingField}
 use Rattle.deb_base.specs.declared.doc.Doc.{Doc}
+use Rattle.deb_base.specs.declared.doc.Doc.TheVariants.{Packages}
 use Rattle.deb_base.specs.declared.fault.Fault.{Fault}
 use Rattle.deb_base.specs.declared.fault.Fault.TheVariants.{Refused, Memory, Read, Write}
 use Rattle.deb_base.specs.declared.refusal.Refusal.{Refusal}
@@ -18,6 +24,7 @@ use Rattle.deb_control.specs.Resuming.{FitsWithout}
 use Rattle.deb_control.specs.Streams.{stream_from}
 use Rattle.deb_control.specs.declared.checked.Checked.{Checked}
 use Rattle.deb_explain.specs.Explanations.{WhyRefused, explain_refusal, explanation_of}
+use Rattle.deb_explain.specs.Subjects.{AboutLine, AboutMissing}
 use Rattle.deb_refusals.specs.Explained.{explained_stream, explanations_of, refusals_explained}
 use Rattle.deb_refusals.specs.Lines.{passed_among, passed_of, refusals_of}
 use Rattle.deb_refusals.specs.Positions.{fault_at, is_end, refusal_at}
@@ -199,3 +206,24 @@ answers : (doc : Doc) (text : List ℕ) (refusal : Refusal) (new : Refusals) (le
     × (GivesNext doc text (Err (Refused refusal)) new left done ≡ ⊥)
     × (GivesNext doc text (Err Write) new left done ≡ ⊥)
 answers doc text refusal new left done = (refl, refl, refl, refl, refl, refl)
+
+-- a line of the second paragraph, and a field that the first one lacks
+next_refused : (why_next_refused Packages (codes "Package: a\n\n# b\n") ([] ∷ [])
+    (record { code = Comment; line = 3 })
+    ≡ record {
+      refusal = record { code = Comment; line = 3 };
+      about = AboutLine (codes "# b");
+    })
+    × (why_next_refused Packages (codes "Package: a\n") []
+    (record { code = MissingField; line = 1 })
+    ≡ record {
+      refusal = record { code = MissingField; line = 1 };
+      about = AboutMissing (codes "Version");
+    })
+unfolding file_limit paragraph_limit is_utf8 chars encode kind_of kind_at known_row
+next_refused = (refl, refl)
+
+-- at the start of a file they are those of the file
+from_start : (doc : Doc) (text : List ℕ)
+    → explanations_from doc text text [] ≡ explanations_of doc text
+from_start doc text = refl

@@ -1,14 +1,17 @@
 -- What is written of a file, while its runs of lines are checked and at the end. Debian Policy 5.1.
-use Rattle.std.specs.Prelude.{◌≡◌, ℕ, Bool, true, false, List, ◌++◌, length, Option, Result, Ok, Err, refl}
+use Rattle.std.specs.Prelude.{◌≡◌, ℕ, Bool, true, false, List, ◌++◌, length, Option, Result, Ok, Err, codes, refl}
 use Rattle.std.specs.Io.KnownBytes.{Appends}
+use Rattle.std.specs.Fmt.{digits}
 use Rattle.std.specs.List.{flat_map}
 use Rattle.deb_base.specs.Devices.{AppendsFront}
 use Rattle.deb_base.specs.Lines.{refusal_line}
+use Rattle.deb_base.specs.declared.code.Code.TheVariants.{BadNumber}
 use Rattle.deb_base.specs.declared.doc.Doc.{Doc}
 use Rattle.deb_base.specs.declared.fault.Fault.{Fault}
 use Rattle.deb_base.specs.declared.fault.Fault.TheVariants.{Refused, Memory, Read, Write}
 use Rattle.deb_base.specs.declared.refusal.Refusal.{Refusal}
 use Rattle.deb_explain.specs.Explanations.{WhyRefused}
+use Rattle.deb_explain.specs.Subjects.{AboutWhole}
 use Rattle.deb_refusals.specs.Explained.{explained_blocks, explained_lines, explanations_of}
 use Rattle.deb_refusals.specs.Given.{GivesAll, HasGiven}
 use Rattle.deb_refusals.specs.Lines.{file_lines, lines_of_refusals, passed_of, refusals_of, total_line}
@@ -94,6 +97,13 @@ WritesNext of doc text (Err Memory) r left old held = HasWrittenFirst of doc tex
 WritesNext of doc text (Err Read) r left old held = HasWrittenFirst of doc text old held
 WritesNext of doc text (Err Write) r left old held =
     AppendsFront old held (text_written of doc text)
+
+-- the line of a refusal, whatever it is about
+worked-line :
+    line_written (record { refusal = record { code = BadNumber; line = 4 }; about = AboutWhole })
+    ≡ codes "line 4: 15 BadNumber\n"
+unfolding digits
+worked-line = refl
 
 worked-faults : (refusal : Refusal) → (IsNoRefusal (Refused refusal) ≡ ⊥)
     × (IsNoRefusal Memory ≡ Unit {0}) × (IsNoRefusal Read ≡ Unit {0})
