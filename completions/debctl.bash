@@ -43,10 +43,11 @@ _debctl() {
     ! $split || return
     case $command in
         '') options='--help --version' ;;
-        check | normalise | same) options='--kind --help' ;;
+        check) options='--kind --all --help' ;;
+        normalise | same) options='--kind --help' ;;
         diff) options='--kind --values --help' ;;
-        explain) options='--kind --code --relation --version-text --help' ;;
-        audit) options='--kind --files0-from --null --help' ;;
+        explain) options='--kind --all --code --relation --version-text --help' ;;
+        audit) options='--kind --all --files0-from --null --help' ;;
         sort) options='--reverse --help' ;;
         query) options='--arch --profiles --why --relation-from --help' ;;
         unmet) options='--arch --profiles --kind --recommends --help' ;;

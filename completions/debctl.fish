@@ -62,6 +62,7 @@ complete -c debctl -n '__debctl_at 0 help' -a 'check explain audit normalise sam
 complete -c debctl -n '__debctl_command check explain audit normalise same' -s k -l kind -x -a 'packages binary source sources any' -d 'Kind of file'
 complete -c debctl -n '__debctl_command diff' -s k -l kind -x -a 'packages binary source sources' -d 'Kind of both files'
 complete -c debctl -n '__debctl_command unmet' -s k -l kind -x -a 'packages binary source sources' -d 'Kind of the second file'
+complete -c debctl -n '__debctl_command check explain audit' -l all -d 'Report every error, not only the first one'
 complete -c debctl -n '__debctl_at 0 check explain normalise same diff sort unmet' -F
 complete -c debctl -n '__debctl_at 1 same diff query unmet' -F
 complete -c debctl -n '__debctl_command audit' -F

@@ -186,7 +186,7 @@ def read_cases(folder):
     if not cases:
         raise Malformed(f"{folder}: there is no file of cases")
     long = [*many_fields(), *long_paragraph(), *many_groups(), *several_writes()]
-    return [*cases, *long, *lengths()]
+    return [*cases, *long, *several_refusals(), *lengths()]
 
 
 P3 = b"Package: aa\nVersion: 1\nArchitecture: all\n"
@@ -235,6 +235,22 @@ def several_writes():
         Case("20,000 bytes", ["normalise", "twenty"], files, None, b"\n".join([canonical] * 20)),
         Case("20,000 bytes", ["sort", "versions"], files, None, b"".join(versions)),
         Case("20,000 bytes", ["audit", *[name] * 66], files, None, audited * 66),
+    ]
+
+
+def several_refusals():
+    """Lines and explanations of refusals that fill this buffer more than once, and records of them."""
+    name = "comments" * 31
+    lines = [b"line %d: 3 Comment\n" % number for number in range(1, 1000, 2)]
+    last = [b"ok 0, %d refused\n" % count for count in (500, 40)]
+    files = {"it": b"# x\n\n" * 500, name: b"# x\n\n" * 40}
+    audited = b"".join(name.encode() + b": " + line for line in [*lines[:40], last[1]])
+    explained = b"file: -\nline: 1\ncode: 3\nname: Comment\nvalue: # x\nrule: "
+    explain = ["explain", "--all"]
+    return [
+        Case("500 refusals", ["check", "--all"], files, "it", b"".join(lines) + last[0], b"", 2),
+        Case("40 refusals", explain, files, name, explained, b"", 2, open_ended=("out",)),
+        Case("40 refusals", ["audit", "--all", name], files, None, audited, b"", 2),
     ]
 
 

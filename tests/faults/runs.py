@@ -2,9 +2,10 @@
 import errno
 import itertools
 import os
+import re
 import subprocess
 from dataclasses import dataclass
-from typing import Dict, Optional
+from typing import Dict, Optional, Tuple
 
 from faults.cases import STAND_INS, Case
 
@@ -116,7 +117,8 @@ class Answer:
 
 @dataclass(frozen=True)
 class Wanted:
-    """The answer that is wanted: of each text all of it, or what the rule says."""
+    """The answer that is wanted: of each text all of it, or what the rule says. By `one of` standard
+    output is one of some texts."""
 
     out: bytes
     err: bytes
@@ -124,6 +126,7 @@ class Wanted:
     out_rule: str = "all"
     err_rule: str = "all"
     most_paragraphs: Optional[int] = None
+    outs: Tuple[bytes, ...] = ()
 
 
 def run(program, library, case: Case, folder, fault: Fault, k=1):
@@ -235,6 +238,8 @@ def wanted_of(case: Case, fault: Fault, record):
     if case.words[0] == "explain" and fault.calls in ("open", "stat"):
         told = (b"file: ", case.words[-1].encode(), b"\nfault: read\nreason: ", fault.why, b"\n")
         return Wanted(b"".join(told), line, FAULT_STATUS)
+    if "--all" in case.words:
+        return wanted_of_all(case, fault, record)
     if case.words[0] == "unmet":
         return Wanted(case.out, line, FAULT_STATUS, "whole lines")
     if case.words[0] != "normalise":
@@ -243,10 +248,27 @@ def wanted_of(case: Case, fault: Fault, record):
     return Wanted(case.out, line, FAULT_STATUS, "whole paragraphs", most_paragraphs=most)
 
 
+def wanted_of_all(case: Case, fault: Fault, record):
+    """The answer of `check` and `explain` with all refusals: those of the first runs, and no last
+    line. After a failed read they are those of the runs whose end was read."""
+    line = FAULT_LINES[fault.calls]
+    if case.words[0] == "explain":
+        told = re.findall(rb"(?s).*?\n\n", case.out)
+    else:
+        told = case.out.splitlines(keepends=True)[:-1]
+    if fault.calls == "read" and told:
+        last = lines_of_runs_read(case, record)
+        told = [it for it in told if int(re.search(rb"(?m)^line:? (\d+)", it)[1]) <= last]
+        return Wanted(b"".join(told), line, FAULT_STATUS)
+    outs = tuple(itertools.accumulate(told, initial=b""))
+    return Wanted(case.out, line, FAULT_STATUS, "one of", outs=outs)
+
+
 def wanted_of_audit(case: Case, fault: Fault, record):
-    """The answer of an audit: the file that was opened last tells the fault, and so does each later
-    one where the fault lasts; but before the first one was opened the audit ends with it. Of a path
-    that can't be opened, that of a list among them, it is told why."""
+    """The answer of an audit: the file that was opened last tells the fault, with all refusals after
+    those of its first runs, and so does each later one where the fault lasts; but before the first one
+    was opened the audit ends with it. Of a path that can't be opened, that of a list among them, it is
+    told why."""
     line = FAULT_LINES[fault.calls]
     is_unopened = fault.calls in ("open", "stat")
     number = record["opens_at_met"] - case.opens_before_files
@@ -255,12 +277,38 @@ def wanted_of_audit(case: Case, fault: Fault, record):
         return Wanted(told if is_unopened else b"", line, FAULT_STATUS)
     if is_unopened:
         line = b"fault: read: " + fault.why + b"\n"
-    told = case.out.splitlines(keepends=True)
-    for at in range(number - 1, len(told) if fault.is_lasting else number):
-        path, _, answer = told[at].partition(b": ")
+    files = records_of(case)
+    told = [[b"".join(records)] for records in files]
+    for at in range(number - 1, len(files) if fault.is_lasting else number):
+        path, _, answer = files[at][-1].partition(b": ")
         if is_unopened or not answer.startswith(b"fault: "):
-            told[at] = path + b": " + line
-    return Wanted(b"".join(told), b"", FAULT_STATUS)
+            first = files[at][:-1] if at == number - 1 and not is_unopened else []
+            told[at] = [it + path + b": " + line for it in itertools.accumulate(first, initial=b"")]
+    outs = tuple(map(b"".join, itertools.product(*told)))
+    return Wanted(outs[0], b"", FAULT_STATUS, "one of", outs=outs)
+
+
+def records_of(case: Case):
+    """The records of each file of an audit; with all refusals the last one has its numbers, or tells
+    its fault."""
+    files = [[]]
+    for record in case.out.splitlines(keepends=True):
+        files[-1].append(record)
+        if "--all" not in case.words or re.match(rb"[^:]*: (?:ok|fault)", record):
+            files.append([])
+    return files[:-1]
+
+
+def lines_of_runs_read(case: Case, record):
+    """The number of the last line of the one input that is blank, comes after a run of others, and
+    was read with its newline."""
+    [text] = case.inputs
+    last, is_inside = 0, False
+    for number, line in enumerate(text[: record["bytes_read"]].split(b"\n")[:-1], 1):
+        is_blank = not line.strip(b" \t")
+        last = number if is_inside and is_blank else last
+        is_inside = not is_blank
+    return last
 
 
 def paragraphs_read(case: Case, record):
@@ -331,7 +379,11 @@ def wrong_texts(answer: Answer, wanted: Wanted):
     """What is wrong with what a run answered, if anything."""
     if answer.status != wanted.status:
         return f"its status is {answer.status}"
-    if not fits(answer.out, wanted.out, wanted.out_rule, wanted.most_paragraphs):
+    if wanted.out_rule == "one of":
+        is_wanted = answer.out in wanted.outs
+    else:
+        is_wanted = fits(answer.out, wanted.out, wanted.out_rule, wanted.most_paragraphs)
+    if not is_wanted:
         return "standard output differs"
     if not fits(answer.err, wanted.err, wanted.err_rule):
         return "standard error differs"

@@ -7,13 +7,13 @@ from dataclasses import dataclass
 from typing import Iterator, NamedTuple
 
 from laws.changes import changed, lines_with
-from laws.documents import OPERATORS, REQUIRED, VERSIONS
+from laws.documents import OPERATORS, REQUIRED, SINGLE, VERSIONS
 from laws.documents import alternative, made, mistaken, read, text_of
 from laws.reasons import FIELDS, Fault, fault_of, nearly
-from laws.spelling import respelled, spoiled
+from laws.refusals import REFUSAL, AllRefusals
+from laws.spelling import planted, respelled, spoiled
 
 SECONDS = 10
-REFUSAL = re.compile(rb"line [1-9][0-9]*: (?:[1-9]|1[0-9]|2[01]) [A-Z][A-Za-z0-9]*\n")
 REASON_LINE = re.compile(rb"^(name|place|reason): (.*)$", re.M)
 GROUP_LINE = re.compile(rb"^(?:met|unmet|ignored) (.+)$", re.M)
 KINDS = tuple(REQUIRED)
@@ -125,6 +125,8 @@ class Asked:
             yield from self.of_query(normal)
         yield from self.of_bound()
         yield from self.of_reason()
+        yield from AllRefusals(self.program, case.kind, case.text).wrong(case.random)
+        yield from self.of_planted_faults()
 
     def of_check(self, normal):
         """`check` and `normalise` agree, and the number of paragraphs is that of the text."""
@@ -272,6 +274,18 @@ class Asked:
         if told != wanted or ("place" in lines) != bool(wanted.reason):
             yield f"{field!r} of {body!r} is to be {wanted}: {shown(answer)}"
         self.met.add((wanted.name, wanted.reason))
+
+    def of_planted_faults(self):
+        """Faults in some of the paragraphs are exactly the refusals, and the other paragraphs pass."""
+        random, kind = self.case.random, self.case.kind
+        parts = range(1 if kind in SINGLE else random.randint(1, 4))
+        document = [paragraph for _ in parts for paragraph in made(random, kind)]
+        text, refusals, good = planted(random, kind, document)
+        asked = AllRefusals(self.program, kind, text)
+        wanted = b"".join(refusals) + b"ok %d, %d refused\n" % (good, len(refusals))
+        if asked.answer.out != wanted:
+            yield f"check --all of {text!r}: {shown(asked.answer)}, and not {wanted!r}"
+        yield from asked.wrong(random)
 
     def as_depends(self, groups) -> bytes:
         """The canonical text of a relation, as the field Depends of a paragraph has it."""

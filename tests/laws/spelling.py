@@ -1,7 +1,7 @@
 """Copies of a document that is accepted: spelled otherwise, so that they mean the same, and with
-one fault, of which the rules say at which line it is refused and how.
+one fault or several, of which the rules say at which lines they are refused and how.
 """
-from typing import NamedTuple
+from typing import List, NamedTuple
 
 from laws.documents import (
     FOLDED,
@@ -12,6 +12,7 @@ from laws.documents import (
     SPACES,
     Document,
     Field,
+    some,
     text_of,
 )
 
@@ -129,7 +130,22 @@ BAD_LINES = (
 def spoiled(random, kind: str, document: Document) -> Spoiled:
     """The document with one fault in one of its paragraphs."""
     number = random.randrange(len(document))
-    paragraph = document[number]
+    if kind in SINGLE and random.random() < 0.1:
+        return with_second(document)
+    paragraph, line, name = with_fault(random, kind, document[number])
+    before = text_of(document[:number]) + b"\n" * (number > 0)
+    after = text_of(document[number + 1 :])
+    text = before + paragraph + b"\n" * bool(after) + after
+    return Spoiled(text, number, refusal_at(before, line, name))
+
+
+def refusal_at(before: bytes, line: int, name: bytes) -> bytes:
+    """The line of a refusal so many lines behind the first one after a text."""
+    return b"line %d: %s\n" % (before.count(b"\n") + 1 + line, name)
+
+
+def with_fault(random, kind: str, paragraph):
+    """The text of a paragraph with one fault, at which of its lines that is, from 0, and its name."""
     names = [field.folded for field in paragraph]
     at = random.randint(0, len(paragraph))
     chance = random.random()
@@ -137,51 +153,54 @@ def spoiled(random, kind: str, document: Document) -> Spoiled:
         line, name = random.choice(BAD_FIELDS)
         folded = line.partition(b":")[0].lower()
         if folded in names:
-            at = names.index(folded)
-            return with_line(document, number, at, line, name, is_instead=True)
-        return with_line(document, number, at, line, name)
-    if chance < 0.6 and REQUIRED[kind]:
+            return with_line(paragraph, names.index(folded), line, name, is_instead=True)
+        return with_line(paragraph, at, line, name)
+    if chance < 0.65 and REQUIRED[kind]:
         lost = random.choice(REQUIRED[kind]).lower()
         kept = [field for field in paragraph if field.folded != lost]
-        return with_paragraph(document, number, kept, 0, b"12 MissingField")
-    if chance < 0.7 and kind in SINGLE:
-        return with_second(document)
+        return text_of([kept]), 0, b"12 MissingField"
     if chance < 0.8:
         again = random.choice(names)
         at = random.randint(names.index(again) + 1, len(paragraph))
         line = random.choice((again, again.upper(), again.title())) + b":"
-        return with_line(document, number, at, line, b"7 DuplicateField")
+        return with_line(paragraph, at, line, b"7 DuplicateField")
     if chance < 0.85:
-        return with_line(document, number, 0, b" x", b"4 StrayContinuation")
-    line, name = random.choice(BAD_LINES)
-    return with_line(document, number, at, line, name)
+        return with_line(paragraph, 0, b" x", b"4 StrayContinuation")
+    return with_line(paragraph, at, *random.choice(BAD_LINES))
 
 
-def with_line(document, number, at, line, name, is_instead=False) -> Spoiled:
-    """The document with a line before a field of a paragraph, or instead of it."""
-    paragraph = list(document[number])
-    lines = sum(1 + field.body.count(b"\n") for field in paragraph[:at])
-    if name.startswith(b"1 "):
-        lines += line.count(b"\n")
-    paragraph[at : at + is_instead] = [line]
-    return with_paragraph(document, number, paragraph, lines, name)
-
-
-def with_paragraph(document, number, paragraph, lines, name) -> Spoiled:
-    """The document with another paragraph, refused so many lines behind its first."""
-    before = text_of(document[:number]) + b"\n" * (number > 0)
-    first = before.count(b"\n") + 1
-    texts = [
-        field if isinstance(field, bytes) else b"%s: %s" % (field.name, field.body)
-        for field in paragraph
-    ]
-    after = text_of(document[number + 1 :])
-    text = before + b"\n".join(texts) + b"\n" + b"\n" * bool(after) + after
-    return Spoiled(text, number, b"line %d: %s\n" % (first + lines, name))
+def with_line(paragraph, at: int, line: bytes, name: bytes, is_instead=False):
+    """A paragraph with a line before one of its fields, or instead of it."""
+    before, after = text_of([paragraph[:at]]), text_of([paragraph[at + is_instead :]])
+    number = before.count(b"\n") + line.count(b"\n") * name.startswith(b"1 ")
+    return before + line + b"\n" + after, number, name
 
 
 def with_second(document) -> Spoiled:
     """The document with itself behind it, of a kind that has one paragraph."""
-    first = text_of(document)
-    line = first.count(b"\n") + 2
-    return Spoiled(first + b"\n \n" + first, 1, b"line %d: 11 TooManyParagraphs\n" % (line + 1))
+    before = text_of(document) + b"\n \n"
+    return Spoiled(before + text_of(document), 1, refusal_at(before, 0, b"11 TooManyParagraphs"))
+
+
+class Planted(NamedTuple):
+    """A file with faults in some of its paragraphs, the lines of their refusals, and how many of its
+    paragraphs have none."""
+
+    text: bytes
+    refusals: List[bytes]
+    good: int
+
+
+def planted(random, kind: str, document: Document) -> Planted:
+    """The document with a fault in each of some paragraphs, and blank lines around all."""
+    text, refusals, share = b"", [], random.choice((0, 0.3, 0.7, 1))
+    for paragraph in document:
+        text += some(random, (b"\n", b" \n", b"\t \t\n"), len(text) > 0, 2, b"")
+        if random.random() < share:
+            spoilt, line, name = with_fault(random, kind, paragraph)
+            refusals.append(refusal_at(text, line, name))
+            text += spoilt
+        else:
+            text += text_of([paragraph])
+    end = random.choice((None, -1))
+    return Planted(text[:end] + random.choice((b"", b"\n\n \n")), refusals, len(document) - len(refusals))
