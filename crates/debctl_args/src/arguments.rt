@@ -93,8 +93,8 @@ impl From<AllocError> for UsageFault {
 ///   of a kind other than `any`, for an audit with two paths `-`, for a query whose relation and
 ///   index are both standard input, and for an `unmet` that reads standard input twice; `usage:
 ///   explain takes one file, code, relation or version` for an `explain` with two of these, where a
-///   kind, `--all` or a path names a file; `usage: audit takes paths, or --files0-from` for an audit
-///   with neither paths nor a list, or with both; `usage: query takes a relation, or
+///   kind, `--all` or a path names a file; `usage: audit takes paths, or --files0-from` for an
+///   audit with neither paths nor a list, or with both; `usage: query takes a relation, or
 ///   --relation-from` for a query with neither or with both; `usage: diff takes no --kind any`;
 ///   `usage: unmet takes no --kind any`; `usage: unmet takes --recommends only for binary packages`
 ///   for the kinds `sources` and `source` with `--recommends`; `usage: unmet takes another --kind

@@ -164,8 +164,8 @@ pub enum Explain {
     Version(String),
 }
 
-/// The files that `audit` reads, each of this kind, which of their refusals it prints, and what ends
-/// each record that it prints.
+/// The files that `audit` reads, each of this kind, which of their refusals it prints, and what
+/// ends each record.
 #[derive(Debug, PartialEq, Eq, Drop)]
 pub struct Audit {
     pub doc: Doc,
