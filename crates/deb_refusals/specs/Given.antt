@@ -9,7 +9,7 @@ use Rattle.deb_base.specs.declared.refusal.Refusal.{Refusal}
 use Rattle.deb_syntax.specs.Judged.{line_judged}
 use Rattle.deb_syntax.specs.Lines.{Paragraph, file_limit}
 use Rattle.deb_syntax.specs.Meaning.{Entries}
-use Rattle.deb_control.specs.Checking.{CheckedState, FitsChecked}
+use Rattle.deb_control.specs.Checking.{CheckedState, FitsChecked, Follow}
 use Rattle.deb_control.specs.CheckedStates.{checked_state, doc_read, lines_checked}
 use Rattle.deb_control.specs.Documents.{rules_of}
 use Rattle.deb_control.specs.Refusals.{next_checked}
@@ -100,35 +100,41 @@ abbrev pub explanations_from : Doc → List ℕ → List ℕ → List Entries �
 explanations_from doc file text before =
     explained_stream doc (explanation_of doc file) (stream_from (rules_of doc) text before)
 
--- The first runs of the file's lines were checked, so many paragraphs passed, and the refusals were
--- these. What is left is the stream of another text, which fits behind those paragraphs and has as
--- many bytes.
-pub record Awaits (doc : Doc) (text : List ℕ) (state : CheckedState) (left : Option (List ℕ))
-    (passed : ℕ) (done : List WhyRefused) : Type 0 where
-  pub other : List ℕ
-  pub before : List Entries
-  pub fits : FitsChecked doc other before state left
+-- Behind these paragraphs of a text of as many bytes, its stream is what is left of the file: so many
+-- paragraphs passed before it, and the refusals before it were these.
+pub record Remains (doc : Doc) (text other : List ℕ) (before : List Entries) (passed : ℕ)
+    (done : List WhyRefused) : Type 0 where
   pub bytes : length other ≡ length text
   pub single : is_single doc ≡ true → other ≡ text
+  pub follow : Follow (rules_of doc) other [] before
   pub whys : explanations_of doc text ≡ done ++ explanations_from doc text other before
   pub total : passed_of doc text
       ≡ passed + passed_among (stream_from (rules_of doc) other before).items
   pub counted : passed ≡ length before
 
--- The reader of checked paragraphs has refused the next run for this, and shows its lines and
--- fields; where it can go on, that is with another text. `before` are the refusals before it.
+-- The reader of checked paragraphs goes on there.
+pub record Awaits (doc : Doc) (text : List ℕ) (state : CheckedState) (left : Option (List ℕ))
+    (passed : ℕ) (done : List WhyRefused) : Type 0 where
+  pub other : List ℕ
+  pub before : List Entries
+  pub fits : FitsChecked doc other before state left
+  pub remains : Remains doc text other before passed done
+
+-- The next run there is refused for this. The reader of checked paragraphs shows its lines and
+-- fields; where it can go on, that is with another text. The refusals before it were `front`.
 pub record StandsAt (doc : Doc) (text : List ℕ) (refusal : Refusal) (state : CheckedState)
     (lines : Option Paragraph) (left : Option (List ℕ)) (passed : ℕ)
     (done : List WhyRefused) : Type 0 where
   pub front : List WhyRefused
-  pub awaits : Awaits doc text state left passed front
-  pub refused : next_checked (rules_of doc) awaits.other awaits.before ≡ Err refusal
+  pub other : List ℕ
+  pub before : List Entries
+  pub remains : Remains doc text other before passed front
+  pub refused : next_checked (rules_of doc) other before ≡ Err refusal
   pub fault : state.fault ≡ Some (Refused refusal)
-  pub seen : state.reader.current ≡ seen_behind (rules_of doc) awaits.other awaits.before
-  pub shown : lines ≡ lines_behind (rules_of doc) awaits.other awaits.before
-  pub without : IfSome lines (λ p. FitsWithout doc awaits.other awaits.before p state left)
-  pub is : done
-      ≡ front ++ why_next_refused doc awaits.other awaits.before refusal ∷ []
+  pub seen : state.reader.current ≡ seen_behind (rules_of doc) other before
+  pub shown : lines ≡ lines_behind (rules_of doc) other before
+  pub without : IfSome lines (λ p. FitsWithout doc other before p state left)
+  pub is : done ≡ front ++ why_next_refused doc other before refusal ∷ []
 
 -- All refusals were given.
 pub record HasAll (doc : Doc) (text : List ℕ) (passed : ℕ) (done : List WhyRefused)
