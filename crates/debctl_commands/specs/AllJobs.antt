@@ -1,7 +1,7 @@
 -- What the jobs that report every refusal of a file answer and write: `check --all` and `explain
 -- --all`. The statuses are this project's own; the refusals are those of the runs of lines of a
 -- document of a kind (Debian Policy 5.1 and 5.3 to 5.6).
-use Rattle.std.specs.Prelude.{◌≡◌, ℕ, suc, zero, List, [], ◌∷◌, Option, Some, Result, IfOk, IfErr, refl}
+use Rattle.std.specs.Prelude.{◌≡◌, ℕ, ◌==◌, if◌then◌else◌, List, [], ◌∷◌, Option, Some, Result, IfOk, IfErr, refl}
 use Rattle.std.specs.Io.KnownBytes.{Appends}
 use Rattle.deb_base.specs.Devices.{AppendsFront, read_failures_after, write_failures_after}
 use Rattle.deb_base.specs.declared.doc.Doc.{Doc}
@@ -14,12 +14,8 @@ use Rattle.deb_refusals.specs.Written.{ExplainsAll, ExplainsFirst, IsNoRefusal, 
 use Rattle.deb_refusals.specs.declared.summary.Summary.{Summary}
 
 -- the status by how many runs of lines are refused: 0 if none is, else 2
-abbrev pub refused_status : ℕ → ℕ
-refused_status 0 = 0
-refused_status (suc more) = 2
-
 abbrev pub summary_status : Summary → ℕ
-summary_status summary = refused_status summary.refused
+summary_status summary = if summary.refused == 0 then 0 else 2
 
 -- The file has no refusal, and exactly these lines were written.
 pub record WritesUnrefused (doc : Doc) (text lines : List ℕ) (old new : Option (List ℕ))

@@ -7,7 +7,6 @@ use Rattle.std.specs.Fmt.{decimal, digits}
 use Rattle.std.specs.List.{concat, flat_map}
 use Rattle.std.specs.Str.{is_utf8, chars}
 use lib.Utf8.{encode}
-use Rattle.deb_base.specs.Bodies.{newline}
 use Rattle.deb_base.specs.Devices.{failures_after, read_failures_after, write_failures_after, Puts}
 use Rattle.deb_base.specs.Reading.{IsMemoryOrRead}
 use Rattle.deb_base.specs.declared.code.Code.TheVariants.{NoColon}
@@ -32,15 +31,11 @@ use Rattle.debctl_args.specs.declared.jobs.LineEnd.TheVariants.{Newline, Nul}
 abbrev pub refusal_record : LineEnd → List ℕ → Refusal → List ℕ
 refusal_record end path refusal = audit_record end path (Ok (Err (Refused refusal)))
 
--- the counts of a file, as its last line has them
-abbrev pub total_words : Summary → List ℕ
-total_words summary =
-    concat (codes "ok " ∷ decimal summary.passed ∷ codes ", " ∷ decimal summary.refused
-    ∷ codes " refused" ∷ [])
-
+-- the record of the counts of a file, which has the words of its last line
 abbrev pub total_record : LineEnd → List ℕ → Summary → List ℕ
 total_record end path summary =
-    audit_path end path ++ (codes ": " ++ (total_words summary ++ record_end end ∷ []))
+    audit_path end path ++ concat (codes ": ok " ∷ decimal summary.passed ∷ codes ", "
+    ∷ decimal summary.refused ∷ codes " refused" ∷ (record_end end ∷ []) ∷ [])
 
 -- the record of the end of a file: its counts, or the fault that ended its reading
 abbrev pub end_record : LineEnd → List ℕ → Result Summary Fault → List ℕ
@@ -154,8 +149,9 @@ pub record ReportsPath {F R W : Type 0} (left : R → Option (List ℕ)) (failur
 -- one begins, and the status is the highest of theirs; or one failed, and none was taken after it.
 abbrev pub InTurn : {F W : Type 0} → (List ℕ → F → W → Result ℕ Fault → F → W → Type 0)
     → List (List ℕ) → F → W → Result ℕ Fault → F → W → Type 0
-InTurn step [] files out status files_after out_after =
-    (status ≡ Ok 0) × (files_after ≡ files) × (out_after ≡ out)
+InTurn step [] files out (Ok status) files_after out_after =
+    (status ≡ 0) × (files_after ≡ files) × (out_after ≡ out)
+InTurn step [] files out (Err fault) files_after out_after = ⊥
 InTurn {F} {W} step (path ∷ paths) files out (Ok status) files_after out_after =
     (between : F) × (written : W) × (one : ℕ) × (others : ℕ)
     × step path files out (Ok one) between written
@@ -174,7 +170,8 @@ records_of_totals :
     ≡ codes "a/b: ok 4, 30 refused\n")
     × (total_record Nul (codes "a\nb") (record { passed = 0; refused = 0 })
     ≡ codes "a\nb: ok 0, 0 refused" ++ 0 ∷ [])
-    × (total_words (record { passed = 4; refused = 30 }) ++ newline ∷ [] ≡ total_line 4 30)
+    × (total_record Newline [] (record { passed = 4; refused = 30 })
+    ≡ codes ": " ++ total_line 4 30)
 unfolding digits is_utf8 chars encode has_control path_byte escaped_byte
 records_of_totals = (refl, refl, refl)
 

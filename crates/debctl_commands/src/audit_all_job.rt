@@ -1,18 +1,18 @@
 //! The job of `audit --all`: reports every refusal of many files.
 
-ghost use Rattle.std.specs.Prelude.{◌≡◌, ◌<◌, ℕ, [], ◌∷◌, ◌++◌, map, IfErr, Ok, Err, Result};
+ghost use Rattle.std.specs.Prelude.{◌≡◌, ◌<◌, ℕ, map, IfErr, Ok, Err, Result};
 ghost use Rattle.deb_base.specs.Devices.{write_failures_after, Puts};
 ghost use Rattle.deb_base.specs.declared.fault.Fault.{Fault};
-ghost use Rattle.debctl_commands.specs.AuditAllJob.{total_record, total_words, FileReport, Finds};
+ghost use Rattle.debctl_commands.specs.AuditAllJob.{total_record, FileReport, Finds};
 ghost use Rattle.debctl_commands.specs.AuditAllJob.{FindsOpened, InTurn, ReportsPath, WritesReport};
-ghost use Rattle.debctl_commands.specs.AuditJob.{audit_record, record_end};
+ghost use Rattle.debctl_commands.specs.AuditJob.{audit_record};
 ghost use Rattle.debctl_commands.specs.Reporting.{Reports};
 
 use crate::audit_job::{AuditOptions, put_audit_path, put_audit_record, record_end};
 use crate::opens::Opens;
 use crate::reporting::{FAULT_STATUS, report_fault};
 use crate::unopened::Unopened;
-use deb_base::{Fault, Sink, Source, put_all, put_pieces};
+use deb_base::{Fault, Sink, Source, put_pieces};
 use deb_refusals::{Refusals, Summary};
 use debctl_args::LineEnd;
 use itoa::Buffer;
@@ -187,41 +187,15 @@ fn put_total<W: Sink>(end: LineEnd, path: &[u8], summary: Summary, out: &mut W) 
     ensures counts_failure { W.failures out.new ≡ write_failures_after (W.failures out.old) result }
 {
     put_audit_path(end, path, out)?;
-    put_total_after(b": ", summary, end, out)
-}
-
-/// Writes the part of such a record after the path.
-#[tactic(auto, using(deb_base::proofs::Writes::puts))]
-fn put_total_after<W: Sink>(
-    colon: &[u8],
-    summary: Summary,
-    end: LineEnd,
-    out: &mut W,
-) -> Result<(), Fault>
-    ensures written { Puts (W.held out.old) (W.held out.new) result
-        (colon.now ++ (total_words summary ++ record_end end ∷ [])) }
-    ensures fault { IfErr result (λ fault. fault ≡ Fault.Write) }
-    ensures counts_failure { W.failures out.new ≡ write_failures_after (W.failures out.old) result }
-{
-    put_all(out, colon)?;
-    put_total_words(summary, out)?;
-    put_all(out, &[record_end(end)])
-}
-
-/// Writes the counts of a file.
-fn put_total_words<W: Sink>(summary: Summary, out: &mut W) -> Result<(), Fault>
-    ensures written { Puts (W.held out.old) (W.held out.new) result (total_words summary) }
-    ensures fault { IfErr result (λ fault. fault ≡ Fault.Write) }
-    ensures counts_failure { W.failures out.new ≡ write_failures_after (W.failures out.old) result }
-{
     put_pieces(
         out,
         &[
-            b"ok ",
+            b": ok ",
             Buffer::new().format(summary.passed).as_bytes(),
             b", ",
             Buffer::new().format(summary.refused).as_bytes(),
             b" refused",
+            &[record_end(end)],
         ],
     )
 }
