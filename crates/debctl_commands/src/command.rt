@@ -8,6 +8,7 @@ ghost use Rattle.debctl_commands.specs.Running.{Reported};
 ghost use Rattle.debctl_commands.specs.JobDevices.{reader_of, writer_of};
 ghost use Rattle.debctl_commands.specs.Taking.{TakesFile};
 
+use crate::all_jobs::run_check_all;
 use crate::diff_job::{DiffOptions, run_diff};
 use crate::document_jobs::{run_check, run_normalise};
 use crate::query_from::run_query_from;
@@ -92,14 +93,13 @@ pub fn run<R: Source, S: Source, W: Sink, E: Sink>(
 {
     match job {
         Job::Check(doc) => run_check(alloc, *doc, first, out, err),
+        Job::CheckAll(doc) => run_check_all(alloc, *doc, first, out, err),
         Job::Normalise(doc) => run_normalise(alloc, *doc, first, out, err),
         Job::Same(doc) => run_same(alloc, *doc, first, second, out, err),
         Job::Diff { kind, detail } => {
             run_diff(alloc, diff_options(*kind, *detail), first, second, out, err)
         }
-        Job::Compare(left, operator, right) => {
-            run_compare(left.as_str(), *operator, right.as_str(), err)
-        }
+        Job::Compare(left, op, right) => run_compare(left.as_str(), *op, right.as_str(), err),
         Job::CanonVersion(version) => run_canon_version(alloc, version.as_str(), out, err),
         Job::VersionKey(versions) => run_version_key(alloc, versions, out, err),
         Job::Sort { reverse } => run_sort(alloc, *reverse, first, out, err),

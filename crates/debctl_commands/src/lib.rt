@@ -10,6 +10,8 @@
 //!   the files and the standard streams to these functions, and flushes the output.
 #![tactic(auto)]
 
+mod all_jobs;
+mod audit_all_job;
 mod audit_job;
 mod command;
 mod diff_job;
@@ -31,6 +33,8 @@ mod unopened;
 mod version_jobs;
 mod writer;
 
+pub use all_jobs::run_explain_all;
+pub use audit_all_job::run_audit_all;
 pub use audit_job::{AuditOptions, run_audit};
 pub use command::run;
 pub use explain_job::{run_explain, run_rule, run_unopened, run_word};
