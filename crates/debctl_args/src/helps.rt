@@ -25,8 +25,8 @@ Prints `ok N` for a file of N paragraphs, or reports the first error.
 
 With `--all` it continues after an error. It prints `line N: CODE NAME` for the first
 error of each paragraph, and at the end `ok N, M refused`: N paragraphs are accepted,
-and M errors are printed. A paragraph or file that is too long is the last error, and
-so is any error with `--kind binary` or `--kind source`.
+and M errors are printed. It stops after a paragraph whose lines are too long, after a
+file that is too long, and after any error with `--kind binary` or `--kind source`.
 
 Use `--kind sources` for an index of source packages. As `packages`, `binary` or
 `source` it is usually rejected because of its Architecture or a missing field. Use
@@ -64,7 +64,6 @@ lines `KEY: VALUE`; keys that don't apply are left out:
   rule     the rule that is broken, with its section of Debian Policy
   usually  the usual cause
 If the file can't be opened, the lines `file`, `fault: read` and `reason` say why.
-The file is held in memory, up to the end of a paragraph that is too long.
 
 With `--relation` or `--version-text` the text is explained like the value of a
 field; `ok` is printed if it is correct.
