@@ -60,9 +60,9 @@ words_of_unmet arch profiles dependents =
 -- Of the readers of the first file and of the second, `left` and `other` are the texts, where
 -- they are known.
 
--- Status 0: `ok N` for an accepted file, all lines of one without a refusal, its canonical text, `same`, no line of `diff`, yes, a
--- version's canonical text with a newline, the keys of versions, the sorted lines of a file, a
--- report without an unmet group, and no line of `unmet`.
+-- Status 0: `ok N` for an accepted file, all lines of one without a refusal, its canonical text,
+-- `same`, no line of `diff`, yes, a version's canonical text with a newline, the keys of versions,
+-- the sorted lines of a file, a report without an unmet group, and no line of `unmet`.
 abbrev pub Done : {W : Type 0} → Job → Option (List ℕ) → Option (List ℕ) →
     (W → Option (List ℕ)) → (W → ℕ) → W → W → Type 0
 Done (Check doc) left other held failures out new =
