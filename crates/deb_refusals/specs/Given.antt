@@ -70,8 +70,8 @@ abbrev pub explanations_from : Doc → List ℕ → List ℕ → List Entries �
 explanations_from doc file text before =
     explained_stream doc (explanation_of doc file) (stream_from (rules_of doc) text before)
 
--- Behind these paragraphs of a text of as many bytes, its stream is what is left of the file: so many
--- paragraphs passed before it, and the refusals before it were these.
+-- Behind these paragraphs of a text of as many bytes, its stream is what is left of the file: so
+-- many paragraphs passed before it, and the refusals before it were these.
 pub record Remains (doc : Doc) (text other : List ℕ) (before : List Entries) (passed : ℕ)
     (done : List WhyRefused) : Type 0 where
   pub bytes : length other ≡ length text

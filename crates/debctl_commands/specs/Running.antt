@@ -295,8 +295,8 @@ done_of_sort : {W : Type 0} (text : List ℕ) (other : Option (List ℕ))
     ≡ ((read : List ℕ) → Some text ≡ Some read → WritesSorted false read (held out) (held new)))
 done_of_sort text other held failures out new = (refl, refl)
 
--- what is said of `check --all`: it reads the first file alone, and writes all of its lines, whether
--- it has a refusal or not
+-- what is said of `check --all`: it reads the first file alone, and writes all of its lines,
+-- whether it has a refusal or not
 said_of_check_all : {W : Type 0} (doc : Doc) (text : List ℕ) (other err err_after : Option (List ℕ))
     (held : W → Option (List ℕ)) (failures : W → ℕ) (out new : W) (P : Type 0)
     → (Done (CheckAll doc) (Some text) other held failures out new
