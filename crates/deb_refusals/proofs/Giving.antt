@@ -50,6 +50,9 @@ are_first doc text done more all = record {
   refusals = sym (each_has_one_explanation doc text) ∙ ap refusals_explained all ∙ map-append (λ why. why.refusal) done more;
 }
 
+plus_none : (n : ℕ) → n ≡ 0 + n
+plus_none n = omega arith
+
 -- nothing was looked at
 pub awaits_all : (doc : Doc) (text : List ℕ) (state : CheckedState) (left : Option (List ℕ)) → FitsChecked doc text [] state left → Awaits doc text state left 0 []
 awaits_all doc text state left fits = record {
@@ -61,7 +64,7 @@ awaits_all doc text state left fits = record {
     single = λ _. refl;
     follow = tt;
     whys = refl;
-    total = refl;
+    total = plus_none (passed_of doc text);
     counted = refl;
   };
 }

@@ -1,5 +1,5 @@
 -- What a refusal of a stream is about is what is told of the paragraph behind those that pass.
-use Rattle.std.proofs.Common.{◌≡◌, ◌==◌, ◌&&◌, ◌||◌, ℕ, ◌++◌, Bool, true, false, not, cond, List, [], ◌∷◌, length, drop, nat_le, Option, None, Some, Result, Ok, Err, refl, sym, ap, ◌∙◌, subst, is_some}
+use Rattle.std.proofs.Common.{◌≡◌, ◌==◌, ◌&&◌, ◌||◌, ℕ, ◌+◌, ◌++◌, Bool, true, false, not, cond, List, [], ◌∷◌, length, drop, nat_le, Option, None, Some, Result, Ok, Err, refl, sym, ap, ◌∙◌, subst, is_some}
 use Rattle.std.specs.Prelude.{slice_get}
 use Rattle.deb_base.specs.Bodies.{Line, paragraph_limit}
 use Rattle.deb_base.specs.Codes.{number_of}

@@ -3,7 +3,6 @@ use Rattle.deb_base.specs.declared.fault.Fault.TheVariants.{Refused}
 use Rattle.deb_syntax.specs.Lines.{file_limit}
 use Rattle.deb_control.specs.CheckedStates.{checked_state, lines_checked}
 use Rattle.deb_control.proofs.CheckedSoFar.{failed_on, goes_on, sound_on}
-use Rattle.deb_control.proofs.Checks.{few-totals}
 use Rattle.deb_control.proofs.RefusedLines.{without_error}
 use Rattle.deb_refusals.specs.Given.{why_next_refused}
 use Rattle.deb_refusals.proofs.Giving.{all_given, few_done, few_passed, goes_passing, stands_at, taken_by}
@@ -80,7 +79,3 @@ loop-preserved g c =
           goes_passing doc text _ _ c.loop.summary _ _ done _ _ has gives c.advance.ensures.doc
           (omega (arith, few_passed doc text _ c.loop.summary _ done has, checks.count, checks.few, c.saturating_add-summary.ensures));
     }
-
-pub unreachable-requires : goal.unreachable-requires
-unfolding file_limit
-unreachable-requires g c = omega (arith, c.loop-test.false, c.loop.invariant.count, few-totals c.loop.checked.totals)
