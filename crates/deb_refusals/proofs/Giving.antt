@@ -1,8 +1,7 @@
 -- What a reader of refusals has given of a file after one run of lines more.
-use Rattle.std.proofs.Common.{IfSome, ◌≡◌, ◌≤◌, ◌&&◌, ℕ, ◌+◌, ◌++◌, Bool, true, false, not, List, [], ◌∷◌, length, map, Option, None, Some, Result, Ok, Err, refl, sym, ap, ◌∙◌, subst, append_assoc, append-nil, arith, length-append}
+use Rattle.std.proofs.Common.{IfSome, ◌≡◌, ◌≤◌, ◌&&◌, ℕ, ◌+◌, ◌++◌, true, false, not, List, [], ◌∷◌, length, Option, None, Some, Result, Ok, Err, refl, sym, ap, ◌∙◌, subst, append_assoc, append-nil, arith, length-append}
 use Rattle.std.proofs.lemmas.List.{length-map, map-append}
 use Rattle.deb_base.specs.Bodies.{Line}
-use Rattle.deb_base.specs.Docs.{is_single}
 use Rattle.deb_base.specs.Reading.{TakesNoMore}
 use Rattle.deb_base.specs.declared.doc.Doc.{Doc}
 use Rattle.deb_base.specs.declared.fault.Fault.{Fault}
@@ -18,7 +17,6 @@ use Rattle.deb_control.specs.Documents.{rules_of}
 use Rattle.deb_control.specs.Refusals.{next_checked}
 use Rattle.deb_control.specs.Refused.{lines_behind, seen_behind}
 use Rattle.deb_control.specs.Resuming.{FitsWithout, resumes}
-use Rattle.deb_control.specs.Streams.{ended_by, item_of, stream_from, with_item}
 use Rattle.deb_control.specs.declared.checked.Checked.{Checked}
 use Rattle.deb_control.proofs.CheckedSoFar.{goes_on}
 use Rattle.deb_control.proofs.StreamLaws.{end_ends_stream, passed_is_next, refused_is_left_out}
@@ -50,6 +48,9 @@ are_first doc text done more all = record {
   refusals = sym (each_has_one_explanation doc text) ∙ ap refusals_explained all ∙ map-append (λ why. why.refusal) done more;
 }
 
+plus_none : (n : ℕ) → n ≡ 0 + n
+plus_none n = omega arith
+
 -- nothing was looked at
 pub awaits_all : (doc : Doc) (text : List ℕ) (state : CheckedState) (left : Option (List ℕ)) → FitsChecked doc text [] state left → Awaits doc text state left 0 []
 awaits_all doc text state left fits = record {
@@ -61,7 +62,7 @@ awaits_all doc text state left fits = record {
     single = λ _. refl;
     follow = tt;
     whys = refl;
-    total = refl;
+    total = plus_none (passed_of doc text);
     counted = refl;
   };
 }

@@ -3,7 +3,6 @@ use Rattle.deb_base.specs.declared.fault.Fault.TheVariants.{Refused}
 use Rattle.deb_syntax.specs.Lines.{file_limit}
 use Rattle.deb_control.specs.CheckedStates.{checked_state, lines_checked}
 use Rattle.deb_control.proofs.CheckedSoFar.{failed_on, goes_on, sound_on}
-use Rattle.deb_control.proofs.Checks.{few-totals}
 use Rattle.deb_control.proofs.RefusedLines.{without_error}
 use Rattle.deb_refusals.specs.Given.{why_next_refused}
 use Rattle.deb_refusals.proofs.Giving.{all_given, few_done, few_passed, goes_passing, stands_at, taken_by}
@@ -28,19 +27,18 @@ returns-in-Err-Refused-clause-finds g c = λ doc text done goes.
     let has = c.loop.invariant.text doc text done goes in
     let awaits = has.awaits in
     let failed = c.advance.new.self in
-    let refusal = c.in-Err-Refused.refusal in
     let passes = rw (c.in-Err-Refused.is, c.in-Err-Refused.field-0-is, has.reads) at c.advance.ensures.passes in
     let lines = rw (c.in-Err-Refused.is, c.in-Err-Refused.field-0-is, has.reads) at c.advance.ensures.lines in
     let without = rw (c.in-Err-Refused.is, has.reads) at c.advance.ensures.without in
     let checks = goes_on _ _ _ _ c.loop.invariant.fault passes.checks in
     let refused = checks.answers awaits.other awaits.before awaits.fits ∙ ap Err (sym c.in-Err-Refused.refusal-is) in
     let fault = failed_on _ _ _ _ c.loop.invariant.fault passes.checks ∙ ap (λ r. Some (Refused r)) (sym c.in-Err-Refused.refusal-is) in
-    let few = few_done doc text _ _ _ done refusal awaits.remains refused in
+    let few = few_done doc text _ _ _ done _ awaits.remains refused in
     record {
-      why = why_next_refused doc awaits.other awaits.before refusal;
-      same = c.in-Err-Refused.refusal-is;
+      why = why_next_refused doc awaits.other awaits.before _;
+      same = refl;
       refused = omega (arith, few, has.refused, c.saturating_add-summary-in-Err-Refused.ensures);
-      stands = stands_at doc text _ (checked_state failed) _ _ _ done refusal (lines_checked failed) awaits refused fault (checks.refused awaits.other awaits.before awaits.fits)
+      stands = stands_at doc text _ (checked_state failed) _ _ _ done _ (lines_checked failed) awaits refused fault (checks.refused awaits.other awaits.before awaits.fits)
           (without_error _ _ c.loop.invariant.fault lines awaits.other awaits.before awaits.fits)
           (without_error _ _ c.loop.invariant.fault without awaits.other awaits.before awaits.fits);
     }
@@ -80,7 +78,3 @@ loop-preserved g c =
           goes_passing doc text _ _ c.loop.summary _ _ done _ _ has gives c.advance.ensures.doc
           (omega (arith, few_passed doc text _ c.loop.summary _ done has, checks.count, checks.few, c.saturating_add-summary.ensures));
     }
-
-pub unreachable-requires : goal.unreachable-requires
-unfolding file_limit
-unreachable-requires g c = omega (arith, c.loop-test.false, c.loop.invariant.count, few-totals c.loop.checked.totals)
