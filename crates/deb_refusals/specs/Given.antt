@@ -1,5 +1,5 @@
 -- What a reader of refusals has given of a file, and what is left of it. Debian Policy 5.1.
-use Rattle.std.specs.Prelude.{◌≡◌, ℕ, ◌+◌, Bool, true, false, not, is_some, List, [], ◌∷◌, ◌++◌, length, Option, None, Some, IfSome, Result, Ok, Err, refl}
+use Rattle.std.specs.Prelude.{◌≡◌, ℕ, ◌+◌, Bool, true, List, [], ◌∷◌, ◌++◌, length, Option, None, Some, IfSome, Result, Ok, Err, refl}
 use Rattle.deb_base.specs.Docs.{is_single}
 use Rattle.deb_base.specs.Reading.{IsMemoryOrRead, TakesNoMore}
 use Rattle.deb_base.specs.declared.doc.Doc.{Doc}
@@ -20,6 +20,7 @@ use Rattle.deb_control.specs.declared.checked.Checked.{Checked}
 use Rattle.deb_explain.specs.Explanations.{WhyRefused, explain_refusal, explanation_of}
 use Rattle.deb_refusals.specs.Explained.{explained_stream, explanations_of, refusals_explained}
 use Rattle.deb_refusals.specs.Lines.{passed_among, passed_of, refusals_of}
+use Rattle.deb_refusals.specs.Positions.{fault_at, is_end, refusal_at}
 use Rattle.deb_refusals.specs.declared.refusals.Position.{Position}
 use Rattle.deb_refusals.specs.declared.refusals.Position.TheVariants.{Start, At, End, Failed}
 use Rattle.deb_refusals.specs.declared.refusals.Refusals.{Refusals}
@@ -31,54 +32,16 @@ abbrev pub summary_of : Refusals → Summary
 summary_of r = r.summary
 
 -- the refusal that it gave last, where it hasn't gone on since
-abbrev pub refusal_at : Position → Option Refusal
-refusal_at Start = None
-refusal_at (At refusal) = Some refusal
-refusal_at End = None
-refusal_at (Failed fault) = None
-
 abbrev pub given_last : Refusals → Option Refusal
 given_last r = refusal_at r.position
 
 -- the error that it gave
-abbrev pub fault_at : Position → Option Fault
-fault_at Start = None
-fault_at (At refusal) = None
-fault_at End = None
-fault_at (Failed fault) = Some fault
-
 abbrev pub failure_of : Refusals → Option Fault
 failure_of r = fault_at r.position
 
 -- whether it told that no further refusal follows
-abbrev pub is_end : Position → Bool
-is_end Start = false
-is_end (At refusal) = false
-is_end End = true
-is_end (Failed fault) = false
-
 abbrev pub has_ended : Refusals → Bool
 has_ended r = is_end r.position
-
--- whether a fault is out of memory, or a failed read
-abbrev pub is_of_reading : Fault → Bool
-is_of_reading (Refused refusal) = false
-is_of_reading Memory = true
-is_of_reading Read = true
-is_of_reading Write = false
-
--- whether its reader of checked paragraphs has no error at the start, and its own is one of reading
-abbrev pub is_sound_at : Position → Option Fault → Bool
-is_sound_at Start inside = not (is_some inside)
-is_sound_at (At refusal) inside = true
-is_sound_at End inside = true
-is_sound_at (Failed fault) inside = is_of_reading fault
-
--- where an answer leaves it
-abbrev pub position_after : Result (Option Refusal) Fault → Position
-position_after (Ok (Some refusal)) = At refusal
-position_after (Ok None) = End
-position_after (Err fault) = Failed fault
 
 -- ---- what it has given of a file
 
@@ -221,28 +184,6 @@ GivesNext doc text (Err Write) new left done = ⊥
 pub record IsLastOf (why : WhyRefused) (done : List WhyRefused) : Type 0 where
   pub front : List WhyRefused
   pub is : done ≡ front ++ why ∷ []
-
-positions : (refusal : Refusal) (fault : Fault)
-    → (refusal_at (At refusal) ≡ Some refusal) × (refusal_at Start ≡ None)
-    × (refusal_at End ≡ None) × (refusal_at (Failed fault) ≡ None)
-    × (fault_at (Failed fault) ≡ Some fault) × (fault_at Start ≡ None)
-    × (fault_at (At refusal) ≡ None) × (fault_at End ≡ None)
-    × (is_end End ≡ true) × (is_end Start ≡ false) × (is_end (At refusal) ≡ false)
-    × (is_end (Failed fault) ≡ false)
-positions refusal fault = (refl, refl, refl, refl, refl, refl, refl, refl, refl, refl, refl, refl)
-
-sound_positions : (refusal : Refusal) (inside : Option Fault)
-    → (is_sound_at Start None ≡ true) × (is_sound_at Start (Some Memory) ≡ false)
-    × (is_sound_at (At refusal) inside ≡ true) × (is_sound_at End inside ≡ true)
-    × (is_sound_at (Failed Memory) inside ≡ true) × (is_sound_at (Failed Read) inside ≡ true)
-    × (is_sound_at (Failed Write) inside ≡ false)
-    × (is_sound_at (Failed (Refused refusal)) inside ≡ false)
-sound_positions refusal inside = (refl, refl, refl, refl, refl, refl, refl, refl)
-
-positions_after : (refusal : Refusal) (fault : Fault)
-    → (position_after (Ok (Some refusal)) ≡ At refusal) × (position_after (Ok None) ≡ End)
-    × (position_after (Err fault) ≡ Failed fault)
-positions_after refusal fault = (refl, refl, refl)
 
 parts_shown : (r : Refusals) → (summary_of r ≡ r.summary) × (given_last r ≡ refusal_at r.position)
     × (failure_of r ≡ fault_at r.position) × (has_ended r ≡ is_end r.position)
