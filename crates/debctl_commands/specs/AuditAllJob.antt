@@ -1,6 +1,7 @@
 -- What the job of `audit --all` answers and writes: of each file a record for each refusal and one
 -- for its end, and the worst status. The records and statuses are this project's own; the refusals
 -- are those of the runs of lines of a document of a kind (Debian Policy 5.1 and 5.3 to 5.6).
+use Rattle.std.proofs.Common.{inl, inr}
 use Rattle.std.specs.Prelude.{◌≡◌, ◌⊎◌, ℕ, max, List, [], ◌∷◌, ◌++◌, length, Option, Some, Result, Ok, Err}
 use Rattle.std.specs.Prelude.{IfOk, IfErr, MatchResult, codes, refl}
 use Rattle.std.specs.Fmt.{decimal, digits}
@@ -209,10 +210,25 @@ unopened_is_found : {R : Type 0} (left : R → Option (List ℕ)) (failures : R 
     × (FindsOpened left failures doc (Ok reader) (Err NotFound) (unopened NotFound) ≡ ⊥)
 unopened_is_found left failures doc reader after = ((refl, refl), refl, refl)
 
--- for the worked cases: a step that notes its path, and whose status is the length of it
+-- what a report says of a file is of the refusals that it has
+reports_of_files : (doc : Doc) (left left_after : Option (List ℕ)) (count count_after : ℕ)
+    (refusals : List Refusal) (last : Result Summary Fault)
+    → (Finds doc left left_after count count_after (unopened NotFound) ≡ ⊥)
+    × (Finds doc left left_after count count_after (whole refusals last)
+    ≡ FindsAll doc left left_after count count_after refusals last)
+    × (Finds doc left left_after count count_after (cut refusals)
+    ≡ FindsFirst doc left left_after count count_after refusals)
+reports_of_files doc left left_after count count_after refusals last = (refl, refl, refl)
+
+-- for the worked cases: a step that notes its path, whose status is the length of it, and which
+-- fails where that is 0
+abbrev status_of_step : List ℕ → Result ℕ Fault
+status_of_step [] = Err Write
+status_of_step (byte ∷ more) = Ok (length (byte ∷ more))
+
 abbrev notes : List ℕ → ℕ → List ℕ → Result ℕ Fault → ℕ → List ℕ → Type 0
 notes path files out status files_after out_after =
-    (files_after ≡ files) × (status ≡ Ok (length path)) × (out_after ≡ out ++ path)
+    (files_after ≡ files) × (status ≡ status_of_step path) × (out_after ≡ out ++ path)
 
 steps_in_turn : InTurn notes (codes "ab" ∷ codes "c" ∷ []) 7 (codes "x") (Ok 2) 7 (codes "xabc")
 steps_in_turn = (
@@ -224,3 +240,11 @@ steps_in_turn = (
   (7, codes "xabc", 1, 0, (refl, refl, refl), (refl, refl, refl), refl),
   refl,
 )
+
+-- no step is taken after one that failed, and without a path there is none
+steps_that_fail : InTurn notes (codes "a" ∷ [] ∷ codes "c" ∷ []) 7 (codes "x") (Err Write) 7
+    (codes "xa")
+    × InTurn notes [] 7 (codes "x") (Ok 0) 7 (codes "x")
+    × (InTurn notes [] 7 (codes "x") (Err Write) 7 (codes "x") ≡ ⊥)
+steps_that_fail =
+    (inr (7, codes "xa", 1, (refl, refl, refl), inl (refl, refl, refl)), (refl, refl, refl), refl)

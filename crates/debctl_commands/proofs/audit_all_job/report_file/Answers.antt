@@ -46,8 +46,7 @@ returns-in_err-put_total-in-Ok-None-clause-reports g c =
     let so_far = c.loop.invariant.so_far in
     let written = c.in_err-put_total-in-Ok-None.ensures in
     let fault = c.in_err-put_total-in-Ok-None.field-0.0 in
-    rw (p.1, p.2)
-    (
+    rw (p.1, p.2) (
       whole so_far.done (Ok c.summary.result),
       at_end c.args.options.doc c.args.options.end c.args.path.now (g.R.Source.left c.args.reader.now) (g.W.Sink.held c.args.out.now) c.loop.refusals (g.R.Source.left c.loop.reader) (g.W.Sink.held c.loop.out) c.loop.status so_far c.next.new.self (g.R.Source.left c.next.new.reader)
           c.summary.result c.summary.ensures gives c.in-Ok-None.ensures.reads_at_most (g.R.Source.failures c.args.reader.now) (g.R.Source.failures c.next.new.reader) (c.in-Ok-None.ensures.counts_read_failure c.loop.invariant.sound ∙ c.loop.invariant.reads),
@@ -59,8 +58,7 @@ pub returns-in-Ok-None-clause-reports : goal.returns-in-Ok-None-clause-reports
 returns-in-Ok-None-clause-reports g c =
     let gives = rw c.in-Ok-None.field-0-is at c.in-Ok-None.ensures.gives in
     let so_far = c.loop.invariant.so_far in
-    let written = c.in_ok-put_total-in-Ok-None.ensures in
-    (
+    let written = c.in_ok-put_total-in-Ok-None.ensures in (
       whole so_far.done (Ok c.summary.result),
       at_end c.args.options.doc c.args.options.end c.args.path.now (g.R.Source.left c.args.reader.now) (g.W.Sink.held c.args.out.now) c.loop.refusals (g.R.Source.left c.loop.reader) (g.W.Sink.held c.loop.out) c.loop.status so_far c.next.new.self (g.R.Source.left c.next.new.reader)
           c.summary.result c.summary.ensures gives c.in-Ok-None.ensures.reads_at_most (g.R.Source.failures c.args.reader.now) (g.R.Source.failures c.next.new.reader) (c.in-Ok-None.ensures.counts_read_failure c.loop.invariant.sound ∙ c.loop.invariant.reads),
@@ -74,8 +72,7 @@ returns-in_err-put_fault_record-in-Err-clause-reports g c =
     let so_far = c.loop.invariant.so_far in
     let written = c.in_err-put_fault_record-in-Err.ensures in
     let fault = c.in_err-put_fault_record-in-Err.field-0.0 in
-    rw (p.1, p.2)
-    (
+    rw (p.1, p.2) (
       whole so_far.done (Err c.in-Err.fault),
       at_fault c.args.options.doc c.args.options.end c.args.path.now (g.R.Source.left c.args.reader.now) (g.W.Sink.held c.args.out.now) c.loop.refusals (g.R.Source.left c.loop.reader) (g.W.Sink.held c.loop.out) c.loop.status so_far c.next.new.self (g.R.Source.left c.next.new.reader)
           c.in-Err.fault c.in-Err.ensures.fault c.in-Err.ensures.gives c.in-Err.ensures.reads_at_most (g.R.Source.failures c.args.reader.now) (g.R.Source.failures c.next.new.reader) (c.in-Err.ensures.counts_read_failure c.loop.invariant.sound ∙ ap (λ m. read_failures_after {T = Summary} m (Err c.in-Err.fault)) c.loop.invariant.reads),
@@ -86,8 +83,7 @@ returns-in_err-put_fault_record-in-Err-clause-reports g c =
 pub returns-in-Err-clause-reports : goal.returns-in-Err-clause-reports
 returns-in-Err-clause-reports g c =
     let so_far = c.loop.invariant.so_far in
-    let written = c.in_ok-put_fault_record-in-Err.ensures in
-    (
+    let written = c.in_ok-put_fault_record-in-Err.ensures in (
       whole so_far.done (Err c.in-Err.fault),
       at_fault c.args.options.doc c.args.options.end c.args.path.now (g.R.Source.left c.args.reader.now) (g.W.Sink.held c.args.out.now) c.loop.refusals (g.R.Source.left c.loop.reader) (g.W.Sink.held c.loop.out) c.loop.status so_far c.next.new.self (g.R.Source.left c.next.new.reader)
           c.in-Err.fault c.in-Err.ensures.fault c.in-Err.ensures.gives c.in-Err.ensures.reads_at_most (g.R.Source.failures c.args.reader.now) (g.R.Source.failures c.next.new.reader) (c.in-Err.ensures.counts_read_failure c.loop.invariant.sound ∙ ap (λ m. read_failures_after {T = Summary} m (Err c.in-Err.fault)) c.loop.invariant.reads),
@@ -101,8 +97,7 @@ returns-in_err-put_fault_record-clause-reports g c =
     let so_far = c.loop.invariant.so_far in
     let written = c.in_err-put_fault_record.ensures in
     let fault = c.in_err-put_fault_record.field-0.0 in
-    rw (p.1, p.2)
-    (
+    rw (p.1, p.2) (
       whole so_far.done (Err Memory),
       at_many c.args.options.doc c.args.options.end c.args.path.now (g.R.Source.left c.args.reader.now) (g.W.Sink.held c.args.out.now) c.loop.refusals (g.R.Source.left c.loop.reader) (g.W.Sink.held c.loop.out) c.loop.status so_far
           (g.R.Source.failures c.args.reader.now) (g.R.Source.failures c.loop.reader) c.loop.invariant.reads,
@@ -113,8 +108,7 @@ returns-in_err-put_fault_record-clause-reports g c =
 pub returns-clause-reports : goal.returns-clause-reports
 returns-clause-reports g c =
     let so_far = c.loop.invariant.so_far in
-    let written = c.in_ok-put_fault_record.ensures in
-    (
+    let written = c.in_ok-put_fault_record.ensures in (
       whole so_far.done (Err Memory),
       at_many c.args.options.doc c.args.options.end c.args.path.now (g.R.Source.left c.args.reader.now) (g.W.Sink.held c.args.out.now) c.loop.refusals (g.R.Source.left c.loop.reader) (g.W.Sink.held c.loop.out) c.loop.status so_far
           (g.R.Source.failures c.args.reader.now) (g.R.Source.failures c.loop.reader) c.loop.invariant.reads,
