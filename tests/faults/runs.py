@@ -117,8 +117,8 @@ class Answer:
 
 @dataclass(frozen=True)
 class Wanted:
-    """The answer that is wanted: of each text all of it, or what the rule says. By `one of` standard
-    output is one of some texts."""
+    """The answer that is wanted: of each text all of it, or what the rule says. By `one` standard output
+    is one of some texts."""
 
     out: bytes
     err: bytes
@@ -261,7 +261,7 @@ def wanted_of_all(case: Case, fault: Fault, record):
         told = [it for it in told if int(re.search(rb"(?m)^line:? (\d+)", it)[1]) <= last]
         return Wanted(b"".join(told), line, FAULT_STATUS)
     outs = tuple(itertools.accumulate(told, initial=b""))
-    return Wanted(case.out, line, FAULT_STATUS, "one of", outs=outs)
+    return Wanted(case.out, line, FAULT_STATUS, "one", outs=outs)
 
 
 def wanted_of_audit(case: Case, fault: Fault, record):
@@ -285,7 +285,7 @@ def wanted_of_audit(case: Case, fault: Fault, record):
             first = files[at][:-1] if at == number - 1 and not is_unopened else []
             told[at] = [it + path + b": " + line for it in itertools.accumulate(first, initial=b"")]
     outs = tuple(map(b"".join, itertools.product(*told)))
-    return Wanted(outs[0], b"", FAULT_STATUS, "one of", outs=outs)
+    return Wanted(outs[0], b"", FAULT_STATUS, "one", outs=outs)
 
 
 def records_of(case: Case):
@@ -379,7 +379,7 @@ def wrong_texts(answer: Answer, wanted: Wanted):
     """What is wrong with what a run answered, if anything."""
     if answer.status != wanted.status:
         return f"its status is {answer.status}"
-    if wanted.out_rule == "one of":
+    if wanted.out_rule == "one":
         is_wanted = answer.out in wanted.outs
     else:
         is_wanted = fits(answer.out, wanted.out, wanted.out_rule, wanted.most_paragraphs)
