@@ -202,6 +202,13 @@ statuses_of_files : (n : ℕ) (summary : Summary)
     × (HasStatus (cut (bad 1 ∷ [])) n ≡ ⊥)
 statuses_of_files n summary = (refl, refl, refl, refl, refl)
 
+-- the status of a file that was read: by its refusals, or 3 after a fault
+statuses_of_ends : (summary : Summary)
+    → (refusals_status [] ≡ 0) × (refusals_status (bad 1 ∷ bad 5 ∷ []) ≡ 2)
+    × (end_status [] (Ok summary) ≡ 0) × (end_status (bad 1 ∷ []) (Ok summary) ≡ 2)
+    × (end_status [] (Err Read) ≡ 3) × (end_status (bad 1 ∷ []) (Err Read) ≡ 3)
+statuses_of_ends summary = (refl, refl, refl, refl, refl, refl)
+
 -- a file that can't be opened is reported with the same reason, and no file that was opened is
 unopened_is_found : {R : Type 0} (left : R → Option (List ℕ)) (failures : R → ℕ) (doc : Doc)
     (reader after : R)
