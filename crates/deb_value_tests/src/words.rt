@@ -16,7 +16,7 @@ fn words(alloc: Global, line: &str) -> Result<Vec<String>, AllocError> {
 }
 
 /// A command line, and the task or the fault that it has.
-const LINES: [(&str, &str); 29] = [
+const LINES: [(&str, &str); 33] = [
     (
         "check",
         "Ok(Run(Call { job: Check(Packages), first: None, second: None }))",
@@ -24,6 +24,10 @@ const LINES: [(&str, &str); 29] = [
     (
         "check --kind=binary x",
         "Ok(Run(Call { job: Check(Binary), first: Some(\"x\"), second: None }))",
+    ),
+    (
+        "check --all -k any x",
+        "Ok(Run(Call { job: CheckAll(Any), first: Some(\"x\"), second: None }))",
     ),
     (
         "normalise --kind source x",
@@ -97,23 +101,36 @@ const LINES: [(&str, &str); 29] = [
         "explain --kind source x",
         "Ok(Explain(File { doc: Source, path: Some(\"x\") }))",
     ),
+    (
+        "explain --all -",
+        "Ok(Explain(All { doc: Packages, path: Some(\"-\") }))",
+    ),
     ("explain --code 18", "Ok(Explain(Rule(BadVersion)))"),
     (
         "audit y --kind any - x",
-        "Ok(Audit(Audit { doc: Any, files: Paths([\"y\", \"-\", \"x\"]), end: Newline }))",
+        "Ok(Audit(Audit { doc: Any, files: Paths([\"y\", \"-\", \"x\"]), extent: First, \
+        end: Newline }))",
     ),
     (
         "audit --files0-from -",
-        "Ok(Audit(Audit { doc: Packages, files: Listed(\"-\"), end: Newline }))",
+        "Ok(Audit(Audit { doc: Packages, files: Listed(\"-\"), extent: First, end: Newline }))",
     ),
     (
         "audit -0 x",
-        "Ok(Audit(Audit { doc: Packages, files: Paths([\"x\"]), end: Nul }))",
+        "Ok(Audit(Audit { doc: Packages, files: Paths([\"x\"]), extent: First, end: Nul }))",
+    ),
+    (
+        "audit --all x",
+        "Ok(Audit(Audit { doc: Packages, files: Paths([\"x\"]), extent: All, end: Newline }))",
     ),
     ("explain --relation aa|", "Ok(Explain(Relation(\"aa|\")))"),
     ("explain --version-text=1-", "Ok(Explain(Version(\"1-\")))"),
     (
         "explain --relation aa --code 1",
+        "Err(Usage(\"usage: explain takes one file, code, relation or version\"))",
+    ),
+    (
+        "explain --all --code 1",
         "Err(Usage(\"usage: explain takes one file, code, relation or version\"))",
     ),
     ("explain --code 24", "Err(Usage(\"usage: unknown code\"))"),

@@ -27,6 +27,8 @@ use Rattle.debctl_args.specs.declared.jobs.DiffDetail.TheVariants.{Fields, Value
 use Rattle.debctl_args.specs.declared.jobs.DiffKind.{DiffKind}
 use Rattle.debctl_args.specs.declared.jobs.DiffKind.TheVariants as diffed
 use Rattle.debctl_args.specs.declared.jobs.Explain.TheVariants as explain
+use Rattle.debctl_args.specs.declared.jobs.Extent.{Extent}
+use Rattle.debctl_args.specs.declared.jobs.Extent.TheVariants.{First, All}
 use Rattle.debctl_args.specs.declared.jobs.Files.{Files}
 use Rattle.debctl_args.specs.declared.jobs.Files.TheVariants as files
 use Rattle.debctl_args.specs.declared.jobs.Job.{Job}
@@ -91,6 +93,11 @@ abbrev pub flag_asked : Option Text → Bool
 flag_asked None = false
 flag_asked (Some word) = bytes_eq word (codes "true")
 
+-- which refusals of a file are reported: every one if that is asked for
+abbrev pub extent_asked : Bool → Extent
+extent_asked false = First
+extent_asked true = All
+
 -- what ends each record of an audit: a byte 0 where that is asked for
 abbrev pub end_asked : Bool → LineEnd
 end_asked false = Newline
@@ -142,6 +149,7 @@ pub data Audited : Type 0 where
 -- a task, with the bytes of its words
 pub data Wanted : Type 0 where
   checks : Doc → Wanted
+  checks_all : Doc → Wanted
   normalises : Doc → Wanted
   compares_files : Doc → Wanted
   finds_changes : DiffKind → DiffDetail → Wanted
@@ -153,10 +161,11 @@ pub data Wanted : Type 0 where
   queries_from : Text → List Text → Detail → Wanted
   finds_unmet : Text → List Text → Dependents → Wanted
   explains : Doc → Wanted
+  explains_all : Doc → Wanted
   explains_rule : Code → Wanted
   explains_relation : Text → Wanted
   explains_version : Text → Wanted
-  audits : Doc → Audited → LineEnd → Wanted
+  audits : Doc → Audited → Extent → LineEnd → Wanted
 
 -- what is wanted, and the paths of the files, two at most, that it reads if it is no audit
 pub record Request : Type 0 where
@@ -166,6 +175,7 @@ pub record Request : Type 0 where
 
 abbrev pub wanted_of : Job → Wanted
 wanted_of (job.Check kind) = checks kind
+wanted_of (job.CheckAll kind) = checks_all kind
 wanted_of (job.Normalise kind) = normalises kind
 wanted_of (job.Same kind) = compares_files kind
 wanted_of (job.Diff kind detail) = finds_changes kind detail
@@ -194,6 +204,8 @@ request_of (task.Run call) =
     }
 request_of (task.Explain (explain.File kind path)) =
     record { wanted = explains kind; first = option_map string_bytes path; second = None }
+request_of (task.Explain (explain.All kind path)) =
+    record { wanted = explains_all kind; first = option_map string_bytes path; second = None }
 request_of (task.Explain (explain.Rule code)) =
     record { wanted = explains_rule code; first = None; second = None }
 request_of (task.Explain (explain.Relation text)) =
@@ -202,7 +214,7 @@ request_of (task.Explain (explain.Version text)) =
     record { wanted = explains_version (string_bytes text); first = None; second = None }
 request_of (task.Audit audit) =
     record {
-      wanted = audits audit.doc (audited_of audit.files) audit.end;
+      wanted = audits audit.doc (audited_of audit.files) audit.extent audit.end;
       first = None;
       second = None;
     }
@@ -231,12 +243,26 @@ pub data Asked : Type 0 where
 abbrev pub word_in : Text → List Row → Text
 word_in id rows = unwrap_or (first_of id rows) []
 
--- `check`, `normalise`, and `explain` without a code
+-- `check`, `normalise`, and `explain` of a file
 abbrev pub document_asked : (Doc → Wanted) → List Row → Asked
 document_asked wanted rows = option_map_or
     (λ kind. asks (record
     { wanted = wanted kind; first = first_of (codes "path") rows; second = None }))
     (kind_asked (first_of (codes "kind") rows)) unknown_kind
+
+-- what `check` wants of a file of some kind, and what `explain` does
+abbrev pub checks_to : Extent → Doc → Wanted
+checks_to First = checks
+checks_to All = checks_all
+
+abbrev pub explains_to : Extent → Doc → Wanted
+explains_to First = explains
+explains_to All = explains_all
+
+-- `check`
+abbrev pub check_asked : List Row → Asked
+check_asked rows =
+    document_asked (checks_to (extent_asked (flag_asked (first_of (codes "all") rows)))) rows
 
 -- the path stands for standard input
 abbrev pub is_standard_input : Text → Bool
@@ -279,9 +305,11 @@ abbrev pub diff_asked : List Row → Asked
 diff_asked rows =
     option_map_or (diff_of_kind rows) (kind_asked (first_of (codes "kind") rows)) unknown_kind
 
--- a kind or a path is given: the words of `explain` are about a file
+-- a kind, `--all` or a path is given: the words of `explain` are about a file
 abbrev pub names_file : List Row → Bool
-names_file rows = is_some (first_of (codes "kind") rows) || is_some (first_of (codes "path") rows)
+names_file rows =
+    is_some (first_of (codes "kind") rows) || flag_asked (first_of (codes "all") rows)
+    || is_some (first_of (codes "path") rows)
 
 -- `explain --version-text`, with a text and nothing else
 abbrev pub version_asked : List Row → Text → Asked
@@ -304,12 +332,17 @@ rule_asked rows word =
     (λ code. asks (record { wanted = explains_rule code; first = None; second = None }))
     (code_named word) unknown_code
 
+-- `explain` of a file
+abbrev pub file_explained : List Row → Asked
+file_explained rows =
+    document_asked (explains_to (extent_asked (flag_asked (first_of (codes "all") rows)))) rows
+
 -- `explain`, of a relation, of a version or of a file
 abbrev pub text_asked : List Row → Asked
 text_asked rows =
     option_map_or (relation_asked rows) (first_of (codes "relation") rows)
     (option_map_or (version_asked rows) (first_of (codes "version-text") rows)
-    (document_asked explains rows))
+    (file_explained rows))
 
 -- `explain`, of a code or of what else it tells of
 abbrev pub explain_asked : List Row → Asked
@@ -328,17 +361,18 @@ abbrev pub has_standard_input_twice : Audited → Bool
 has_standard_input_twice (paths given) = nat_lt 1 (count_by is_standard_input given)
 has_standard_input_twice (listed path) = false
 
--- an audit of files of this kind, with this end of each record
-abbrev pub files_asked : LineEnd → Option Audited → Doc → Asked
-files_asked end None kind = paths_or_list
-files_asked end (Some audited) kind =
+-- an audit of files of this kind, with these of their refusals and this end of each record
+abbrev pub files_asked : Extent → LineEnd → Option Audited → Doc → Asked
+files_asked extent end None kind = paths_or_list
+files_asked extent end (Some audited) kind =
     if has_standard_input_twice audited then standard_input_twice
-    else asks (record { wanted = audits kind audited end; first = None; second = None })
+    else asks (record { wanted = audits kind audited extent end; first = None; second = None })
 
 -- `audit`
 abbrev pub audit_asked : List Row → Asked
 audit_asked rows = option_map_or
-    (files_asked (end_asked (flag_asked (first_of (codes "null") rows)))
+    (files_asked (extent_asked (flag_asked (first_of (codes "all") rows)))
+    (end_asked (flag_asked (first_of (codes "null") rows)))
     (audited_by (all_of (codes "path") rows) (first_of (codes "files0-from") rows)))
     (kind_asked (first_of (codes "kind") rows)) unknown_kind
 
@@ -471,7 +505,7 @@ help_asked (Some word) = if is_command word then asks_help else unknown_command
 -- what a command asks with its words
 abbrev pub asked_by : Text → List Row → Asked
 asked_by name rows =
-    if bytes_eq name check_word then document_asked checks rows
+    if bytes_eq name check_word then check_asked rows
     else if bytes_eq name explain_word then explain_asked rows
     else if bytes_eq name audit_word then audit_asked rows
     else if bytes_eq name normalise_word then document_asked normalises rows

@@ -6,7 +6,7 @@ use Rattle.clap.specs.Faults.{fault_of}
 use Rattle.clap.specs.Takes.{takes}
 use Rattle.clap.specs.Walk.{Text}
 use Rattle.clap.specs.declared.error.kind.ErrorKind.TheVariants as kind
-use Rattle.debctl_args.specs.Asked.{asked_of, asks, asks_help, audits, code_named, explain_takes_one, explains, explains_relation, explains_version, listed, paths, paths_or_list, explains_rule, unknown_code, canonicalises, checks, comma_pieces, compares, finds_changes, finds_unmet, keys, kind_asked, kind_of_path, no_names, no_recommends, no_relations, normalises, profiles_asked, queries, queries_from, relation_or_file, sorts, compares_files, unknown_command, unknown_kind, unknown_operator, standard_input_twice, operator_named, Asked}
+use Rattle.debctl_args.specs.Asked.{asked_of, asks, asks_help, audits, code_named, explain_takes_one, explains, explains_all, explains_relation, explains_version, listed, paths, paths_or_list, explains_rule, unknown_code, canonicalises, checks, checks_all, comma_pieces, compares, finds_changes, finds_unmet, keys, kind_asked, kind_of_path, no_names, no_recommends, no_relations, normalises, profiles_asked, queries, queries_from, relation_or_file, sorts, compares_files, unknown_command, unknown_kind, unknown_operator, standard_input_twice, operator_named, Asked}
 use Rattle.debctl_args.specs.Commands.{debctl_app}
 use Rattle.deb_base.specs.declared.code.Code.TheVariants as code
 use Rattle.deb_base.specs.declared.doc.Doc.TheVariants.{Any, Binary, Packages, Source, Sources}
@@ -18,6 +18,7 @@ use Rattle.debctl_args.specs.declared.jobs.DiffDetail.{DiffDetail}
 use Rattle.debctl_args.specs.declared.jobs.DiffDetail.TheVariants.{Fields, Values}
 use Rattle.debctl_args.specs.declared.jobs.DiffKind.{DiffKind}
 use Rattle.debctl_args.specs.declared.jobs.DiffKind.TheVariants as diffed
+use Rattle.debctl_args.specs.declared.jobs.Extent.TheVariants.{First, All}
 use Rattle.debctl_args.specs.declared.jobs.LineEnd.TheVariants.{Newline, Nul}
 use Rattle.debctl_args.specs.declared.jobs.Strength.TheVariants.{Depends, Recommends}
 
@@ -49,6 +50,22 @@ any_control_data : asked_of
     }))
 unfolding clap_on_literals kind_asked
 any_control_data = refl
+
+check_all : asked_of
+    (line (codes "check" ∷ codes "--all" ∷ codes "--kind" ∷ codes "any" ∷ codes "x" ∷ []))
+    ≡ Some (asks (record { wanted = checks_all Any; first = Some (codes "x"); second = None }))
+unfolding clap_on_literals kind_asked
+check_all = refl
+
+-- without a path, in any order, and with an unknown kind
+ways_to_check_all : map (λ words. asked_of (line (codes "check" ∷ words)))
+    ((codes "--all" ∷ []) ∷ (codes "-ksource" ∷ codes "-" ∷ codes "--all" ∷ [])
+    ∷ (codes "--all" ∷ codes "--kind=foo" ∷ []) ∷ [])
+    ≡ Some (asks (record { wanted = checks_all Packages; first = None; second = None }))
+    ∷ Some (asks (record { wanted = checks_all Source; first = Some (codes "-"); second = None }))
+    ∷ Some unknown_kind ∷ []
+unfolding clap_on_literals kind_asked
+ways_to_check_all = refl
 
 unknown_kind_word : asked_of (line (codes "check" ∷ codes "--kind" ∷ codes "foo" ∷ []))
     ≡ Some unknown_kind
@@ -421,6 +438,19 @@ explain_a_file : asked_of
 unfolding clap_on_literals kind_asked
 explain_a_file = refl
 
+explain_all : map (λ words. asked_of (line (codes "explain" ∷ words)))
+    ((codes "--all" ∷ []) ∷ (codes "-k" ∷ codes "sources" ∷ codes "--all" ∷ codes "x" ∷ [])
+    ∷ (codes "--all" ∷ codes "--kind=foo" ∷ []) ∷ [])
+    ≡ Some (asks (record { wanted = explains_all Packages; first = None; second = None }))
+    ∷ Some (asks (record {
+      wanted = explains_all Sources;
+      first = Some (codes "x");
+      second = None;
+    }))
+    ∷ Some unknown_kind ∷ []
+unfolding clap_on_literals kind_asked
+explain_all = refl
+
 explain_of_no_kind : asked_of (line (codes "explain" ∷ codes "--kind" ∷ codes "foo" ∷ []))
     ≡ Some unknown_kind
 unfolding clap_on_literals kind_asked
@@ -506,13 +536,20 @@ version_beside_a_code : asked_of
 unfolding clap_on_literals
 version_beside_a_code = refl
 
+-- all errors are those of a file
+all_beside_a_text : map (λ words. asked_of (line (codes "explain" ∷ codes "--all" ∷ words)))
+    ((codes "--code=1" ∷ []) ∷ (codes "--relation=aa" ∷ []) ∷ (codes "--version-text=1" ∷ []) ∷ [])
+    ≡ Some explain_takes_one ∷ Some explain_takes_one ∷ Some explain_takes_one ∷ []
+unfolding clap_on_literals
+all_beside_a_text = refl
+
 -- ---- `audit`
 
 -- the paths that an audit of packages is asked of
 abbrev audits_paths : List Text → Option Asked
 audits_paths given =
     Some (asks (record {
-      wanted = audits Packages (paths given) Newline;
+      wanted = audits Packages (paths given) First Newline;
       first = None;
       second = None;
     }))
@@ -531,7 +568,7 @@ audit_in_order = refl
 kind_between_paths : asked_of
     (line (codes "audit" ∷ codes "x" ∷ codes "--kind" ∷ codes "any" ∷ codes "y" ∷ []))
     ≡ Some (asks (record {
-      wanted = audits Any (paths (codes "x" ∷ codes "y" ∷ [])) Newline;
+      wanted = audits Any (paths (codes "x" ∷ codes "y" ∷ [])) First Newline;
       first = None;
       second = None;
     }))
@@ -548,7 +585,7 @@ path_with_hyphen = refl
 audit_of_a_list : asked_of
     (line (codes "audit" ∷ codes "-ksource" ∷ codes "--files0-from" ∷ codes "-" ∷ []))
     ≡ Some (asks (record {
-      wanted = audits Source (listed (codes "-")) Newline;
+      wanted = audits Source (listed (codes "-")) First Newline;
       first = None;
       second = None;
     }))
@@ -558,7 +595,7 @@ audit_of_a_list = refl
 audit_with_bytes_0 : asked_of
     (line (codes "audit" ∷ codes "x" ∷ codes "--null" ∷ codes "y" ∷ []))
     ≡ Some (asks (record {
-      wanted = audits Packages (paths (codes "x" ∷ codes "y" ∷ [])) Nul;
+      wanted = audits Packages (paths (codes "x" ∷ codes "y" ∷ [])) First Nul;
       first = None;
       second = None;
     }))
@@ -568,12 +605,32 @@ audit_with_bytes_0 = refl
 short_null : asked_of
     (line (codes "audit" ∷ codes "-0kany" ∷ codes "--files0-from" ∷ codes "x" ∷ []))
     ≡ Some (asks (record {
-      wanted = audits Any (listed (codes "x")) Nul;
+      wanted = audits Any (listed (codes "x")) First Nul;
       first = None;
       second = None;
     }))
 unfolding clap_on_literals kind_asked
 short_null = refl
+
+audit_all : asked_of
+    (line (codes "audit" ∷ codes "x" ∷ codes "--all" ∷ codes "y" ∷ []))
+    ≡ Some (asks (record {
+      wanted = audits Packages (paths (codes "x" ∷ codes "y" ∷ [])) All Newline;
+      first = None;
+      second = None;
+    }))
+unfolding clap_on_literals kind_asked
+audit_all = refl
+
+audit_all_of_a_list : asked_of
+    (line (codes "audit" ∷ codes "--all" ∷ codes "-0ksources" ∷ codes "--files0-from=x" ∷ []))
+    ≡ Some (asks (record {
+      wanted = audits Sources (listed (codes "x")) All Nul;
+      first = None;
+      second = None;
+    }))
+unfolding clap_on_literals kind_asked
+audit_all_of_a_list = refl
 
 audit_of_nothing : asked_of (line (codes "audit" ∷ [])) ≡ Some paths_or_list
 unfolding clap_on_literals kind_asked
@@ -657,6 +714,21 @@ values_twice : fault_of debctl_app
     ≡ kind.ArgumentConflict ∷ []
 unfolding clap_on_literals
 values_twice = refl
+
+all_twice : map (λ word. fault_of debctl_app (line (word ∷ codes "--all" ∷ codes "--all" ∷ [])))
+    (codes "check" ∷ codes "explain" ∷ codes "audit" ∷ [])
+    ≡ (kind.ArgumentConflict ∷ []) ∷ (kind.ArgumentConflict ∷ []) ∷ (kind.ArgumentConflict ∷ [])
+    ∷ []
+unfolding clap_on_literals
+all_twice = refl
+
+-- other commands have no `--all`, and it has no short form
+no_such_all : map (fault_of debctl_app)
+    (line (codes "normalise" ∷ codes "--all" ∷ []) ∷ line (codes "sort" ∷ codes "--all" ∷ [])
+    ∷ line (codes "check" ∷ codes "-a" ∷ []) ∷ [])
+    ≡ (kind.UnknownArgument ∷ []) ∷ (kind.UnknownArgument ∷ []) ∷ (kind.UnknownArgument ∷ []) ∷ []
+unfolding clap_on_literals
+no_such_all = refl
 
 reverse_twice : fault_of debctl_app
     (line (codes "sort" ∷ codes "--reverse" ∷ codes "--reverse" ∷ []))

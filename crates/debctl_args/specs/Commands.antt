@@ -14,6 +14,10 @@ kind_rule =
     record (new_rule (codes "kind"))
     { short = Some 107; long = Some (codes "kind"); value_names = 1 }
 
+-- `--all`, which takes no value
+abbrev pub all_rule : Rule
+all_rule = record (new_rule (codes "all")) { long = Some (codes "all"); action = Some SetTrue }
+
 -- `--arch A`, which has to be there
 abbrev pub arch_rule : Rule
 arch_rule =
@@ -138,22 +142,30 @@ unmet_word = codes "unmet"
 abbrev pub help_word : Text
 help_word = codes "help"
 
--- `check` and `normalise`: `[--kind K] [PATH]`
-abbrev pub document_app : Text → App
-document_app name = with_rule (with_rule (new_app name) kind_rule) (optional_rule (codes "path"))
+-- `check [--kind K] [--all] [PATH]`
+abbrev pub check_app : App
+check_app =
+    with_rule (with_rule (with_rule (new_app check_word) kind_rule) all_rule)
+    (optional_rule (codes "path"))
 
--- `explain [--kind K] [PATH]`, `explain --code N`, `explain --relation TEXT` and
+-- `normalise [--kind K] [PATH]`
+abbrev pub normalise_app : App
+normalise_app =
+    with_rule (with_rule (new_app normalise_word) kind_rule) (optional_rule (codes "path"))
+
+-- `explain [--kind K] [--all] [PATH]`, `explain --code N`, `explain --relation TEXT` and
 -- `explain --version-text TEXT`
 abbrev pub explain_app : App
 explain_app =
-    with_rule (with_rule (with_rule (with_rule (with_rule (new_app explain_word) kind_rule)
-    code_rule) relation_rule) version_rule) (optional_rule (codes "path"))
+    with_rule (with_rule (with_rule (with_rule (with_rule (with_rule (new_app explain_word)
+    kind_rule) all_rule) code_rule) relation_rule) version_rule) (optional_rule (codes "path"))
 
--- `audit [--kind K] [--null] PATH ..` and `audit [--kind K] [--null] --files0-from PATH`
+-- `audit [--kind K] [--all] [--null] PATH ..` and
+-- `audit [--kind K] [--all] [--null] --files0-from PATH`
 abbrev pub audit_app : App
 audit_app =
-    with_rule (with_rule (with_rule (with_rule (new_app audit_word) kind_rule) list_rule)
-    null_rule) paths_rule
+    with_rule (with_rule (with_rule (with_rule (with_rule (new_app audit_word) kind_rule) all_rule)
+    list_rule) null_rule) paths_rule
 
 -- `same [--kind K] PATH PATH`
 abbrev pub same_app : App
@@ -217,9 +229,8 @@ debctl_app =
     with_subcommand (with_subcommand (with_subcommand (with_subcommand (with_subcommand
     (with_subcommand (with_subcommand (with_subcommand (with_subcommand (with_subcommand
     (with_subcommand (with_subcommand (with_subcommand bare_app
-    (document_app check_word).top) explain_app.top) audit_app.top)
-    (document_app normalise_word).top) same_app.top) diff_app.top) compare_app.top)
-    canon_version_app.top)
+    check_app.top) explain_app.top) audit_app.top) normalise_app.top) same_app.top) diff_app.top)
+    compare_app.top) canon_version_app.top)
     version_key_app.top) sort_app.top) query_app.top) unmet_app.top) help_app.top
 
 -- the command is what `clap` reads so, and none of its arguments is global

@@ -7,13 +7,14 @@ use Rattle.clap.specs.declared.error.kind.ErrorKind.TheVariants as kind
 use Rattle.clap.specs.Walk.{Text}
 use Rattle.deb_base.specs.declared.code.Code.TheVariants as code
 use Rattle.deb_base.specs.declared.doc.Doc.{Doc}
-use Rattle.debctl_args.specs.Asked.{asks, asks_help, audited_of, audits, canonicalises, checks, compares, explain_takes_one, explains, explains_relation, explains_version, finds_changes, finds_unmet, has_mistake, has_request, is_request_kind, keys, kind_of_path, listed, no_names, no_recommends, no_relations, normalises, paths, paths_or_list, queries, queries_from, relation_or_file, request_of, sorts, standard_input_twice, explains_rule, compares_files, unknown_code, unknown_command, unknown_kind, unknown_operator, wanted_of, IsHelp, IsUsage, MeansKind, Request, FitsKind, UsesText}
+use Rattle.debctl_args.specs.Asked.{asks, asks_help, audited_of, audits, canonicalises, checks, checks_all, compares, explain_takes_one, explains, explains_all, explains_relation, explains_version, finds_changes, finds_unmet, has_mistake, has_request, is_request_kind, keys, kind_of_path, listed, no_names, no_recommends, no_relations, normalises, paths, paths_or_list, queries, queries_from, relation_or_file, request_of, sorts, standard_input_twice, explains_rule, compares_files, unknown_code, unknown_command, unknown_kind, unknown_operator, wanted_of, IsHelp, IsUsage, MeansKind, Request, FitsKind, UsesText}
 use Rattle.debctl_args.specs.declared.jobs.Cmp.{Cmp}
 use Rattle.debctl_args.specs.declared.jobs.Dependents.{Dependents}
 use Rattle.debctl_args.specs.declared.jobs.Detail.{Detail}
 use Rattle.debctl_args.specs.declared.jobs.DiffDetail.{DiffDetail}
 use Rattle.debctl_args.specs.declared.jobs.DiffKind.{DiffKind}
 use Rattle.debctl_args.specs.declared.jobs.Explain.TheVariants as explain
+use Rattle.debctl_args.specs.declared.jobs.Extent.{Extent}
 use Rattle.debctl_args.specs.declared.jobs.Files.{Files}
 use Rattle.debctl_args.specs.declared.jobs.Files.TheVariants as files
 use Rattle.debctl_args.specs.declared.jobs.Job.{Job}
@@ -26,9 +27,10 @@ use Rattle.debctl_args.specs.declared.arguments.UsageFault.TheVariants.{Usage, H
 -- ---- jobs
 
 jobs_on_files : (doc : Doc) → (wanted_of (job.Check doc) ≡ checks doc)
+    × (wanted_of (job.CheckAll doc) ≡ checks_all doc)
     × (wanted_of (job.Normalise doc) ≡ normalises doc)
     × (wanted_of (job.Same doc) ≡ compares_files doc)
-jobs_on_files doc = (refl, refl, refl)
+jobs_on_files doc = (refl, refl, refl, refl)
 
 changes_of_files : (kind : DiffKind) (detail : DiffDetail)
     → wanted_of (job.Diff kind detail) ≡ finds_changes kind detail
@@ -124,6 +126,19 @@ explanations_of_files : (doc : Doc) (path : String Global)
     })
 explanations_of_files doc path = (refl, refl)
 
+explanations_of_all : (doc : Doc) (path : String Global)
+    → (request_of (task.Explain (explain.All doc (Some path))) ≡ record {
+      wanted = explains_all doc;
+      first = Some (string_bytes path);
+      second = None;
+    })
+    × (request_of (task.Explain (explain.All doc None)) ≡ record {
+      wanted = explains_all doc;
+      first = None;
+      second = None;
+    })
+explanations_of_all doc path = (refl, refl)
+
 explanations_of_texts : (text : String Global)
     → (request_of (task.Explain (explain.Rule code.BadVersion)) ≡ record {
       wanted = explains_rule code.BadVersion;
@@ -142,13 +157,14 @@ explanations_of_texts : (text : String Global)
     })
 explanations_of_texts text = (refl, refl, refl)
 
-audits_of_files : (doc : Doc) (given : Files) (end : LineEnd)
-    → request_of (task.Audit (record { doc = doc; files = given; end = end })) ≡ record {
-      wanted = audits doc (audited_of given) end;
+audits_of_files : (doc : Doc) (given : Files) (extent : Extent) (end : LineEnd)
+    → request_of (task.Audit (record { doc = doc; files = given; extent = extent; end = end }))
+    ≡ record {
+      wanted = audits doc (audited_of given) extent end;
       first = None;
       second = None;
     }
-audits_of_files doc given end = refl
+audits_of_files doc given extent end = refl
 
 -- ---- mistakes
 

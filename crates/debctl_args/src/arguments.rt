@@ -2,7 +2,7 @@
 
 ghost use Rattle.std.specs.Prelude.{◌≡◌, [], Some, None, map, true, string_bytes, IfOk, IfErr, option_copied};
 ghost use Rattle.clap.specs.Words.{fault_of, found_of, has_subcommand, kind_of, rows_of, subcommand_rows_of, takes};
-ghost use Rattle.debctl_args.specs.Asked.{asked_by, asked_in, asked_of, asks, audit_asked, canon_version_asked, checks, compare_asked, diff_asked, diff_of_files, document_asked, explain_asked, help_asked, normalises, query_asked, query_of_file, query_of_word, relation_asked, request_of, rule_asked, same_asked, sort_asked, text_asked, unmet_asked, unmet_of_files, unmet_of_path, unmet_of_sources, version_asked, version_key_asked, word_in, Answers, AnswersError, AnswersMet, IsHelp, MeansError, Request, FitsKind, UsesText};
+ghost use Rattle.debctl_args.specs.Asked.{asked_by, asked_in, asked_of, asks, audit_asked, canon_version_asked, check_asked, compare_asked, diff_asked, diff_of_files, document_asked, explain_asked, file_explained, help_asked, normalises, query_asked, query_of_file, query_of_word, relation_asked, request_of, rule_asked, same_asked, sort_asked, text_asked, unmet_asked, unmet_of_files, unmet_of_path, unmet_of_sources, version_asked, version_key_asked, word_in, Answers, AnswersError, AnswersMet, IsHelp, MeansError, Request, FitsKind, UsesText};
 ghost use Rattle.debctl_args.specs.Commands.{debctl_app};
 
 use crate::code_argument::code_named;
@@ -12,11 +12,11 @@ use crate::commands::{
     same_command, sort_command, unmet_command, version_key_command,
 };
 use crate::found_arguments::{
-    all_given, detail_in, diff_detail_in, end_in, file_in, flag_in, given, index_in,
+    all_given, detail_in, diff_detail_in, end_in, extent_in, file_in, flag_in, given, index_in,
     is_standard_input_twice, kind_in, names_file, owned_texts, packages_in, path_in, profiles_in,
     strength_in, versions_in, word_in,
 };
-use crate::jobs::{Audit, Call, Dependents, DiffKind, Explain, Files, Job, Task};
+use crate::jobs::{Audit, Call, Dependents, DiffKind, Explain, Extent, Files, Job, Task};
 use crate::operator_argument::operator_named;
 use clap::error::{Error, ErrorKind};
 use clap::{ArgMatches, Command};
@@ -70,14 +70,14 @@ impl From<AllocError> for UsageFault {
 
 /// Returns the task that the arguments ask for; the first of `words` is the program's name.
 ///
-/// `check [--kind K] [PATH]`, `explain [--kind K] [PATH]`, `explain --code N`, `explain --relation
-/// TEXT`, `explain --version-text TEXT`, `normalise [--kind K] [PATH]`, `same [--kind K] PATH
-/// PATH`, `diff [--kind K] [--values] OLD NEW`, `compare V OP V`, `canon-version V`, `version-key V
-/// ..`, `sort [--reverse] [PATH]`, `query --arch A [--profiles P,P] [--why] RELATION [PATH]`,
-/// `query --arch A [--profiles P,P] [--why] --relation-from PATH [PATH]`, `unmet --arch A
-/// [--profiles P,P] [--kind K] [--recommends] INDEX [PATH]`, `audit [--kind K] [--null] PATH ..`
-/// and `audit [--kind K] [--null] --files0-from PATH` ask for a task. `help [COMMAND]`, `--help`
-/// and `--version` ask for help.
+/// `check [--kind K] [--all] [PATH]`, `explain [--kind K] [--all] [PATH]`, `explain --code N`,
+/// `explain --relation TEXT`, `explain --version-text TEXT`, `normalise [--kind K] [PATH]`, `same
+/// [--kind K] PATH PATH`, `diff [--kind K] [--values] OLD NEW`, `compare V OP V`, `canon-version
+/// V`, `version-key V ..`, `sort [--reverse] [PATH]`, `query --arch A [--profiles P,P] [--why]
+/// RELATION [PATH]`, `query --arch A [--profiles P,P] [--why] --relation-from PATH [PATH]`, `unmet
+/// --arch A [--profiles P,P] [--kind K] [--recommends] INDEX [PATH]`, `audit [--kind K] [--all]
+/// [--null] PATH ..` and `audit [--kind K] [--all] [--null] --files0-from PATH` ask for a task.
+/// `help [COMMAND]`, `--help` and `--version` ask for help.
 ///
 /// The profiles of `query` and `unmet` are the texts between the commas of P,P; without the option
 /// there are none. A version, an architecture, a profile or a relation may be any text here: the
@@ -93,12 +93,13 @@ impl From<AllocError> for UsageFault {
 ///   of a kind other than `any`, for an audit with two paths `-`, for a query whose relation and
 ///   index are both standard input, and for an `unmet` that reads standard input twice; `usage:
 ///   explain takes one file, code, relation or version` for an `explain` with two of these, where a
-///   kind or a path names a file; `usage: audit takes paths, or --files0-from` for an audit with
-///   neither paths nor a list, or with both; `usage: query takes a relation, or --relation-from`
-///   for a query with neither or with both; `usage: diff takes no --kind any`; `usage: unmet takes
-///   no --kind any`; `usage: unmet takes --recommends only for binary packages` for the kinds
-///   `sources` and `source` with `--recommends`; `usage: unmet takes another --kind only with a
-///   second path` for a kind other than `packages` without PATH; otherwise that of `clap`.
+///   kind, `--all` or a path names a file; `usage: audit takes paths, or --files0-from` for an
+///   audit with neither paths nor a list, or with both; `usage: query takes a relation, or
+///   --relation-from` for a query with neither or with both; `usage: diff takes no --kind any`;
+///   `usage: unmet takes no --kind any`; `usage: unmet takes --recommends only for binary packages`
+///   for the kinds `sources` and `source` with `--recommends`; `usage: unmet takes another --kind
+///   only with a second path` for a kind other than `packages` without PATH; otherwise that of
+///   `clap`.
 /// - `UsageFault::Help`: the arguments ask for help or for the version.
 /// - `UsageFault::Memory`: a growth of memory was refused.
 pub fn job_of(alloc: Global, words: &[String]) -> Result<Task, UsageFault>
@@ -182,11 +183,14 @@ fn task_by(alloc: Global, name: &str, found: &ArgMatches<'_>) -> Result<Task, Us
 }
 
 fn check_task(alloc: Global, found: &ArgMatches<'_>) -> Result<Task, UsageFault>
-    ensures { Answers (document_asked checks (rows_of (found_of found.now))) result }
+    ensures { Answers (check_asked (rows_of (found_of found.now))) result }
 {
     let kind = kind_in(alloc, found)?;
     Ok(Task::Run(Call {
-        job: Job::Check(kind),
+        job: match extent_in(found) {
+            Extent::First => Job::Check(kind),
+            Extent::All => Job::CheckAll(kind),
+        },
         first: path_in(alloc, found)?,
         second: None,
     }))
@@ -211,9 +215,19 @@ fn text_task(alloc: Global, found: &ArgMatches<'_>) -> Result<Task, UsageFault>
     if let Some(text) = given(found, "version-text") {
         return version_task(alloc, found, text);
     }
+    file_task(alloc, found)
+}
+
+/// `explain` of a file.
+fn file_task(alloc: Global, found: &ArgMatches<'_>) -> Result<Task, UsageFault>
+    ensures { Answers (file_explained (rows_of (found_of found.now))) result }
+{
     let doc = kind_in(alloc, found)?;
     let path = path_in(alloc, found)?;
-    Ok(Task::Explain(Explain::File { doc, path }))
+    Ok(Task::Explain(match extent_in(found) {
+        Extent::First => Explain::File { doc, path },
+        Extent::All => Explain::All { doc, path },
+    }))
 }
 
 /// `explain --relation`, with the relation.
@@ -268,6 +282,7 @@ fn audit_task(alloc: Global, found: &ArgMatches<'_>) -> Result<Task, UsageFault>
     Ok(Task::Audit(Audit {
         doc,
         files,
+        extent: extent_in(found),
         end: end_in(found),
     }))
 }

@@ -3,13 +3,14 @@
 ghost use Rattle.std.specs.Prelude.{◌≡◌, IfOk, false};
 ghost use Rattle.clap.specs.Simple.{App, with_subcommand};
 ghost use Rattle.clap.specs.Words.{rule_of};
-ghost use Rattle.debctl_args.specs.Commands.{arch_rule, audit_app, bare_app, code_rule, explain_app, list_rule, paths_rule, canon_version_app, check_word, normalise_word, compare_app, debctl_app, diff_app, document_app, help_app, kind_rule, null_rule, optional_rule, profiles_rule, query_app, relation_file_rule, relation_rule, required_rule, reverse_rule, same_app, sort_app, recommends_rule, unmet_app, values_rule, version_key_app, version_rule, versions_rule, why_rule, IsShaped};
+ghost use Rattle.debctl_args.specs.Commands.{all_rule, arch_rule, audit_app, bare_app, check_app, code_rule, explain_app, list_rule, paths_rule, canon_version_app, compare_app, debctl_app, diff_app, help_app, normalise_app, kind_rule, null_rule, optional_rule, profiles_rule, query_app, relation_file_rule, relation_rule, required_rule, reverse_rule, same_app, sort_app, recommends_rule, unmet_app, values_rule, version_key_app, version_rule, versions_rule, why_rule, IsShaped};
 
 use crate::helps::{
-    ARCH_HELP, AUDIT_HELP, CANON_VERSION_HELP, CHECK_HELP, CODE_HELP, COMPARE_HELP, DEBCTL_HELP,
-    DIFF_HELP, DIFF_KIND_HELP, EXPLAIN_HELP, FILES_HELP, NORMALISE_HELP, OPERATORS_HELP,
-    PROFILES_HELP, QUERY_HELP, RELATION_FILE_HELP, RELATION_HELP, SAME_HELP, SORT_HELP, UNMET_HELP,
-    UNMET_INDEX_HELP, UNMET_KIND_HELP, UNMET_PATH_HELP, VERSION_KEY_HELP, WHY_HELP,
+    ALL_HELP, ARCH_HELP, AUDIT_HELP, CANON_VERSION_HELP, CHECK_HELP, CODE_HELP, COMPARE_HELP,
+    DEBCTL_HELP, DIFF_HELP, DIFF_KIND_HELP, EXPLAIN_HELP, FILES_HELP, NORMALISE_HELP,
+    OPERATORS_HELP, PROFILES_HELP, QUERY_HELP, RELATION_FILE_HELP, RELATION_HELP, SAME_HELP,
+    SORT_HELP, UNMET_HELP, UNMET_INDEX_HELP, UNMET_KIND_HELP, UNMET_PATH_HELP, VERSION_KEY_HELP,
+    WHY_HELP,
 };
 use clap::{Arg, ArgAction, Command};
 use deb_base::{Doc, is_single};
@@ -76,20 +77,24 @@ fn bare_command<'a>(alloc: Global) -> Command<'a>
         .disable_help_subcommand(true)
 }
 
-/// `check [--kind K] [PATH]`
+/// `check [--kind K] [--all] [PATH]`
 pub(crate) fn check_command<'a>(alloc: Global, kinds: &'a str) -> Result<Command<'a>, AllocError>
-    ensures { IfOk result (IsShaped (document_app check_word)) }
+    ensures { IfOk result (IsShaped check_app) }
 {
-    document_command(
-        alloc,
-        "check",
-        "Checks whether a file is well formed",
-        CHECK_HELP,
-        kinds,
-    )
+    Command::new(alloc, "check")
+        .about("Checks whether a file is well formed")
+        .after_help(CHECK_HELP)
+        .arg(kind_option(alloc, kinds))?
+        .arg(all_option(alloc))?
+        .arg(optional_word(
+            alloc,
+            "path",
+            "PATH",
+            "The file; standard input if it is `-` or missing",
+        ))
 }
 
-/// `explain [--kind K] [PATH]`, `explain --code N`, `explain --relation TEXT` and
+/// `explain [--kind K] [--all] [PATH]`, `explain --code N`, `explain --relation TEXT` and
 /// `explain --version-text TEXT`
 pub(crate) fn explain_command<'a>(alloc: Global, kinds: &'a str) -> Result<Command<'a>, AllocError>
     ensures { IfOk result (IsShaped explain_app) }
@@ -98,6 +103,7 @@ pub(crate) fn explain_command<'a>(alloc: Global, kinds: &'a str) -> Result<Comma
         .about("Explains why a file is rejected")
         .after_help(EXPLAIN_HELP)
         .arg(kind_option(alloc, kinds))?
+        .arg(all_option(alloc))?
         .arg(code_option(alloc))?
         .arg(relation_option(alloc))?
         .arg(version_option(alloc))?
@@ -109,7 +115,8 @@ pub(crate) fn explain_command<'a>(alloc: Global, kinds: &'a str) -> Result<Comma
         ))
 }
 
-/// `audit [--kind K] [--null] PATH ..` and `audit [--kind K] [--null] --files0-from PATH`
+/// `audit [--kind K] [--all] [--null] PATH ..` and
+/// `audit [--kind K] [--all] [--null] --files0-from PATH`
 pub(crate) fn audit_command<'a>(alloc: Global, kinds: &'a str) -> Result<Command<'a>, AllocError>
     ensures { IfOk result (IsShaped audit_app) }
 {
@@ -117,6 +124,7 @@ pub(crate) fn audit_command<'a>(alloc: Global, kinds: &'a str) -> Result<Command
         .about("Checks many files and prints one line for each")
         .after_help(AUDIT_HELP)
         .arg(kind_option(alloc, kinds))?
+        .arg(all_option(alloc))?
         .arg(list_option(alloc))?
         .arg(null_option(alloc))?
         .arg(paths(alloc))
@@ -127,30 +135,11 @@ pub(crate) fn normalise_command<'a>(
     alloc: Global,
     kinds: &'a str,
 ) -> Result<Command<'a>, AllocError>
-    ensures { IfOk result (IsShaped (document_app normalise_word)) }
+    ensures { IfOk result (IsShaped normalise_app) }
 {
-    document_command(
-        alloc,
-        "normalise",
-        "Writes the canonical text of a file",
-        NORMALISE_HELP,
-        kinds,
-    )
-}
-
-/// A command that reads one file of some kind.
-fn document_command<'a>(
-    alloc: Global,
-    name: &'a str,
-    about: &'a str,
-    more: &'a str,
-    kinds: &'a str,
-) -> Result<Command<'a>, AllocError>
-    ensures { IfOk result (IsShaped (document_app name.entry.now)) }
-{
-    Command::new(alloc, name)
-        .about(about)
-        .after_help(more)
+    Command::new(alloc, "normalise")
+        .about("Writes the canonical text of a file")
+        .after_help(NORMALISE_HELP)
         .arg(kind_option(alloc, kinds))?
         .arg(optional_word(
             alloc,
@@ -303,6 +292,17 @@ fn kind_option<'a>(alloc: Global, help: &'a str) -> Arg<'a>
         .long("kind")
         .value_name("K")
         .help(help)
+}
+
+/// `--all`
+fn all_option<'a>(alloc: Global) -> Arg<'a>
+    ensures rule { rule_of result ≡ all_rule }
+    ensures local { result.global ≡ false }
+{
+    Arg::new(alloc, "all")
+        .long("all")
+        .help(ALL_HELP)
+        .action(ArgAction::SetTrue)
 }
 
 /// `--code N`

@@ -2,10 +2,10 @@
 
 ghost use Rattle.std.specs.Prelude.{◌≡◌, nat_lt, count_by, map, codes, string_bytes, option_map, IfOk, option_copied};
 ghost use Rattle.clap.specs.Words.{all_of, first_of, found_of, rows_of};
-ghost use Rattle.debctl_args.specs.Asked.{comma_pieces, detail_asked, diff_detail_asked, end_asked, file_asked, flag_asked, index_asked, is_standard_input, kind_asked, names_file, packages_in, profiles_asked, strength_in, texts_asked, word_in, MeansKind};
+ghost use Rattle.debctl_args.specs.Asked.{comma_pieces, detail_asked, diff_detail_asked, end_asked, extent_asked, file_asked, flag_asked, index_asked, is_standard_input, kind_asked, names_file, packages_in, profiles_asked, strength_in, texts_asked, word_in, MeansKind};
 
 use crate::arguments::{UsageFault, usage};
-use crate::jobs::{Dependents, Detail, DiffDetail, LineEnd, Strength};
+use crate::jobs::{Dependents, Detail, DiffDetail, Extent, LineEnd, Strength};
 use clap::ArgMatches;
 use deb_base::Doc;
 use std::alloc::{AllocError, Global};
@@ -32,6 +32,18 @@ pub(crate) fn flag_in(found: &ArgMatches<'_>, id: &str) -> bool
     match given(found, id) {
         Some(word) => word == "true",
         None => false,
+    }
+}
+
+/// Which refusals of a file are reported: every one if `--all` is given.
+pub(crate) fn extent_in(found: &ArgMatches<'_>) -> Extent
+    ensures { result
+        ≡ extent_asked (flag_asked (first_of (codes "all") (rows_of (found_of found.now)))) }
+{
+    if flag_in(found, "all") {
+        Extent::All
+    } else {
+        Extent::First
     }
 }
 
@@ -93,11 +105,11 @@ pub(crate) fn packages_in(found: &ArgMatches<'_>) -> Dependents
     }
 }
 
-/// Whether `--kind` or a path is given.
+/// Whether `--kind`, `--all` or a path is given.
 pub(crate) fn names_file(found: &ArgMatches<'_>) -> bool
     ensures { result ≡ names_file (rows_of (found_of found.now)) }
 {
-    given(found, "kind").is_some() || given(found, "path").is_some()
+    given(found, "kind").is_some() || flag_in(found, "all") || given(found, "path").is_some()
 }
 
 /// The profiles that `--profiles` names, or none without it.

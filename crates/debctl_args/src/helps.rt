@@ -8,7 +8,8 @@ Exit statuses:
   2  a file, a version, a relation, an architecture or a profile is rejected:
      standard error has `line N: CODE NAME`. Line 0 means a command-line
      argument. `same`, `diff` and `unmet` write `first: ` or `second: ` before
-     the line of a file. `explain` and `audit` report the error on standard output
+     the line of a file. `explain`, `audit` and `check --all` report errors on
+     standard output
   3  wrong arguments, out of memory, or a failed read or write
 
 Put `--` before a version or a path that begins with a hyphen:
@@ -17,8 +18,15 @@ Put `--` before a version or a path that begins with a hyphen:
 
 `debctl help COMMAND` describes a command and has an example.";
 
+pub(crate) const ALL_HELP: &str = "Report every error, not only the first one";
+
 pub(crate) const CHECK_HELP: &str = "\
 Prints `ok N` for a file of N paragraphs, or reports the first error.
+
+With `--all` it continues after an error. It prints `line N: CODE NAME` for the first
+error of each paragraph, and at the end `ok N, M refused`: N paragraphs are accepted,
+and M errors are printed. It stops after a paragraph whose lines are too long, after a
+file that is too long, and after any error with `--kind binary` or `--kind source`.
 
 Use `--kind sources` for an index of source packages. As `packages`, `binary` or
 `source` it is usually rejected because of its Architecture or a missing field. Use
@@ -27,12 +35,18 @@ copyright file; its values aren't checked then.
 
 Exit statuses:
   0  accepted
-  2  rejected: standard error has `line N: CODE NAME` for the first error
+  2  rejected: standard error has `line N: CODE NAME` for the first error; with
+     `--all` the lines on standard output report the errors
   3  wrong arguments, out of memory, or a failed read or write
 
 Example:
   $ printf 'Package: aa\\nVersion: 1\\nArchitecture: all\\n' | debctl check
-  ok 1";
+  ok 1
+  $ printf 'Package: aa\\n\\nVersion: 1_\\n' | debctl check --all; echo $?
+  line 1: 12 MissingField
+  line 3: 18 BadVersion
+  ok 0, 2 refused
+  2";
 
 pub(crate) const EXPLAIN_HELP: &str = "\
 Checks a file as `check` does. For an accepted file of N paragraphs it prints
@@ -50,10 +64,12 @@ lines `KEY: VALUE`; keys that don't apply are left out:
   rule     the rule that is broken, with its section of Debian Policy
   usually  the usual cause
 If the file can't be opened, the lines `file`, `fault: read` and `reason` say why.
-The file is held in memory, up to the end of a paragraph that is too long.
 
 With `--relation` or `--version-text` the text is explained like the value of a
 field; `ok` is printed if it is correct.
+
+With `--all` the first error of each paragraph is explained, and an empty line follows
+each explanation. At the end `ok N, M refused` is printed, as `check --all` does.
 
 Exit statuses:
   0  accepted, or `--code` is given
@@ -86,6 +102,9 @@ Newlines and other control characters in a path are escaped, as in `\\n`. With
 `--null` each line ends with a byte 0 instead of a newline, and paths are printed
 unchanged. `audit` continues after a file that is rejected or can't be read.
 
+With `--all` it prints `PATH: line N: CODE NAME` for the first error of each paragraph,
+and then `PATH: ok N, M refused`, as `check --all` does.
+
 Exit statuses (the highest of all files):
   0  accepted
   2  rejected
@@ -97,6 +116,11 @@ Example:
   $ debctl audit bad good; echo $?
   bad: line 2: 18 BadVersion
   good: ok 1
+  2
+  $ debctl audit --all bad good; echo $?
+  bad: line 2: 18 BadVersion
+  bad: ok 0, 1 refused
+  good: ok 1, 0 refused
   2
 
 To check every file that `find` lists:

@@ -35,6 +35,8 @@ pub enum Cmp {
 pub enum Job {
     /// `check`: check whether a file of this kind is accepted.
     Check(Doc),
+    /// `check --all`: write every refusal of a file of this kind.
+    CheckAll(Doc),
     /// `normalise`: write the canonical text of a file of this kind.
     Normalise(Doc),
     /// `same`: check whether two files of this kind mean the same.
@@ -151,6 +153,8 @@ pub enum Explain {
     /// The refusal of a file of this kind; of standard input if there is no path or the path is
     /// `-`.
     File { doc: Doc, path: Option<String> },
+    /// `--all`: every refusal of such a file.
+    All { doc: Doc, path: Option<String> },
     /// `--code N`: an error code.
     Rule(Code),
     /// `--relation TEXT`: the refusal of a relation, such as an argument of `query`. The text may
@@ -160,12 +164,23 @@ pub enum Explain {
     Version(String),
 }
 
-/// The files that `audit` reads, each of this kind, and what ends each record that it prints.
+/// The files that `audit` reads, each of this kind, which of their refusals it prints, and what
+/// ends each record.
 #[derive(Debug, PartialEq, Eq, Drop)]
 pub struct Audit {
     pub doc: Doc,
     pub files: Files,
+    pub extent: Extent,
     pub end: LineEnd,
+}
+
+/// Which refusals of a file a command reports.
+#[derive(Clone, Copy, Debug, PartialEq, Eq)]
+pub enum Extent {
+    /// The first one.
+    First,
+    /// `--all`: every one.
+    All,
 }
 
 /// The end of each record that `audit` prints.

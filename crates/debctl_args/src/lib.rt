@@ -22,6 +22,6 @@ mod operator_argument;
 
 pub use arguments::{UsageFault, job_of};
 pub use jobs::{
-    Audit, Call, Cmp, Dependents, Detail, DiffDetail, DiffKind, Explain, Files, Job, LineEnd,
-    Strength, Task,
+    Audit, Call, Cmp, Dependents, Detail, DiffDetail, DiffKind, Explain, Extent, Files, Job,
+    LineEnd, Strength, Task,
 };

@@ -1,3 +1,5 @@
+pub mod AllReports
+pub mod AuditAllReports
 pub mod AuditReports
 pub mod DiffReports
 pub mod DocumentReports
@@ -5,6 +7,7 @@ pub mod ExplainReports
 pub mod JobRefusals
 pub mod KeyLines
 pub mod LastPaths
+pub mod PathLists
 pub mod QueryReports
 pub mod RelationFiles
 pub mod SameReports

@@ -1,3 +1,5 @@
+pub mod AllJobs
+pub mod AuditAllJob
 pub mod AuditJob
 pub mod DiffJob
 pub mod DocumentJobs

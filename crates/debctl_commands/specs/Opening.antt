@@ -18,12 +18,12 @@ use Rattle.debctl_commands.specs.declared.unopened.Unopened.TheVariants.{NotFoun
 use Rattle.debctl_args.specs.declared.jobs.Call.{Call}
 use Rattle.debctl_args.specs.declared.jobs.Cmp.TheVariants.{Less}
 use Rattle.debctl_args.specs.declared.jobs.Job.{Job}
-use Rattle.debctl_args.specs.declared.jobs.Job.TheVariants.{Check, Normalise, Same, Diff, Compare}
+use Rattle.debctl_args.specs.declared.jobs.Job.TheVariants.{Check, CheckAll, Normalise, Same, Diff}
 use Rattle.debctl_args.specs.declared.jobs.Dependents.{Dependents}
 use Rattle.debctl_args.specs.declared.jobs.Detail.{Detail}
 use Rattle.debctl_args.specs.declared.jobs.DiffDetail.{DiffDetail}
 use Rattle.debctl_args.specs.declared.jobs.DiffKind.{DiffKind}
-use Rattle.debctl_args.specs.declared.jobs.Job.TheVariants.{CanonVersion, Sort, Query, QueryFrom}
+use Rattle.debctl_args.specs.declared.jobs.Job.TheVariants.{Compare, CanonVersion, Sort, Query, QueryFrom}
 use Rattle.debctl_args.specs.declared.jobs.Job.TheVariants.{Unmet, VersionKey}
 
 -- ---- paths
@@ -36,6 +36,7 @@ standard_input = codes "-"
 -- reads standard input without one
 abbrev pub first_of_job : Job → Option (List ℕ) → Option (List ℕ)
 first_of_job (Check doc) path = Some (unwrap_or path standard_input)
+first_of_job (CheckAll doc) path = Some (unwrap_or path standard_input)
 first_of_job (Normalise doc) path = Some (unwrap_or path standard_input)
 first_of_job (Same doc) path = path
 first_of_job (Diff kind detail) path = path
@@ -125,6 +126,10 @@ first_of_jobs : (first_of_job (Check Source) None ≡ Some (codes "-"))
     × (first_of_job (Check Source) (Some (codes "a")) ≡ Some (codes "a"))
     × (first_of_job (Same Source) (Some (codes "a")) ≡ Some (codes "a"))
 first_of_jobs = (refl, refl, refl, refl, refl)
+
+first_of_check_all : (first_of_job (CheckAll Source) None ≡ Some (codes "-"))
+    × (first_of_job (CheckAll Source) (Some (codes "a")) ≡ Some (codes "a"))
+first_of_check_all = (refl, refl)
 
 first_of_versions : (version : String Global) (versions : Vec (String Global) Global)
     (path : List ℕ)

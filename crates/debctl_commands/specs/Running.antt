@@ -10,6 +10,9 @@ use Rattle.deb_base.specs.declared.fault.Fault.{Fault}
 use Rattle.deb_control.specs.Calls.{WritesCanonical}
 use Rattle.deb_control.specs.declared.side.SideFault.{SideFault}
 use Rattle.deb_sort.specs.Files.{SortsFile, WritesSorted}
+use Rattle.deb_refusals.specs.Lines.{file_lines}
+use Rattle.deb_refusals.specs.declared.summary.Summary.{Summary}
+use Rattle.debctl_commands.specs.AllJobs.{ChecksAll, WritesRefusals, WritesUnrefused, summary_status}
 use Rattle.debctl_commands.specs.DiffJob.{IsRefusedOld, ReportsDiff, ReportsRefusalOfDiff}
 use Rattle.debctl_commands.specs.DiffJob.{WritesChanges}
 use Rattle.debctl_commands.specs.DocumentJobs.{ChecksFile, NormalisesFile, ReportsRefusal}
@@ -31,12 +34,12 @@ use Rattle.debctl_commands.specs.VersionJobs.{bad_version, verdict_status, Canon
 use Rattle.debctl_commands.specs.VersionJobs.{Compares, IsNoVersion, WritesLine}
 use Rattle.debctl_args.specs.declared.jobs.Cmp.{Cmp}
 use Rattle.debctl_args.specs.declared.jobs.Job.{Job}
-use Rattle.debctl_args.specs.declared.jobs.Job.TheVariants.{Check, Normalise, Same, Diff, Compare}
+use Rattle.debctl_args.specs.declared.jobs.Job.TheVariants.{Check, CheckAll, Normalise, Same, Diff}
 use Rattle.debctl_args.specs.declared.jobs.Dependents.{Dependents}
 use Rattle.debctl_args.specs.declared.jobs.Detail.{Detail}
 use Rattle.debctl_args.specs.declared.jobs.DiffDetail.{DiffDetail}
 use Rattle.debctl_args.specs.declared.jobs.DiffKind.{DiffKind}
-use Rattle.debctl_args.specs.declared.jobs.Job.TheVariants.{CanonVersion, Sort, Query, QueryFrom}
+use Rattle.debctl_args.specs.declared.jobs.Job.TheVariants.{Compare, CanonVersion, Sort, Query, QueryFrom}
 use Rattle.debctl_args.specs.declared.jobs.Job.TheVariants.{Unmet, VersionKey}
 
 -- the question that a query's words are
@@ -57,13 +60,16 @@ words_of_unmet arch profiles dependents =
 -- Of the readers of the first file and of the second, `left` and `other` are the texts, where
 -- they are known.
 
--- Status 0: `ok N` for an accepted file, its canonical text, `same`, no line of `diff`, yes, a
--- version's canonical text with a newline, the keys of versions, the sorted lines of a file, a
--- report without an unmet group, and no line of `unmet`.
+-- Status 0: `ok N` for an accepted file, all lines of one without a refusal, its canonical text,
+-- `same`, no line of `diff`, yes, a version's canonical text with a newline, the keys of versions,
+-- the sorted lines of a file, a report without an unmet group, and no line of `unmet`.
 abbrev pub Done : {W : Type 0} → Job → Option (List ℕ) → Option (List ℕ) →
     (W → Option (List ℕ)) → (W → ℕ) → W → W → Type 0
 Done (Check doc) left other held failures out new =
     (text : List ℕ) → left ≡ Some text → WritesOk doc text (held out) (held new)
+Done (CheckAll doc) left other held failures out new =
+    (text : List ℕ) → left ≡ Some text
+    → WritesUnrefused doc text (file_lines doc text) (held out) (held new)
 Done (Normalise doc) left other held failures out new =
     (text : List ℕ) → left ≡ Some text → (n : ℕ) × WritesCanonical doc text n (held out) (held new)
 Done (Same doc) left other held failures out new =
@@ -91,6 +97,7 @@ Done (Unmet arch profiles dependents) left other held failures out new =
 abbrev pub SaysNo : {W : Type 0} → Job → Option (List ℕ) → Option (List ℕ) →
     (W → Option (List ℕ)) → W → W → Type 0
 SaysNo (Check doc) left other held out new = ⊥
+SaysNo (CheckAll doc) left other held out new = ⊥
 SaysNo (Normalise doc) left other held out new = ⊥
 SaysNo (Same doc) left other held out new = WritesSame doc left other (held out) (held new) false
 SaysNo (Diff kind detail) left other held out new =
@@ -110,11 +117,15 @@ SaysNo (Unmet arch profiles dependents) left other held out new =
 
 -- Status 2: a file or a version is refused, exactly the refusal's line was written on `err`, by
 -- `same`, `diff` and `unmet` after the side of the file, and nothing on `out` but the canonical
--- text or the lines of the paragraphs before the first that fails, by `normalise` and `unmet`.
+-- text or the lines of the paragraphs before the first that fails, by `normalise` and `unmet`; or,
+-- by `check --all`, all lines of the file were written on `out`, and nothing on `err`.
 abbrev pub IsRefused : {W : Type 0} → Job → Option (List ℕ) → Option (List ℕ) →
     (W → Option (List ℕ)) → W → W → Option (List ℕ) → Option (List ℕ) → Type 0
 IsRefused (Check doc) left other held out new err err_after =
     (new ≡ out) × ReportsRefusal doc left err err_after
+IsRefused (CheckAll doc) left other held out new err err_after =
+    (err_after ≡ err) × ((text : List ℕ) → left ≡ Some text
+    → WritesRefusals doc text (file_lines doc text) (held out) (held new))
 IsRefused (Normalise doc) left other held out new err err_after =
     ReportsRefusalBehind doc left (held out) (held new) err err_after
 IsRefused (Same doc) left other held out new err err_after =
@@ -147,6 +158,11 @@ Reported (Check doc) first second out err status =
     × ChecksFile doc first.text first.failures first.failures_after
     out.held out.failures out.old out.new answer
     × ReportsOn err done_status answer status
+Reported (CheckAll doc) first second out err status =
+    (answer : Result Summary Fault)
+    × ChecksAll doc first.text first.failures first.failures_after
+    out.held out.failures out.old out.new answer
+    × ReportsOn err summary_status answer status
 Reported (Normalise doc) first second out err status =
     (answer : Result ℕ Fault)
     × NormalisesFile doc first.text first.failures first.failures_after
@@ -190,6 +206,7 @@ Reported (Unmet arch profiles dependents) first second out err status =
 -- A job that reads no file leaves the first reader as it was.
 abbrev pub IfUnread : Job → Type 0 → Type 0
 IfUnread (Check doc) P = Unit {0}
+IfUnread (CheckAll doc) P = Unit {0}
 IfUnread (Normalise doc) P = Unit {0}
 IfUnread (Same doc) P = Unit {0}
 IfUnread (Diff kind detail) P = Unit {0}
@@ -204,6 +221,7 @@ IfUnread (Unmet arch profiles dependents) P = Unit {0}
 -- Comparing two versions takes no memory.
 abbrev pub IfCompare : Job → Type 0 → Type 0
 IfCompare (Check doc) P = Unit {0}
+IfCompare (CheckAll doc) P = Unit {0}
 IfCompare (Normalise doc) P = Unit {0}
 IfCompare (Same doc) P = Unit {0}
 IfCompare (Diff kind detail) P = Unit {0}
@@ -219,6 +237,7 @@ IfCompare (Unmet arch profiles dependents) P = Unit {0}
 -- was.
 abbrev pub IfSecondUnread : Job → Type 0 → Type 0
 IfSecondUnread (Check doc) P = P
+IfSecondUnread (CheckAll doc) P = P
 IfSecondUnread (Normalise doc) P = P
 IfSecondUnread (Same doc) P = Unit {0}
 IfSecondUnread (Diff kind detail) P = Unit {0}
@@ -233,6 +252,7 @@ IfSecondUnread (Unmet arch profiles dependents) P = Unit {0}
 -- A query or `unmet` whose words are refused leaves the first reader as it was.
 abbrev pub IfRefusedWords : Job → Type 0 → Type 0
 IfRefusedWords (Check doc) P = Unit {0}
+IfRefusedWords (CheckAll doc) P = Unit {0}
 IfRefusedWords (Normalise doc) P = Unit {0}
 IfRefusedWords (Same doc) P = Unit {0}
 IfRefusedWords (Diff kind detail) P = Unit {0}
@@ -274,6 +294,23 @@ done_of_sort : {W : Type 0} (text : List ℕ) (other : Option (List ℕ))
     × (Done (Sort false) (Some text) other held failures out new
     ≡ ((read : List ℕ) → Some text ≡ Some read → WritesSorted false read (held out) (held new)))
 done_of_sort text other held failures out new = (refl, refl)
+
+-- what is said of `check --all`: it reads the first file alone, and writes all of its lines,
+-- whether it has a refusal or not
+said_of_check_all : {W : Type 0} (doc : Doc) (text : List ℕ) (other err err_after : Option (List ℕ))
+    (held : W → Option (List ℕ)) (failures : W → ℕ) (out new : W) (P : Type 0)
+    → (Done (CheckAll doc) (Some text) other held failures out new
+    ≡ ((read : List ℕ) → Some text ≡ Some read
+    → WritesUnrefused doc read (file_lines doc read) (held out) (held new)))
+    × (SaysNo (CheckAll doc) (Some text) other held out new ≡ ⊥)
+    × (IsRefused (CheckAll doc) (Some text) other held out new err err_after
+    ≡ ((err_after ≡ err) × ((read : List ℕ) → Some text ≡ Some read
+    → WritesRefusals doc read (file_lines doc read) (held out) (held new))))
+    × (IfUnread (CheckAll doc) P ≡ Unit {0}) × (IfSecondUnread (CheckAll doc) P ≡ P)
+    × (IfCompare (CheckAll doc) P ≡ Unit {0}) × (IfRefusedWords (CheckAll doc) P ≡ Unit {0})
+    × (IfRefusedRelation (CheckAll doc) other P ≡ Unit {0})
+said_of_check_all doc text other err err_after held failures out new P =
+    (refl, refl, refl, refl, refl, refl, refl, refl)
 
 -- statuses 0 and 1 of the jobs that answer a question
 answers_of_same : {W : Type 0} (doc : Doc) (left other : Option (List ℕ))

@@ -186,7 +186,7 @@ fn answer_status(answer: &Result<u64, Fault>) -> u8
 
 /// Writes the record of what became of a file, after its path.
 #[tactic(auto, using(deb_base::proofs::Writes::puts))]
-fn put_audit_record<W: Sink>(
+pub(crate) fn put_audit_record<W: Sink>(
     end: LineEnd,
     path: &[u8],
     outcome: &Result<Result<u64, Fault>, Unopened>,
@@ -220,7 +220,7 @@ fn put_after_path<W: Sink>(
 }
 
 /// Writes a path, so that it can be shown or as it is.
-fn put_audit_path<W: Sink>(end: LineEnd, path: &[u8], out: &mut W) -> Result<(), Fault>
+pub(crate) fn put_audit_path<W: Sink>(end: LineEnd, path: &[u8], out: &mut W) -> Result<(), Fault>
     ensures written { Puts (W.held out.old) (W.held out.new) result (audit_path end path.now) }
     ensures fault { IfErr result (λ fault. fault ≡ Fault.Write) }
     ensures counts_failure { W.failures out.new ≡ write_failures_after (W.failures out.old) result }

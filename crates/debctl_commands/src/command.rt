@@ -8,6 +8,7 @@ ghost use Rattle.debctl_commands.specs.Running.{Reported};
 ghost use Rattle.debctl_commands.specs.JobDevices.{reader_of, writer_of};
 ghost use Rattle.debctl_commands.specs.Taking.{TakesFile};
 
+use crate::all_jobs::run_check_all;
 use crate::diff_job::{DiffOptions, run_diff};
 use crate::document_jobs::{run_check, run_normalise};
 use crate::query_from::run_query_from;
@@ -31,16 +32,17 @@ use std::alloc::Global;
 /// the old file of a `diff`. At most 4,295,032,831 bytes are read from a reader: a file of the most
 /// bytes, and one piece.
 ///
-/// - 0: done, or the answer is yes. `out` has `ok N` and a newline, the canonical text of the
-///   file, `same` and a newline, nothing, the canonical version and a newline, the lines of the
-///   keys, the sorted lines, or the report, with `--why` the report with reasons. Nothing was
-///   written to `err`.
+/// - 0: done, or the answer is yes. `out` has `ok N` and a newline, with `--all` `ok N, 0 refused`
+///   and a newline, the canonical text of the file, `same` and a newline, nothing, the canonical
+///   version and a newline, the lines of the keys, the sorted lines, or the report, with `--why`
+///   the report with reasons. Nothing was written to `err`.
 /// - 1: the answer of `same` or `compare` is no, a group of a `query` is unmet, or `diff` or
 ///   `unmet` has a line. `out` has `different` and a newline for `same`, the report for `query`,
 ///   and the lines for `diff` and `unmet`; nothing else was written.
 /// - 2: a file or an argument is refused. `err` has the refusal's line, after `first: ` or `second:
 ///   ` for a file of `same`, `diff` or `unmet`. `out` has nothing, except for `normalise` and
-///   `unmet`: the canonical text, or the lines, of the paragraphs before the first that fails.
+///   `unmet`: the canonical text, or the lines, of the paragraphs before the first that fails. For
+///   `check --all` `out` has all lines of the file instead, and nothing was written to `err`.
 /// - 3: out of memory, or a read or a write failed; for `compare` only a write to `err`. `err` has
 ///   `fault: memory`, `fault: read` or `fault: write`; if a write to `err` failed, a prefix of its
 ///   line. For an `unmet` of the index itself also: its second reading has another number of
@@ -92,14 +94,13 @@ pub fn run<R: Source, S: Source, W: Sink, E: Sink>(
 {
     match job {
         Job::Check(doc) => run_check(alloc, *doc, first, out, err),
+        Job::CheckAll(doc) => run_check_all(alloc, *doc, first, out, err),
         Job::Normalise(doc) => run_normalise(alloc, *doc, first, out, err),
         Job::Same(doc) => run_same(alloc, *doc, first, second, out, err),
         Job::Diff { kind, detail } => {
             run_diff(alloc, diff_options(*kind, *detail), first, second, out, err)
         }
-        Job::Compare(left, operator, right) => {
-            run_compare(left.as_str(), *operator, right.as_str(), err)
-        }
+        Job::Compare(left, op, right) => run_compare(left.as_str(), *op, right.as_str(), err),
         Job::CanonVersion(version) => run_canon_version(alloc, version.as_str(), out, err),
         Job::VersionKey(versions) => run_version_key(alloc, versions, out, err),
         Job::Sort { reverse } => run_sort(alloc, *reverse, first, out, err),

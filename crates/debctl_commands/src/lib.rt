@@ -3,13 +3,16 @@
 //!
 //! - [`run`] runs a job over readers and writers, reports on one of them why it failed, and returns
 //!   the status. It opens no path and uses no stream of the system.
-//! - [`run_explain`] writes why a file is refused, [`run_unopened`] why one can't be opened,
-//!   [`run_word`] why a text isn't a relation or a version, [`run_rule`] what an error code means,
-//!   and [`run_audit`] whether each of many files is accepted.
+//! - [`run_explain`] writes why a file is refused, [`run_explain_all`] what each of its refusals is
+//!   about, [`run_unopened`] why a file can't be opened, [`run_word`] why a text isn't a relation
+//!   or a version, [`run_rule`] what an error code means, [`run_audit`] whether each of many files
+//!   is accepted, and [`run_audit_all`] every refusal of each.
 //! - [`run_program`] runs the task that the program's arguments ask for: it opens the paths, passes
 //!   the files and the standard streams to these functions, and flushes the output.
 #![tactic(auto)]
 
+mod all_jobs;
+mod audit_all_job;
 mod audit_job;
 mod command;
 mod diff_job;
@@ -31,6 +34,8 @@ mod unopened;
 mod version_jobs;
 mod writer;
 
+pub use all_jobs::run_explain_all;
+pub use audit_all_job::run_audit_all;
 pub use audit_job::{AuditOptions, run_audit};
 pub use command::run;
 pub use explain_job::{run_explain, run_rule, run_unopened, run_word};

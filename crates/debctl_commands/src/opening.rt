@@ -113,9 +113,11 @@ fn first_path(call: &Call) -> Option<&[u8]>
 {
     let path = path_of(&call.first);
     match &call.job {
-        Job::Check(_) | Job::Normalise(_) | Job::Sort { .. } | Job::Query { .. } => {
-            Some(path.unwrap_or(b"-"))
-        }
+        Job::Check(_)
+        | Job::CheckAll(_)
+        | Job::Normalise(_)
+        | Job::Sort { .. }
+        | Job::Query { .. } => { Some(path.unwrap_or(b"-")) }
         Job::Same(_) | Job::Diff { .. } | Job::QueryFrom { .. } | Job::Unmet { .. } => path,
         Job::Compare(..) | Job::CanonVersion(_) | Job::VersionKey(_) => None,
     }

@@ -1,5 +1,7 @@
 //! Runs the program with the arguments, files and standard streams of the system.
 
+use crate::all_jobs::run_explain_all;
+use crate::audit_all_job::run_audit_all;
 use crate::audit_job::{AuditOptions, record_end, run_audit, run_without_list};
 use crate::explain_job::{run_explain, run_rule, run_unopened, run_word};
 use crate::listed::listed_paths;
@@ -12,7 +14,7 @@ use deb_base::{Fault, Input, Output, Sink, read_text};
 use deb_explain::Word;
 use deb_field::Doc;
 use deb_syntax::FILE_LIMIT;
-use debctl_args::{Audit, Call, Explain, Files, LineEnd, Task, UsageFault, job_of};
+use debctl_args::{Audit, Call, Explain, Extent, Files, LineEnd, Task, UsageFault, job_of};
 use std::env;
 use std::fs::File;
 use std::io::{self, ErrorKind};
@@ -114,11 +116,12 @@ fn explain_by<W: Sink, E: Sink>(
     err: &mut E,
 ) -> Result<u8, Fault> {
     match wanted {
-        Explain::File {
-            doc,
-            path: Some(path),
-        } => explain_file(rt, *doc, path.as_str(), out, err),
-        Explain::File { doc, path: None } => explain_file(rt, *doc, "-", out, err),
+        Explain::File { doc, path } => {
+            explain_file(rt, Extent::First, *doc, path_or_input(path), out, err)
+        }
+        Explain::All { doc, path } => {
+            explain_file(rt, Extent::All, *doc, path_or_input(path), out, err)
+        }
         Explain::Rule(code) => Ok(run_rule(*code, out, err)),
         Explain::Relation(text) => {
             Ok(run_word(rt.alloc(), Word::Relation, text.as_str(), out, err))
@@ -127,9 +130,18 @@ fn explain_by<W: Sink, E: Sink>(
     }
 }
 
+/// Returns the path of a file, or that of standard input.
+fn path_or_input(path: &Option<String>) -> &str {
+    match path {
+        Some(path) => path.as_str(),
+        None => "-",
+    }
+}
+
 /// Reports why the file of a path is refused, or why it can't be opened.
 fn explain_file<W: Sink, E: Sink>(
     rt: &HostRuntime,
+    extent: Extent,
     doc: Doc,
     path: &str,
     out: &mut W,
@@ -138,7 +150,11 @@ fn explain_file<W: Sink, E: Sink>(
     match opened(rt, path) {
         Ok(reader) => {
             let mut first = Input::new(reader);
-            Ok(run_explain(rt.alloc(), doc, path.as_bytes(), &mut first, out, err))
+            let (alloc, path) = (rt.alloc(), path.as_bytes());
+            Ok(match extent {
+                Extent::First => run_explain(alloc, doc, path, &mut first, out, err),
+                Extent::All => run_explain_all(alloc, doc, path, &mut first, out, err),
+            })
         }
         Err(why) => Ok(run_unopened(path.as_bytes(), why, out, err)),
     }
@@ -146,46 +162,42 @@ fn explain_file<W: Sink, E: Sink>(
 
 /// Audits the files of the paths that the words or a list have.
 fn audit_on_streams(rt: &HostRuntime, audit: &Audit) -> Result<u8, Fault> {
-    let options = AuditOptions {
-        doc: audit.doc,
-        end: audit.end,
-    };
     match &audit.files {
-        Files::Paths(words) => audit_words(rt, options, words),
-        Files::Listed(path) => audit_listed(rt, options, path.as_str()),
+        Files::Paths(words) => audit_words(rt, audit, words),
+        Files::Listed(path) => audit_listed(rt, audit, path.as_str()),
     }
 }
 
 /// Audits the files of the paths among the arguments.
-fn audit_words(rt: &HostRuntime, options: AuditOptions, words: &[String]) -> Result<u8, Fault> {
+fn audit_words(rt: &HostRuntime, audit: &Audit, words: &[String]) -> Result<u8, Fault> {
     let mut paths = Vec::new(rt.alloc());
     for word in words {
         paths.push(word.as_bytes())?;
     }
-    audit_paths(rt, options, paths.as_slice(), SystemFiles::new(rt))
+    audit_paths(rt, audit, paths.as_slice(), SystemFiles::new(rt))
 }
 
 /// Audits the files of the paths that a file lists.
-fn audit_listed(rt: &HostRuntime, options: AuditOptions, path: &str) -> Result<u8, Fault> {
+fn audit_listed(rt: &HostRuntime, audit: &Audit, path: &str) -> Result<u8, Fault> {
     match opened(rt, path) {
         Ok(reader) => {
             let list = read_text(rt.alloc(), &mut Input::new(reader), FILE_LIMIT)?;
             let files = SystemFiles::after_reading(rt, path);
-            audit_list(rt, options, list.as_slice(), files)
+            audit_list(rt, audit, list.as_slice(), files)
         }
-        Err(why) => report_without_list(rt, options.end, path, why),
+        Err(why) => report_without_list(rt, audit.end, path, why),
     }
 }
 
 /// Audits the files of the paths that a list has.
 fn audit_list(
     rt: &HostRuntime,
-    options: AuditOptions,
+    audit: &Audit,
     list: &[u8],
     files: SystemFiles<'_>,
 ) -> Result<u8, Fault> {
     let paths = listed_paths(rt.alloc(), list)?;
-    audit_paths(rt, options, paths.as_slice(), files)
+    audit_paths(rt, audit, paths.as_slice(), files)
 }
 
 /// Reports that the list of the paths can't be opened.
@@ -209,19 +221,33 @@ fn report_without_list(
 /// Audits the files of some paths, and writes out the record of each.
 fn audit_paths(
     rt: &HostRuntime,
-    options: AuditOptions,
+    audit: &Audit,
     paths: &[&[u8]],
     mut files: SystemFiles<'_>,
 ) -> Result<u8, Fault> {
     let Streams { out, mut err } = Streams::new(rt)?;
-    let mut records = Records::new(out, record_end(options.end));
-    let status = run_audit(
-        rt.alloc(),
-        options,
-        paths,
-        &mut files,
-        &mut Output::new(&mut records),
-        &mut Output::new(&mut err),
-    );
+    let mut records = Records::new(out, record_end(audit.end));
+    let options = AuditOptions {
+        doc: audit.doc,
+        end: audit.end,
+    };
+    let status = match audit.extent {
+        Extent::First => run_audit(
+            rt.alloc(),
+            options,
+            paths,
+            &mut files,
+            &mut Output::new(&mut records),
+            &mut Output::new(&mut err),
+        ),
+        Extent::All => run_audit_all(
+            rt.alloc(),
+            options,
+            paths,
+            &mut files,
+            &mut Output::new(&mut records),
+            &mut Output::new(&mut err),
+        ),
+    };
     write_out(records.into_buffer(), err, status)
 }

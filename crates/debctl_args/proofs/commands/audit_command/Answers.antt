@@ -9,6 +9,7 @@ pub returns : goal.returns
 returns c =
     let named : IsShaped (new_app audit_word) c.after_help.result = search rules in
     let one = shaped_with_rule _ _ _ _ _ named c.kind_option.ensures.rule c.kind_option.ensures.local c.in_ok-arg.ensures in
-    let two = shaped_with_rule _ _ _ _ _ one c.list_option.ensures.rule c.list_option.ensures.local c.in_ok-arg-2.ensures in
-    let three = shaped_with_rule _ _ _ _ _ two c.null_option.ensures.rule c.null_option.ensures.local c.in_ok-arg-3.ensures in
-    IfOk-weaker c.arg-4.result _ _ (λ m adds. shaped_with_rule _ _ _ _ _ three c.paths.ensures.rule c.paths.ensures.local adds) c.arg-4.ensures
+    let two = shaped_with_rule _ _ _ _ _ one c.all_option.ensures.rule c.all_option.ensures.local c.in_ok-arg-2.ensures in
+    let three = shaped_with_rule _ _ _ _ _ two c.list_option.ensures.rule c.list_option.ensures.local c.in_ok-arg-3.ensures in
+    let four = shaped_with_rule _ _ _ _ _ three c.null_option.ensures.rule c.null_option.ensures.local c.in_ok-arg-4.ensures in
+    IfOk-weaker c.arg-5.result _ _ (λ m adds. shaped_with_rule _ _ _ _ _ four c.paths.ensures.rule c.paths.ensures.local adds) c.arg-5.ensures

@@ -11,7 +11,8 @@ returns c =
     let named : IsShaped (new_app explain_word) c.after_help.result = search rules in
     let path : rule_of c.optional_word.result ≡ optional_rule (codes "path") = search rules in
     let one = shaped_with_rule _ _ _ _ _ named c.kind_option.ensures.rule c.kind_option.ensures.local c.in_ok-arg.ensures in
-    let two = shaped_with_rule _ _ _ _ _ one c.code_option.ensures.rule c.code_option.ensures.local c.in_ok-arg-2.ensures in
-    let three = shaped_with_rule _ _ _ _ _ two c.relation_option.ensures.rule c.relation_option.ensures.local c.in_ok-arg-3.ensures in
-    let four = shaped_with_rule _ _ _ _ _ three c.version_option.ensures.rule c.version_option.ensures.local c.in_ok-arg-4.ensures in
-    IfOk-weaker c.arg-5.result _ _ (λ m adds. shaped_with_rule _ _ _ _ _ four path c.optional_word.ensures.local adds) c.arg-5.ensures
+    let two = shaped_with_rule _ _ _ _ _ one c.all_option.ensures.rule c.all_option.ensures.local c.in_ok-arg-2.ensures in
+    let three = shaped_with_rule _ _ _ _ _ two c.code_option.ensures.rule c.code_option.ensures.local c.in_ok-arg-3.ensures in
+    let four = shaped_with_rule _ _ _ _ _ three c.relation_option.ensures.rule c.relation_option.ensures.local c.in_ok-arg-4.ensures in
+    let five = shaped_with_rule _ _ _ _ _ four c.version_option.ensures.rule c.version_option.ensures.local c.in_ok-arg-5.ensures in
+    IfOk-weaker c.arg-6.result _ _ (λ m adds. shaped_with_rule _ _ _ _ _ five path c.optional_word.ensures.local adds) c.arg-6.ensures

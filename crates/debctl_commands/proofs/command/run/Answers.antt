@@ -4,7 +4,7 @@ use Rattle.debctl_commands.proofs.command.run.Goals as goal
 
 pub returns-in-Compare-clause-refused : goal.returns-in-Compare-clause-refused
 returns-in-Compare-clause-refused g c = λ is.
-    compare_refused c.args.job.now c.in-Compare.left c.in-Compare.right c.in-Compare.operator c.in-Compare.is (g.R.Source.left c.args.first.now) (g.S.Source.left c.args.second.now) g.W.Sink.held c.args.out.now _ _
+    compare_refused c.args.job.now c.in-Compare.left c.in-Compare.right c.in-Compare.op c.in-Compare.is (g.R.Source.left c.args.first.now) (g.S.Source.left c.args.second.now) g.W.Sink.held c.args.out.now _ _
     c.as_str.result.now c.as_str-in-Compare.result.now c.as_str.ensures.value c.as_str-in-Compare.ensures.value (c.run_compare.ensures.refused is)
 
 pub returns-in-CanonVersion-clause-refused : goal.returns-in-CanonVersion-clause-refused

@@ -1,0 +1,8 @@
+use Rattle.std.proofs.Common.{arith}
+use Rattle.debctl_commands.proofs.FaultReports.{write_is_three}
+use Rattle.debctl_commands.proofs.audit_all_job.run_audit_all.Goals as goal
+
+pub returns-in-Err-clause-reports_each_file : goal.returns-in-Err-clause-reports_each_file
+returns-in-Err-clause-reports_each_file g c = λ below.
+    let three = write_is_three g.E.Sink.held g.E.Sink.failures c.args.err.now c.report_fault.new.err c.report_fault.result c.in-Err.fault c.in-Err.ensures.fault c.report_fault.ensures in
+    absurd (omega (arith, below, three))
