@@ -1,19 +1,21 @@
 //! Explains why a file is refused.
 
-ghost use Rattle.std.specs.Prelude.{◌≡◌, ℕ, List, Some, IfErr, IfOk};
+ghost use Rattle.std.specs.Prelude.{◌≡◌, ℕ, List, Some, IfErr, IfOk, option_map};
 ghost use Rattle.deb_base.specs.Devices.{read_failures_after, ReadFaultIffFailed};
 ghost use Rattle.deb_base.specs.Reading.{IsMemoryOrRead, TakesNoMore};
 ghost use Rattle.deb_syntax.specs.Lines.{file_limit};
+ghost use Rattle.deb_syntax.specs.Paragraphs.{seen_of};
 ghost use Rattle.deb_control.specs.Calls.{HasParagraphs};
-ghost use Rattle.deb_explain.specs.Explanations.{explanation_of};
+ghost use Rattle.deb_explain.specs.Explanations.{explain_refusal, explanation_of};
 ghost use Rattle.deb_explain.specs.Shown.{IfAccepted, IfRefused, shown_by};
 
 use crate::explained::{Explained, Explanation};
 use crate::subject::subject_of;
-use deb_base::{Fault, Source};
+use deb_base::{Fault, Refusal, Source};
 use deb_control::{Checked, NoVisitor};
 use deb_field::Doc;
-use std::alloc::Global;
+use deb_syntax::Raw;
+use std::alloc::{AllocError, Global};
 
 /// Checks a file as a document of a kind, and returns what its refusal is about (Debian Policy 5.1
 /// and 5.3 to 5.6).
@@ -50,8 +52,8 @@ pub fn explain<R: Source>(alloc: Global, doc: Doc, reader: &mut R) -> Result<Exp
             Ok(false) => return Ok(Explained::Accepted(count)),
             Err(Fault::Refused(refusal)) => {
                 let line = checked.line(refusal.line);
-                let subject = subject_of(alloc, doc, refusal, line, checked.refused())?;
-                return Ok(Explained::Refused(Explanation { refusal, subject }));
+                let told = explain_refusal(alloc, doc, refusal, line, checked.refused())?;
+                return Ok(Explained::Refused(told));
             }
             Err(Fault::Memory) => return Err(Fault::Memory),
             Err(Fault::Read) => return Err(Fault::Read),
@@ -60,4 +62,26 @@ pub fn explain<R: Source>(alloc: Global, doc: Doc, reader: &mut R) -> Result<Exp
     }
     // No file has so many paragraphs.
     unreachable!()
+}
+
+/// Returns what a refusal of a document of a kind is about, by the line of the file that has the
+/// refusal's number and by the paragraph that is refused: what `deb_control::Checked` returns of
+/// them after it refused the document.
+///
+/// # Errors
+///
+/// `AllocError`: a growth of memory was refused.
+pub fn explain_refusal(
+    alloc: Global,
+    doc: Doc,
+    refusal: Refusal,
+    line: Option<&[u8]>,
+    paragraph: Option<Raw<'_>>,
+) -> Result<Explanation, AllocError>
+    ensures explains { IfOk result (λ explanation. shown_by explanation
+        ≡ explain_refusal doc refusal (option_map (λ line. line.now) line.entry)
+        (option_map seen_of paragraph.entry)) }
+{
+    let subject = subject_of(alloc, doc, refusal, line, paragraph)?;
+    Ok(Explanation { refusal, subject })
 }

@@ -2,7 +2,8 @@
 //! is wrong in a value and where (Debian Policy 5.1, 5.3 to 5.6 and 7.1).
 //!
 //! - [`explain`] checks a file as `deb_control::check` does, and returns more about the same
-//!   refusal than its code and line.
+//!   refusal than its code and line. [`explain_refusal`] does that for a refusal of a
+//!   `deb_control::Checked`.
 //! - [`Explanation::write`] writes that in lines `key: value`.
 //! - [`explain_word`] finds what is wrong in a relation or a version from the command line, and
 //!   [`write_refused_word`] writes that in such lines.
@@ -27,6 +28,6 @@ mod writing;
 
 pub use cause::{Cause, Word, explain_word};
 pub use explained::{Explained, Explanation, RefusedField, Subject};
-pub use explaining::explain;
+pub use explaining::{explain, explain_refusal};
 pub use paths::{write_file_line, write_path};
 pub use writing::{write_refused_word, write_rule_of};

@@ -1,3 +1,5 @@
 pub mod Lines
+pub mod Explained
+pub mod Given
 pub mod Written
 pub mod Laws

@@ -1,15 +1,17 @@
 //! Writes a line for each run of lines that is refused.
 
-ghost use Rattle.std.specs.Prelude.{◌≡◌, ◌≤◌, ◌<◌, ◌+◌, ◌-◌, ◌^◌, ℕ, List, None, Option, Some, Ok, true, IfErr, IfOk};
+ghost use Rattle.std.specs.Prelude.{◌≡◌, ℕ, List, None, Option, Some, IfErr, IfOk};
 ghost use Rattle.deb_base.specs.Devices.{AppendsFront, read_failures_after, write_failures_after, ReadFaultIffFailed, WriteFaultIffFailed};
+ghost use Rattle.deb_base.specs.Reading.{TakesNoMore};
+ghost use Rattle.deb_syntax.specs.Lines.{file_limit};
 ghost use Rattle.deb_control.specs.Calls.{IfCutOff, IfWriteFailed};
-ghost use Rattle.deb_control.specs.CheckedStates.{checked_state, doc_read};
 ghost use Rattle.deb_refusals.specs.Lines.{file_lines};
-ghost use Rattle.deb_refusals.specs.Written.{HasWritten, IsNoRefusal, WritesNext, WritesAll, WritesFirst};
+ghost use Rattle.deb_refusals.specs.Given.{failure_of};
+ghost use Rattle.deb_refusals.specs.Written.{HasWritten, IsNoRefusal, WritesNext, WritesAll, WritesFirst, line_written};
 
+use crate::refusals::Refusals;
 use crate::summary::Summary;
 use deb_base::{Fault, Sink, Source};
-use deb_control::{Checked, NoVisitor};
 use deb_field::Doc;
 use std::alloc::Global;
 
@@ -40,6 +42,8 @@ pub fn check_all<R: Source, W: Sink>(
         (λ summary. WritesAll doc text summary (W.held writer.old) (W.held writer.new)) }
     ensures cut_off { (text : List ℕ) → R.left reader.old ≡ Some text
         → IfCutOff result (WritesFirst doc text (W.held writer.old) (W.held writer.new)) }
+    ensures reads_at_most { (text : List ℕ) → R.left reader.old ≡ Some text
+        → TakesNoMore text file_limit (R.left reader.new) }
     ensures write { (text : List ℕ) → R.left reader.old ≡ Some text → IfWriteFailed result
         (AppendsFront (W.held writer.old) (W.held writer.new) (file_lines doc text)) }
 
@@ -54,13 +58,10 @@ pub fn check_all<R: Source, W: Sink>(
     ensures fault_iff_write_failed { WriteFaultIffFailed (W.failures writer.old)
         (W.failures writer.new) result }
 {
-    let mut checked = Checked::new(alloc, doc);
-    let mut summary = Summary {
-        passed: 0,
-        refused: 0,
-    };
+    let mut refusals = Refusals::new(alloc, doc);
     for _ in 0..u64::MAX {
-        if !check_next(&mut checked, &mut summary, reader, writer)? {
+        if !check_next(&mut refusals, reader, writer)? {
+            let summary = refusals.summary();
             summary.write_line(writer)?;
             return Ok(summary);
         }
@@ -69,48 +70,30 @@ pub fn check_all<R: Source, W: Sink>(
     Err(Fault::Memory)
 }
 
-/// Checks the next run of lines, counts it, and writes its line if it is refused. Returns whether
-/// others may follow.
-///
-/// # Errors
-///
-/// Those of `check_all`.
+/// Writes the line of the next refusal. Returns whether there is one.
 fn check_next<R: Source, W: Sink>(
-    checked: &mut Checked,
-    summary: &mut Summary,
+    refusals: &mut Refusals,
     reader: &mut R,
     writer: &mut W,
 ) -> Result<bool, Fault>
-    requires sound { (checked_state checked.old).fault ≡ None }
-    requires few { summary.old.passed + summary.old.refused < 2 ^ 64 - 1 }
-    ensures writes_next { (text : List ℕ) (held : Option (List ℕ))
-        → HasWritten (doc_read checked.old) text (checked_state checked.old) (R.left reader.old)
-        held (W.held writer.old) summary.old
-        → WritesNext (doc_read checked.old) text result (checked_state checked.new)
-        (R.left reader.new) held (W.held writer.new) summary.new }
-    ensures doc { doc_read checked.new ≡ doc_read checked.old }
-    ensures sound { result ≡ Ok true → (checked_state checked.new).fault ≡ None }
-    ensures few { summary.new.passed + summary.new.refused
-        ≤ summary.old.passed + summary.old.refused + 1 }
+    requires sound { failure_of refusals.old ≡ None }
+    ensures writes_next { (doc : Doc) (text : List ℕ) (held : Option (List ℕ))
+        → HasWritten line_written doc text refusals.old (R.left reader.old) held
+        (W.held writer.old)
+        → WritesNext line_written doc text result refusals.new (R.left reader.new) held
+        (W.held writer.new) }
+    ensures sound { IfOk result (λ _. failure_of refusals.new ≡ None) }
     ensures fault { IfErr result IsNoRefusal }
     ensures counts_read_failure { R.failures reader.new ≡ read_failures_after
         (R.failures reader.old) result }
     ensures counts_write_failure { W.failures writer.new ≡ write_failures_after
         (W.failures writer.old) result }
 {
-    match checked.advance(&mut NoVisitor, reader) {
-        Ok(true) => {
-            summary.passed += 1;
+    match refusals.next(reader)? {
+        Some(refusal) => {
+            refusal.write_line(writer)?;
             Ok(true)
         }
-        Ok(false) => Ok(false),
-        Err(Fault::Refused(refusal)) => {
-            refusal.write_line(writer)?;
-            summary.refused += 1;
-            Ok(checked.resume())
-        }
-        Err(Fault::Memory) => Err(Fault::Memory),
-        Err(Fault::Read) => Err(Fault::Read),
-        Err(Fault::Write) => unreachable!(),
+        None => Ok(false),
     }
 }

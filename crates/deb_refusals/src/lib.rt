@@ -11,8 +11,12 @@
 #![tactic(auto)]
 
 mod checking;
+mod explaining;
 pub mod laws;
+mod refusals;
 mod summary;
 
 pub use checking::check_all;
+pub use explaining::explain_all;
+pub use refusals::Refusals;
 pub use summary::Summary;

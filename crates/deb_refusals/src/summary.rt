@@ -7,7 +7,7 @@ ghost use Rattle.deb_refusals.specs.Lines.{total_line};
 use deb_base::{Fault, Sink, put_pieces};
 use itoa::Buffer;
 
-/// What `check_all` found in a whole file.
+/// How many paragraphs of a file passed, and how many runs of its lines were refused.
 #[derive(Clone, Copy, Debug, PartialEq, Eq)]
 pub struct Summary {
     /// The number of paragraphs that passed every rule.
@@ -17,8 +17,13 @@ pub struct Summary {
 }
 
 impl Summary {
-    /// Writes the last line: `ok N, M refused`.
-    pub(crate) fn write_line<W: Sink>(&self, out: &mut W) -> Result<(), Fault>
+    /// Writes the last line of `check_all`: `ok N, M refused`. Takes no memory.
+    ///
+    /// # Errors
+    ///
+    /// `Fault::Write` only: a write failed in this call, and a prefix of the line was written
+    /// before it.
+    pub fn write_line<W: Sink>(&self, out: &mut W) -> Result<(), Fault>
         ensures written { Puts (W.held out.old) (W.held out.new) result
             (total_line self.now.passed self.now.refused) }
         ensures fault { IfErr result (λ fault. fault ≡ Fault.Write) }

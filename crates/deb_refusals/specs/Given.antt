@@ -1,0 +1,254 @@
+-- What a reader of refusals has given of a file, and what is left of it. Debian Policy 5.1.
+use Rattle.std.specs.Prelude.{◌≡◌, ℕ, ◌+◌, Bool, true, false, not, is_some, List, [], ◌∷◌, ◌++◌, length, Option, None, Some, IfSome, Result, Ok, Err, refl}
+use Rattle.deb_base.specs.Docs.{is_single}
+use Rattle.deb_base.specs.Reading.{IsMemoryOrRead, TakesNoMore}
+use Rattle.deb_base.specs.declared.doc.Doc.{Doc}
+use Rattle.deb_base.specs.declared.fault.Fault.{Fault}
+use Rattle.deb_base.specs.declared.fault.Fault.TheVariants.{Refused, Memory, Read, Write}
+use Rattle.deb_base.specs.declared.refusal.Refusal.{Refusal}
+use Rattle.deb_syntax.specs.Judged.{line_judged}
+use Rattle.deb_syntax.specs.Lines.{Paragraph, file_limit}
+use Rattle.deb_syntax.specs.Meaning.{Entries}
+use Rattle.deb_control.specs.Checking.{CheckedState, FitsChecked}
+use Rattle.deb_control.specs.CheckedStates.{checked_state, doc_read, lines_checked}
+use Rattle.deb_control.specs.Documents.{rules_of}
+use Rattle.deb_control.specs.Refusals.{next_checked}
+use Rattle.deb_control.specs.Refused.{lines_behind, seen_behind}
+use Rattle.deb_control.specs.Resuming.{FitsWithout}
+use Rattle.deb_control.specs.Streams.{stream_from}
+use Rattle.deb_control.specs.declared.checked.Checked.{Checked}
+use Rattle.deb_explain.specs.Explanations.{WhyRefused, explain_refusal, explanation_of}
+use Rattle.deb_refusals.specs.Explained.{explained_stream, explanations_of, refusals_explained}
+use Rattle.deb_refusals.specs.Lines.{passed_among, passed_of, refusals_of}
+use Rattle.deb_refusals.specs.declared.refusals.Position.{Position}
+use Rattle.deb_refusals.specs.declared.refusals.Position.TheVariants.{Start, At, End, Failed}
+use Rattle.deb_refusals.specs.declared.refusals.Refusals.{Refusals}
+use Rattle.deb_refusals.specs.declared.summary.Summary.{Summary}
+
+-- ---- what a reader of refusals shows
+
+abbrev pub summary_of : Refusals → Summary
+summary_of r = r.summary
+
+-- the refusal that it gave last, where it hasn't gone on since
+abbrev pub refusal_at : Position → Option Refusal
+refusal_at Start = None
+refusal_at (At refusal) = Some refusal
+refusal_at End = None
+refusal_at (Failed fault) = None
+
+abbrev pub given_last : Refusals → Option Refusal
+given_last r = refusal_at r.position
+
+-- the error that it gave
+abbrev pub fault_at : Position → Option Fault
+fault_at Start = None
+fault_at (At refusal) = None
+fault_at End = None
+fault_at (Failed fault) = Some fault
+
+abbrev pub failure_of : Refusals → Option Fault
+failure_of r = fault_at r.position
+
+-- whether it told that no further refusal follows
+abbrev pub is_end : Position → Bool
+is_end Start = false
+is_end (At refusal) = false
+is_end End = true
+is_end (Failed fault) = false
+
+abbrev pub has_ended : Refusals → Bool
+has_ended r = is_end r.position
+
+-- whether a fault is out of memory, or a failed read
+abbrev pub is_of_reading : Fault → Bool
+is_of_reading (Refused refusal) = false
+is_of_reading Memory = true
+is_of_reading Read = true
+is_of_reading Write = false
+
+-- whether its reader of checked paragraphs has no error at the start, and its own is one of reading
+abbrev pub is_sound_at : Position → Option Fault → Bool
+is_sound_at Start inside = not (is_some inside)
+is_sound_at (At refusal) inside = true
+is_sound_at End inside = true
+is_sound_at (Failed fault) inside = is_of_reading fault
+
+-- where an answer leaves it
+abbrev pub position_after : Result (Option Refusal) Fault → Position
+position_after (Ok (Some refusal)) = At refusal
+position_after (Ok None) = End
+position_after (Err fault) = Failed fault
+
+-- ---- what it has given of a file
+
+-- These are the first refusals of the file, with what they are about.
+pub record AreFirst (doc : Doc) (text : List ℕ) (done : List WhyRefused) : Type 0 where
+  pub more : List WhyRefused
+  pub all : explanations_of doc text ≡ done ++ more
+  pub refusals : refusals_of doc text ≡ refusals_explained done ++ refusals_explained more
+
+-- what is told of the paragraph behind those that pass, for this refusal
+abbrev pub why_next_refused : Doc → List ℕ → List Entries → Refusal → WhyRefused
+why_next_refused doc text before refusal =
+    explain_refusal doc refusal
+    (line_judged refusal.line (lines_behind (rules_of doc) text before))
+    (seen_behind (rules_of doc) text before)
+
+-- What the refusals of the stream of a text behind these paragraphs are about, as part of a file.
+abbrev pub explanations_from : Doc → List ℕ → List ℕ → List Entries → List WhyRefused
+explanations_from doc file text before =
+    explained_stream doc (explanation_of doc file) (stream_from (rules_of doc) text before)
+
+-- The first runs of the file's lines were checked, so many paragraphs passed, and the refusals were
+-- these. What is left is the stream of another text, which fits behind those paragraphs and has as
+-- many bytes.
+pub record Awaits (doc : Doc) (text : List ℕ) (state : CheckedState) (left : Option (List ℕ))
+    (passed : ℕ) (done : List WhyRefused) : Type 0 where
+  pub other : List ℕ
+  pub before : List Entries
+  pub fits : FitsChecked doc other before state left
+  pub bytes : length other ≡ length text
+  pub single : is_single doc ≡ true → other ≡ text
+  pub whys : explanations_of doc text ≡ done ++ explanations_from doc text other before
+  pub total : passed_of doc text
+      ≡ passed + passed_among (stream_from (rules_of doc) other before).items
+  pub counted : passed ≡ length before
+
+-- The reader of checked paragraphs has refused the next run for this, and shows its lines and
+-- fields; where it can go on, that is with another text. `before` are the refusals before it.
+pub record StandsAt (doc : Doc) (text : List ℕ) (refusal : Refusal) (state : CheckedState)
+    (lines : Option Paragraph) (left : Option (List ℕ)) (passed : ℕ)
+    (done : List WhyRefused) : Type 0 where
+  pub front : List WhyRefused
+  pub awaits : Awaits doc text state left passed front
+  pub refused : next_checked (rules_of doc) awaits.other awaits.before ≡ Err refusal
+  pub fault : state.fault ≡ Some (Refused refusal)
+  pub seen : state.reader.current ≡ seen_behind (rules_of doc) awaits.other awaits.before
+  pub shown : lines ≡ lines_behind (rules_of doc) awaits.other awaits.before
+  pub without : IfSome lines (λ p. FitsWithout doc awaits.other awaits.before p state left)
+  pub is : done
+      ≡ front ++ why_next_refused doc awaits.other awaits.before refusal ∷ []
+
+-- All refusals were given.
+pub record HasAll (doc : Doc) (text : List ℕ) (passed : ℕ) (done : List WhyRefused)
+    : Type 0 where
+  pub whys : explanations_of doc text ≡ done
+  pub total : passed ≡ passed_of doc text
+
+abbrev pub Stands : Doc → List ℕ → Position → CheckedState → Option Paragraph → Option (List ℕ) → ℕ
+    → List WhyRefused → Type 0
+Stands doc text Start state lines left passed done = Awaits doc text state left passed done
+Stands doc text (At refusal) state lines left passed done =
+    StandsAt doc text refusal state lines left passed done
+Stands doc text End state lines left passed done = HasAll doc text passed done
+Stands doc text (Failed fault) state lines left passed done = ⊥
+
+-- A reader of refusals has given exactly these refusals of a file as a document of a kind: the
+-- first ones, with what they are about. At most one piece beyond the limit of a file was read.
+pub record HasGiven (doc : Doc) (text : List ℕ) (r : Refusals) (left : Option (List ℕ))
+    (done : List WhyRefused) : Type 0 where
+  pub first : AreFirst doc text done
+  pub refused : r.summary.refused ≡ length done
+  pub taken : TakesNoMore text file_limit left
+  pub kind : r.doc ≡ doc
+  pub reads : doc_read r.checked ≡ doc
+  pub stands : Stands doc text r.position (checked_state r.checked) (lines_checked r.checked) left
+      r.summary.passed done
+
+-- The parts of one that goes on.
+pub record GoesOn (doc : Doc) (text : List ℕ) (checked : Checked) (summary : Summary)
+    (left : Option (List ℕ)) (done : List WhyRefused) : Type 0 where
+  pub reads : doc_read checked ≡ doc
+  pub awaits : Awaits doc text (checked_state checked) left summary.passed done
+  pub refused : summary.refused ≡ length done
+
+-- They find the next refusal, which is about this.
+pub record FindsRefusal (doc : Doc) (text : List ℕ) (refusal : Refusal) (checked : Checked)
+    (summary : Summary) (left : Option (List ℕ)) (done : List WhyRefused) : Type 0 where
+  pub why : WhyRefused
+  pub same : why.refusal ≡ refusal
+  pub refused : summary.refused ≡ length done + 1
+  pub stands : StandsAt doc text refusal (checked_state checked) (lines_checked checked) left
+      summary.passed (done ++ why ∷ [])
+
+-- They find that all were given.
+pub record FindsEnd (doc : Doc) (text : List ℕ) (summary : Summary) (done : List WhyRefused)
+    : Type 0 where
+  pub refused : summary.refused ≡ length done
+  pub all : HasAll doc text summary.passed done
+
+abbrev pub FindsNext : Doc → List ℕ → Result (Option Refusal) Fault → Checked → Summary
+    → Option (List ℕ) → List WhyRefused → Type 0
+FindsNext doc text (Ok (Some refusal)) checked summary left done =
+    FindsRefusal doc text refusal checked summary left done
+FindsNext doc text (Ok None) checked summary left done = FindsEnd doc text summary done
+FindsNext doc text (Err fault) checked summary left done = IsMemoryOrRead fault
+
+-- It gives the next refusal, which is about this.
+pub record GivesRefusal (doc : Doc) (text : List ℕ) (refusal : Refusal) (new : Refusals)
+    (left : Option (List ℕ)) (done : List WhyRefused) : Type 0 where
+  pub why : WhyRefused
+  pub same : why.refusal ≡ refusal
+  pub given : HasGiven doc text new left (done ++ why ∷ [])
+
+-- It has given all, and the summary is that of the whole file.
+pub record GivesEnd (doc : Doc) (text : List ℕ) (new : Refusals) (left : Option (List ℕ))
+    (done : List WhyRefused) : Type 0 where
+  pub given : HasGiven doc text new left done
+  pub whys : explanations_of doc text ≡ done
+  pub refusals : refusals_of doc text ≡ refusals_explained done
+  pub passed : (summary_of new).passed ≡ passed_of doc text
+  pub refused : (summary_of new).refused ≡ length (refusals_of doc text)
+
+-- What an answer says of a file of which these were given before.
+abbrev pub GivesNext : Doc → List ℕ → Result (Option Refusal) Fault → Refusals → Option (List ℕ)
+    → List WhyRefused → Type 0
+GivesNext doc text (Ok (Some refusal)) new left done = GivesRefusal doc text refusal new left done
+GivesNext doc text (Ok None) new left done = GivesEnd doc text new left done
+GivesNext doc text (Err (Refused refusal)) new left done = ⊥
+GivesNext doc text (Err Memory) new left done = AreFirst doc text done
+GivesNext doc text (Err Read) new left done = AreFirst doc text done
+GivesNext doc text (Err Write) new left done = ⊥
+
+-- This is the last of the refusals.
+pub record IsLastOf (why : WhyRefused) (done : List WhyRefused) : Type 0 where
+  pub front : List WhyRefused
+  pub is : done ≡ front ++ why ∷ []
+
+positions : (refusal : Refusal) (fault : Fault)
+    → (refusal_at (At refusal) ≡ Some refusal) × (refusal_at Start ≡ None)
+    × (refusal_at End ≡ None) × (refusal_at (Failed fault) ≡ None)
+    × (fault_at (Failed fault) ≡ Some fault) × (fault_at Start ≡ None)
+    × (fault_at (At refusal) ≡ None) × (fault_at End ≡ None)
+    × (is_end End ≡ true) × (is_end Start ≡ false) × (is_end (At refusal) ≡ false)
+    × (is_end (Failed fault) ≡ false)
+positions refusal fault = (refl, refl, refl, refl, refl, refl, refl, refl, refl, refl, refl, refl)
+
+sound_positions : (refusal : Refusal) (inside : Option Fault)
+    → (is_sound_at Start None ≡ true) × (is_sound_at Start (Some Memory) ≡ false)
+    × (is_sound_at (At refusal) inside ≡ true) × (is_sound_at End inside ≡ true)
+    × (is_sound_at (Failed Memory) inside ≡ true) × (is_sound_at (Failed Read) inside ≡ true)
+    × (is_sound_at (Failed Write) inside ≡ false)
+    × (is_sound_at (Failed (Refused refusal)) inside ≡ false)
+sound_positions refusal inside = (refl, refl, refl, refl, refl, refl, refl, refl)
+
+positions_after : (refusal : Refusal) (fault : Fault)
+    → (position_after (Ok (Some refusal)) ≡ At refusal) × (position_after (Ok None) ≡ End)
+    × (position_after (Err fault) ≡ Failed fault)
+positions_after refusal fault = (refl, refl, refl)
+
+parts_shown : (r : Refusals) → (summary_of r ≡ r.summary) × (given_last r ≡ refusal_at r.position)
+    × (failure_of r ≡ fault_at r.position) × (has_ended r ≡ is_end r.position)
+parts_shown r = (refl, refl, refl, refl)
+
+answers : (doc : Doc) (text : List ℕ) (refusal : Refusal) (new : Refusals) (left : Option (List ℕ))
+    (done : List WhyRefused)
+    → (GivesNext doc text (Ok (Some refusal)) new left done
+    ≡ GivesRefusal doc text refusal new left done)
+    × (GivesNext doc text (Ok None) new left done ≡ GivesEnd doc text new left done)
+    × (GivesNext doc text (Err Memory) new left done ≡ AreFirst doc text done)
+    × (GivesNext doc text (Err Read) new left done ≡ AreFirst doc text done)
+    × (GivesNext doc text (Err (Refused refusal)) new left done ≡ ⊥)
+    × (GivesNext doc text (Err Write) new left done ≡ ⊥)
+answers doc text refusal new left done = (refl, refl, refl, refl, refl, refl)
