@@ -1,6 +1,6 @@
 -- What is answered to a program in C of all refusals of a file: Debian Policy 5.1, 5.3 to 5.6 and
 -- 7.1. The table of refusals, and the lines, are this project's own.
-use Rattle.std.specs.Prelude.{◌≡◌, ℕ, List, [], ◌∷◌, ◌++◌, length, map, Some, codes, refl}
+use Rattle.std.specs.Prelude.{◌≡◌, ◌⊎◌, ℕ, List, [], ◌∷◌, ◌++◌, length, map, Option, None, Some, codes, refl}
 use Rattle.std.specs.List.{flat_map}
 use Rattle.deb_base.specs.Codes.{number_of}
 use Rattle.deb_base.specs.declared.code.Code.TheVariants.{NotUtf8, NoColon}
@@ -59,6 +59,16 @@ without_paths path first second doc text = (refl, refl, refl)
 
 -- ---- what is found in a file
 
+-- the answer for a file with this first refusal, if it has one, of which so many paragraphs pass
+abbrev pub answer_to_all : Option Refusal → ℕ → Answer
+answer_to_all None passed = counting 0 passed
+answer_to_all (Some first) passed = refusing_some first passed
+
+worked-answers : (answer_to_all None 3 ≡ record { status = 0; code = 0; line = 0; count = 3 })
+    × (answer_to_all (Some (record { code = NoColon; line = 7 })) 3
+    ≡ record { status = 2; code = 6; line = 7; count = 3 })
+worked-answers = (refl, refl)
+
 -- Nothing is refused: the file is accepted, and this is the answer with the number of its
 -- paragraphs.
 pub record NothingRefused (doc : Doc) (text : List ℕ) (answer : Answer) : Type 0 where
@@ -74,6 +84,20 @@ pub record SomeRefused (doc : Doc) (text : List ℕ) (answer : Answer) : Type 0 
   pub all : refusals_of doc text ≡ first ∷ more
   pub refused : refusal_of doc text ≡ Some first
   pub is : answer ≡ refusing_some first (passed_of doc text)
+
+abbrev pub AnswersAll : Doc → List ℕ → Answer → Type 0
+AnswersAll doc text answer = NothingRefused doc text answer ⊎ SomeRefused doc text answer
+
+-- These are the answer, and the rows or the lines of all refusals.
+pub record TablesFile (doc : Doc) (text : List ℕ) (answer : Answer) (rows : List RefusalRow)
+    : Type 0 where
+  pub answers : AnswersAll doc text answer
+  pub are : rows ≡ rows_of (refusals_of doc text)
+
+pub record ExplainsFile (doc : Doc) (text : List ℕ) (answer : Answer) (lines : List ℕ)
+    : Type 0 where
+  pub answers : AnswersAll doc text answer
+  pub are : lines ≡ all_lines doc text
 
 -- ---- answers
 
