@@ -193,7 +193,7 @@ pub record GivesRefusal (doc : Doc) (text : List ℕ) (refusal : Refusal) (new :
   pub given : HasGiven doc text new left (done ++ why ∷ [])
 
 -- It has given all, and the summary is that of the whole file.
-pub record GivesEnd (doc : Doc) (text : List ℕ) (new : Refusals) (left : Option (List ℕ))
+pub record GivesAll (doc : Doc) (text : List ℕ) (new : Refusals) (left : Option (List ℕ))
     (done : List WhyRefused) : Type 0 where
   pub given : HasGiven doc text new left done
   pub whys : explanations_of doc text ≡ done
@@ -205,7 +205,7 @@ pub record GivesEnd (doc : Doc) (text : List ℕ) (new : Refusals) (left : Optio
 abbrev pub GivesNext : Doc → List ℕ → Result (Option Refusal) Fault → Refusals → Option (List ℕ)
     → List WhyRefused → Type 0
 GivesNext doc text (Ok (Some refusal)) new left done = GivesRefusal doc text refusal new left done
-GivesNext doc text (Ok None) new left done = GivesEnd doc text new left done
+GivesNext doc text (Ok None) new left done = GivesAll doc text new left done
 GivesNext doc text (Err (Refused refusal)) new left done = ⊥
 GivesNext doc text (Err Memory) new left done = AreFirst doc text done
 GivesNext doc text (Err Read) new left done = AreFirst doc text done
@@ -246,7 +246,7 @@ answers : (doc : Doc) (text : List ℕ) (refusal : Refusal) (new : Refusals) (le
     (done : List WhyRefused)
     → (GivesNext doc text (Ok (Some refusal)) new left done
     ≡ GivesRefusal doc text refusal new left done)
-    × (GivesNext doc text (Ok None) new left done ≡ GivesEnd doc text new left done)
+    × (GivesNext doc text (Ok None) new left done ≡ GivesAll doc text new left done)
     × (GivesNext doc text (Err Memory) new left done ≡ AreFirst doc text done)
     × (GivesNext doc text (Err Read) new left done ≡ AreFirst doc text done)
     × (GivesNext doc text (Err (Refused refusal)) new left done ≡ ⊥)

@@ -10,7 +10,7 @@ use Rattle.deb_base.specs.declared.fault.Fault.TheVariants.{Refused, Memory, Rea
 use Rattle.deb_base.specs.declared.refusal.Refusal.{Refusal}
 use Rattle.deb_explain.specs.Explanations.{WhyRefused}
 use Rattle.deb_refusals.specs.Explained.{explained_blocks, explained_lines, explanations_of}
-use Rattle.deb_refusals.specs.Given.{GivesEnd, HasGiven}
+use Rattle.deb_refusals.specs.Given.{GivesAll, HasGiven}
 use Rattle.deb_refusals.specs.Lines.{file_lines, lines_of_refusals, passed_of, refusals_of, total_line}
 use Rattle.deb_refusals.specs.declared.refusals.Refusals.{Refusals}
 use Rattle.deb_refusals.specs.declared.summary.Summary.{Summary}
@@ -73,7 +73,7 @@ pub record HasWritten (of : WhyRefused → List ℕ) (doc : Doc) (text : List �
 pub record HasWrittenAll (of : WhyRefused → List ℕ) (doc : Doc) (text : List ℕ) (r : Refusals)
     (left : Option (List ℕ)) (old held : Option (List ℕ)) : Type 0 where
   pub done : List WhyRefused
-  pub given : GivesEnd doc text r left done
+  pub given : GivesAll doc text r left done
   pub written : Appends old held (flat_map of done)
 
 -- It was written of the first ones.
