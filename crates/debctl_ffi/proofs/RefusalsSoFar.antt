@@ -14,7 +14,7 @@ use Rattle.deb_control.proofs.DocumentRules.{document_rules}
 use Rattle.deb_control.proofs.StreamLaws.{first_is_refusal, no_refusal_is_accepted}
 use Rattle.deb_explain.specs.Explanations.{WhyRefused}
 use Rattle.deb_refusals.specs.Explained.{explanations_of, refusals_explained}
-use Rattle.deb_refusals.specs.Given.{GivesEnd, GivesRefusal, HasGiven, summary_of}
+use Rattle.deb_refusals.specs.Given.{GivesAll, GivesRefusal, HasGiven, summary_of}
 use Rattle.deb_refusals.specs.Lines.{passed_of, refusals_of, total_line}
 use Rattle.deb_refusals.specs.declared.refusals.Refusals.{Refusals}
 use Rattle.deb_refusals.proofs.Accepted.{accepted_passed}
@@ -71,8 +71,13 @@ pub record HasRows (doc : Doc) (text : List ℕ) (r : Refusals) (left : Option (
   pub first_is : first ≡ first_of (refusals_explained done)
   pub are : rows ≡ rows_of (refusals_explained done)
 
-pub no_rows : (doc : Doc) (text : List ℕ) (r : Refusals) (left : Option (List ℕ)) → HasGiven doc text r left [] → HasRows doc text r left None []
-no_rows doc text r left given = record { done = []; given = given; first_is = refl; are = refl }
+pub no_rows : (doc : Doc) (text : List ℕ) (r : Refusals) (left : Option (List ℕ)) (rows : List RefusalRow) → left ≡ Some text → rows ≡ [] → HasGiven doc text r (Some text) [] → HasRows doc text r left None rows
+no_rows doc text r left rows all empty given = record {
+  done = [];
+  given = subst (λ l. HasGiven doc text r l []) (sym all) given;
+  first_is = refl;
+  are = empty;
+}
 
 pub one_row : (doc : Doc) (text : List ℕ) (r new : Refusals) (left after : Option (List ℕ)) (first : Option Refusal) (rows : List RefusalRow) (refusal : Refusal) → (has : HasRows doc text r left first rows) → GivesRefusal doc text refusal new after has.done → HasRows doc text new after (option_or first (Some refusal)) (rows ++ row_of refusal ∷ [])
 one_row doc text r new left after first rows refusal has gives = record {
@@ -85,7 +90,7 @@ one_row doc text r new left after first rows refusal has gives = record {
       ∙ ap rows_of (explained_pushed has.done gives.why);
 }
 
-pub all_rows : (doc : Doc) (text : List ℕ) (r new : Refusals) (left after : Option (List ℕ)) (first : Option Refusal) (rows : List RefusalRow) → (has : HasRows doc text r left first rows) → GivesEnd doc text new after has.done → TablesFile doc text (answer_to_all first (summary_of new).passed) rows
+pub all_rows : (doc : Doc) (text : List ℕ) (r new : Refusals) (left after : Option (List ℕ)) (first : Option Refusal) (rows : List RefusalRow) → (has : HasRows doc text r left first rows) → GivesAll doc text new after has.done → TablesFile doc text (answer_to_all first (summary_of new).passed) rows
 all_rows doc text r new left after first rows has end = record {
   answers = answers_all doc text first (summary_of new).passed (refusals_explained has.done) end.refusals has.first_is end.passed;
   are = has.are ∙ ap rows_of (sym end.refusals);
@@ -100,8 +105,13 @@ pub record HasLines (doc : Doc) (text : List ℕ) (r : Refusals) (left : Option 
   pub first_is : first ≡ first_of (refusals_explained done)
   pub are : lines ≡ blocks_of done
 
-pub no_lines : (doc : Doc) (text : List ℕ) (r : Refusals) (left : Option (List ℕ)) → HasGiven doc text r left [] → HasLines doc text r left None []
-no_lines doc text r left given = record { done = []; given = given; first_is = refl; are = refl }
+pub no_lines : (doc : Doc) (text : List ℕ) (r : Refusals) (left : Option (List ℕ)) (lines : List ℕ) → left ≡ Some text → lines ≡ [] → HasGiven doc text r (Some text) [] → HasLines doc text r left None lines
+no_lines doc text r left lines all empty given = record {
+  done = [];
+  given = subst (λ l. HasGiven doc text r l []) (sym all) given;
+  first_is = refl;
+  are = empty;
+}
 
 pub one_block : (doc : Doc) (text : List ℕ) (r new : Refusals) (left after : Option (List ℕ)) (first : Option Refusal) (lines more : List ℕ) (refusal : Refusal) → (has : HasLines doc text r left first lines) → (gives : GivesRefusal doc text refusal new after has.done) → more ≡ lines ++ block_lines gives.why → HasLines doc text new after (option_or first (Some refusal)) more
 one_block doc text r new left after first lines more refusal has gives pushed = record {
@@ -113,17 +123,33 @@ one_block doc text r new left after first lines more refusal has gives pushed = 
       ∙ sym (flat_map-append block_lines has.done (gives.why ∷ []));
 }
 
-pub all_blocks : (doc : Doc) (text : List ℕ) (r new : Refusals) (left after : Option (List ℕ)) (first : Option Refusal) (lines more : List ℕ) → (has : HasLines doc text r left first lines) → GivesEnd doc text new after has.done → more ≡ lines ++ total_line (summary_of new).passed (summary_of new).refused → ExplainsFile doc text (answer_to_all first (summary_of new).passed) more
-all_blocks doc text r new left after first lines more has end pushed = record {
-  answers = answers_all doc text first (summary_of new).passed (refusals_explained has.done) end.refusals has.first_is end.passed;
-  are = pushed ∙ ap (λ l. l ++ total_line (summary_of new).passed (summary_of new).refused) (has.are ∙ ap blocks_of (sym end.whys))
-      ∙ ap (λ n. blocks_of (explanations_of doc text) ++ total_line n (summary_of new).refused) end.passed
-      ∙ ap (λ n. blocks_of (explanations_of doc text) ++ total_line (passed_of doc text) n) end.refused;
-}
+counted : (first : Option Refusal) (passed : ℕ) → (answer_to_all first passed).count ≡ passed
+counted None passed = refl
+counted (Some refusal) passed = refl
+
+none_given : (done : List WhyRefused) → refusals_explained done ≡ [] → done ≡ []
+none_given [] none = refl
+none_given (why ∷ more) none = absurd cc
+
+pub all_blocks : (doc : Doc) (text : List ℕ) (r new : Refusals) (left after : Option (List ℕ)) (first : Option Refusal) (lines more : List ℕ) → (has : HasLines doc text r left first lines) → GivesAll doc text new after has.done → more ≡ lines ++ total_line (summary_of new).passed (summary_of new).refused → ExplainsFile doc text (answer_to_all first (summary_of new).passed) more
+all_blocks doc text r new left after first lines more has end pushed =
+    let all = pushed ∙ ap (λ l. l ++ total_line (summary_of new).passed (summary_of new).refused) has.are in
+    let last : blocks_of has.done ++ total_line (summary_of new).passed (summary_of new).refused ≡ blocks_of has.done ++ total_line (summary_of new).passed (length (refusals_of doc text)) = ap (λ n. blocks_of has.done ++ total_line (summary_of new).passed n) end.refused in
+    record {
+      answers = answers_all doc text first (summary_of new).passed (refusals_explained has.done) end.refusals has.first_is end.passed;
+      are = all ∙ last
+          ∙ ap (λ l. l ++ total_line (summary_of new).passed (length (refusals_of doc text))) (ap blocks_of (sym end.whys))
+          ∙ ap (λ n. blocks_of (explanations_of doc text) ++ total_line n (length (refusals_of doc text))) end.passed;
+      alone = λ none.
+          all ∙ last
+          ∙ ap (λ d. blocks_of d ++ total_line (summary_of new).passed (length (refusals_of doc text))) (none_given has.done (sym end.refusals ∙ none))
+          ∙ ap (λ r. total_line (summary_of new).passed (length r)) none
+          ∙ ap (λ n. total_line n 0) (sym (counted first (summary_of new).passed));
+    }
 
 -- ---- the refusal that was given last
 
-last_in : {A : Type 0} → List A → A → A
+abbrev last_in : {A : Type 0} → List A → A → A
 last_in [] one = one
 last_in (first ∷ more) one = last_in more first
 

@@ -88,7 +88,8 @@ pub record SomeRefused (doc : Doc) (text : List ℕ) (answer : Answer) : Type 0 
 abbrev pub AnswersAll : Doc → List ℕ → Answer → Type 0
 AnswersAll doc text answer = NothingRefused doc text answer ⊎ SomeRefused doc text answer
 
--- These are the answer, and the rows or the lines of all refusals.
+-- These are the answer, and the rows or the lines of all refusals; without a refusal there is the
+-- last line alone.
 pub record TablesFile (doc : Doc) (text : List ℕ) (answer : Answer) (rows : List RefusalRow)
     : Type 0 where
   pub answers : AnswersAll doc text answer
@@ -98,6 +99,7 @@ pub record ExplainsFile (doc : Doc) (text : List ℕ) (answer : Answer) (lines :
     : Type 0 where
   pub answers : AnswersAll doc text answer
   pub are : lines ≡ all_lines doc text
+  pub alone : refusals_of doc text ≡ [] → lines ≡ total_line answer.count 0
 
 -- ---- answers
 

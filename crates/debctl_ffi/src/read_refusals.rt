@@ -1,6 +1,6 @@
 //! Reads all refusals of a file in memory.
 
-ghost use Rattle.std.specs.Prelude.{◌≡◌, ◌++◌, ◌∷◌, [], ℕ, List, None, Ok, Option, Some, IfErr, IfOk, OnOk};
+ghost use Rattle.std.specs.Prelude.{◌≡◌, ◌++◌, ◌∷◌, [], ℕ, List, None, Ok, Option, Some, IfErr, IfOk, IsSome, OnOk};
 ghost use Rattle.deb_base.specs.Devices.{read_failures_after};
 ghost use Rattle.deb_base.specs.Reading.{IsMemoryOrRead};
 ghost use Rattle.deb_explain.specs.Explanations.{WhyRefused};
