@@ -41,8 +41,7 @@ kept first done why refusal is same =
 
 nothing_refused : (doc : Doc) (text : List ℕ) (passed : ℕ) → refusals_of doc text ≡ [] → passed ≡ passed_of doc text → NothingRefused doc text (counting 0 passed)
 nothing_refused doc text passed none total =
-    let law = λ doc. refused_or_accepted ValueMeaning (SpellsValue doc) value_text (value_law doc) (rules_of doc) (document_rules doc) in
-    let found = (no_refusal_is_accepted law doc text).0 none in
+    let found = (no_refusal_is_accepted (λ doc. refused_or_accepted ValueMeaning (SpellsValue doc) value_text (value_law doc) (rules_of doc) (document_rules doc)) doc text).0 none in
     record {
       none = none;
       has = record { meaning = found.0; accepted = found.1; count = sym (accepted_passed doc text found.0 found.1) ∙ sym total };
