@@ -2,3 +2,8 @@ pub mod Steps
 pub mod NoLines
 pub mod Singles
 pub mod Accepted
+pub mod Telling
+pub mod Counts
+pub mod Firsts
+pub mod Giving
+pub mod Writing

@@ -1,5 +1,5 @@
 -- What a reader of refusals has given of a file, and what is left of it. Debian Policy 5.1.
-use Rattle.std.specs.Prelude.{◌≡◌, ℕ, ◌+◌, Bool, true, false, not, is_some, List, [], ◌∷◌, ◌++◌, length, Option, None, Some, IfSome, Result, Ok, Err, refl}
+use Rattle.std.specs.Prelude.{◌≡◌, ℕ, ◌+◌, Bool, true, List, [], ◌∷◌, ◌++◌, length, Option, None, Some, IfSome, Result, Ok, Err, refl}
 use Rattle.deb_base.specs.Docs.{is_single}
 use Rattle.deb_base.specs.Reading.{IsMemoryOrRead, TakesNoMore}
 use Rattle.deb_base.specs.declared.doc.Doc.{Doc}
@@ -9,7 +9,7 @@ use Rattle.deb_base.specs.declared.refusal.Refusal.{Refusal}
 use Rattle.deb_syntax.specs.Judged.{line_judged}
 use Rattle.deb_syntax.specs.Lines.{Paragraph, file_limit}
 use Rattle.deb_syntax.specs.Meaning.{Entries}
-use Rattle.deb_control.specs.Checking.{CheckedState, FitsChecked}
+use Rattle.deb_control.specs.Checking.{CheckedState, FitsChecked, Follow}
 use Rattle.deb_control.specs.CheckedStates.{checked_state, doc_read, lines_checked}
 use Rattle.deb_control.specs.Documents.{rules_of}
 use Rattle.deb_control.specs.Refusals.{next_checked}
@@ -20,6 +20,7 @@ use Rattle.deb_control.specs.declared.checked.Checked.{Checked}
 use Rattle.deb_explain.specs.Explanations.{WhyRefused, explain_refusal, explanation_of}
 use Rattle.deb_refusals.specs.Explained.{explained_stream, explanations_of, refusals_explained}
 use Rattle.deb_refusals.specs.Lines.{passed_among, passed_of, refusals_of}
+use Rattle.deb_refusals.specs.Positions.{fault_at, is_end, refusal_at}
 use Rattle.deb_refusals.specs.declared.refusals.Position.{Position}
 use Rattle.deb_refusals.specs.declared.refusals.Position.TheVariants.{Start, At, End, Failed}
 use Rattle.deb_refusals.specs.declared.refusals.Refusals.{Refusals}
@@ -31,54 +32,16 @@ abbrev pub summary_of : Refusals → Summary
 summary_of r = r.summary
 
 -- the refusal that it gave last, where it hasn't gone on since
-abbrev pub refusal_at : Position → Option Refusal
-refusal_at Start = None
-refusal_at (At refusal) = Some refusal
-refusal_at End = None
-refusal_at (Failed fault) = None
-
 abbrev pub given_last : Refusals → Option Refusal
 given_last r = refusal_at r.position
 
 -- the error that it gave
-abbrev pub fault_at : Position → Option Fault
-fault_at Start = None
-fault_at (At refusal) = None
-fault_at End = None
-fault_at (Failed fault) = Some fault
-
 abbrev pub failure_of : Refusals → Option Fault
 failure_of r = fault_at r.position
 
 -- whether it told that no further refusal follows
-abbrev pub is_end : Position → Bool
-is_end Start = false
-is_end (At refusal) = false
-is_end End = true
-is_end (Failed fault) = false
-
 abbrev pub has_ended : Refusals → Bool
 has_ended r = is_end r.position
-
--- whether a fault is out of memory, or a failed read
-abbrev pub is_of_reading : Fault → Bool
-is_of_reading (Refused refusal) = false
-is_of_reading Memory = true
-is_of_reading Read = true
-is_of_reading Write = false
-
--- whether its reader of checked paragraphs has no error at the start, and its own is one of reading
-abbrev pub is_sound_at : Position → Option Fault → Bool
-is_sound_at Start inside = not (is_some inside)
-is_sound_at (At refusal) inside = true
-is_sound_at End inside = true
-is_sound_at (Failed fault) inside = is_of_reading fault
-
--- where an answer leaves it
-abbrev pub position_after : Result (Option Refusal) Fault → Position
-position_after (Ok (Some refusal)) = At refusal
-position_after (Ok None) = End
-position_after (Err fault) = Failed fault
 
 -- ---- what it has given of a file
 
@@ -100,35 +63,41 @@ abbrev pub explanations_from : Doc → List ℕ → List ℕ → List Entries �
 explanations_from doc file text before =
     explained_stream doc (explanation_of doc file) (stream_from (rules_of doc) text before)
 
--- The first runs of the file's lines were checked, so many paragraphs passed, and the refusals were
--- these. What is left is the stream of another text, which fits behind those paragraphs and has as
--- many bytes.
-pub record Awaits (doc : Doc) (text : List ℕ) (state : CheckedState) (left : Option (List ℕ))
-    (passed : ℕ) (done : List WhyRefused) : Type 0 where
-  pub other : List ℕ
-  pub before : List Entries
-  pub fits : FitsChecked doc other before state left
+-- Behind these paragraphs of a text of as many bytes, its stream is what is left of the file: so many
+-- paragraphs passed before it, and the refusals before it were these.
+pub record Remains (doc : Doc) (text other : List ℕ) (before : List Entries) (passed : ℕ)
+    (done : List WhyRefused) : Type 0 where
   pub bytes : length other ≡ length text
   pub single : is_single doc ≡ true → other ≡ text
+  pub follow : Follow (rules_of doc) other [] before
   pub whys : explanations_of doc text ≡ done ++ explanations_from doc text other before
   pub total : passed_of doc text
       ≡ passed + passed_among (stream_from (rules_of doc) other before).items
   pub counted : passed ≡ length before
 
--- The reader of checked paragraphs has refused the next run for this, and shows its lines and
--- fields; where it can go on, that is with another text. `before` are the refusals before it.
+-- The reader of checked paragraphs goes on there.
+pub record Awaits (doc : Doc) (text : List ℕ) (state : CheckedState) (left : Option (List ℕ))
+    (passed : ℕ) (done : List WhyRefused) : Type 0 where
+  pub other : List ℕ
+  pub before : List Entries
+  pub fits : FitsChecked doc other before state left
+  pub remains : Remains doc text other before passed done
+
+-- The next run there is refused for this. The reader of checked paragraphs shows its lines and
+-- fields; where it can go on, that is with another text. The refusals before it were `front`.
 pub record StandsAt (doc : Doc) (text : List ℕ) (refusal : Refusal) (state : CheckedState)
     (lines : Option Paragraph) (left : Option (List ℕ)) (passed : ℕ)
     (done : List WhyRefused) : Type 0 where
   pub front : List WhyRefused
-  pub awaits : Awaits doc text state left passed front
-  pub refused : next_checked (rules_of doc) awaits.other awaits.before ≡ Err refusal
+  pub other : List ℕ
+  pub before : List Entries
+  pub remains : Remains doc text other before passed front
+  pub refused : next_checked (rules_of doc) other before ≡ Err refusal
   pub fault : state.fault ≡ Some (Refused refusal)
-  pub seen : state.reader.current ≡ seen_behind (rules_of doc) awaits.other awaits.before
-  pub shown : lines ≡ lines_behind (rules_of doc) awaits.other awaits.before
-  pub without : IfSome lines (λ p. FitsWithout doc awaits.other awaits.before p state left)
-  pub is : done
-      ≡ front ++ why_next_refused doc awaits.other awaits.before refusal ∷ []
+  pub seen : state.reader.current ≡ seen_behind (rules_of doc) other before
+  pub shown : lines ≡ lines_behind (rules_of doc) other before
+  pub without : IfSome lines (λ p. FitsWithout doc other before p state left)
+  pub is : done ≡ front ++ why_next_refused doc other before refusal ∷ []
 
 -- All refusals were given.
 pub record HasAll (doc : Doc) (text : List ℕ) (passed : ℕ) (done : List WhyRefused)
@@ -215,28 +184,6 @@ GivesNext doc text (Err Write) new left done = ⊥
 pub record IsLastOf (why : WhyRefused) (done : List WhyRefused) : Type 0 where
   pub front : List WhyRefused
   pub is : done ≡ front ++ why ∷ []
-
-positions : (refusal : Refusal) (fault : Fault)
-    → (refusal_at (At refusal) ≡ Some refusal) × (refusal_at Start ≡ None)
-    × (refusal_at End ≡ None) × (refusal_at (Failed fault) ≡ None)
-    × (fault_at (Failed fault) ≡ Some fault) × (fault_at Start ≡ None)
-    × (fault_at (At refusal) ≡ None) × (fault_at End ≡ None)
-    × (is_end End ≡ true) × (is_end Start ≡ false) × (is_end (At refusal) ≡ false)
-    × (is_end (Failed fault) ≡ false)
-positions refusal fault = (refl, refl, refl, refl, refl, refl, refl, refl, refl, refl, refl, refl)
-
-sound_positions : (refusal : Refusal) (inside : Option Fault)
-    → (is_sound_at Start None ≡ true) × (is_sound_at Start (Some Memory) ≡ false)
-    × (is_sound_at (At refusal) inside ≡ true) × (is_sound_at End inside ≡ true)
-    × (is_sound_at (Failed Memory) inside ≡ true) × (is_sound_at (Failed Read) inside ≡ true)
-    × (is_sound_at (Failed Write) inside ≡ false)
-    × (is_sound_at (Failed (Refused refusal)) inside ≡ false)
-sound_positions refusal inside = (refl, refl, refl, refl, refl, refl, refl, refl)
-
-positions_after : (refusal : Refusal) (fault : Fault)
-    → (position_after (Ok (Some refusal)) ≡ At refusal) × (position_after (Ok None) ≡ End)
-    × (position_after (Err fault) ≡ Failed fault)
-positions_after refusal fault = (refl, refl, refl)
 
 parts_shown : (r : Refusals) → (summary_of r ≡ r.summary) × (given_last r ≡ refusal_at r.position)
     × (failure_of r ≡ fault_at r.position) × (has_ended r ≡ is_end r.position)

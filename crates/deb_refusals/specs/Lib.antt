@@ -1,5 +1,6 @@
 pub mod Lines
 pub mod Explained
+pub mod Positions
 pub mod Given
 pub mod Written
 pub mod Laws

@@ -12,6 +12,7 @@
 
 mod checking;
 mod explaining;
+mod finding;
 pub mod laws;
 mod refusals;
 mod summary;

@@ -30,7 +30,7 @@ returns-in-Err-Refused-clause-refused g c = λ text left.
     let checks = goes_on _ _ _ _ c.loop-count.invariant.fault passes.checks in
     is_explanation c.args.doc text has.before _ (checked_state c.advance.new.self) _ _ c.in-Err-Refused.refusal _ (lines_checked c.advance.new.self) _ _ has.fits (checks.answers text has.before has.fits) (checks.refused text has.before has.fits)
     (without_error _ _ c.loop-count.invariant.fault lines text has.before has.fits)
-    (failed_on _ _ _ _ c.loop-count.invariant.fault passes.checks) c.in-Err-Refused.refusal-is c.in_ok-told-in-Err-Refused.ensures c.line-line.ensures c.refused.ensures
+    (failed_on _ _ _ _ c.loop-count.invariant.fault passes.checks) c.in-Err-Refused.refusal-is c.in_ok-told-in-Err-Refused.ensures.explains c.line-line.ensures c.refused.ensures
 
 pub loop-count-preserved : goal.loop-count-preserved
 loop-count-preserved g c =

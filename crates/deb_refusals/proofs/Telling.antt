@@ -1,0 +1,226 @@
+-- What a refusal of a stream is about is what is told of the paragraph behind those that pass.
+use Rattle.std.proofs.Common.{◌≡◌, ◌==◌, ◌&&◌, ◌||◌, ℕ, ◌++◌, Bool, true, false, not, cond, List, [], ◌∷◌, length, drop, nat_le, Option, None, Some, Result, Ok, Err, refl, sym, ap, ◌∙◌, subst, is_some}
+use Rattle.std.specs.Prelude.{slice_get}
+use Rattle.deb_base.specs.Bodies.{Line, paragraph_limit}
+use Rattle.deb_base.specs.Codes.{number_of}
+use Rattle.deb_base.specs.Docs.{is_single}
+use Rattle.deb_base.specs.declared.code.Code.{Code}
+use Rattle.deb_base.specs.declared.code.Code.TheVariants as code
+use Rattle.deb_base.specs.declared.doc.Doc.{Doc}
+use Rattle.deb_base.specs.declared.fault.Fault.TheVariants.{Refused}
+use Rattle.deb_base.specs.declared.refusal.Refusal.{Refusal}
+use Rattle.deb_syntax.specs.Answers.{Seen, answer_of_first, is_line, line_beyond, line_too_long, next_answer, paragraph_answer, paragraphs_within, seen_from}
+use Rattle.deb_syntax.specs.Judged.{judged_by, line_judged}
+use Rattle.deb_syntax.specs.Judging.{judged}
+use Rattle.deb_syntax.specs.Lines.{Paragraph, file_limit}
+use Rattle.deb_syntax.specs.Meaning.{Entries}
+use Rattle.deb_syntax.specs.Resuming.{IsWithout}
+use Rattle.deb_control.specs.Checking.{Follow}
+use Rattle.deb_control.specs.Documents.{rules_of}
+use Rattle.deb_control.specs.Refusals.{has_some, line_behind, next_checked}
+use Rattle.deb_control.specs.Refused.{lines_behind, seen_behind, seen_in}
+use Rattle.deb_control.specs.Resuming.{refuses_paragraph, resumes}
+use Rattle.deb_control.specs.Streams.{ended_by, is_end_under, item_of, stream_behind_under, with_item}
+use Rattle.deb_control.proofs.FollowedParagraphs.{outcome-from_refusal}
+use Rattle.deb_control.proofs.StreamLaws.{refused_is_left_out}
+use Rattle.deb_explain.specs.Explanations.{WhyRefused, explain_refusal, explanation_in, explanation_of}
+use Rattle.deb_explain.specs.Subjects.{About, AboutWhole, about_topic, topic_of}
+use Rattle.deb_explain.specs.declared.topic.Topic.{Topic}
+use Rattle.deb_explain.specs.declared.topic.Topic.TheVariants as topics
+use Rattle.deb_refusals.specs.Explained.{explained_at_end, explained_once, explained_stream, whole_refused, why_run_refused}
+use Rattle.deb_refusals.specs.Given.{explanations_from, why_next_refused}
+use Rattle.deb_refusals.proofs.Steps.{behind_seam, ends_the_stream, goes_on_within, judged_are_short, lines_are, next_is, refused_stream, slice_get-drop, stream_is}
+
+-- ---- a refusal of a file as a whole
+
+none_about : (topic : Topic) (doc : Doc) (refusal : Refusal) → about_topic topic doc None refusal None ≡ AboutWhole
+none_about topics.Whole doc refusal = refl
+none_about topics.Line doc refusal = refl
+none_about topics.Name doc refusal = refl
+none_about topics.Missing doc refusal = refl
+none_about topics.Value doc refusal = refl
+
+ninth_topic : (c : Code) → (number_of c == 9) ≡ true → topic_of c ≡ topics.Whole
+ninth_topic code.NotUtf8 is = absurd cc
+ninth_topic code.Armour is = absurd cc
+ninth_topic code.Comment is = absurd cc
+ninth_topic code.StrayContinuation is = absurd cc
+ninth_topic code.BadFieldName is = absurd cc
+ninth_topic code.NoColon is = absurd cc
+ninth_topic code.DuplicateField is = absurd cc
+ninth_topic code.ParagraphTooLong is = refl
+ninth_topic code.FileTooLong is = refl
+ninth_topic code.NoParagraph is = refl
+ninth_topic code.TooManyParagraphs is = refl
+ninth_topic code.MissingField is = absurd cc
+ninth_topic code.NotOneLine is = absurd cc
+ninth_topic code.BadName is = absurd cc
+ninth_topic code.BadNumber is = absurd cc
+ninth_topic code.BadWord is = absurd cc
+ninth_topic code.BadArchitecture is = absurd cc
+ninth_topic code.BadVersion is = absurd cc
+ninth_topic code.BadRelation is = absurd cc
+ninth_topic code.AlternativesNotAllowed is = absurd cc
+ninth_topic code.ProvidesBound is = absurd cc
+ninth_topic code.Wildcard is = refl
+ninth_topic code.BadEnvironment is = refl
+
+whole_if_none : (doc : Doc) (refusal : Refusal) → explain_refusal doc refusal None None ≡ whole_refused refusal
+whole_if_none doc refusal = ap (λ about. record { refusal = refusal; about = about }) (none_about (topic_of refusal.code) doc refusal)
+
+whole_if_ninth : (doc : Doc) (refusal : Refusal) (line : Option Line) (seen : Option Seen) → (number_of refusal.code == 9) ≡ true → explain_refusal doc refusal line seen ≡ whole_refused refusal
+whole_if_ninth doc refusal line seen ninth = ap (λ topic. record { refusal = refusal; about = about_topic topic doc line refusal seen }) (ninth_topic refusal.code ninth)
+
+-- ---- a run of lines that is refused
+
+module _ (doc : Doc) (text : List ℕ) (before : List Entries) (several : is_single doc ≡ false) where
+  seen_is : seen_behind (rules_of doc) text before ≡ seen_in (next_answer text (length before))
+  seen_is = ap (λ t. cond (t && has_some before) None (seen_in (next_answer text (length before)))) several
+
+  judged_is : lines_behind (rules_of doc) text before ≡ judged_by (next_answer text (length before)) (slice_get (paragraphs_within text) (length before))
+  judged_is = ap (λ t. cond (t && has_some before) None (judged_by (next_answer text (length before)) (slice_get (paragraphs_within text) (length before)))) several
+
+  -- behind the last paragraph nothing is seen
+  none_at_end : drop (length before) (paragraphs_within text) ≡ [] → (seen_in (next_answer text (length before)) ≡ None)
+  none_at_end here = ap (λ left. seen_in (answer_of_first (line_beyond 1 file_limit text) left)) here ∙ go (line_beyond 1 file_limit text)
+    where
+      go : (o : Option ℕ) → seen_in (answer_of_first o []) ≡ None
+      go None = refl
+      go (Some line) = refl
+
+  none_judged_at_end : drop (length before) (paragraphs_within text) ≡ [] → lines_behind (rules_of doc) text before ≡ None
+  none_judged_at_end here = judged_is ∙ ap (λ left. judged_by (answer_of_first (line_beyond 1 file_limit text) left) (slice_get (paragraphs_within text) (length before))) here ∙ go (line_beyond 1 file_limit text)
+    where
+      go : (o : Option ℕ) → judged_by (answer_of_first o []) (slice_get (paragraphs_within text) (length before)) ≡ None
+      go None = refl
+      go (Some line) = refl
+
+  module _ (p : Paragraph) (more : List Paragraph) (here : drop (length before) (paragraphs_within text) ≡ p ∷ more) where
+    abbrev beyond : Option ℕ
+    beyond = line_beyond 1 file_limit text
+
+    abbrev long : Option ℕ
+    long = line_too_long p.first paragraph_limit p.lines
+
+    -- where no lines are judged, nothing is seen
+    none_seen : lines_behind (rules_of doc) text before ≡ None → seen_behind (rules_of doc) text before ≡ None
+    none_seen none = seen_is ∙ ap seen_in (next_is doc text before p more here several) ∙ go (paragraph_answer long beyond p) (sym (lines_are doc text before p more here several) ∙ none)
+      where
+        go : (a : Result (Option Seen) Refusal) → judged_by a (Some p) ≡ None → seen_in a ≡ None
+        go (Ok None) is = refl
+        go (Ok (Some seen)) is = absurd cc
+        go (Err refusal) is = refl
+
+    -- the lines that are judged are those of the paragraph
+    judged_same : (last : Paragraph) → lines_behind (rules_of doc) text before ≡ Some last → last ≡ p
+    judged_same last is = go (paragraph_answer long beyond p) (sym (lines_are doc text before p more here several) ∙ is)
+      where
+        either : (t : Bool) → cond t (Some p) None ≡ Some last → last ≡ p
+        either true is = cc
+        either false is = absurd cc
+
+        go : (a : Result (Option Seen) Refusal) → judged_by a (Some p) ≡ Some last → last ≡ p
+        go (Ok None) is = absurd cc
+        go (Ok (Some seen)) is = cc
+        go (Err refusal) is = either (nat_le (number_of refusal.code) 7) is
+
+    -- where they are, what is seen is what is judged of them
+    seen_of_run : lines_behind (rules_of doc) text before ≡ Some p → seen_behind (rules_of doc) text before ≡ seen_in (seen_from p.first (judged p.first p.lines))
+    seen_of_run is =
+        let short = judged_are_short doc text before p more here several p is in
+        seen_is ∙ ap seen_in (next_is doc text before p more here several ∙ ap (λ o. paragraph_answer o beyond p) short)
+        ∙ go (is_line (p.first + length p.lines) beyond) (sym (lines_are doc text before p more here several ∙ ap (λ o. judged_by (paragraph_answer o beyond p) (Some p)) short) ∙ is)
+      where
+        go : (t : Bool) → judged_by (cond t (Err (record { code = code.FileTooLong; line = p.first + length p.lines })) (seen_from p.first (judged p.first p.lines))) (Some p) ≡ Some p → seen_in (cond t (Err (record { code = code.FileTooLong; line = p.first + length p.lines })) (seen_from p.first (judged p.first p.lines))) ≡ seen_in (seen_from p.first (judged p.first p.lines))
+        go true e = absurd cc
+        go false e = refl
+
+    why_of_run : (refusal : Refusal) → lines_behind (rules_of doc) text before ≡ Some p → why_next_refused doc text before refusal ≡ why_run_refused doc p refusal
+    why_of_run refusal is =
+        ap (λ last. explain_refusal doc refusal (line_judged refusal.line last) (seen_behind (rules_of doc) text before)) is
+        ∙ ap (explain_refusal doc refusal (line_judged refusal.line (Some p))) (seen_of_run is)
+
+  -- where no lines are judged, nothing is seen
+  nothing_seen : lines_behind (rules_of doc) text before ≡ None → seen_behind (rules_of doc) text before ≡ None
+  nothing_seen none = go (drop (length before) (paragraphs_within text)) refl
+    where
+      go : (left : List Paragraph) → drop (length before) (paragraphs_within text) ≡ left → seen_behind (rules_of doc) text before ≡ None
+      go [] here = seen_is ∙ none_at_end here
+      go (p ∷ more) here = none_seen p more here none
+
+  -- a refusal after which the reader doesn't go on is about the file as a whole
+  why_at_end : (refusal : Refusal) → resumes doc (Some (Refused refusal)) (lines_behind (rules_of doc) text before) ≡ false → why_next_refused doc text before refusal ≡ whole_refused refusal
+  why_at_end refusal stays = go (lines_behind (rules_of doc) text before) refl (sym (ap (λ s. not s && refuses_paragraph (Some (Refused refusal)) (lines_behind (rules_of doc) text before)) several) ∙ stays)
+    where
+      ninth : (t : Bool) → not t ≡ false → t ≡ true
+      ninth true h = refl
+      ninth false h = absurd cc
+
+      go : (last : Option Paragraph) → lines_behind (rules_of doc) text before ≡ last → refuses_paragraph (Some (Refused refusal)) (lines_behind (rules_of doc) text before) ≡ false → why_next_refused doc text before refusal ≡ whole_refused refusal
+      go None is h =
+          ap (λ last. explain_refusal doc refusal (line_judged refusal.line last) (seen_behind (rules_of doc) text before)) is
+          ∙ ap (explain_refusal doc refusal None) (nothing_seen is)
+          ∙ whole_if_none doc refusal
+      go (Some p) is h = whole_if_ninth doc refusal _ _ (ninth (number_of refusal.code == 9) (sym (ap (refuses_paragraph (Some (Refused refusal))) is) ∙ h))
+
+-- ---- the stream of a text, as part of a file
+
+-- The file is explained by the paragraph behind those that pass.
+pub explained_by_next : (doc : Doc) (text : List ℕ) (before : List Entries) (refusal : Refusal) → Follow (rules_of doc) text [] before → next_checked (rules_of doc) text before ≡ Err refusal → explanation_of doc text ≡ Some (why_next_refused doc text before refusal)
+explained_by_next doc text before refusal follow refused = ap (explanation_in (rules_of doc) (explain_refusal doc) text) (outcome-from_refusal (rules_of doc) text before refusal follow refused)
+
+-- A refusal after which the reader doesn't go on is the last one.
+pub explained_last : (doc : Doc) (file text : List ℕ) (before : List Entries) (refusal : Refusal) → (is_single doc ≡ true → text ≡ file) → Follow (rules_of doc) text [] before → next_checked (rules_of doc) text before ≡ Err refusal → resumes doc (Some (Refused refusal)) (lines_behind (rules_of doc) text before) ≡ false → explanations_from doc file text before ≡ why_next_refused doc text before refusal ∷ []
+explained_last doc file text before refusal single follow refused stays =
+    ap (explained_stream doc (explanation_of doc file)) (ends_the_stream doc text before refusal refused stays) ∙ go (is_single doc) refl
+  where
+    go : (s : Bool) → is_single doc ≡ s → explained_at_end (is_single doc) (explanation_of doc file) (Some refusal) ≡ why_next_refused doc text before refusal ∷ []
+    go true is =
+        ap (λ s. explained_at_end s (explanation_of doc file) (Some refusal)) is
+        ∙ ap (λ t. explained_once (explanation_of doc t)) (sym (single is))
+        ∙ ap explained_once (explained_by_next doc text before refusal follow refused)
+    go false is =
+        ap (λ s. explained_at_end s (explanation_of doc file) (Some refusal)) is
+        ∙ ap (λ why. why ∷ []) (sym (why_at_end doc text before is refusal stays))
+
+-- the reader doesn't go on where one paragraph is asked for
+pub several_if_goes : (doc : Doc) (refusal : Refusal) (last : Option Paragraph) → resumes doc (Some (Refused refusal)) last ≡ true → is_single doc ≡ false
+several_if_goes doc refusal last goes = go (is_single doc) refl
+  where
+    go : (s : Bool) → is_single doc ≡ s → is_single doc ≡ false
+    go false is = is
+    go true is = let e : false ≡ true = sym (ap (λ s. not s && refuses_paragraph (Some (Refused refusal)) last) is) ∙ goes in absurd cc
+
+-- After another one the text without the run follows.
+pub explained_refused : (doc : Doc) (file text : List ℕ) (before : List Entries) (p : Paragraph) (other : List ℕ) (refusal : Refusal) → IsWithout text (length before) p other → next_checked (rules_of doc) text before ≡ Err refusal → lines_behind (rules_of doc) text before ≡ Some p → resumes doc (Some (Refused refusal)) (Some p) ≡ true → explanations_from doc file text before ≡ why_next_refused doc text before refusal ∷ explanations_from doc file other before
+explained_refused doc file text before p other refusal w refused lines goes =
+    let here = behind_seam text (length before) p other w in
+    let several = several_if_goes doc refusal (Some p) goes in
+    ap (explained_stream doc (explanation_of doc file)) (refused_is_left_out doc text before p other refusal w refused (goes_on_within doc text before p w.more refusal here lines goes))
+    ∙ ap (λ why. why ∷ explanations_from doc file other before) (sym (why_of_run doc text before several p w.more here refusal lines))
+
+-- A refusal is the next one of the stream, whether or not it is the last.
+pub explained_next : (doc : Doc) (file text : List ℕ) (before : List Entries) (refusal : Refusal) → (is_single doc ≡ true → text ≡ file) → Follow (rules_of doc) text [] before → next_checked (rules_of doc) text before ≡ Err refusal → (more : List WhyRefused) × (explanations_from doc file text before ≡ why_next_refused doc text before refusal ∷ more)
+explained_next doc file text before refusal single follow refused = go (resumes doc (Some (Refused refusal)) (lines_behind (rules_of doc) text before)) refl
+  where
+    on : (last : Option Paragraph) → lines_behind (rules_of doc) text before ≡ last → is_single doc ≡ false → (left : List Paragraph) → drop (length before) (paragraphs_within text) ≡ left → resumes doc (Some (Refused refusal)) last ≡ true → (more : List WhyRefused) × (explanations_from doc file text before ≡ why_next_refused doc text before refusal ∷ more)
+    on None is several left here goes = let e : false ≡ true = sym (ap (λ s. not s && false) several) ∙ goes in absurd cc
+    on (Some last) is several [] here goes = let e : None ≡ Some last = sym (none_judged_at_end doc text before several here) ∙ is in absurd cc
+    on (Some last) is several (p ∷ more) here goes =
+        let same = judged_same doc text before several p more here last is in
+        let lines = is ∙ ap Some same in
+        let goes_on = goes_on_within doc text before p more refusal here lines (subst (λ q. resumes doc (Some (Refused refusal)) (Some q) ≡ true) same goes) in
+        within p more here lines goes_on several
+      where
+        within : (p : Paragraph) (more : List Paragraph) → drop (length before) (paragraphs_within text) ≡ p ∷ more → lines_behind (rules_of doc) text before ≡ Some p → is_end_under paragraph_limit (rules_of doc) p refusal ≡ false → is_single doc ≡ false → (more : List WhyRefused) × (explanations_from doc file text before ≡ why_next_refused doc text before refusal ∷ more)
+        unfolding refused_stream
+        within p more here lines goes_on several =
+            let behind = stream_behind_under paragraph_limit file_limit (rules_of doc) (line_beyond 1 file_limit text) (line_behind text) before more in (
+              explained_stream doc (explanation_of doc file) behind,
+              ap (explained_stream doc (explanation_of doc file)) (stream_is (rules_of doc) text before p more refusal here refused ∙ ap (λ t. cond t (ended_by (Some refusal)) (with_item (item_of p (Err refusal)) behind)) goes_on)
+                  ∙ ap (λ why. why ∷ explained_stream doc (explanation_of doc file) behind) (sym (why_of_run doc text before several p more here refusal lines)),
+            )
+
+    go : (t : Bool) → resumes doc (Some (Refused refusal)) (lines_behind (rules_of doc) text before) ≡ t → (more : List WhyRefused) × (explanations_from doc file text before ≡ why_next_refused doc text before refusal ∷ more)
+    go false stays = ([], explained_last doc file text before refusal single follow refused stays)
+    go true goes = on (lines_behind (rules_of doc) text before) refl (several_if_goes doc refusal _ goes) (drop (length before) (paragraphs_within text)) refl goes
