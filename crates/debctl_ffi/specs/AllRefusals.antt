@@ -1,14 +1,21 @@
 -- What is answered to a program in C of all refusals of a file: Debian Policy 5.1, 5.3 to 5.6 and
 -- 7.1. The table of refusals, and the lines, are this project's own.
 use Rattle.std.specs.Prelude.{◌≡◌, ◌⊎◌, ℕ, List, [], ◌∷◌, ◌++◌, length, map, Option, None, Some, codes, refl}
+use Rattle.std.specs.Fmt.{digits}
 use Rattle.std.specs.List.{flat_map}
+use Rattle.std.specs.Str.{is_utf8, chars}
+use lib.Utf8.{encode}
+use Rattle.deb_base.specs.Bodies.{paragraph_limit}
 use Rattle.deb_base.specs.Codes.{number_of}
-use Rattle.deb_base.specs.declared.code.Code.TheVariants.{NotUtf8, NoColon}
+use Rattle.deb_base.specs.declared.code.Code.TheVariants.{NotUtf8, NoColon, NoParagraph}
 use Rattle.deb_base.specs.declared.doc.Doc.{Doc}
+use Rattle.deb_base.specs.declared.doc.Doc.TheVariants.{Binary, Packages}
 use Rattle.deb_base.specs.declared.refusal.Refusal.{Refusal}
+use Rattle.deb_syntax.specs.Lines.{file_limit}
 use Rattle.deb_control.specs.Calls.{HasParagraphs}
 use Rattle.deb_control.specs.Documents.{refusal_of}
 use Rattle.deb_explain.specs.Explanations.{WhyRefused}
+use Rattle.deb_explain.specs.Subjects.{AboutWhole}
 use Rattle.deb_explain.specs.Texts.{file_line}
 use Rattle.deb_refusals.specs.Explained.{explained_block, explained_lines, explanations_of}
 use Rattle.deb_refusals.specs.Lines.{passed_of, refusals_of, total_line}
@@ -56,6 +63,15 @@ without_paths : (path : List ℕ) (first second : WhyRefused) (doc : Doc) (text 
     × (explained_lines path doc text ≡ flat_map (explained_block path) (explanations_of doc text)
     ++ total_line (passed_of doc text) (length (refusals_of doc text)))
 without_paths path first second doc text = (refl, refl, refl)
+
+-- a file without a paragraph: none is asked for, and one is
+worked-lines : (all_lines Packages [] ≡ codes "ok 0, 0 refused\n")
+    × (all_lines Binary [] ≡ blocks_of (record {
+      refusal = record { code = NoParagraph; line = 1 };
+      about = AboutWhole;
+    } ∷ []) ++ codes "ok 0, 1 refused\n")
+unfolding file_limit paragraph_limit is_utf8 chars encode digits
+worked-lines = (refl, refl)
 
 -- ---- what is found in a file
 
