@@ -1,24 +1,36 @@
 -- What a reader of refusals has given of a file after one run of lines more.
 use Rattle.std.proofs.Common.{IfSome, ◌≡◌, ◌≤◌, ◌&&◌, ℕ, ◌+◌, ◌++◌, Bool, true, false, not, List, [], ◌∷◌, length, map, Option, None, Some, Result, Ok, Err, refl, sym, ap, ◌∙◌, subst, append_assoc, append-nil, arith, length-append}
-use Rattle.std.proofs.lemmas.List.{map-append}
+use Rattle.std.proofs.lemmas.List.{length-map, map-append}
+use Rattle.deb_base.specs.Bodies.{Line}
 use Rattle.deb_base.specs.Docs.{is_single}
 use Rattle.deb_base.specs.Reading.{TakesNoMore}
 use Rattle.deb_base.specs.declared.doc.Doc.{Doc}
-use Rattle.deb_base.specs.declared.fault.Fault.TheVariants.{Refused}
+use Rattle.deb_base.specs.declared.fault.Fault.{Fault}
+use Rattle.deb_base.specs.declared.fault.Fault.TheVariants.{Refused, Memory, Read, Write}
 use Rattle.deb_base.specs.declared.refusal.Refusal.{Refusal}
+use Rattle.deb_syntax.specs.Answers.{Seen}
+use Rattle.deb_syntax.specs.Judged.{line_judged}
 use Rattle.deb_syntax.specs.Lines.{Paragraph, file_limit}
 use Rattle.deb_syntax.specs.Meaning.{Entries}
-use Rattle.deb_control.specs.Checking.{CheckedState, FitsChecked, GivesEnd, GivesPassing, Passing}
+use Rattle.deb_control.specs.Checking.{CheckedMoment, CheckedState, ChecksOn, FitsChecked, GivesEnd, GivesPassing, Passing}
+use Rattle.deb_control.specs.CheckedStates.{checked_state, doc_read, lines_checked, refused_last}
 use Rattle.deb_control.specs.Documents.{rules_of}
 use Rattle.deb_control.specs.Refusals.{next_checked}
 use Rattle.deb_control.specs.Refused.{lines_behind, seen_behind}
 use Rattle.deb_control.specs.Resuming.{FitsWithout, resumes}
 use Rattle.deb_control.specs.Streams.{ended_by, item_of, stream_from, with_item}
+use Rattle.deb_control.specs.declared.checked.Checked.{Checked}
+use Rattle.deb_control.proofs.CheckedSoFar.{goes_on}
 use Rattle.deb_control.proofs.StreamLaws.{end_ends_stream, passed_is_next, refused_is_left_out}
-use Rattle.deb_explain.specs.Explanations.{WhyRefused, explanation_of}
+use Rattle.deb_explain.specs.Explanations.{WhyRefused, explain_refusal, explanation_of}
+use Rattle.deb_explain.proofs.Refusing.{is_told}
 use Rattle.deb_refusals.specs.Explained.{explained_stream, explanations_of, refusals_explained}
-use Rattle.deb_refusals.specs.Given.{AreFirst, Awaits, HasAll, Remains, StandsAt, explanations_from, why_next_refused}
+use Rattle.deb_refusals.specs.Given.{AreFirst, Awaits, FindsNext, GivesAll, GivesNext, GoesOn, HasAll, HasGiven, IsLastOf, Remains, Stands, StandsAt, explanations_from, why_next_refused}
 use Rattle.deb_refusals.specs.Lines.{passed_among, passed_of, refusals_of}
+use Rattle.deb_refusals.specs.Positions.{position_after}
+use Rattle.deb_refusals.specs.declared.refusals.Position.TheVariants.{At, End}
+use Rattle.deb_refusals.specs.declared.refusals.Refusals.{Refusals}
+use Rattle.deb_refusals.specs.declared.summary.Summary.{Summary}
 use Rattle.deb_refusals.proofs.Counts.{each_has_one_explanation, few_explanations}
 use Rattle.deb_refusals.proofs.Steps.{behind_seam, ends_the_stream, goes_on_within}
 use Rattle.deb_refusals.proofs.Telling.{explained_last, explained_next, explained_refused, several_if_goes}
@@ -38,6 +50,9 @@ are_first doc text done more all = record {
   refusals = sym (each_has_one_explanation doc text) ∙ ap refusals_explained all ∙ map-append (λ why. why.refusal) done more;
 }
 
+plus_none : (n : ℕ) → n ≡ 0 + n
+plus_none n = omega arith
+
 -- nothing was looked at
 pub awaits_all : (doc : Doc) (text : List ℕ) (state : CheckedState) (left : Option (List ℕ)) → FitsChecked doc text [] state left → Awaits doc text state left 0 []
 awaits_all doc text state left fits = record {
@@ -49,7 +64,7 @@ awaits_all doc text state left fits = record {
     single = λ _. refl;
     follow = tt;
     whys = refl;
-    total = refl;
+    total = plus_none (passed_of doc text);
     counted = refl;
   };
 }
@@ -148,3 +163,98 @@ all_after doc text refusal state lines left passed done stands stays =
       whys = remains.whys ∙ ap (λ whys. stands.front ++ whys) last ∙ sym stands.is;
       total = omega (arith, remains.total, ap (λ s. passed_among s.items) ends);
     }
+
+-- ---- a reader of refusals and its parts
+
+-- how much was taken after a call of the reader of checked paragraphs
+pub taken_by : {doc : Doc} {before after : CheckedMoment} {answer : Result (Option Passing) Fault} {text : List ℕ} {passed : ℕ} {done : List WhyRefused} → before.state.fault ≡ None → ChecksOn doc before answer after → (awaits : Awaits doc text before.state before.source.bytes passed done) → TakesNoMore text file_limit after.source.bytes
+taken_by {text} sound checks awaits = takes_as text awaits.other _ awaits.remains.bytes ((goes_on _ _ _ _ sound checks).taken awaits.other awaits.before awaits.fits)
+
+-- a paragraph passes, and is counted
+pub goes_passing : (doc : Doc) (text : List ℕ) (checked new : Checked) (summary : Summary) (left after : Option (List ℕ)) (done : List WhyRefused) (given : Passing) (count : ℕ) → (goes : GoesOn doc text checked summary left done) → GivesPassing doc goes.awaits.other goes.awaits.before given (checked_state new) after → doc_read new ≡ doc_read checked → count ≡ summary.passed + 1 → GoesOn doc text new (record summary { passed = count }) after done
+goes_passing doc text checked new summary left after done given count goes gives same counted = record {
+  reads = same ∙ goes.reads;
+  awaits = subst (λ n. Awaits doc text (checked_state new) after n done) (sym counted) (awaits_passing doc text (checked_state checked) (checked_state new) left after summary.passed done given goes.awaits gives);
+  refused = goes.refused;
+}
+
+-- the paragraphs that passed are fewer than the greatest count
+pub few_passed : (doc : Doc) (text : List ℕ) (checked : Checked) (summary : Summary) (left : Option (List ℕ)) (done : List WhyRefused) → (goes : GoesOn doc text checked summary left done) → summary.passed ≡ (checked_state checked).count
+few_passed doc text checked summary left done goes = goes.awaits.remains.counted ∙ sym goes.awaits.fits.counted
+
+-- those that were given are the first ones, also with the one at which it stands
+pub goes_first : (doc : Doc) (text : List ℕ) (checked : Checked) (summary : Summary) (left : Option (List ℕ)) (done : List WhyRefused) → GoesOn doc text checked summary left done → AreFirst doc text done
+goes_first doc text checked summary left done goes = are_first doc text done _ goes.awaits.remains.whys
+
+stands_first : (doc : Doc) (text : List ℕ) (refusal : Refusal) (state : CheckedState) (lines : Option Paragraph) (left : Option (List ℕ)) (passed : ℕ) (done : List WhyRefused) → StandsAt doc text refusal state lines left passed done → AreFirst doc text done
+stands_first doc text refusal state lines left passed done stands =
+    let next = next_why doc text stands.other stands.before passed stands.front refusal stands.remains stands.refused in
+    are_first doc text done next.0 (next.1 ∙ ap (λ d. d ++ next.0) (sym stands.is))
+
+-- all were given, and the reader tells that
+pub gives_all : (doc : Doc) (text : List ℕ) (r : Refusals) (left : Option (List ℕ)) (done : List WhyRefused) → r.position ≡ End → r.doc ≡ doc → doc_read r.checked ≡ doc → AreFirst doc text done → TakesNoMore text file_limit left → r.summary.refused ≡ length done → HasAll doc text r.summary.passed done → GivesAll doc text r left done
+gives_all doc text r left done ends kind reads first taken refused all =
+    let refusals : refusals_of doc text ≡ refusals_explained done = sym (each_has_one_explanation doc text) ∙ ap refusals_explained all.whys in
+    record {
+      given = record {
+        first = first;
+        refused = refused;
+        taken = taken;
+        kind = kind;
+        reads = reads;
+        stands = subst (λ position. Stands doc text position (checked_state r.checked) (lines_checked r.checked) left r.summary.passed done) (sym ends) all;
+      };
+      whys = all.whys;
+      refusals = refusals;
+      passed = all.total;
+      refused = refused ∙ sym (length-map done (λ why. why.refusal)) ∙ ap length (sym refusals);
+    }
+
+-- what its parts find is what it gives
+pub gives_found : (doc : Doc) (text : List ℕ) (r : Refusals) (left : Option (List ℕ)) (done : List WhyRefused) (result : Result (Option Refusal) Fault) → r.position ≡ position_after result → r.doc ≡ doc → doc_read r.checked ≡ doc → AreFirst doc text done → TakesNoMore text file_limit left → FindsNext doc text result r.checked r.summary left done → GivesNext doc text result r left done
+gives_found doc text r left done (Ok (Some refusal)) stands kind reads first taken finds = record {
+  why = finds.why;
+  same = finds.same;
+  given = record {
+    first = stands_first doc text refusal _ _ left _ _ finds.stands;
+    refused = finds.refused ∙ sym (length-append done (finds.why ∷ []));
+    taken = taken;
+    kind = kind;
+    reads = reads;
+    stands = subst (λ position. Stands doc text position (checked_state r.checked) (lines_checked r.checked) left r.summary.passed (done ++ finds.why ∷ [])) (sym stands) finds.stands;
+  };
+}
+gives_found doc text r left done (Ok None) stands kind reads first taken finds = gives_all doc text r left done stands kind reads first taken finds.refused finds.all
+gives_found doc text r left done (Err (Refused refusal)) stands kind reads first taken finds = finds
+gives_found doc text r left done (Err Memory) stands kind reads first taken finds = first
+gives_found doc text r left done (Err Read) stands kind reads first taken finds = first
+gives_found doc text r left done (Err Write) stands kind reads first taken finds = finds
+
+-- ---- after the refusal at which it stands
+
+module _ (doc : Doc) (text : List ℕ) (r : Refusals) (left : Option (List ℕ)) (done : List WhyRefused) (refusal : Refusal) (at : r.position ≡ At refusal) (has : HasGiven doc text r left done) where
+  stands_there : StandsAt doc text refusal (checked_state r.checked) (lines_checked r.checked) left r.summary.passed done
+  stands_there = subst (λ position. Stands doc text position (checked_state r.checked) (lines_checked r.checked) left r.summary.passed done) at has.stands
+
+  resumes_is : resumes (doc_read r.checked) (checked_state r.checked).fault (lines_checked r.checked) ≡ resumes doc (Some (Refused refusal)) (lines_checked r.checked)
+  resumes_is = ap (λ d. resumes d (checked_state r.checked).fault (lines_checked r.checked)) has.reads ∙ ap (λ f. resumes doc f (lines_checked r.checked)) stands_there.fault
+
+  -- it goes on
+  pub goes_after : (new : Checked) → resumes (doc_read r.checked) (checked_state r.checked).fault (lines_checked r.checked) ≡ true → ((other : List ℕ) (before : List Entries) (left : Option (List ℕ)) → FitsChecked (doc_read r.checked) other before (checked_state r.checked) left → FitsChecked (doc_read r.checked) other before (checked_state new) left) → doc_read new ≡ doc_read r.checked → GoesOn doc text new r.summary left done
+  goes_after new goes fits same = record {
+    reads = same ∙ has.reads;
+    awaits = goes_on_after doc text refusal (checked_state r.checked) (checked_state new) (lines_checked r.checked) left r.summary.passed done stands_there (sym resumes_is ∙ goes)
+        (λ other. subst (λ d. FitsChecked d other stands_there.before (checked_state r.checked) left → FitsChecked d other stands_there.before (checked_state new) left) has.reads (fits other stands_there.before left));
+    refused = has.refused;
+  }
+
+  -- or not
+  pub ends_after : resumes (doc_read r.checked) (checked_state r.checked).fault (lines_checked r.checked) ≡ false → HasAll doc text r.summary.passed done
+  ends_after stays = all_after doc text refusal (checked_state r.checked) (lines_checked r.checked) left r.summary.passed done stands_there (sym resumes_is ∙ stays)
+
+  -- what is told of it is the last explanation
+  pub last_told : (why : WhyRefused) (line : Option Line) (seen : Option Seen) → why ≡ explain_refusal doc refusal line seen → line ≡ line_judged refusal.line (lines_checked r.checked) → seen ≡ refused_last (checked_state r.checked) → IsLastOf why done
+  last_told why line seen is line_is seen_is =
+      let stands = stands_there in
+      let told = is_told doc stands.other stands.before (checked_state r.checked) refusal refusal (lines_checked r.checked) line seen stands.seen stands.shown stands.fault refl line_is seen_is in
+      record { front = stands.front; is = stands.is ∙ ap (λ w. stands.front ++ w ∷ []) (sym (is ∙ told)) }

@@ -54,14 +54,14 @@ module _ (doc : Doc) (text : List ℕ) (before : List Entries) (p : Paragraph) (
   abbrev first_answer : Result (Option Seen) Refusal
   first_answer = paragraph_answer long beyond p
 
-  next_is : next_answer text (length before) ≡ first_answer
+  pub next_is : next_answer text (length before) ≡ first_answer
   next_is = ap (answer_of_first beyond) here ∙ go beyond
     where
       go : (o : Option ℕ) → answer_of_first o (p ∷ more) ≡ paragraph_answer long o p
       go None = refl
       go (Some line) = refl
 
-  lines_are : lines_behind (rules_of doc) text before ≡ judged_by first_answer (Some p)
+  pub lines_are : lines_behind (rules_of doc) text before ≡ judged_by first_answer (Some p)
   lines_are =
       ap (λ t. cond (t && has_some before) None (judged_behind text (length before))) several
       ∙ ap (λ a. judged_by a (slice_get (paragraphs_within text) (length before))) next_is
@@ -74,7 +74,7 @@ module _ (doc : Doc) (text : List ℕ) (before : List Entries) (p : Paragraph) (
       ∙ ap (answer_of_seen (rules_of doc) (line_behind text) before) (sym (ap (answer_of_first beyond) here) ∙ next_is)
 
   -- a paragraph whose lines were judged has none that is too long
-  judged_are_short : (last : Paragraph) → lines_behind (rules_of doc) text before ≡ Some last → long ≡ None
+  pub judged_are_short : (last : Paragraph) → lines_behind (rules_of doc) text before ≡ Some last → long ≡ None
   judged_are_short last is = go long refl
     where
       go : (o : Option ℕ) → long ≡ o → long ≡ None
@@ -136,7 +136,7 @@ goes_on_within doc text before p more refusal here lines goes = go (is_single do
         ∙ nine
 
 -- by whether a refusal ends the stream, what its stream is
-pub refused_stream : Rules → List ℕ → List Entries → Paragraph → List Paragraph → Refusal → CheckedStream
+unfoldable pub refused_stream : Rules → List ℕ → List Entries → Paragraph → List Paragraph → Refusal → CheckedStream
 refused_stream rules text before p more refusal =
     cond (is_end_under paragraph_limit rules p refusal) (ended_by (Some refusal)) (with_item (item_of p (Err refusal)) (stream_behind_under paragraph_limit file_limit rules (line_beyond 1 file_limit text) (line_behind text) before more))
 

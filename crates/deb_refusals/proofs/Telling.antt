@@ -1,5 +1,5 @@
 -- What a refusal of a stream is about is what is told of the paragraph behind those that pass.
-use Rattle.std.proofs.Common.{◌≡◌, ◌==◌, ◌&&◌, ◌||◌, ℕ, ◌++◌, Bool, true, false, not, cond, List, [], ◌∷◌, length, drop, nat_le, Option, None, Some, Result, Ok, Err, refl, sym, ap, ◌∙◌, subst, is_some}
+use Rattle.std.proofs.Common.{◌≡◌, ◌==◌, ◌&&◌, ◌||◌, ℕ, ◌+◌, ◌++◌, Bool, true, false, not, cond, List, [], ◌∷◌, length, drop, nat_le, Option, None, Some, Result, Ok, Err, refl, sym, ap, ◌∙◌, subst, is_some}
 use Rattle.std.specs.Prelude.{slice_get}
 use Rattle.deb_base.specs.Bodies.{Line, paragraph_limit}
 use Rattle.deb_base.specs.Codes.{number_of}
@@ -24,52 +24,68 @@ use Rattle.deb_control.specs.Streams.{ended_by, is_end_under, item_of, stream_be
 use Rattle.deb_control.proofs.FollowedParagraphs.{outcome-from_refusal}
 use Rattle.deb_control.proofs.StreamLaws.{refused_is_left_out}
 use Rattle.deb_explain.specs.Explanations.{WhyRefused, explain_refusal, explanation_in, explanation_of}
-use Rattle.deb_explain.specs.Subjects.{About, AboutWhole, about_topic, topic_of}
-use Rattle.deb_explain.specs.declared.topic.Topic.{Topic}
-use Rattle.deb_explain.specs.declared.topic.Topic.TheVariants as topics
+use Rattle.deb_explain.specs.Subjects.{AboutWhole, about_topic, topic_of}
 use Rattle.deb_refusals.specs.Explained.{explained_at_end, explained_once, explained_stream, whole_refused, why_run_refused}
 use Rattle.deb_refusals.specs.Given.{explanations_from, why_next_refused}
 use Rattle.deb_refusals.proofs.Steps.{behind_seam, ends_the_stream, goes_on_within, judged_are_short, lines_are, next_is, refused_stream, slice_get-drop, stream_is}
 
 -- ---- a refusal of a file as a whole
 
-none_about : (topic : Topic) (doc : Doc) (refusal : Refusal) → about_topic topic doc None refusal None ≡ AboutWhole
-none_about topics.Whole doc refusal = refl
-none_about topics.Line doc refusal = refl
-none_about topics.Name doc refusal = refl
-none_about topics.Missing doc refusal = refl
-none_about topics.Value doc refusal = refl
+none_about : (c : Code) (doc : Doc) (refusal : Refusal) → about_topic (topic_of c) doc None refusal None ≡ AboutWhole
+none_about code.NotUtf8 doc refusal = refl
+none_about code.Armour doc refusal = refl
+none_about code.Comment doc refusal = refl
+none_about code.StrayContinuation doc refusal = refl
+none_about code.BadFieldName doc refusal = refl
+none_about code.NoColon doc refusal = refl
+none_about code.DuplicateField doc refusal = refl
+none_about code.ParagraphTooLong doc refusal = refl
+none_about code.FileTooLong doc refusal = refl
+none_about code.NoParagraph doc refusal = refl
+none_about code.TooManyParagraphs doc refusal = refl
+none_about code.MissingField doc refusal = refl
+none_about code.NotOneLine doc refusal = refl
+none_about code.BadName doc refusal = refl
+none_about code.BadNumber doc refusal = refl
+none_about code.BadWord doc refusal = refl
+none_about code.BadArchitecture doc refusal = refl
+none_about code.BadVersion doc refusal = refl
+none_about code.BadRelation doc refusal = refl
+none_about code.AlternativesNotAllowed doc refusal = refl
+none_about code.ProvidesBound doc refusal = refl
+none_about code.Wildcard doc refusal = refl
+none_about code.BadEnvironment doc refusal = refl
 
-ninth_topic : (c : Code) → (number_of c == 9) ≡ true → topic_of c ≡ topics.Whole
-ninth_topic code.NotUtf8 is = absurd cc
-ninth_topic code.Armour is = absurd cc
-ninth_topic code.Comment is = absurd cc
-ninth_topic code.StrayContinuation is = absurd cc
-ninth_topic code.BadFieldName is = absurd cc
-ninth_topic code.NoColon is = absurd cc
-ninth_topic code.DuplicateField is = absurd cc
-ninth_topic code.ParagraphTooLong is = refl
-ninth_topic code.FileTooLong is = refl
-ninth_topic code.NoParagraph is = refl
-ninth_topic code.TooManyParagraphs is = refl
-ninth_topic code.MissingField is = absurd cc
-ninth_topic code.NotOneLine is = absurd cc
-ninth_topic code.BadName is = absurd cc
-ninth_topic code.BadNumber is = absurd cc
-ninth_topic code.BadWord is = absurd cc
-ninth_topic code.BadArchitecture is = absurd cc
-ninth_topic code.BadVersion is = absurd cc
-ninth_topic code.BadRelation is = absurd cc
-ninth_topic code.AlternativesNotAllowed is = absurd cc
-ninth_topic code.ProvidesBound is = absurd cc
-ninth_topic code.Wildcard is = refl
-ninth_topic code.BadEnvironment is = refl
+ninth_about : (c : Code) (doc : Doc) (line : Option Line) (refusal : Refusal) (seen : Option Seen) → (number_of c == 9) ≡ true → about_topic (topic_of c) doc line refusal seen ≡ AboutWhole
+ninth_about code.NotUtf8 doc line refusal seen is = absurd cc
+ninth_about code.Armour doc line refusal seen is = absurd cc
+ninth_about code.Comment doc line refusal seen is = absurd cc
+ninth_about code.StrayContinuation doc line refusal seen is = absurd cc
+ninth_about code.BadFieldName doc line refusal seen is = absurd cc
+ninth_about code.NoColon doc line refusal seen is = absurd cc
+ninth_about code.DuplicateField doc line refusal seen is = absurd cc
+ninth_about code.ParagraphTooLong doc line refusal seen is = absurd cc
+ninth_about code.FileTooLong doc line refusal seen is = refl
+ninth_about code.NoParagraph doc line refusal seen is = absurd cc
+ninth_about code.TooManyParagraphs doc line refusal seen is = absurd cc
+ninth_about code.MissingField doc line refusal seen is = absurd cc
+ninth_about code.NotOneLine doc line refusal seen is = absurd cc
+ninth_about code.BadName doc line refusal seen is = absurd cc
+ninth_about code.BadNumber doc line refusal seen is = absurd cc
+ninth_about code.BadWord doc line refusal seen is = absurd cc
+ninth_about code.BadArchitecture doc line refusal seen is = absurd cc
+ninth_about code.BadVersion doc line refusal seen is = absurd cc
+ninth_about code.BadRelation doc line refusal seen is = absurd cc
+ninth_about code.AlternativesNotAllowed doc line refusal seen is = absurd cc
+ninth_about code.ProvidesBound doc line refusal seen is = absurd cc
+ninth_about code.Wildcard doc line refusal seen is = absurd cc
+ninth_about code.BadEnvironment doc line refusal seen is = absurd cc
 
 whole_if_none : (doc : Doc) (refusal : Refusal) → explain_refusal doc refusal None None ≡ whole_refused refusal
-whole_if_none doc refusal = ap (λ about. record { refusal = refusal; about = about }) (none_about (topic_of refusal.code) doc refusal)
+whole_if_none doc refusal = ap (λ about. record { refusal = refusal; about = about }) (none_about refusal.code doc refusal)
 
 whole_if_ninth : (doc : Doc) (refusal : Refusal) (line : Option Line) (seen : Option Seen) → (number_of refusal.code == 9) ≡ true → explain_refusal doc refusal line seen ≡ whole_refused refusal
-whole_if_ninth doc refusal line seen ninth = ap (λ topic. record { refusal = refusal; about = about_topic topic doc line refusal seen }) (ninth_topic refusal.code ninth)
+whole_if_ninth doc refusal line seen ninth = ap (λ about. record { refusal = refusal; about = about }) (ninth_about refusal.code doc line refusal seen ninth)
 
 -- ---- a run of lines that is refused
 
@@ -201,6 +217,7 @@ explained_refused doc file text before p other refusal w refused lines goes =
 
 -- A refusal is the next one of the stream, whether or not it is the last.
 pub explained_next : (doc : Doc) (file text : List ℕ) (before : List Entries) (refusal : Refusal) → (is_single doc ≡ true → text ≡ file) → Follow (rules_of doc) text [] before → next_checked (rules_of doc) text before ≡ Err refusal → (more : List WhyRefused) × (explanations_from doc file text before ≡ why_next_refused doc text before refusal ∷ more)
+unfolding refused_stream
 explained_next doc file text before refusal single follow refused = go (resumes doc (Some (Refused refusal)) (lines_behind (rules_of doc) text before)) refl
   where
     on : (last : Option Paragraph) → lines_behind (rules_of doc) text before ≡ last → is_single doc ≡ false → (left : List Paragraph) → drop (length before) (paragraphs_within text) ≡ left → resumes doc (Some (Refused refusal)) last ≡ true → (more : List WhyRefused) × (explanations_from doc file text before ≡ why_next_refused doc text before refusal ∷ more)
@@ -213,7 +230,6 @@ explained_next doc file text before refusal single follow refused = go (resumes 
         within p more here lines goes_on several
       where
         within : (p : Paragraph) (more : List Paragraph) → drop (length before) (paragraphs_within text) ≡ p ∷ more → lines_behind (rules_of doc) text before ≡ Some p → is_end_under paragraph_limit (rules_of doc) p refusal ≡ false → is_single doc ≡ false → (more : List WhyRefused) × (explanations_from doc file text before ≡ why_next_refused doc text before refusal ∷ more)
-        unfolding refused_stream
         within p more here lines goes_on several =
             let behind = stream_behind_under paragraph_limit file_limit (rules_of doc) (line_beyond 1 file_limit text) (line_behind text) before more in (
               explained_stream doc (explanation_of doc file) behind,

@@ -1,5 +1,5 @@
 -- What is written of a file, by what is written of each refusal.
-use Rattle.std.proofs.Common.{◌≡◌, ℕ, ◌++◌, List, [], ◌∷◌, length, map, Option, None, Some, Result, Ok, Err, refl, sym, ap, ◌∙◌, subst, append_assoc, append-nil}
+use Rattle.std.proofs.Common.{◌≡◌, ℕ, ◌++◌, List, [], ◌∷◌, drop, length, map, Option, None, Some, Result, Ok, Err, refl, sym, ap, ◌∙◌, subst, append_assoc, append-nil}
 use Rattle.std.proofs.KnownBytes.{Appends-nil, Appends-trans}
 use Rattle.std.proofs.lemmas.List.Concat.{flat_map-append}
 use Rattle.std.proofs.lemmas.List.{map-append}
@@ -15,7 +15,7 @@ use Rattle.deb_base.specs.declared.refusal.Refusal.{Refusal}
 use Rattle.deb_control.specs.Calls.{IfCutOff, IfWriteFailed}
 use Rattle.deb_explain.specs.Explanations.{WhyRefused}
 use Rattle.deb_refusals.specs.Explained.{explained_block, explained_lines, explanations_of, refusals_explained}
-use Rattle.deb_refusals.specs.Given.{AreFirst, GivesAll, GivesRefusal, HasGiven}
+use Rattle.deb_refusals.specs.Given.{AreFirst, GivesAll, GivesRefusal, HasGiven, IsLastOf}
 use Rattle.deb_refusals.specs.Lines.{file_lines, lines_of_refusals, passed_of, refusals_of, total_line}
 use Rattle.deb_refusals.specs.Written.{ExplainsAll, ExplainsFirst, HasWritten, HasWrittenAll, HasWrittenFirst, WritesAll, WritesFirst, WritesNext, line_written, text_written}
 use Rattle.deb_refusals.specs.declared.refusals.Refusals.{Refusals}
@@ -136,3 +136,15 @@ texts_all path doc text r left old held writes has total = record {
   refused = has.given.refused;
   written = all_written (explained_block path) doc text r left old held writes has total;
 }
+
+-- the last of a list is one
+same_last : {X : Type 0} (xs ys : List X) (x y : X) → xs ++ x ∷ [] ≡ ys ++ y ∷ [] → x ≡ y
+same_last [] [] x y is = cc
+same_last [] (z ∷ []) x y is = absurd cc
+same_last [] (z ∷ w ∷ ys) x y is = absurd cc
+same_last (z ∷ []) [] x y is = absurd cc
+same_last (z ∷ w ∷ xs) [] x y is = absurd cc
+same_last (z ∷ xs) (w ∷ ys) x y is = same_last xs ys x y (ap (drop 1) is)
+
+pub told_is : (doc : Doc) (text : List ℕ) (refusal : Refusal) (new : Refusals) (left : Option (List ℕ)) (done : List WhyRefused) (why : WhyRefused) → (gives : GivesRefusal doc text refusal new left done) → IsLastOf why (done ++ gives.why ∷ []) → why ≡ gives.why
+told_is doc text refusal new left done why gives last = sym (same_last done last.front gives.why why last.is)

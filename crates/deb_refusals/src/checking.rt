@@ -82,6 +82,9 @@ fn check_next<R: Source, W: Sink>(
         (W.held writer.old)
         → WritesNext line_written doc text result refusals.new (R.left reader.new) held
         (W.held writer.new) }
+    ensures reads_at_most { (doc : Doc) (text : List ℕ) (held : Option (List ℕ))
+        → HasWritten line_written doc text refusals.old (R.left reader.old) held
+        (W.held writer.old) → TakesNoMore text file_limit (R.left reader.new) }
     ensures sound { IfOk result (λ _. failure_of refusals.new ≡ None) }
     ensures fault { IfErr result IsNoRefusal }
     ensures counts_read_failure { R.failures reader.new ≡ read_failures_after

@@ -2,6 +2,7 @@
 
 ghost use Rattle.std.specs.Prelude.{◌≡◌, ℕ, List, None, IfErr};
 ghost use Rattle.deb_base.specs.Devices.{read_failures_after};
+ghost use Rattle.deb_base.specs.declared.doc.Doc.{Doc};
 ghost use Rattle.deb_base.specs.Reading.{IsMemoryOrRead, TakesNoMore};
 ghost use Rattle.deb_syntax.specs.Lines.{file_limit};
 ghost use Rattle.deb_control.specs.CheckedStates.{checked_state, doc_read};

@@ -6,8 +6,11 @@
 //! summary.refused; // how many lines were written before the last one
 //! ```
 //!
-//! `check_all` writes a line for each run of lines that is refused, and a last one with the counts.
-//! `specs/` defines the lines; `laws` has the theorems about these definitions.
+//! - [`Refusals`] reads the refusals of a file one after another, with what each is about.
+//! - [`check_all`] writes a line for each run of lines that is refused, and a last one with the
+//!   counts; [`explain_all`] writes in place of each line what the refusal is about.
+//!
+//! `specs/` defines the refusals and the lines; `laws` has the theorems about these definitions.
 #![tactic(auto)]
 
 mod checking;
