@@ -32,7 +32,7 @@ pub returns-in_err-write_line-clause-write : goal.returns-in_err-write_line-clau
 returns-in_err-write_line-clause-write g c = λ text left.
     let p = err_from_is_err_and c.from_residual-in_err-write_line.result c.from_residual-in_err-write_line.ensures.1 in
     let writes_next = rw c.if-not-branch.true at c.in_ok-check_next.ensures.writes_next in
-    let front = all_failed line_written c.args.doc text _ _ _ _ _ (writes_next c.args.doc text _ (c.loop.invariant.text text left)) (rw c.summary.ensures at c.in_err-write_line.ensures.written) in
+    let front = all_failed line_written c.args.doc text _ _ _ _ _ (writes_next c.args.doc text _ (c.loop.invariant.text text left)) (rw c.summary-summary.ensures at c.in_err-write_line.ensures.written) in
     rw (p.1, p.2) (write_failed c.in_err-write_line.field-0.0 _ (subst (AppendsFront _ _) (lines_are_text c.args.doc text) front))
 
 pub returns-in_err-write_line-clause-reads_at_most : goal.returns-in_err-write_line-clause-reads_at_most
@@ -41,7 +41,7 @@ returns-in_err-write_line-clause-reads_at_most g c = λ text left. c.check_next.
 pub returns-then-not-branch-clause-ok : goal.returns-then-not-branch-clause-ok
 returns-then-not-branch-clause-ok g c = λ text left.
     let writes_next = rw c.if-not-branch.true at c.in_ok-check_next.ensures.writes_next in
-    rw c.summary.ensures (lines_all c.args.doc text _ _ _ _ _ (writes_next c.args.doc text _ (c.loop.invariant.text text left)) (rw c.summary.ensures at c.in_ok-write_line.ensures.written))
+    rw c.summary-summary.ensures (lines_all c.args.doc text _ _ _ _ _ (writes_next c.args.doc text _ (c.loop.invariant.text text left)) (rw c.summary-summary.ensures at c.in_ok-write_line.ensures.written))
 
 pub returns-then-not-branch-clause-reads_at_most : goal.returns-then-not-branch-clause-reads_at_most
 returns-then-not-branch-clause-reads_at_most g c = λ text left. c.check_next.ensures.reads_at_most c.args.doc text _ (c.loop.invariant.text text left)

@@ -27,19 +27,18 @@ returns-in-Err-Refused-clause-finds g c = λ doc text done goes.
     let has = c.loop.invariant.text doc text done goes in
     let awaits = has.awaits in
     let failed = c.advance.new.self in
-    let refusal = c.in-Err-Refused.refusal in
     let passes = rw (c.in-Err-Refused.is, c.in-Err-Refused.field-0-is, has.reads) at c.advance.ensures.passes in
     let lines = rw (c.in-Err-Refused.is, c.in-Err-Refused.field-0-is, has.reads) at c.advance.ensures.lines in
     let without = rw (c.in-Err-Refused.is, has.reads) at c.advance.ensures.without in
     let checks = goes_on _ _ _ _ c.loop.invariant.fault passes.checks in
     let refused = checks.answers awaits.other awaits.before awaits.fits ∙ ap Err (sym c.in-Err-Refused.refusal-is) in
     let fault = failed_on _ _ _ _ c.loop.invariant.fault passes.checks ∙ ap (λ r. Some (Refused r)) (sym c.in-Err-Refused.refusal-is) in
-    let few = few_done doc text _ _ _ done refusal awaits.remains refused in
+    let few = few_done doc text _ _ _ done _ awaits.remains refused in
     record {
-      why = why_next_refused doc awaits.other awaits.before refusal;
-      same = c.in-Err-Refused.refusal-is;
+      why = why_next_refused doc awaits.other awaits.before _;
+      same = refl;
       refused = omega (arith, few, has.refused, c.saturating_add-summary-in-Err-Refused.ensures);
-      stands = stands_at doc text _ (checked_state failed) _ _ _ done refusal (lines_checked failed) awaits refused fault (checks.refused awaits.other awaits.before awaits.fits)
+      stands = stands_at doc text _ (checked_state failed) _ _ _ done _ (lines_checked failed) awaits refused fault (checks.refused awaits.other awaits.before awaits.fits)
           (without_error _ _ c.loop.invariant.fault lines awaits.other awaits.before awaits.fits)
           (without_error _ _ c.loop.invariant.fault without awaits.other awaits.before awaits.fits);
     }
