@@ -1,5 +1,5 @@
 -- Each refusal has one explanation, and a file has few refusals.
-use Rattle.std.proofs.Common.{◌≡◌, ◌≤◌, ◌<◌, ◌==◌, ℕ, ◌+◌, ◌++◌, Bool, true, false, cond, List, [], ◌∷◌, length, map, take, nat_le, Option, None, Some, Result, Ok, Err, refl, sym, ap, ◌∙◌, arith, suc, length-append, leb-true, leb-false}
+use Rattle.std.proofs.Common.{◌≡◌, ◌≤◌, ◌==◌, ℕ, ◌+◌, ◌++◌, Bool, true, false, cond, List, [], ◌∷◌, length, take, nat_le, Option, None, Some, Result, Ok, Err, refl, sym, ap, ◌∙◌, arith, suc, leb-true}
 use Rattle.std.proofs.lemmas.List.{length-map, length-take}
 use Rattle.deb_base.specs.Bodies.{Line, newline, with_byte, is_blank, paragraph_limit}
 use Rattle.deb_base.specs.Docs.{is_single}
@@ -11,8 +11,8 @@ use Rattle.deb_syntax.specs.Meaning.{Entries}
 use Rattle.deb_control.specs.Documents.{refusal_of, rules_of}
 use Rattle.deb_control.specs.Refusals.{answer_behind, line_behind, outcome}
 use Rattle.deb_control.specs.Rules.{Rules}
-use Rattle.deb_control.specs.Streams.{CheckedItem, CheckedStream, end_of, ended_by, is_end_under, item_of, refusal_at_end, refusals_after, refusals_in, stream_behind_under, stream_of, with_answer, with_item}
-use Rattle.deb_explain.specs.Explanations.{WhyRefused, explanation_in, explanation_of, explain_refusal}
+use Rattle.deb_control.specs.Streams.{CheckedItem, end_of, ended_by, is_end_under, item_of, refusal_at_end, refusals_after, refusals_in, stream_behind_under, stream_of, with_answer, with_item}
+use Rattle.deb_explain.specs.Explanations.{WhyRefused, explanation_of}
 use Rattle.deb_refusals.specs.Explained.{explained_at_end, explained_before, explained_in, explained_once, explanations_of, refusals_explained}
 use Rattle.deb_refusals.specs.Laws.{EachHasOneExplanation}
 use Rattle.deb_refusals.specs.Lines.{refusals_of, refusals_of_stream}

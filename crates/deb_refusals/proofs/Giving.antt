@@ -1,8 +1,7 @@
 -- What a reader of refusals has given of a file after one run of lines more.
-use Rattle.std.proofs.Common.{IfSome, ◌≡◌, ◌≤◌, ◌&&◌, ℕ, ◌+◌, ◌++◌, Bool, true, false, not, List, [], ◌∷◌, length, map, Option, None, Some, Result, Ok, Err, refl, sym, ap, ◌∙◌, subst, append_assoc, append-nil, arith, length-append}
+use Rattle.std.proofs.Common.{IfSome, ◌≡◌, ◌≤◌, ◌&&◌, ℕ, ◌+◌, ◌++◌, true, false, not, List, [], ◌∷◌, length, Option, None, Some, Result, Ok, Err, refl, sym, ap, ◌∙◌, subst, append_assoc, append-nil, arith, length-append}
 use Rattle.std.proofs.lemmas.List.{length-map, map-append}
 use Rattle.deb_base.specs.Bodies.{Line}
-use Rattle.deb_base.specs.Docs.{is_single}
 use Rattle.deb_base.specs.Reading.{TakesNoMore}
 use Rattle.deb_base.specs.declared.doc.Doc.{Doc}
 use Rattle.deb_base.specs.declared.fault.Fault.{Fault}
@@ -18,7 +17,6 @@ use Rattle.deb_control.specs.Documents.{rules_of}
 use Rattle.deb_control.specs.Refusals.{next_checked}
 use Rattle.deb_control.specs.Refused.{lines_behind, seen_behind}
 use Rattle.deb_control.specs.Resuming.{FitsWithout, resumes}
-use Rattle.deb_control.specs.Streams.{ended_by, item_of, stream_from, with_item}
 use Rattle.deb_control.specs.declared.checked.Checked.{Checked}
 use Rattle.deb_control.proofs.CheckedSoFar.{goes_on}
 use Rattle.deb_control.proofs.StreamLaws.{end_ends_stream, passed_is_next, refused_is_left_out}

@@ -1,19 +1,12 @@
 -- Which refusals end the stream of a file.
-use Rattle.std.proofs.Common.{IfSome, ◌≡◌, ℕ, zero, suc, ◌+◌, ◌==◌, ◌||◌, ◌&&◌, Bool, true, false, not, cond, List, [], ◌∷◌, ◌++◌, length, drop, Option, None, Some, Result, Ok, Err, refl, sym, ap, ◌∙◌, subst, append_assoc, append-nil, arith, le-leb, length-append, is_some}
-use Rattle.std.proofs.KnownBytes.{Appends-nil, Appends-trans}
-use Rattle.std.proofs.lemmas.List.Concat.{flat_map-append}
+use Rattle.std.proofs.Common.{◌≡◌, ℕ, zero, suc, ◌+◌, ◌==◌, ◌||◌, ◌&&◌, Bool, true, false, not, cond, List, [], ◌∷◌, ◌++◌, length, drop, Option, None, Some, Result, Ok, Err, refl, sym, ap, ◌∙◌, le-leb, is_some}
 use Rattle.std.specs.Prelude.{slice_get}
-use Rattle.std.specs.Io.KnownBytes.{Appends}
-use Rattle.deb_base.proofs.Writes.{AppendsFront-more, AppendsFront-then}
 use Rattle.deb_base.specs.Bodies.{paragraph_limit}
 use Rattle.deb_base.specs.Codes.{number_of}
-use Rattle.deb_base.specs.Devices.{AppendsFront}
 use Rattle.deb_base.specs.Docs.{is_single}
-use Rattle.deb_base.specs.Lines.{refusal_line}
 use Rattle.deb_base.specs.declared.code.Code.TheVariants.{FileTooLong, TooManyParagraphs}
 use Rattle.deb_base.specs.declared.doc.Doc.{Doc}
-use Rattle.deb_base.specs.declared.fault.Fault.{Fault}
-use Rattle.deb_base.specs.declared.fault.Fault.TheVariants.{Refused, Memory, Read, Write}
+use Rattle.deb_base.specs.declared.fault.Fault.TheVariants.{Refused}
 use Rattle.deb_base.specs.declared.refusal.Refusal.{Refusal}
 use Rattle.deb_syntax.specs.Answers.{Seen, answer_of_first, is_line, line_beyond, line_too_long, next_answer, paragraph_answer, paragraphs_within, seen_from}
 use Rattle.deb_syntax.specs.Fields.{Field}
@@ -23,19 +16,13 @@ use Rattle.deb_syntax.specs.Lines.{Paragraph, file_limit}
 use Rattle.deb_syntax.specs.Meaning.{Entries}
 use Rattle.deb_syntax.specs.Resuming.{IsWithout}
 use Rattle.deb_syntax.proofs.JudgingLawsRefusals.{judged-refusal}
-use Rattle.deb_control.specs.Calls.{IfCutOff, IfWriteFailed}
-use Rattle.deb_control.specs.Checking.{CheckedState, FitsChecked, GivesEnd, GivesPassing, Passing}
 use Rattle.deb_control.specs.Documents.{rules_of}
 use Rattle.deb_control.specs.Refusals.{answer_behind, answer_of_seen, has_some, line_behind, next_checked}
 use Rattle.deb_control.specs.Refused.{lines_behind}
-use Rattle.deb_control.specs.Resuming.{FitsWithout, refuses_paragraph, resumes}
+use Rattle.deb_control.specs.Resuming.{refuses_paragraph, resumes}
 use Rattle.deb_control.specs.Rules.{Rules}
 use Rattle.deb_control.specs.Streams.{CheckedStream, end_of, ended_by, is_end_under, item_of, stream_behind_under, stream_from, with_answer, with_item}
 use Rattle.deb_control.proofs.RefusalLines.{same_refusal}
-use Rattle.deb_control.proofs.StreamLaws.{end_ends_stream, passed_is_next, refused_is_left_out}
-use Rattle.deb_refusals.specs.Lines.{file_lines, lines_of_refusals, passed_among, passed_of, refusals_of, refusals_of_stream, total_line}
-use Rattle.deb_refusals.specs.Written.{HasWritten, HasWrittenAll, WritesNext, WritesAll, WritesFirst}
-use Rattle.deb_refusals.specs.declared.summary.Summary.{Summary}
 
 pub slice_get-drop : {X : Type 0} (k : ℕ) (xs ys : List X) (x : X) → drop k xs ≡ x ∷ ys → slice_get xs k ≡ Some x
 slice_get-drop zero [] ys x is = absurd cc

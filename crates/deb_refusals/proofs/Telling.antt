@@ -1,5 +1,5 @@
 -- What a refusal of a stream is about is what is told of the paragraph behind those that pass.
-use Rattle.std.proofs.Common.{◌≡◌, ◌==◌, ◌&&◌, ◌||◌, ℕ, ◌+◌, ◌++◌, Bool, true, false, not, cond, List, [], ◌∷◌, length, drop, nat_le, Option, None, Some, Result, Ok, Err, refl, sym, ap, ◌∙◌, subst, is_some}
+use Rattle.std.proofs.Common.{◌≡◌, ◌==◌, ◌&&◌, ℕ, ◌+◌, Bool, true, false, not, cond, List, [], ◌∷◌, length, drop, nat_le, Option, None, Some, Result, Ok, Err, refl, sym, ap, ◌∙◌, subst}
 use Rattle.std.specs.Prelude.{slice_get}
 use Rattle.deb_base.specs.Bodies.{Line, paragraph_limit}
 use Rattle.deb_base.specs.Codes.{number_of}
@@ -27,7 +27,7 @@ use Rattle.deb_explain.specs.Explanations.{WhyRefused, explain_refusal, explanat
 use Rattle.deb_explain.specs.Subjects.{AboutWhole, about_topic, topic_of}
 use Rattle.deb_refusals.specs.Explained.{explained_at_end, explained_once, explained_stream, whole_refused, why_run_refused}
 use Rattle.deb_refusals.specs.Given.{explanations_from, why_next_refused}
-use Rattle.deb_refusals.proofs.Steps.{behind_seam, ends_the_stream, goes_on_within, judged_are_short, lines_are, next_is, refused_stream, slice_get-drop, stream_is}
+use Rattle.deb_refusals.proofs.Steps.{behind_seam, ends_the_stream, goes_on_within, judged_are_short, lines_are, next_is, refused_stream, stream_is}
 
 -- ---- a refusal of a file as a whole
 

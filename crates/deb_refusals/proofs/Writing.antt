@@ -1,5 +1,5 @@
 -- What is written of a file, by what is written of each refusal.
-use Rattle.std.proofs.Common.{◌≡◌, ℕ, ◌++◌, List, [], ◌∷◌, drop, length, map, Option, None, Some, Result, Ok, Err, refl, sym, ap, ◌∙◌, subst, append_assoc, append-nil}
+use Rattle.std.proofs.Common.{◌≡◌, ℕ, ◌++◌, List, [], ◌∷◌, drop, length, Option, Err, refl, sym, ap, ◌∙◌, subst, append_assoc, append-nil}
 use Rattle.std.proofs.KnownBytes.{Appends-nil, Appends-trans}
 use Rattle.std.proofs.lemmas.List.Concat.{flat_map-append}
 use Rattle.std.proofs.lemmas.List.{map-append}
@@ -14,8 +14,8 @@ use Rattle.deb_base.specs.declared.fault.Fault.TheVariants.{Refused, Memory, Rea
 use Rattle.deb_base.specs.declared.refusal.Refusal.{Refusal}
 use Rattle.deb_control.specs.Calls.{IfCutOff, IfWriteFailed}
 use Rattle.deb_explain.specs.Explanations.{WhyRefused}
-use Rattle.deb_refusals.specs.Explained.{explained_block, explained_lines, explanations_of, refusals_explained}
-use Rattle.deb_refusals.specs.Given.{AreFirst, GivesAll, GivesRefusal, HasGiven, IsLastOf}
+use Rattle.deb_refusals.specs.Explained.{explained_block, explanations_of, refusals_explained}
+use Rattle.deb_refusals.specs.Given.{AreFirst, GivesRefusal, HasGiven, IsLastOf}
 use Rattle.deb_refusals.specs.Lines.{file_lines, lines_of_refusals, passed_of, refusals_of, total_line}
 use Rattle.deb_refusals.specs.Written.{ExplainsAll, ExplainsFirst, HasWritten, HasWrittenAll, HasWrittenFirst, WritesAll, WritesFirst, WritesNext, line_written, text_written}
 use Rattle.deb_refusals.specs.declared.refusals.Refusals.{Refusals}

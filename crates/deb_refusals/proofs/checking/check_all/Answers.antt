@@ -1,7 +1,6 @@
 use Rattle.std.proofs.Common.{[], refl, sym, ◌∙◌, subst}
 use Rattle.std.proofs.lemmas.Result.{err_from_is_err_and}
 use Rattle.deb_base.specs.Devices.{AppendsFront}
-use Rattle.deb_control.specs.Calls.{IfCutOff, IfWriteFailed}
 use Rattle.deb_refusals.specs.Given.{HasGiven}
 use Rattle.deb_refusals.specs.Written.{line_written}
 use Rattle.deb_refusals.proofs.Writing.{all_failed, cut_after, failed_after, first_of_given, nothing_written, write_failed, lines_all, lines_are_text, lines_first}

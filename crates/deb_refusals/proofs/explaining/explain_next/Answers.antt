@@ -1,4 +1,4 @@
-use Rattle.std.proofs.Common.{Some, Ok, sym, ap, ◌∙◌, subst}
+use Rattle.std.proofs.Common.{Ok, sym, ◌∙◌, subst}
 use Rattle.std.proofs.lemmas.Result.{err_from_is_err_and}
 use Rattle.std.specs.Io.KnownBytes.{Appends}
 use Rattle.deb_base.specs.Devices.{AppendsFront}
