@@ -1,6 +1,4 @@
-use Rattle.std.proofs.Common.{◌≡◌, ◌++◌, refl, ◌∙◌, ap}
-use Rattle.deb_refusals.specs.Given.{summary_of}
-use Rattle.deb_refusals.specs.Lines.{total_line}
+use Rattle.std.proofs.Common.{refl, ◌∙◌}
 use Rattle.debctl_ffi.proofs.RefusalsSoFar.{all_blocks, no_lines, one_block}
 use Rattle.debctl_ffi.proofs.read_refusals.read_explanations.Goals as goal
 
