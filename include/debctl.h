@@ -89,9 +89,11 @@ struct deb_answer {
     uint8_t status; /* one of deb_status */
     uint8_t code;   /* one of deb_code, if a text is refused */
     uint64_t line;  /* the line of the refusal in its file; 0 for a text that isn't a file */
-    uint64_t count; /* the number of paragraphs of the file: for DEB_YES of deb_check, deb_normalise,
-                     * deb_explain and deb_fields, and for DEB_YES and DEB_NO of deb_unmet; of the
-                     * packages of an index, for DEB_YES of deb_index_read */
+    uint64_t count; /* the number of paragraphs of the file: for DEB_YES of deb_check, deb_check_all,
+                     * deb_normalise, deb_explain, deb_explain_all and deb_fields, and for DEB_YES
+                     * and DEB_NO of deb_unmet; of the paragraphs that pass, for DEB_REFUSED of
+                     * deb_check_all and deb_explain_all; of the packages of an index, for DEB_YES of
+                     * deb_index_read */
 };
 
 /* The answer of a comparison of two versions. */
@@ -109,6 +111,12 @@ struct deb_field {
     uint32_t name_length;
     uint32_t value;        /* the offset of its value in `values` */
     uint32_t value_length;
+};
+
+/* One refusal of a file, in the table that deb_check_all writes. */
+struct deb_refusal {
+    uint64_t line; /* its line in the file, from 1 */
+    uint8_t code;  /* one of deb_code */
 };
 
 /* Compares two versions in Debian's order. Takes no memory.
@@ -138,6 +146,19 @@ struct deb_answer deb_relation_canonical(const uint8_t *text, size_t text_length
 /* Checks whether a file is accepted as a document of a kind.
  * DEB_YES, with the number of its paragraphs; DEB_REFUSED; DEB_NO_MEMORY; DEB_NO_KIND. */
 struct deb_answer deb_check(uint8_t kind, const uint8_t *text, size_t text_length);
+
+/* Checks all of a file, where deb_check ends at the first refusal, and writes the refusals in file
+ * order: those that the program `debctl check --all` prints. What follows lines that are refused is
+ * checked as if these lines were blank. Checking ends after a paragraph whose lines are too long,
+ * after a file that is too long or whose canonical text is, and, for DEB_BINARY and DEB_SOURCE,
+ * after the first refusal. `refusals` has room for `refusals_size` refusals; `refusal_count` is how
+ * many there are, also if there is no room for them.
+ * DEB_YES, with the number of paragraphs: nothing is refused; DEB_REFUSED, with the first refusal,
+ * which is that of deb_check, and the number of paragraphs that pass; DEB_NO_ROOM; DEB_NO_MEMORY;
+ * DEB_NO_KIND. */
+struct deb_answer deb_check_all(uint8_t kind, const uint8_t *text, size_t text_length,
+                                struct deb_refusal *refusals, size_t refusals_size,
+                                size_t *refusal_count);
 
 /* Writes the canonical text of a file: two files that are accepted as one kind of document mean the
  * same exactly if theirs are the same. Nothing is written for a file that is refused.
@@ -170,6 +191,13 @@ struct deb_answer deb_fields(uint8_t kind, const uint8_t *text, size_t text_leng
  * paragraphs: the file is accepted; DEB_NO_ROOM; DEB_NO_MEMORY; DEB_NO_KIND. */
 struct deb_answer deb_explain(uint8_t kind, const uint8_t *text, size_t text_length,
                               uint8_t *out, size_t out_size, size_t *length);
+
+/* Writes why a file is refused at each of the refusals that deb_check_all writes: for each the lines
+ * that deb_explain writes of a refusal, and an empty line after them; at the end the line
+ * `ok N, M refused`, with the number of paragraphs that pass and the number of refusals.
+ * DEB_YES, DEB_REFUSED: as deb_check_all; DEB_NO_ROOM; DEB_NO_MEMORY; DEB_NO_KIND. */
+struct deb_answer deb_explain_all(uint8_t kind, const uint8_t *text, size_t text_length,
+                                  uint8_t *out, size_t out_size, size_t *length);
 
 /* Compares two files by meaning, as documents of a kind.
  * DEB_YES; DEB_NO; DEB_REFUSED: the first is refused; DEB_SECOND_REFUSED; DEB_NO_MEMORY;

@@ -25,7 +25,10 @@ such as `bytes` or `memoryview`. A function raises TypeError for an argument of 
     [b'field: Version', b'place: 0', b'at: 2:10', b'reason: RevisionEmpty']
 """
 
-from ._files import Explanation, Report, check, diff, explain, normalise, query, same, unmet
+from ._files import (
+    AllChecked, Explanation, Report, check, check_all, diff, explain, explain_all, normalise, query,
+    same, unmet,
+)
 from ._index import Index, Package
 from ._library import Text
 from ._paragraphs import Alternative, Paragraph, paragraphs, relations
@@ -33,12 +36,12 @@ from ._refusals import Code, Refused
 from ._versions import Version, canonical, compare, key
 
 __all__ = [
-    "Alternative", "Code", "Explanation", "Index", "Package", "Paragraph", "Refused", "Report",
-    "Text", "Version", "canonical", "check", "compare", "diff", "explain", "key", "normalise",
-    "paragraphs", "query", "relations", "same", "unmet",
+    "AllChecked", "Alternative", "Code", "Explanation", "Index", "Package", "Paragraph", "Refused",
+    "Report", "Text", "Version", "canonical", "check", "check_all", "compare", "diff", "explain",
+    "explain_all", "key", "normalise", "paragraphs", "query", "relations", "same", "unmet",
 ]
 
 for _public in (
-    Alternative, Code, Explanation, Index, Package, Paragraph, Refused, Report, Version,
+    AllChecked, Alternative, Code, Explanation, Index, Package, Paragraph, Refused, Report, Version,
 ):
     _public.__module__ = __name__

@@ -1,11 +1,12 @@
 """Files of control data, and questions to an index of packages."""
 
+import ctypes
 import functools
 from typing import Iterable, List, NamedTuple, Optional, Tuple
 
 from ._library import (
-    NO_KIND, REFUSED, YES, Answer, Text, answered_file, explained, field_in, kind_of, lib,
-    refusal_of, text_of, texts_of, written,
+    NO_KIND, NO_ROOM, REFUSED, YES, Answer, RefusalAt, Text, answered_file, explained,
+    explained_all, field_in, kind_of, lib, refusal_of, text_of, texts_of, written,
 )
 from ._refusals import Refused
 
@@ -17,6 +18,13 @@ class Explanation(NamedTuple):
 
     refusal: Optional[Refused]
     text: bytes
+
+
+class AllChecked(NamedTuple):
+    """What a whole file has: the number of paragraphs that pass, and its refusals in file order."""
+
+    passed: int
+    refused: List[Refused]
 
 
 class Report(NamedTuple):
@@ -35,6 +43,37 @@ def check(text: Text, kind: str = "packages") -> int:
     number, (data, length) = kind_of(kind), text_of(text)
     answer: Answer = lib.deb_check(number, data, length)
     return answered_file(answer, number, data).count
+
+
+def check_all(text: Text, kind: str = "packages") -> AllChecked:
+    """Checks all of a file as a document of this kind, where `check` ends at the first refusal, and
+    returns the number of paragraphs that pass and the refusals in file order: those that the
+    program `debctl check --all` prints. It raises no Refused.
+
+        >>> import debctl
+        >>> text = "Package: aa\\nSize: 1k\\n\\nPackage: bb\\nVersion: 1-\\n"
+        >>> for refused in debctl.check_all(text).refused:
+        ...     print(refused.line, refused.name, refused.field)
+        2 BadNumber Size
+        5 BadVersion Version
+
+    What follows lines that are refused is checked as if these lines were blank.
+    """
+    number, (data, length) = kind_of(kind), text_of(text)
+    count = ctypes.c_size_t(64)
+    while True:
+        table = (RefusalAt * count.value)()
+        room, out = len(table), ctypes.byref(count)
+        answer: Answer = lib.deb_check_all(number, data, length, table, room, out)
+        if answer.status != NO_ROOM:
+            break
+    if refusal_of(answer) is None:
+        return AllChecked(answer.count, [])
+    blocks = explained_all(number, data).split(b"\n\n")
+    return AllChecked(answer.count, [
+        Refused(at.code, at.line, field=field_in(block))
+        for at, block in zip(table[: count.value], blocks)
+    ])
 
 
 def normalise(text: Text, kind: str = "packages") -> bytes:
@@ -57,6 +96,14 @@ def explain(text: Text, kind: str = "packages") -> Explanation:
     """
     answer, told = explained(kind_of(kind), text_of(text)[0])
     return Explanation(refusal_of(answer, field_in(told)), told)
+
+
+def explain_all(text: Text, kind: str = "packages") -> str:
+    """Returns why a file is refused at each of its refusals: for each the lines `key: value` of
+    `explain` and an empty line, and at the end the line `ok N, M refused`, with the number of
+    paragraphs that pass and the number of refusals. It raises no Refused.
+    """
+    return explained_all(kind_of(kind), text_of(text)[0]).decode()
 
 
 def same(text: Text, other: Text, kind: str = "packages") -> bool:

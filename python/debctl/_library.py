@@ -37,6 +37,14 @@ class Answer(ctypes.Structure):
     ]
 
 
+class RefusalAt(ctypes.Structure):
+    """One refusal of a file."""
+
+    line: int
+    code: int
+    _fields_ = [("line", ctypes.c_uint64), ("code", ctypes.c_uint8)]
+
+
 class Comparison(ctypes.Structure):
     """The answer of a comparison of two versions."""
 
@@ -55,6 +63,7 @@ def _library() -> ctypes.CDLL:
     library = ctypes.CDLL(str(path))
     kind: List[Any] = [ctypes.c_uint8]
     profiles: List[Any] = [ctypes.POINTER(TextAt), ctypes.c_size_t]
+    refusals: List[Any] = [ctypes.POINTER(RefusalAt), ctypes.c_size_t, _LENGTH]
     index: List[Any] = [ctypes.c_void_p]
     number: List[Any] = [ctypes.c_uint64]
     declared: List[Tuple[str, Any, List[Any]]] = [
@@ -63,9 +72,11 @@ def _library() -> ctypes.CDLL:
         ("deb_version_key", Answer, _TEXT + _BUFFER),
         ("deb_relation_canonical", Answer, _TEXT + _BUFFER),
         ("deb_check", Answer, kind + _TEXT),
+        ("deb_check_all", Answer, kind + _TEXT + refusals),
         ("deb_normalise", Answer, kind + _TEXT + _BUFFER),
         ("deb_fields", Answer, kind + _TEXT + _TABLE + _TABLE + _TABLE),
         ("deb_explain", Answer, kind + _TEXT + _BUFFER),
+        ("deb_explain_all", Answer, kind + _TEXT + _BUFFER),
         ("deb_same", Answer, kind + _TEXT + _TEXT),
         ("deb_diff", Answer, kind + kind + _TEXT + _TEXT + _BUFFER),
         ("deb_query", Answer, _TEXT + profiles + _TEXT + _TEXT + _BUFFER),
@@ -162,6 +173,14 @@ def given(room: int, call: Callable[..., Answer]) -> Tuple[Answer, bytes]:
 def explained(kind: int, data: bytes) -> Tuple[Answer, bytes]:
     """Returns the answer of `deb_explain` for a file, and the lines that it writes."""
     return written(2048, functools.partial(lib.deb_explain, kind, data, len(data)))
+
+
+def explained_all(kind: int, data: bytes) -> bytes:
+    """Returns the lines that `deb_explain_all` writes for a file."""
+    call = functools.partial(lib.deb_explain_all, kind, data, len(data))
+    answer, lines = written(4096, call)
+    refusal_of(answer)
+    return lines
 
 
 def field_in(lines: bytes) -> Optional[str]:

@@ -1,7 +1,8 @@
 //! Calls one function on files, and writes what it answers, as `tests/languages/driver.c` does.
 
 use debctl::{
-    canonical, check, compare, explain, key, normalise, query, same, unmet, Asked, Error, Kind,
+    canonical, check, check_all, compare, explain, explain_all, key, normalise, query, same, unmet,
+    AllChecked, Asked, Error, Kind, Refusal,
 };
 use std::env::args_os;
 use std::fs::read;
@@ -21,6 +22,14 @@ fn told(error: Error) -> String {
         Error::Refused(refusal) => format!("2 {} {} 0\n", refusal.code as u8, refusal.line),
         Error::SecondRefused(refusal) => format!("3 {} {} 0\n", refusal.code as u8, refusal.line),
         Error::Memory => "5 0 0 0\n".to_owned(),
+    }
+}
+
+/// The line of all refusals of a file: the first, and how many paragraphs pass.
+fn head_of(all: &AllChecked) -> String {
+    match all.refused.first() {
+        Some(first) => format!("2 {} {} {}\n", first.code as u8, first.line, all.passed),
+        None => format!("0 0 0 {}\n", all.passed),
     }
 }
 
@@ -63,6 +72,17 @@ fn answer(call: &str, number: usize, files: &[Vec<u8>]) -> Result<Vec<u8>, Error
                 None => format!("0 0 0 {}\n", check(KINDS[number], &files[0])?),
             };
             text(&head, explained.text)
+        }
+        "check-all" => {
+            let all = check_all(KINDS[number], &files[0])?;
+            let line = |it: &Refusal| format!("{} {}\n", it.line, it.code as u8);
+            let lines: String = all.refused.iter().map(line).collect();
+            text(&head_of(&all), lines.into_bytes())
+        }
+        "explain-all" => {
+            let all = check_all(KINDS[number], &files[0])?;
+            let lines = explain_all(KINDS[number], &files[0])?;
+            text(&head_of(&all), lines.into_bytes())
         }
         "same" => match same(KINDS[number], &files[0], &files[1])? {
             true => b"0 0 0 0\n".to_vec(),

@@ -28,7 +28,7 @@ mod relations;
 mod versions;
 
 pub use index::{Index, Package};
-use library::{Answer, Text};
+use library::{Answer, RefusalAt, Text};
 pub use paragraphs::{paragraphs, Field, Iter, Paragraph, Paragraphs};
 pub use relations::{relations, Alternative};
 use std::fmt;
@@ -108,6 +108,15 @@ pub struct Refusal {
     pub line: u64,
 }
 
+impl Refusal {
+    fn of(code: u8, line: u64) -> Refusal {
+        Refusal {
+            code: Code::of(code),
+            line,
+        }
+    }
+}
+
 /// The line that the program debctl prints: `line 3: 7 DuplicateField`.
 impl fmt::Display for Refusal {
     fn fmt(&self, out: &mut fmt::Formatter<'_>) -> fmt::Result {
@@ -151,6 +160,15 @@ pub struct Explanation {
     pub text: Vec<u8>,
 }
 
+/// What a whole file has.
+#[derive(Clone, Debug, PartialEq, Eq)]
+pub struct AllChecked {
+    /// The number of paragraphs that pass.
+    pub passed: u64,
+    /// The refusals, in file order.
+    pub refused: Vec<Refusal>,
+}
+
 /// The report on relations.
 #[derive(Clone, Debug, PartialEq, Eq)]
 pub struct Report {
@@ -162,13 +180,9 @@ pub struct Report {
 
 /// Returns the error of a status, if it is one.
 fn error_of(status: u8, code: u8, line: u64) -> Option<Error> {
-    let refusal = || Refusal {
-        code: Code::of(code),
-        line,
-    };
     match status {
-        library::REFUSED => Some(Error::Refused(refusal())),
-        library::SECOND_REFUSED => Some(Error::SecondRefused(refusal())),
+        library::REFUSED => Some(Error::Refused(Refusal::of(code, line))),
+        library::SECOND_REFUSED => Some(Error::SecondRefused(Refusal::of(code, line))),
         library::NO_MEMORY => Some(Error::Memory),
         _ => None,
     }
@@ -210,6 +224,40 @@ pub fn check(kind: Kind, text: &[u8]) -> Result<u64, Error> {
     Ok(answered(library::check(kind as u8, text))?.count)
 }
 
+/// Checks all of a file as a document of a kind, where [`check`] ends at the first refusal, and
+/// returns the number of paragraphs that pass and the refusals in file order: those that the program
+/// `debctl check --all` prints. What follows lines that are refused is checked as if these lines
+/// were blank. The only error is [`Error::Memory`].
+///
+/// ```
+/// use debctl::{check_all, Code, Kind};
+///
+/// let text = b"Package: aa\nSize: 1k\n\nPackage: bb\nVersion: 1-\n";
+/// let all = check_all(Kind::Packages, text)?;
+/// let codes: Vec<_> = all.refused.iter().map(|it| (it.line, it.code)).collect();
+/// assert_eq!(codes, [(2, Code::BadNumber), (5, Code::BadVersion)]);
+/// # Ok::<(), debctl::Error>(())
+/// ```
+pub fn check_all(kind: Kind, text: &[u8]) -> Result<AllChecked, Error> {
+    let mut count = 64;
+    loop {
+        let mut table = vec![RefusalAt::default(); count];
+        let answer = library::check_all(kind as u8, text, &mut table, &mut count);
+        if answer.status == library::NO_ROOM {
+            continue;
+        }
+        let passed = answer.count;
+        if let Err(Error::Memory) = answered(answer) {
+            return Err(Error::Memory);
+        }
+        let refused = table[..count].iter();
+        return Ok(AllChecked {
+            passed,
+            refused: refused.map(|at| Refusal::of(at.code, at.line)).collect(),
+        });
+    }
+}
+
 /// Returns the canonical text of a file: two accepted files mean the same exactly if theirs are the
 /// same.
 pub fn normalise(kind: Kind, text: &[u8]) -> Result<Vec<u8>, Error> {
@@ -230,6 +278,19 @@ pub fn explain(kind: Kind, text: &[u8]) -> Result<Explanation, Error> {
         Err(error) => return Err(error),
     };
     Ok(Explanation { refusal, text })
+}
+
+/// Returns why a file is refused at each of its refusals: for each the lines `key: value` of
+/// [`explain`] and an empty line, and at the end the line `ok N, M refused`, with the number of
+/// paragraphs that pass and the number of refusals. The only error is [`Error::Memory`].
+pub fn explain_all(kind: Kind, text: &[u8]) -> Result<String, Error> {
+    let call =
+        |out: &mut [u8], length: &mut usize| library::explain_all(kind as u8, text, out, length);
+    let (answer, text) = written(4096, call);
+    match answered(answer) {
+        Ok(_) | Err(Error::Refused(_)) => Ok(String::from_utf8(text).expect("the lines are ASCII")),
+        Err(error) => Err(error),
+    }
 }
 
 /// Returns whether two files mean the same.

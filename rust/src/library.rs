@@ -25,6 +25,14 @@ pub struct Comparison {
     pub order: i8,
 }
 
+/// One refusal of a file, in the table that `deb_check_all` writes.
+#[repr(C)]
+#[derive(Clone, Copy, Default)]
+pub struct RefusalAt {
+    pub line: u64,
+    pub code: u8,
+}
+
 /// A field of a file, in the tables that `deb_fields` writes.
 #[repr(C)]
 #[derive(Clone, Copy, Debug, Default)]
@@ -113,6 +121,14 @@ extern "C" {
         length: *mut usize,
     ) -> Answer;
     fn deb_check(kind: u8, text: *const u8, text_length: usize) -> Answer;
+    fn deb_check_all(
+        kind: u8,
+        text: *const u8,
+        text_length: usize,
+        refusals: *mut RefusalAt,
+        refusals_size: usize,
+        refusal_count: *mut usize,
+    ) -> Answer;
     fn deb_normalise(
         kind: u8,
         text: *const u8,
@@ -122,6 +138,14 @@ extern "C" {
         length: *mut usize,
     ) -> Answer;
     fn deb_explain(
+        kind: u8,
+        text: *const u8,
+        text_length: usize,
+        out: *mut u8,
+        out_size: usize,
+        length: *mut usize,
+    ) -> Answer;
+    fn deb_explain_all(
         kind: u8,
         text: *const u8,
         text_length: usize,
@@ -315,6 +339,20 @@ pub fn check(kind: u8, text: &[u8]) -> Answer {
     unsafe { deb_check(kind, text.as_ptr(), text.len()) }
 }
 
+/// `count` becomes how many refusals there are.
+pub fn check_all(kind: u8, text: &[u8], refusals: &mut [RefusalAt], count: &mut usize) -> Answer {
+    unsafe {
+        deb_check_all(
+            kind,
+            text.as_ptr(),
+            text.len(),
+            refusals.as_mut_ptr(),
+            refusals.len(),
+            count,
+        )
+    }
+}
+
 pub fn normalise(kind: u8, text: &[u8], out: &mut [u8], length: &mut usize) -> Answer {
     unsafe {
         deb_normalise(
@@ -331,6 +369,19 @@ pub fn normalise(kind: u8, text: &[u8], out: &mut [u8], length: &mut usize) -> A
 pub fn explain(kind: u8, text: &[u8], out: &mut [u8], length: &mut usize) -> Answer {
     unsafe {
         deb_explain(
+            kind,
+            text.as_ptr(),
+            text.len(),
+            out.as_mut_ptr(),
+            out.len(),
+            length,
+        )
+    }
+}
+
+pub fn explain_all(kind: u8, text: &[u8], out: &mut [u8], length: &mut usize) -> Answer {
+    unsafe {
+        deb_explain_all(
             kind,
             text.as_ptr(),
             text.len(),

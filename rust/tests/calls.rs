@@ -1,8 +1,9 @@
-//! Versions and their keys, relations, unmet relations, and the paragraphs of a file.
+//! Versions and their keys, relations, unmet relations, and the paragraphs of a file and all its
+//! refusals.
 
 use debctl::{
-    compare, diff, key, paragraphs, query, relations, unmet, Asked, Code, Compared, Error, Index,
-    Kind, Refusal, Version,
+    check, check_all, compare, diff, explain, explain_all, key, paragraphs, query, relations,
+    unmet, Asked, Code, Compared, Error, Index, Kind, Refusal, Version,
 };
 use std::collections::HashSet;
 
@@ -151,5 +152,33 @@ fn what_changed_has_lines() -> Result<(), Error> {
     };
     let refused = diff(Compared::Binary, false, old, b"");
     assert_eq!(refused, Err(Error::SecondRefused(refusal)));
+    Ok(())
+}
+
+#[test]
+fn a_file_has_several_refusals() -> Result<(), Error> {
+    let good = b"Package: aa\nVersion: 1\nArchitecture: all\n";
+    let all = check_all(Kind::Packages, good)?;
+    assert_eq!((all.passed, all.refused), (1, vec![]));
+    assert_eq!(explain_all(Kind::Packages, good)?, "ok 1, 0 refused\n");
+    let text = [&good[..], b"\nVersion: 1-\n\nbad\n\n", good].concat();
+    let all = check_all(Kind::Packages, &text)?;
+    let at = |line, code| Refusal { code, line };
+    let refused = [at(5, Code::BadVersion), at(7, Code::NoColon)];
+    assert_eq!((all.passed, &all.refused[..]), (2, &refused[..]));
+    assert_eq!(
+        check(Kind::Packages, &text),
+        Err(Error::Refused(refused[0]))
+    );
+    let told = explain_all(Kind::Packages, &text)?;
+    let first = String::from_utf8(explain(Kind::Packages, &text)?.text).expect("ASCII");
+    assert!(told.starts_with(&format!("{first}\nline: 7\ncode: 6\n")));
+    assert!(told.ends_with("\n\nok 2, 2 refused\n"));
+    assert_eq!(check_all(Kind::Any, &text)?.refused, refused[1..]);
+    let single = check_all(Kind::Binary, &text)?;
+    assert_eq!(single.refused, [at(5, Code::TooManyParagraphs)]);
+    let many = check_all(Kind::Any, &b"x\n\n".repeat(5000))?;
+    assert_eq!((many.passed, many.refused.len()), (0, 5000));
+    assert_eq!(many.refused[4999], at(9999, Code::NoColon));
     Ok(())
 }

@@ -183,6 +183,28 @@ struct explained {
     const char *lines;
 };
 
+typedef struct deb_answer explainer(uint8_t kind, const uint8_t *text, size_t text_length,
+                                    uint8_t *out, size_t out_size, size_t *length);
+
+/* An explanation in buffers that are too short, long enough, and longer. */
+static void try_explained(explainer *explain, const struct explained *it) {
+    size_t whole = it->lines ? strlen(it->lines) : 1, turn;
+    size_t rooms[] = {0, whole - 1, whole, whole + 1, 4096};
+    for (turn = 0; turn < sizeof rooms / sizeof *rooms; turn++) {
+        struct buffer out = buffer_of(rooms[turn]);
+        struct deb_answer answer = explain(it->kind, bytes(it->text),
+                                           it->text ? strlen(it->text) : 0, out.bytes, out.room,
+                                           &out.length);
+        if (!it->lines)
+            IS(is(answer, it->status, 0, 0, 0) && untouched(out, 0));
+        else if (out.room < whole)
+            IS(is(answer, DEB_NO_ROOM, 0, 0, 0) && untouched(out, whole));
+        else
+            IS(is(answer, it->status, it->code, it->line, it->count) && holds(out, it->lines));
+        free(out.bytes);
+    }
+}
+
 static void try_explanations(void) {
     const struct explained all[] = {
         {DEB_PACKAGES, hello, DEB_YES, 0, 0, 1, "ok 1\n"},
@@ -203,25 +225,43 @@ static void try_explanations(void) {
         {5, hello, DEB_NO_KIND, 0, 0, 0, NULL},
         {255, NULL, DEB_NO_KIND, 0, 0, 0, NULL},
     };
-    size_t at, turn;
-    for (at = 0; at < sizeof all / sizeof *all; at++) {
-        const struct explained *it = &all[at];
-        size_t whole = it->lines ? strlen(it->lines) : 1;
-        size_t rooms[] = {0, whole - 1, whole, whole + 1, 4096};
-        for (turn = 0; turn < sizeof rooms / sizeof *rooms; turn++) {
-            struct buffer out = buffer_of(rooms[turn]);
-            struct deb_answer answer = deb_explain(it->kind, bytes(it->text),
-                                                   it->text ? strlen(it->text) : 0, out.bytes,
-                                                   out.room, &out.length);
-            if (!it->lines)
-                IS(is(answer, it->status, 0, 0, 0) && untouched(out, 0));
-            else if (out.room < whole)
-                IS(is(answer, DEB_NO_ROOM, 0, 0, 0) && untouched(out, whole));
-            else
-                IS(is(answer, it->status, it->code, it->line, it->count) && holds(out, it->lines));
-            free(out.bytes);
-        }
-    }
+    size_t at;
+    for (at = 0; at < sizeof all / sizeof *all; at++)
+        try_explained(deb_explain, &all[at]);
+}
+
+/* Blocks of two refusals, and a paragraph that passes. */
+static void try_all_explanations(void) {
+    static const char *two =
+        "Package: hello\nVersion: 1.1\nArchitecture: amd64\nSize: 1k\n\nx y\n\n"
+        "Package: hello\nVersion: 1.0\nArchitecture: amd64\n";
+    const struct explained all[] = {
+        {DEB_PACKAGES, hello, DEB_YES, 0, 0, 1, "ok 1, 0 refused\n"},
+        {DEB_PACKAGES, NULL, DEB_YES, 0, 0, 0, "ok 0, 0 refused\n"},
+        {DEB_PACKAGES, two, DEB_REFUSED, DEB_BAD_NUMBER, 4, 1,
+         "line: 4\ncode: 15\nname: BadNumber\nfield: Size\nvalue: 1k\n"
+         "rule: Installed-Size (Debian Policy 5.6.20) and Size must be one or more decimal digits.\n"
+         "usually: a unit after the number\n\n"
+         "line: 6\ncode: 6\nname: NoColon\nvalue: x y\n"
+         "rule: The first line of a field must have a colon after the name (Debian Policy 5.1).\n"
+         "usually: no control data, a blank line within a field, or lines that end in CR LF\n\n"
+         "ok 1, 2 refused\n"},
+        {DEB_ANY, two, DEB_REFUSED, DEB_NO_COLON, 6, 2,
+         "line: 6\ncode: 6\nname: NoColon\nvalue: x y\n"
+         "rule: The first line of a field must have a colon after the name (Debian Policy 5.1).\n"
+         "usually: no control data, a blank line within a field, or lines that end in CR LF\n\n"
+         "ok 2, 1 refused\n"},
+        {DEB_BINARY, NULL, DEB_REFUSED, DEB_NO_PARAGRAPH, 1, 0,
+         "line: 1\ncode: 10\nname: NoParagraph\n"
+         "rule: A file of this kind must contain exactly one paragraph (Debian Policy 5.3, 5.4).\n"
+         "usually: an empty file, such as a failed command leaves\n\n"
+         "ok 0, 1 refused\n"},
+        {5, two, DEB_NO_KIND, 0, 0, 0, NULL},
+        {255, NULL, DEB_NO_KIND, 0, 0, 0, NULL},
+    };
+    size_t at;
+    for (at = 0; at < sizeof all / sizeof *all; at++)
+        try_explained(deb_explain_all, &all[at]);
 }
 
 /* A query of an index of hello and of a package for the profiles, whose report is as told. */
@@ -347,6 +387,7 @@ int main(void) {
     try_files();
     try_differences();
     try_explanations();
+    try_all_explanations();
     try_queries();
     try_long_report();
     try_long_names();

@@ -29,6 +29,18 @@ static std::string explained(const std::string &text) {
     return std::to_string(answer.status) + ' ' + std::string(out.begin(), out.end());
 }
 
+// The refusals of a file, each as LINE:CODE, after the number of paragraphs that pass.
+static std::string refusals(const std::string &text) {
+    std::vector<deb_refusal> table(text.size());
+    size_t count = 0;
+    deb_answer answer = deb_check_all(DEB_PACKAGES, bytes(text), text.size(), table.data(),
+                                      table.size(), &count);
+    std::string out = std::to_string(answer.count);
+    for (size_t at = 0; at < count; at++)
+        out += ' ' + std::to_string(table[at].line) + ':' + std::to_string(table[at].code);
+    return out;
+}
+
 static std::string key(const std::string &version) {
     std::string out(2 * version.size() + 8, '\0');
     size_t length = 0;
@@ -101,12 +113,13 @@ int main() {
     failed += explained(text) != "0 ok 1\n";
     failed += explained("Package: aa\nVersion: 1_2\n")
                   .find("2 line: 2\ncode: 18\nname: BadVersion\nfield: Version\nplace: 1\nat: 2:11\n") != 0;
+    failed += refusals("x\n\n" + text + "\nPackage: aa\nVersion: 1_2\n") != "1 1:6 8:18";
     failed += deb_version_compare(bytes("1"), 1, bytes("2"), 1).order >= 0;
     failed += key("1.0~rc1") >= key("1.0") || key("1.0") != key("0:1.00-0");
     failed += fields("Package: aa\nDepends: bb\n") != "Package=aa Depends=bb ";
     failed += asked(text, "hello") != "0 met hello\n 1 hello 1.0 amd64\n";
     failed += unmet(text) != "0 " ||
               unmet(text + "Depends: aa\n") != "1 unmet 1 hello 1.0 amd64 Depends aa\n";
-    std::printf("cpp: %d passed, %d failed\n", 10 - failed, failed);
+    std::printf("cpp: %d passed, %d failed\n", 11 - failed, failed);
     return failed != 0;
 }

@@ -41,6 +41,13 @@ def explained(*words, **more):
     return head, told.text.decode().split("\n")
 
 
+def all_refused(*words, **more):
+    """How many paragraphs pass, and the code, the line and the field of each refusal."""
+    passed, refused = debctl.check_all(*words, **more)
+    assert not any(it.second for it in refused)
+    return passed, [(it.code, it.line, it.field) for it in refused]
+
+
 def from_threads():
     """Whether calls from four threads at once are answered as one alone is."""
     answers = []
@@ -65,6 +72,8 @@ TAKE_TEXT = {
     "check": debctl.check,
     "normalise": debctl.normalise,
     "explain": debctl.explain,
+    "check_all": debctl.check_all,
+    "explain_all": debctl.explain_all,
     "same's first": lambda text: debctl.same(text, HELLO),
     "same's second": lambda text: debctl.same(HELLO, text),
     "query's relation": lambda text: debctl.query(text, HELLO, "amd64"),
@@ -76,6 +85,8 @@ TAKE_KIND = {
     "check's kind": lambda kind: debctl.check(HELLO, kind),
     "normalise's kind": lambda kind: debctl.normalise(HELLO, kind),
     "explain's kind": lambda kind: debctl.explain(HELLO, kind),
+    "check_all's kind": lambda kind: debctl.check_all(HELLO, kind),
+    "explain_all's kind": lambda kind: debctl.explain_all(HELLO, kind),
     "same's kind": lambda kind: debctl.same(HELLO, HELLO, kind),
 }
 BYTES_LIKE = [bytes, bytearray, memoryview, lambda text: array.array("B", text)]
@@ -117,6 +128,16 @@ def from_one_index():
 
 INDEX = debctl.Index(HELLO + "\n" + "Package: mailer\nVersion: 2\nArchitecture: all\nProvides: mta\n")
 
+# Two paragraphs that pass, and between them a bad version, a line without a colon, a name twice and a
+# field that is missing.
+FOUR = "\n".join([
+    HELLO, "Version: 1-\nPackage: bb\n", "bad\n", "Size: 1\nSIZE: 2\n", "\nPackage: cc\nVersion: 1\n",
+    HELLO,
+])
+FOUR_REFUSED = [
+    (Code.BadVersion, 5, "Version"), (Code.NoColon, 8, None), (Code.DuplicateField, 11, "SIZE"),
+    (Code.MissingField, 14, "Architecture"),
+]
 long_index = "\n".join(f"Package: p{at}\nVersion: {at}\nArchitecture: all\n" for at in range(2000))
 long_version = "1" * 100000 + "-0"
 bad_version = (Code.BadVersion, 0, "BadVersion", False)
@@ -163,6 +184,23 @@ TESTS = {
     "explain unknown kind": error(debctl.explain, HELLO, "foo") is ValueError,
     "explain a long value": explained("Size: " + "\0" * 5000)[1][4]
     == "value: " + "\\x00" * 200 + "...",
+    "check all": all_refused(HELLO) == (1, []),
+    "check all of nothing": debctl.check_all("") == debctl.AllChecked(0, []),
+    "check all, refused": all_refused(FOUR) == (2, FOUR_REFUSED),
+    "check all, kinds": [all_refused(FOUR, kind=kind) for kind in ("any", "binary", "source")] == [
+        (4, FOUR_REFUSED[1:3]), (1, [(Code.TooManyParagraphs, 5, None)]),
+        (0, [(Code.MissingField, 1, "Format")]),
+    ],
+    "check all, many": all_refused("x\n\n" * 5000 + HELLO)
+    == (1, [(Code.NoColon, 2 * at + 1, None) for at in range(5000)]),
+    "check all, unknown kind": error(debctl.check_all, HELLO, "foo") is ValueError,
+    "explain all": debctl.explain_all(HELLO) == "ok 1, 0 refused\n",
+    "explain all, refused": debctl.explain_all("x\n\n" + BAD) == "".join([
+        debctl.explain("x\n").text.decode(), "\n",
+        debctl.explain("\n\n" + BAD).text.decode(), "\nok 0, 2 refused\n",
+    ]),
+    "explain all, many": debctl.explain_all("x\n\n" * 5000).count("\nname: NoColon\n") == 5000,
+    "explain all, unknown kind": error(debctl.explain_all, HELLO, "foo") is ValueError,
     "same": debctl.same(HELLO, CANONICAL) is True,
     "different": debctl.same(HELLO, "") is False,
     "first refused": refusal(debctl.same, BAD, "x") == (Code.BadNumber, 4, "BadNumber", False),

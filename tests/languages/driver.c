@@ -1,6 +1,6 @@
 /* Calls one function on files, and writes what it answers: `STATUS CODE LINE COUNT`, or `STATUS
- * CODE ORDER` of a comparison, and in the lines below the text that is given. The words are the
- * function and its arguments; each but a kind is a file. */
+ * CODE ORDER` of a comparison, and in the lines below the text that is given, or `LINE CODE` of each
+ * refusal. The words are the function and its arguments; each but a kind is a file. */
 #include "debctl.h"
 
 #include <stdio.h>
@@ -34,7 +34,8 @@ int main(int count, char **words) {
     struct deb_text profiles[8];
     struct deb_answer answer;
     uint8_t *out = NULL;
-    size_t room = 0, length = 0;
+    struct deb_refusal *refusals = NULL;
+    size_t room = 0, length = 0, refused;
     const char *call = count > 1 ? words[1] : "";
     int kind = count > 2 ? atoi(words[2]) : 0, at, turn;
 
@@ -68,6 +69,12 @@ int main(int count, char **words) {
         else if (strcmp(call, "explain") == 0)
             answer = deb_explain((uint8_t)kind, files[0].bytes, files[0].length, out, room,
                                  &length);
+        else if (strcmp(call, "check-all") == 0)
+            answer = deb_check_all((uint8_t)kind, files[0].bytes, files[0].length, refusals, room,
+                                   &length);
+        else if (strcmp(call, "explain-all") == 0)
+            answer = deb_explain_all((uint8_t)kind, files[0].bytes, files[0].length, out, room,
+                                     &length);
         else if (strcmp(call, "same") == 0)
             answer = deb_same((uint8_t)kind, files[0].bytes, files[0].length, files[1].bytes,
                               files[1].length);
@@ -78,12 +85,18 @@ int main(int count, char **words) {
         if (answer.status != DEB_NO_ROOM)
             break;
         out = malloc(length);
+        refusals = malloc(length * sizeof *refusals);
         room = length;
     }
     printf("%d %d %llu %llu\n", answer.status, answer.code, (unsigned long long)answer.line,
            (unsigned long long)answer.count);
-    fwrite(out, 1, room ? length : 0, stdout);
+    if (strcmp(call, "check-all") == 0)
+        for (refused = 0; refused < length; refused++)
+            printf("%llu %d\n", (unsigned long long)refusals[refused].line, refusals[refused].code);
+    else
+        fwrite(out, 1, room ? length : 0, stdout);
     free(out);
+    free(refusals);
     for (at = 0; at < 8; at++)
         free(files[at].bytes);
     return 0;

@@ -50,6 +50,9 @@ static const char *index_of_two =
 static const char *refused = "Package: hello\nVersion: 1\nArchitecture: all\n\n"
                              "Package: mailer\nDepends: aa (>= 1), bb cc\n";
 
+static const char *twice_refused = "Package: hello\nDepends: aa (>= 1), bb cc\n\nx y\n\n"
+                                   "Package: mailer\nVersion: 3\nArchitecture: all\n";
+
 static const char *other_index = "Package: mailer\nVersion: 3\nArchitecture: all\n";
 
 static uint8_t out[1024];
@@ -124,6 +127,14 @@ static struct deb_answer call(int which) {
     case 15:
         return deb_index_unmet(loaded, DEB_PACKAGES, 1, bytes("amd64"), 5, &profile, 1, text, size,
                                out, sizeof out, &length);
+    case 16:
+        return deb_check_all(DEB_PACKAGES, bytes(twice_refused), strlen(twice_refused),
+                             (struct deb_refusal *)(void *)out, 2, &length);
+    case 17:
+        return deb_explain_all(DEB_PACKAGES, text, size, out, sizeof out, &length);
+    case 18:
+        return deb_explain_all(DEB_PACKAGES, bytes(twice_refused), strlen(twice_refused), out,
+                               sizeof out, &length);
     default:
         return deb_query(bytes("amd64"), 5, &profile, 1, bytes("hello (>= 1) | xx, mta"), 22, text,
                          size, out, sizeof out, &length);
@@ -136,12 +147,14 @@ int main(void) {
                                   "relation_canonical", "fields", "fields, refused",
                                   "unmet",             "index_read", "index_query",
                                   "index_package",     "diff",    "index_unmet",
+                                  "check_all",         "explain_all", "explain_all, refused",
                                   "query"};
     enum { CALLS = sizeof names / sizeof *names };
     static const int statuses[CALLS] = {
         DEB_YES, DEB_YES, DEB_YES, DEB_YES, DEB_REFUSED, DEB_YES,
         DEB_YES, DEB_YES, DEB_YES, DEB_REFUSED, DEB_NO, DEB_YES,
-        DEB_YES, DEB_YES, DEB_NO,  DEB_NO,  DEB_YES,
+        DEB_YES, DEB_YES, DEB_NO,  DEB_NO,  DEB_REFUSED, DEB_YES,
+        DEB_REFUSED, DEB_YES,
     };
     struct deb_answer reading;
     int which, passed = 0, failed = 0;

@@ -1,4 +1,4 @@
-/* Keys of versions, canonical relations, unmet relations, and the tables of fields. */
+/* Keys of versions, canonical relations, unmet relations, and the tables of fields and of refusals. */
 #include "debctl.h"
 
 #include <stdio.h>
@@ -234,6 +234,111 @@ static void try_fields(void) {
     IS(count == 0 && names_length == 0 && values_length == 0);
 }
 
+/* ---- refusals */
+
+/* Two paragraphs that pass, and between them one with a bad version and one without a colon. */
+static const char two_refused[] = "Package: aa\nVersion: 1\nArchitecture: all\n\n"
+                                  "Version: 1-\nPackage: bb\n\nbad\n\n"
+                                  "Package: cc\nVersion: 2\nArchitecture: all\n";
+
+struct checked {
+    uint8_t kind;
+    const char *text;
+    uint64_t passed;
+    size_t count;
+    struct deb_refusal refusals[3];
+};
+
+/* All refusals of a file, in a table of so much room: whether the answer is right, and nothing else
+ * was written. */
+static void try_table(const struct checked *it, size_t room) {
+    struct deb_refusal *table = malloc((room + 1) * sizeof *table);
+    size_t count = 99, at;
+    struct deb_answer answer, first = deb_check(it->kind, bytes(it->text), strlen(it->text));
+    memset(table, 7, (room + 1) * sizeof *table);
+    answer = deb_check_all(it->kind, bytes(it->text), strlen(it->text), table, room, &count);
+    IS(count == it->count);
+    IS(first.status == (count ? DEB_REFUSED : DEB_YES));
+    if (room < it->count) {
+        IS(is(answer, DEB_NO_ROOM, 0, 0, 0) && untouched(table, (room + 1) * sizeof *table));
+    } else {
+        IS(is(answer, first.status, first.code, first.line, it->passed));
+        for (at = 0; at < it->count; at++)
+            IS(table[at].line == it->refusals[at].line && table[at].code == it->refusals[at].code);
+        IS(untouched(table + it->count, (room + 1 - it->count) * sizeof *table));
+    }
+    free(table);
+}
+
+static void try_refusals(void) {
+    static const struct checked all[] = {
+        {DEB_PACKAGES, "", 0, 0, {{0, 0}}},
+        {DEB_PACKAGES, "Package: aa\nVersion: 1\nArchitecture: all\n", 1, 0, {{0, 0}}},
+        {DEB_PACKAGES, two_refused, 2, 2, {{5, DEB_BAD_VERSION}, {8, DEB_NO_COLON}}},
+        {DEB_ANY, two_refused, 3, 1, {{8, DEB_NO_COLON}}},
+        {DEB_BINARY, two_refused, 1, 1, {{5, DEB_TOO_MANY_PARAGRAPHS}}},
+        {DEB_SOURCE, two_refused, 0, 1, {{1, DEB_MISSING_FIELD}}},
+        {DEB_BINARY, "", 0, 1, {{1, DEB_NO_PARAGRAPH}}},
+        {DEB_ANY, "bad\n\nbad\nbad\n\n\nbad", 0, 3,
+         {{1, DEB_NO_COLON}, {3, DEB_NO_COLON}, {7, DEB_NO_COLON}}},
+        {DEB_ANY, "a: 1\nA: 2\n\nb: 1\n c\n\n x\n", 1, 2,
+         {{2, DEB_DUPLICATE_FIELD}, {7, DEB_STRAY_CONTINUATION}}},
+        {DEB_ANY, "# x\na: 1\n\nb: 2\n", 1, 1, {{1, DEB_COMMENT}}},
+    };
+    size_t at, room, count;
+    for (at = 0; at < sizeof all / sizeof *all; at++)
+        for (room = 0; room <= all[at].count + 1; room++)
+            try_table(&all[at], room);
+    IS(is(deb_check_all(DEB_PACKAGES, NULL, 0, NULL, 0, &count), DEB_YES, 0, 0, 0) && count == 0);
+    IS(is(deb_check_all(DEB_SOURCE, NULL, 0, NULL, 0, &count), DEB_NO_ROOM, 0, 0, 0) && count == 1);
+    for (at = 5; at <= 255; at += 250)
+        IS(is(deb_check_all((uint8_t)at, bytes(two_refused), strlen(two_refused), NULL, 0, &count),
+              DEB_NO_KIND, 0, 0, 0) &&
+           count == 0);
+}
+
+/* A file of so many refused lines, each after a blank line. */
+static void try_many_refusals(void) {
+    enum { LINES = 100000 };
+    char *text = malloc(3 * LINES);
+    struct deb_refusal *table = malloc((LINES + 1) * sizeof *table);
+    size_t count, at, wrong = 0;
+    for (at = 0; at < LINES; at++)
+        memcpy(text + 3 * at, "x\n\n", 3);
+    memset(table, 7, (LINES + 1) * sizeof *table);
+    IS(is(deb_check_all(DEB_PACKAGES, bytes(text), 3 * LINES, table, LINES - 1, &count), DEB_NO_ROOM,
+          0, 0, 0));
+    IS(count == LINES && untouched(table, (LINES + 1) * sizeof *table));
+    IS(is(deb_check_all(DEB_PACKAGES, bytes(text), 3 * LINES, table, LINES, &count), DEB_REFUSED,
+          DEB_NO_COLON, 1, 0));
+    for (at = 0; at < LINES; at++)
+        wrong += table[at].line != 2 * at + 1 || table[at].code != DEB_NO_COLON;
+    IS(count == LINES && wrong == 0 && untouched(table + LINES, sizeof *table));
+    free(text);
+    free(table);
+}
+
+/* Nothing is checked after a paragraph whose lines are too long. */
+static void try_last_refusal(void) {
+    enum { LONG = 17000000 };
+    char *text = malloc(LONG + 16), *at = text;
+    struct deb_refusal table[3];
+    uint8_t out[2048];
+    size_t count, length;
+    at += sprintf(at, "x\n\na: ");
+    memset(at, 'b', LONG);
+    at += LONG;
+    at += sprintf(at, "\n\nx\n");
+    IS(is(deb_check_all(DEB_ANY, bytes(text), (size_t)(at - text), table, 3, &count), DEB_REFUSED,
+          DEB_NO_COLON, 1, 0));
+    IS(count == 2 && table[0].line == 1 && table[0].code == DEB_NO_COLON && table[1].line == 3 &&
+       table[1].code == DEB_PARAGRAPH_TOO_LONG);
+    IS(is(deb_explain_all(DEB_ANY, bytes(text), (size_t)(at - text), out, sizeof out, &length),
+          DEB_REFUSED, DEB_NO_COLON, 1, 0));
+    IS(length > 17 && memcmp(out + length - 17, "\nok 0, 2 refused\n", 17) == 0);
+    free(text);
+}
+
 int main(void) {
     try_order_of_keys();
     try_keys();
@@ -243,6 +348,9 @@ int main(void) {
     try_relation("aa (", NULL);
     try_unmet();
     try_fields();
+    try_refusals();
+    try_many_refusals();
+    try_last_refusal();
     printf("tables: %d passed, %d failed\n", passed, failed);
     return failed != 0;
 }

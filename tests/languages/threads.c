@@ -15,6 +15,7 @@ static void *run(void *wrong) {
     int turn;
     for (turn = 0; turn < 2000; turn++) {
         uint8_t out[512];
+        struct deb_refusal refusal;
         size_t length;
         const uint8_t *text = bytes(hello);
         size_t size = strlen(hello);
@@ -29,6 +30,12 @@ static void *run(void *wrong) {
                                      &length)
                                  .line != 2 ||
                          memcmp(out, "line: 2\ncode: 18\nname: BadVersion\n", 34);
+        *(int *)wrong += deb_check_all(DEB_PACKAGES, bytes(bad), strlen(bad), &refusal, 1, &length)
+                                 .line != 2 ||
+                         length != 1 || refusal.line != 2 || refusal.code != DEB_BAD_VERSION;
+        *(int *)wrong += deb_explain_all(DEB_PACKAGES, text, size, out, sizeof out, &length).count !=
+                             1 ||
+                         length != 16 || memcmp(out, "ok 1, 0 refused\n", 16);
         *(int *)wrong += deb_query(bytes("amd64"), 5, NULL, 0, bytes("hello"), 5, text, size, out,
                                    sizeof out, &length)
                                  .status != DEB_YES ||

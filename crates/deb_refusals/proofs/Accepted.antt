@@ -2,13 +2,14 @@
 use Rattle.std.proofs.Common.{◌≡◌, Bool, ℕ, ◌+◌, ◌++◌, List, [], ◌∷◌, length, map, Option, None, Some, Result, Ok, Err, ap, ◌∙◌, arith, length-append}
 use Rattle.std.proofs.lemmas.List.{length-map}
 use Rattle.deb_base.specs.Bodies.{paragraph_limit}
+use Rattle.deb_base.specs.declared.doc.Doc.{Doc}
 use Rattle.deb_base.specs.declared.refusal.Refusal.{Refusal}
 use Rattle.deb_syntax.specs.Answers.{line_beyond, paragraphs_within}
 use Rattle.deb_syntax.specs.Lines.{Paragraph, file_limit}
 use Rattle.deb_syntax.specs.Meaning.{Entries}
 use Rattle.deb_field.specs.ValueLaws.{value_law}
 use Rattle.deb_field.specs.Values.{ValueMeaning, value_text, SpellsValue}
-use Rattle.deb_control.specs.Documents.{rules_of}
+use Rattle.deb_control.specs.Documents.{Accepted, Meaning, rules_of}
 use Rattle.deb_control.specs.Refusals.{Outcome, answer_behind, followed, line_behind, outcome_behind, stopped}
 use Rattle.deb_control.specs.Rules.{Rules}
 use Rattle.deb_control.specs.Streams.{CheckedStream, end_of, is_end_under, stream_behind_under, with_answer}
@@ -35,10 +36,14 @@ counted_behind rules beyond n before (p ∷ left) none =
     at_one (is_end_under paragraph_limit rules p) p before (answer_behind rules beyond n before (p ∷ left)) (λ passed. stream_behind_under paragraph_limit file_limit rules beyond n passed left) (λ entries. outcome_behind rules beyond n (before ++ entries ∷ []) left)
     (λ entries. counted_behind rules beyond n (before ++ entries ∷ []) left) none
 
+-- as many pass as an accepted file has paragraphs
+pub accepted_passed : (doc : Doc) (text : List ℕ) (meaning : Meaning) → Accepted doc text meaning → passed_of doc text ≡ length meaning
+accepted_passed doc text meaning accepted =
+    let is = outcome-accepted ValueMeaning (SpellsValue doc) value_text (value_law doc) (rules_of doc) (document_rules doc) text meaning accepted in
+    let counted = counted_behind (rules_of doc) (line_beyond 1 file_limit text) (line_behind text) [] (paragraphs_within text) (ap (λ o. o.refusal) is) in
+    omega (arith, counted, ap (λ o. length o.passed) is, length-map meaning (map (body_under value_text)))
+
 pub accepted_has_one_line : AcceptedHasOneLine
 accepted_has_one_line doc text meaning accepted =
-    let is = outcome-accepted ValueMeaning (SpellsValue doc) value_text (value_law doc) (rules_of doc) (document_rules doc) text meaning accepted in
     let none : refusals_of doc text ≡ [] = (no_refusal_is_accepted (λ doc. refused_or_accepted ValueMeaning (SpellsValue doc) value_text (value_law doc) (rules_of doc) (document_rules doc)) doc text).1 (meaning, accepted) in
-    let counted = counted_behind (rules_of doc) (line_beyond 1 file_limit text) (line_behind text) [] (paragraphs_within text) (ap (λ o. o.refusal) is) in
-    let passed : passed_of doc text ≡ length meaning = omega (arith, counted, ap (λ o. length o.passed) is, length-map meaning (map (body_under value_text))) in
-    ap (λ refusals. lines_of_refusals refusals ++ total_line (passed_of doc text) (length refusals)) none ∙ ap (λ n. total_line n 0) passed
+    ap (λ refusals. lines_of_refusals refusals ++ total_line (passed_of doc text) (length refusals)) none ∙ ap (λ n. total_line n 0) (accepted_passed doc text meaning accepted)

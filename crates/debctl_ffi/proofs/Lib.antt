@@ -3,6 +3,7 @@ mod Refusals
 mod Explained
 mod FieldTables
 mod FieldsSoFar
+mod RefusalsSoFar
 mod ShownFields
 mod Loading
 mod Written

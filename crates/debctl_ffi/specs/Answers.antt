@@ -18,6 +18,11 @@ abbrev pub refusing : ℕ → Refusal → Answer
 refusing status refusal =
     record { status = status; code = number_of refusal.code; line = refusal.line; count = 0 }
 
+-- the same with the number of paragraphs that pass
+abbrev pub refusing_some : Refusal → ℕ → Answer
+refusing_some refusal count =
+    record { status = 2; code = number_of refusal.code; line = refusal.line; count = count }
+
 -- The status is one of these.
 abbrev pub HasStatus : ℕ → List ℕ → Type 0
 HasStatus status statuses = IsTrue (list_any (λ one. nat_eq one status) statuses)
@@ -37,6 +42,10 @@ refusals : (refusing 2 (record { code = NotUtf8; line = 7 })
     × (refusing 3 (record { code = BadEnvironment; line = 0 })
     ≡ record { status = 3; code = 23; line = 0; count = 0 })
 refusals = (refl, refl)
+
+some_refused : refusing_some (record { code = NotUtf8; line = 7 }) 3
+    ≡ record { status = 2; code = 1; line = 7; count = 3 }
+some_refused = refl
 
 one_of_them : HasStatus 2 (0 ∷ 2 ∷ [])
 one_of_them = refl

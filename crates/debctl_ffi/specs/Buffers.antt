@@ -9,14 +9,14 @@ pub record Gives {T : Type 0} (items before after : List T) (len : ℕ) : Type 0
   pub is : after ≡ items ++ drop (length items) before
   pub counted : len ≡ length items
 
--- The buffer is too short for the bytes, and as it was, and their length is told.
-pub record LacksRoom (bytes before after : List ℕ) (len : ℕ) : Type 0 where
-  pub short : length before < length bytes
+-- The buffer is too short for the items, and as it was, and their number is told.
+pub record LacksRoom {T : Type 0} (items before after : List T) (len : ℕ) : Type 0 where
+  pub short : length before < length items
   pub kept : after ≡ before
-  pub counted : len ≡ length bytes
+  pub counted : len ≡ length items
 
 -- The buffer is as it was, and no length is told.
-pub record GivesNothing (before after : List ℕ) (len : ℕ) : Type 0 where
+pub record GivesNothing {T : Type 0} (before after : List T) (len : ℕ) : Type 0 where
   pub kept : after ≡ before
   pub none : len ≡ 0
 

@@ -3,6 +3,7 @@ pub mod Buffers
 pub mod Versions
 pub mod Documents
 pub mod Explaining
+pub mod AllRefusals
 pub mod Queries
 pub mod Unmet
 pub mod Askers

@@ -1,7 +1,7 @@
 //! The answers to C.
 
 ghost use Rattle.std.specs.Prelude.{◌≡◌};
-ghost use Rattle.debctl_ffi.specs.Answers.{counting, plain, refusing};
+ghost use Rattle.debctl_ffi.specs.Answers.{counting, plain, refusing, refusing_some};
 
 use deb_base::Refusal;
 
@@ -59,6 +59,16 @@ pub(crate) fn refused(refusal: &Refusal) -> Answer
         code: refusal.number(),
         line: refusal.line,
         count: 0,
+    }
+}
+
+/// The answer 2: some of a file is refused, and so many paragraphs pass.
+pub(crate) fn some_refused(first: &Refusal, passed: u64) -> Answer
+    ensures { result ≡ refusing_some first.now passed }
+{
+    Answer {
+        count: passed,
+        ..refused(first)
     }
 }
 

@@ -56,7 +56,7 @@ fn ok_line(alloc: Global, paragraphs: u64) -> Result<Vec<u8>, AllocError>
 
 /// Returns the lines of an explanation after the one with the path.
 #[tactic(auto, unfolding(deb_explain::specs::Texts::path_line))]
-fn lines_of(alloc: Global, explanation: &Explanation) -> Result<Vec<u8>, AllocError>
+pub(crate) fn lines_of(alloc: Global, explanation: &Explanation) -> Result<Vec<u8>, AllocError>
     ensures { IfOk result (λ lines. lines.items ≡ explanation_lines (shown_by explanation.now)) }
 {
     let mut lines = text_of(alloc, explanation)?;

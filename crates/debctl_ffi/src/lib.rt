@@ -13,6 +13,7 @@
 //! ```
 #![tactic(auto)]
 
+mod all_refusals;
 mod answer;
 mod asker;
 mod buffer;
@@ -28,6 +29,8 @@ pub mod laws;
 mod loaded;
 mod query;
 mod read_fields;
+mod read_refusals;
+mod refusal_row;
 mod relations;
 mod report;
 mod unmet;

@@ -17,7 +17,7 @@ use crate::answer::{
     Answer, no, no_index, no_kind, no_memory, no_room, refused, second_refused, some, yes,
 };
 use crate::asker::{asked_of, lines_in, make_environment};
-use crate::buffer::{give, give_numbers};
+use crate::buffer::give;
 use crate::report::{read_index, report_in};
 use deb_base::Fault;
 use deb_index::{Index, Package};
@@ -188,7 +188,7 @@ impl Loaded {
         let Some(index) = &self.index else {
             return no_index();
         };
-        if give_numbers(index.packages(name), numbers, count) {
+        if give(index.packages(name), numbers, count) {
             yes(0)
         } else {
             no_room()
@@ -212,7 +212,7 @@ impl Loaded {
         let Some(index) = &self.index else {
             return no_index();
         };
-        if give_numbers(index.providers(name), numbers, count) {
+        if give(index.providers(name), numbers, count) {
             yes(0)
         } else {
             no_room()

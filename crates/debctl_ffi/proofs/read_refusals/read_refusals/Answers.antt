@@ -1,0 +1,26 @@
+use Rattle.std.proofs.Common.{refl, ◌∙◌}
+use Rattle.debctl_ffi.proofs.RefusalsSoFar.{all_rows, no_rows, one_row}
+use Rattle.debctl_ffi.proofs.read_refusals.read_refusals.Goals as goal
+
+pub loop-init : goal.loop-init
+loop-init g c = record {
+  sound = c.new-refusals.ensures.sound;
+  reads = refl;
+  text = λ text left. no_rows _ text _ _ _ left c.new-rows.ensures.items (c.new-refusals.ensures.starts text);
+}
+
+pub returns-in_default-clause-ok : goal.returns-in_default-clause-ok
+returns-in_default-clause-ok g c = λ text left.
+    let has = c.loop.invariant.text text left in
+    let gives = rw c.in_default.is at (c.in_ok-refusal.ensures.gives c.args.doc text has.done has.given) in
+    rw (c.answer_of.ensures, c.summary.ensures) (all_rows _ text _ _ _ _ _ _ has gives)
+
+pub loop-preserved : goal.loop-preserved
+loop-preserved g c = record {
+  sound = c.in_ok-refusal.ensures.sound;
+  reads = c.in_ok-refusal.ensures.counts_read_failure c.loop.invariant.sound ∙ c.loop.invariant.reads;
+  text = λ text left.
+      let has = c.loop.invariant.text text left in
+      let gives = rw c.in-Some.is at (c.in_ok-refusal.ensures.gives c.args.doc text has.done has.given) in
+      rw (c.or-first.ensures, c.in_ok-push.ensures.items, c.row_of.ensures) (one_row _ text _ _ _ _ _ _ _ has gives);
+}

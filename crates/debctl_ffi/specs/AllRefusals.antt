@@ -1,0 +1,163 @@
+-- What is answered to a program in C of all refusals of a file: Debian Policy 5.1, 5.3 to 5.6 and
+-- 7.1. The table of refusals, and the lines, are this project's own.
+use Rattle.std.specs.Prelude.{◌≡◌, ◌⊎◌, ℕ, List, [], ◌∷◌, ◌++◌, length, map, Option, None, Some, codes, refl}
+use Rattle.std.specs.Fmt.{digits}
+use Rattle.std.specs.List.{flat_map}
+use Rattle.std.specs.Str.{is_utf8, chars}
+use lib.Utf8.{encode}
+use Rattle.deb_base.specs.Bodies.{paragraph_limit}
+use Rattle.deb_base.specs.Codes.{number_of}
+use Rattle.deb_base.specs.declared.code.Code.TheVariants.{NotUtf8, NoColon, NoParagraph}
+use Rattle.deb_base.specs.declared.doc.Doc.{Doc}
+use Rattle.deb_base.specs.declared.doc.Doc.TheVariants.{Binary, Packages}
+use Rattle.deb_base.specs.declared.refusal.Refusal.{Refusal}
+use Rattle.deb_syntax.specs.Lines.{file_limit}
+use Rattle.deb_control.specs.Calls.{HasParagraphs}
+use Rattle.deb_control.specs.Documents.{refusal_of}
+use Rattle.deb_explain.specs.Explanations.{WhyRefused}
+use Rattle.deb_explain.specs.Subjects.{AboutWhole}
+use Rattle.deb_explain.specs.Texts.{file_line}
+use Rattle.deb_refusals.specs.Explained.{explained_block, explained_lines, explanations_of}
+use Rattle.deb_refusals.specs.Lines.{passed_of, refusals_of, total_line}
+use Rattle.debctl_ffi.specs.Answers.{counting, refusing_some}
+use Rattle.debctl_ffi.specs.Buffers.{Gives, GivesNothing, LacksRoom}
+use Rattle.debctl_ffi.specs.Documents.{kind_number}
+use Rattle.debctl_ffi.specs.Explaining.{explanation_lines}
+use Rattle.debctl_ffi.specs.declared.answer.Answer.{Answer}
+use Rattle.debctl_ffi.specs.declared.refusal_row.RefusalRow.{RefusalRow}
+
+-- ---- the table
+
+-- the row of a refusal, and the rows of several
+abbrev pub row_of : Refusal → RefusalRow
+row_of refusal = record { line = refusal.line; code = number_of refusal.code }
+
+abbrev pub rows_of : List Refusal → List RefusalRow
+rows_of refusals = map row_of refusals
+
+worked-rows : (rows_of [] ≡ [])
+    × (rows_of (record { code = NoColon; line = 7 } ∷ record { code = NotUtf8; line = 9 } ∷ [])
+    ≡ record { line = 7; code = 6 } ∷ record { line = 9; code = 1 } ∷ [])
+worked-rows = (refl, refl)
+
+-- ---- the lines
+
+-- the lines of a refusal, and an empty line
+abbrev pub block_lines : WhyRefused → List ℕ
+block_lines why = explanation_lines why ++ codes "\n"
+
+abbrev pub blocks_of : List WhyRefused → List ℕ
+blocks_of whys = flat_map block_lines whys
+
+-- the lines of all refusals of a file, and the last line
+abbrev pub all_lines : Doc → List ℕ → List ℕ
+all_lines doc text =
+    blocks_of (explanations_of doc text)
+    ++ total_line (passed_of doc text) (length (refusals_of doc text))
+
+-- they are those of a file with a path, without the line of the path in each block
+without_paths : (path : List ℕ) (first second : WhyRefused) (doc : Doc) (text : List ℕ)
+    → (explained_block path first ≡ (file_line path ++ explanation_lines first) ++ codes "\n")
+    × (blocks_of (first ∷ second ∷ []) ≡ (explanation_lines first ++ codes "\n")
+    ++ ((explanation_lines second ++ codes "\n") ++ []))
+    × (explained_lines path doc text ≡ flat_map (explained_block path) (explanations_of doc text)
+    ++ total_line (passed_of doc text) (length (refusals_of doc text)))
+without_paths path first second doc text = (refl, refl, refl)
+
+-- a file without a paragraph: none is asked for, and one is
+worked-lines : (all_lines Packages [] ≡ codes "ok 0, 0 refused\n")
+    × (all_lines Binary [] ≡ blocks_of (record {
+      refusal = record { code = NoParagraph; line = 1 };
+      about = AboutWhole;
+    } ∷ []) ++ codes "ok 0, 1 refused\n")
+unfolding file_limit paragraph_limit is_utf8 chars encode digits
+worked-lines = (refl, refl)
+
+-- ---- what is found in a file
+
+-- the answer for a file with this first refusal, if it has one, of which so many paragraphs pass
+abbrev pub answer_to_all : Option Refusal → ℕ → Answer
+answer_to_all None passed = counting 0 passed
+answer_to_all (Some first) passed = refusing_some first passed
+
+worked-answers : (answer_to_all None 3 ≡ record { status = 0; code = 0; line = 0; count = 3 })
+    × (answer_to_all (Some (record { code = NoColon; line = 7 })) 3
+    ≡ record { status = 2; code = 6; line = 7; count = 3 })
+worked-answers = (refl, refl)
+
+-- Nothing is refused: the file is accepted, and this is the answer with the number of its
+-- paragraphs.
+pub record NothingRefused (doc : Doc) (text : List ℕ) (answer : Answer) : Type 0 where
+  pub none : refusals_of doc text ≡ []
+  pub has : HasParagraphs doc text answer.count
+  pub is : answer ≡ counting 0 answer.count
+
+-- Some of it is refused, and this is the answer with the first refusal, which is the one of the
+-- file, and with the number of paragraphs that pass.
+pub record SomeRefused (doc : Doc) (text : List ℕ) (answer : Answer) : Type 0 where
+  pub first : Refusal
+  pub more : List Refusal
+  pub all : refusals_of doc text ≡ first ∷ more
+  pub refused : refusal_of doc text ≡ Some first
+  pub is : answer ≡ refusing_some first (passed_of doc text)
+
+abbrev pub AnswersAll : Doc → List ℕ → Answer → Type 0
+AnswersAll doc text answer = NothingRefused doc text answer ⊎ SomeRefused doc text answer
+
+-- These are the answer, and the rows or the lines of all refusals; without a refusal there is the
+-- last line alone.
+pub record TablesFile (doc : Doc) (text : List ℕ) (answer : Answer) (rows : List RefusalRow)
+    : Type 0 where
+  pub answers : AnswersAll doc text answer
+  pub are : rows ≡ rows_of (refusals_of doc text)
+
+pub record ExplainsFile (doc : Doc) (text : List ℕ) (answer : Answer) (lines : List ℕ)
+    : Type 0 where
+  pub answers : AnswersAll doc text answer
+  pub are : lines ≡ all_lines doc text
+  pub alone : refusals_of doc text ≡ [] → lines ≡ total_line answer.count 0
+
+-- ---- answers
+
+-- Nothing is refused, and no row is given; or some of the file is refused, and exactly the rows of
+-- all its refusals are given; or there is no room for them.
+pub record ChecksAccepted (kind : ℕ) (text : List ℕ) (before after : List RefusalRow) (len : ℕ)
+    (answer : Answer) : Type 0 where
+  pub doc : Doc
+  pub is_kind : kind ≡ kind_number doc
+  pub accepted : NothingRefused doc text answer
+  pub gives : GivesNothing before after len
+
+pub record ChecksRefused (kind : ℕ) (text : List ℕ) (before after : List RefusalRow) (len : ℕ)
+    (answer : Answer) : Type 0 where
+  pub doc : Doc
+  pub is_kind : kind ≡ kind_number doc
+  pub refused : SomeRefused doc text answer
+  pub gives : Gives (rows_of (refusals_of doc text)) before after len
+
+pub record LacksRoomForRows (kind : ℕ) (text : List ℕ) (before after : List RefusalRow) (len : ℕ)
+    : Type 0 where
+  pub doc : Doc
+  pub is_kind : kind ≡ kind_number doc
+  pub lacks : LacksRoom (rows_of (refusals_of doc text)) before after len
+
+-- Nothing is refused, and the line with the number of paragraphs is given; or some of the file is
+-- refused, and the lines of all its refusals are given; or there is no room for the lines.
+pub record ExplainsNone (kind : ℕ) (text before after : List ℕ) (len : ℕ) (answer : Answer)
+    : Type 0 where
+  pub doc : Doc
+  pub is_kind : kind ≡ kind_number doc
+  pub accepted : NothingRefused doc text answer
+  pub gives : Gives (total_line answer.count 0) before after len
+
+pub record ExplainsAll (kind : ℕ) (text before after : List ℕ) (len : ℕ) (answer : Answer)
+    : Type 0 where
+  pub doc : Doc
+  pub is_kind : kind ≡ kind_number doc
+  pub refused : SomeRefused doc text answer
+  pub gives : Gives (all_lines doc text) before after len
+
+pub record LacksRoomForAllLines (kind : ℕ) (text before after : List ℕ) (len : ℕ) : Type 0 where
+  pub doc : Doc
+  pub is_kind : kind ≡ kind_number doc
+  pub lacks : LacksRoom (all_lines doc text) before after len
