@@ -1,6 +1,7 @@
 -- What all refusals of a file are about, and the text that is written of them. Debian Policy 5.1,
 -- 5.3 to 5.6 and 7; which of it is told, and the text, are this project's own.
 use Rattle.std.specs.Prelude.{◌≡◌, ℕ, Bool, cond, List, [], ◌∷◌, ◌++◌, length, map, Option, None, Some, Result, Ok, Err, codes, refl}
+use Rattle.std.specs.Fmt.{digits}
 use Rattle.std.specs.List.{flat_map}
 use Rattle.std.specs.Str.{is_utf8, chars}
 use lib.Utf8.{encode}
