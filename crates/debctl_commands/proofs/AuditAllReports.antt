@@ -1,12 +1,12 @@
 -- A file whose refusals are reported one after another, and files that are reported in turn.
-use Rattle.std.proofs.Common.{◌≡◌, ℕ, ◌+◌, max, List, [], ◌∷◌, ◌++◌, length, map, Option, Some, None, Result, Ok, Err, IfErr, inl, inr, refl, sym, ap, ap₂, subst, ◌∙◌, append-nil, arith}
+use Rattle.std.proofs.Common.{◌≡◌, ℕ, max, List, [], ◌∷◌, ◌++◌, length, Option, Some, None, Result, Ok, Err, inl, inr, refl, sym, ap, ap₂, subst, ◌∙◌, append-nil, arith}
 use Rattle.std.proofs.KnownBytes.{Appends-nil, Appends-trans}
 use Rattle.std.proofs.lemmas.List.{map-append}
 use Rattle.std.proofs.lemmas.List.Concat.{flat_map-append}
 use Rattle.std.specs.Io.KnownBytes.{Appends}
 use Rattle.std.specs.Prelude.{⊤}
 use Rattle.std.specs.List.{flat_map}
-use Rattle.deb_base.specs.Devices.{AppendsFront, Puts, read_failures_after, write_failures_after}
+use Rattle.deb_base.specs.Devices.{AppendsFront, read_failures_after, write_failures_after}
 use Rattle.deb_base.specs.Reading.{IsMemoryOrRead, TakesNoMore}
 use Rattle.deb_base.specs.declared.doc.Doc.{Doc}
 use Rattle.deb_base.specs.declared.fault.Fault.{Fault}
@@ -17,10 +17,9 @@ use Rattle.deb_syntax.specs.Lines.{file_limit}
 use Rattle.deb_explain.specs.Explanations.{WhyRefused}
 use Rattle.deb_refusals.specs.Explained.{refusals_explained}
 use Rattle.deb_refusals.specs.Given.{AreFirst, GivesNext, HasGiven, summary_of}
-use Rattle.deb_refusals.specs.Lines.{passed_of, refusals_of}
 use Rattle.deb_refusals.specs.declared.refusals.Refusals.{Refusals}
 use Rattle.deb_refusals.specs.declared.summary.Summary.{Summary}
-use Rattle.debctl_commands.specs.AuditAllJob.{AreAllOf, AreFirstOf, FileReport, Finds, FindsAll, FindsFirst, InTurn, WritesReport, cut, end_record, end_status, refusal_record, refusals_status, whole}
+use Rattle.debctl_commands.specs.AuditAllJob.{AreFirstOf, FileReport, Finds, InTurn, WritesReport, cut, end_record, end_status, refusal_record, refusals_status, whole}
 use Rattle.debctl_args.specs.declared.jobs.LineEnd.{LineEnd}
 
 -- ---- one file

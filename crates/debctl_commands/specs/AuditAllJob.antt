@@ -16,7 +16,7 @@ use Rattle.deb_base.specs.declared.fault.Fault.{Fault}
 use Rattle.deb_base.specs.declared.fault.Fault.TheVariants.{Refused, Memory, Read, Write}
 use Rattle.deb_base.specs.declared.refusal.Refusal.{Refusal}
 use Rattle.deb_explain.specs.Escapes.{escaped_byte}
-use Rattle.deb_explain.specs.Paths.{has_control, path_byte, shown_path}
+use Rattle.deb_explain.specs.Paths.{has_control, path_byte}
 use Rattle.deb_refusals.specs.Lines.{passed_of, refusals_of, total_line}
 use Rattle.deb_refusals.specs.declared.summary.Summary.{Summary}
 use Rattle.debctl_commands.specs.AuditJob.{audit_path, audit_record, record_end}

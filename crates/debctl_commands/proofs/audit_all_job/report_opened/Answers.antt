@@ -1,4 +1,4 @@
-use Rattle.std.proofs.Common.{Ok, Err, refl, sym, subst}
+use Rattle.std.proofs.Common.{Err, refl, sym, subst}
 use Rattle.std.proofs.lemmas.Result.{err_from_is_err_and}
 use Rattle.debctl_commands.specs.AuditAllJob.{FindsOpened, unopened}
 use Rattle.debctl_commands.proofs.audit_all_job.report_opened.Goals as goal
