@@ -50,11 +50,11 @@ struct spelled {
 };
 
 static const char *relation =
-    " ,, bb:any ( >=\t01.0-0 ) [!amd64  i386] < !nocheck x > <yy>|aa|aa,\n bb [ amd64 ],"
+    " ,, bb:any ( >=\t01.0-0 ) [!amd64  !i386] < !nocheck x > <yy>|aa|aa,\n bb [ amd64 ],"
     "cc(<1) , ";
 
 static const struct spelled wanted[] = {
-    {1, "bb", "any", ">=", "01.0-0", "!amd64  i386", "< !nocheck x > <yy>"},
+    {1, "bb", "any", ">=", "01.0-0", "!amd64  !i386", "< !nocheck x > <yy>"},
     {1, "aa", NULL, NULL, NULL, NULL, NULL},
     {1, "aa", NULL, NULL, NULL, NULL, NULL},
     {2, "bb", NULL, NULL, NULL, " amd64 ", NULL},

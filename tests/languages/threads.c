@@ -3,6 +3,7 @@
 
 #include <pthread.h>
 #include <stdio.h>
+#include <stdlib.h>
 #include <string.h>
 
 static const uint8_t *bytes(const char *text) { return (const uint8_t *)text; }
@@ -13,8 +14,12 @@ static const char *bad = "Package: hello\nVersion: 1-\n";
 
 static void *run(void *wrong) {
     int turn;
+    struct deb_reader *reader = malloc(deb_reader_size());
     for (turn = 0; turn < 2000; turn++) {
         uint8_t out[512];
+        struct deb_alternative alternative;
+        struct deb_row rows[2];
+        struct deb_answer answer;
         struct deb_refusal refusal;
         size_t length;
         const uint8_t *text = bytes(hello);
@@ -46,7 +51,27 @@ static void *run(void *wrong) {
         *(int *)wrong += deb_unmet(DEB_PACKAGES, 0, bytes("amd64"), 5, NULL, 0, text, size, text,
                                    size, out, sizeof out, &length)
                              .status != DEB_YES;
+        *(int *)wrong += deb_query_why(bytes("amd64"), 5, NULL, 0, bytes("zz"), 2, text, size, out,
+                                       sizeof out, &length)
+                                 .status != DEB_NO ||
+                         deb_rows(DEB_REPORT, out, length, rows, 2, &length).status != DEB_YES ||
+                         length != 2 || rows[0].kind != DEB_ROW_UNMET ||
+                         rows[1].kind != DEB_ROW_REASON;
+        *(int *)wrong += deb_version_parts(bytes("1:2-3"), 5).revision != 4;
+        *(int *)wrong +=
+            deb_relation_parts(bytes("aa:any"), 6, &alternative, 1, &length).status != DEB_YES ||
+            alternative.qualifier != 3;
+        *(int *)wrong += deb_explain_version(bytes("1_"), 2, out, sizeof out, &length).code !=
+                             DEB_BAD_VERSION ||
+                         deb_explain_relation(bytes("("), 1, out, sizeof out, &length).code !=
+                             DEB_BAD_RELATION;
+        deb_reader_start(reader, DEB_PACKAGES, &answer);
+        deb_reader_feed(reader, text, 20, 0, &answer);
+        deb_reader_feed(reader, text + 20, size - 20, 1, &answer);
+        *(int *)wrong += answer.status != DEB_YES || answer.count != 1;
+        deb_reader_free(reader);
     }
+    free(reader);
     return NULL;
 }
 
