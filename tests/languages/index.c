@@ -1,4 +1,5 @@
-/* An index that is read once and asked often: each status, each buffer, and four threads at once. */
+/* An index that is read once and asked often: each status, each buffer, and four threads at once, so
+ * often as the first argument says, or 2000 times. */
 #include "tried.h"
 
 #include <pthread.h>
@@ -280,10 +281,11 @@ static void try_refused(void) {
 }
 
 static const struct deb_index *shared;
+static int turns = 2000;
 
 static void *ask(void *wrong) {
     int turn;
-    for (turn = 0; turn < 2000; turn++) {
+    for (turn = 0; turn < turns; turn++) {
         uint8_t out[64];
         uint64_t number;
         size_t length;
@@ -316,9 +318,11 @@ static void try_threads(const struct deb_index *index) {
     }
 }
 
-int main(void) {
+int main(int count, char **words) {
     struct deb_answer answer;
     struct deb_index *index = loaded(text_of_three, strlen(text_of_three), &answer);
+    if (count > 1)
+        turns = atoi(words[1]);
     IS(is(answer, DEB_YES, 0, 0, 3));
     try_queries(index);
     try_unmet(index);

@@ -1,4 +1,5 @@
-/* Four threads call every function at once, and each is answered as one alone is. */
+/* Four threads call every function at once, and each is answered as one alone is; so often as the first
+ * argument says, or 2000 times. */
 #include "debctl.h"
 
 #include <pthread.h>
@@ -12,10 +13,12 @@ static const char *hello = "Package: hello\nVersion: 1.0-0\nArchitecture: amd64\
 
 static const char *bad = "Package: hello\nVersion: 1-\n";
 
+static int turns = 2000;
+
 static void *run(void *wrong) {
     int turn;
     struct deb_reader *reader = malloc(deb_reader_size());
-    for (turn = 0; turn < 2000; turn++) {
+    for (turn = 0; turn < turns; turn++) {
         uint8_t out[512];
         struct deb_alternative alternative;
         struct deb_row rows[2];
@@ -75,9 +78,11 @@ static void *run(void *wrong) {
     return NULL;
 }
 
-int main(void) {
+int main(int count, char **words) {
     pthread_t threads[4];
     int wrong[4] = {0}, sum = 0, at;
+    if (count > 1)
+        turns = atoi(words[1]);
     for (at = 0; at < 4; at++)
         if (pthread_create(&threads[at], NULL, run, &wrong[at]) != 0)
             return 1;
