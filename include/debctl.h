@@ -24,6 +24,7 @@
 
 #include <stddef.h>
 #include <stdint.h>
+#include <stdlib.h>
 
 #ifdef __cplusplus
 extern "C" {
@@ -77,6 +78,19 @@ enum deb_code {
     DEB_WILDCARD = 22,
     DEB_BAD_ENVIRONMENT = 23
 };
+
+/* Returns the name of a code, which the program prints after its number, such as `BadVersion`; NULL
+ * if no code has this number. */
+static inline const char *deb_code_name(uint8_t code) {
+    static const char *const names[] = {
+        "NotUtf8", "Armour", "Comment", "StrayContinuation", "BadFieldName", "NoColon",
+        "DuplicateField", "ParagraphTooLong", "FileTooLong", "NoParagraph", "TooManyParagraphs",
+        "MissingField", "NotOneLine", "BadName", "BadNumber", "BadWord", "BadArchitecture",
+        "BadVersion", "BadRelation", "AlternativesNotAllowed", "ProvidesBound", "Wildcard",
+        "BadEnvironment",
+    };
+    return code > 0 && code <= sizeof names / sizeof *names ? names[code - 1] : NULL;
+}
 
 /* A text among several. */
 struct deb_text {
@@ -271,6 +285,34 @@ void deb_index_read(struct deb_index *index, const uint8_t *text, size_t text_le
 
 /* Frees the memory that an index took, and leaves that in which it lies to the caller. */
 void deb_index_free(struct deb_index *index);
+
+/* Reads an index into memory of malloc, which deb_index_delete frees. `answer` becomes that of
+ * deb_index_read. Returns NULL, with nothing to free, unless it is DEB_YES. */
+static inline struct deb_index *deb_index_new(const uint8_t *text, size_t text_length,
+                                              struct deb_answer *answer) {
+    struct deb_index *index = (struct deb_index *)malloc(deb_index_size());
+    if (!index) {
+        answer->status = DEB_NO_MEMORY;
+        answer->code = 0;
+        answer->line = answer->count = 0;
+        return NULL;
+    }
+    deb_index_read(index, text, text_length, answer);
+    if (answer->status != DEB_YES) {
+        deb_index_free(index);
+        free(index);
+        return NULL;
+    }
+    return index;
+}
+
+/* Frees an index of deb_index_new, and its memory. NULL is allowed. */
+static inline void deb_index_delete(struct deb_index *index) {
+    if (index) {
+        deb_index_free(index);
+        free(index);
+    }
+}
 
 /* Writes the report that deb_query writes for this index, without reading it again.
  * The statuses of deb_query; DEB_NO_INDEX. */

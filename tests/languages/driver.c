@@ -1,15 +1,27 @@
 /* Calls one function on files, and writes what it answers: `STATUS CODE LINE COUNT`, or `STATUS
  * CODE ORDER` of a comparison, and in the lines below the text that is given, or `LINE CODE` of each
- * refusal. The words are the function and its arguments; each but a kind is a file. */
-#include "debctl.h"
+ * refusal. The words are the function and its arguments; each but a number is a file. A line such as
+ * `rows differ` is added if the same answer isn't returned in another way: by the rows of the text, by
+ * the parts of a version or relation put together again, by a loaded index, or by a reader. */
+#include "fed.h"
+#include "printed.h"
 
 #include <stdio.h>
-#include <stdlib.h>
-#include <string.h>
+
+enum { FILES = 8, SMALL = 1 << 20 };
 
 struct file {
     uint8_t *bytes;
     size_t length;
+};
+
+/* What is asked: the number, the files, and the files from the fourth on as profiles. */
+struct question {
+    const char *call;
+    int number;
+    struct file files[FILES];
+    struct deb_text profiles[FILES];
+    size_t profile_count;
 };
 
 static struct file read_file(const char *path) {
@@ -29,75 +41,330 @@ static struct file read_file(const char *path) {
     return it;
 }
 
-int main(int count, char **words) {
-    struct file files[8] = {{NULL, 0}};
-    struct deb_text profiles[8];
-    struct deb_answer answer;
-    uint8_t *out = NULL;
-    struct deb_refusal *refusals = NULL;
-    size_t room = 0, length = 0, refused;
-    const char *call = count > 1 ? words[1] : "";
-    int kind = count > 2 ? atoi(words[2]) : 0, at, turn;
+static int calls(const struct question *q, const char *call) { return strcmp(q->call, call) == 0; }
 
-    for (at = 3; at < count && at < 11; at++)
-        files[at - 3] = read_file(words[at]);
-    if (strcmp(call, "compare") == 0) {
-        struct deb_comparison order = deb_version_compare(files[0].bytes, files[0].length,
-                                                          files[1].bytes, files[1].length);
-        printf("%d %d %d\n", order.status, order.code, order.order);
+static int is_query(const struct question *q) { return calls(q, "query") || calls(q, "why"); }
+
+/* The answer of a call about one file, or about two of a kind. */
+static struct deb_answer ask_file(const struct question *q, uint8_t *out, size_t room,
+                                  size_t *length) {
+    const struct file *file = &q->files[0], *other = &q->files[1];
+    uint8_t kind = (uint8_t)(q->number % 8);
+    if (calls(q, "canonical"))
+        return deb_version_canonical(file->bytes, file->length, out, room, length);
+    if (calls(q, "key"))
+        return deb_version_key(file->bytes, file->length, out, room, length);
+    if (calls(q, "explain-version"))
+        return deb_explain_version(file->bytes, file->length, out, room, length);
+    if (calls(q, "explain-relation"))
+        return deb_explain_relation(file->bytes, file->length, out, room, length);
+    if (calls(q, "check"))
+        return deb_check(kind, file->bytes, file->length);
+    if (calls(q, "normalise"))
+        return deb_normalise(kind, file->bytes, file->length, out, room, length);
+    if (calls(q, "explain"))
+        return deb_explain(kind, file->bytes, file->length, out, room, length);
+    if (calls(q, "explain-all"))
+        return deb_explain_all(kind, file->bytes, file->length, out, room, length);
+    if (calls(q, "same"))
+        return deb_same(kind, file->bytes, file->length, other->bytes, other->length);
+    if (calls(q, "diff"))
+        return deb_diff(kind, (uint8_t)(q->number / 8), file->bytes, file->length, other->bytes,
+                        other->length, out, room, length);
+    exit(100);
+}
+
+/* The answer of a call, and its text. */
+static struct deb_answer ask(const struct question *q, uint8_t *out, size_t room, size_t *length) {
+    const struct file *target = &q->files[0], *first = &q->files[1], *second = &q->files[2];
+    *length = 0;
+    if (calls(q, "query"))
+        return deb_query(target->bytes, target->length, q->profiles, q->profile_count, first->bytes,
+                         first->length, second->bytes, second->length, out, room, length);
+    if (calls(q, "why"))
+        return deb_query_why(target->bytes, target->length, q->profiles, q->profile_count,
+                             first->bytes, first->length, second->bytes, second->length, out, room,
+                             length);
+    if (calls(q, "unmet"))
+        return deb_unmet((uint8_t)(q->number % 8), (uint8_t)(q->number / 8), target->bytes,
+                         target->length, q->profiles, q->profile_count, first->bytes,
+                         first->length, second->bytes, second->length, out, room, length);
+    return ask_file(q, out, room, length);
+}
+
+/* The same of a loaded index. */
+static struct deb_answer ask_index(const struct question *q, const struct deb_index *index,
+                                   uint8_t *out, size_t room, size_t *length) {
+    const struct file *target = &q->files[0], *first = &q->files[1], *second = &q->files[2];
+    if (calls(q, "query"))
+        return deb_index_query(index, target->bytes, target->length, q->profiles, q->profile_count,
+                               first->bytes, first->length, out, room, length);
+    if (calls(q, "why"))
+        return deb_index_query_why(index, target->bytes, target->length, q->profiles,
+                                   q->profile_count, first->bytes, first->length, out, room,
+                                   length);
+    return deb_index_unmet(index, (uint8_t)(q->number % 8), (uint8_t)(q->number / 8),
+                           target->bytes, target->length, q->profiles, q->profile_count,
+                           second->bytes, second->length, out, room, length);
+}
+
+/* The rows of a text; how many there are, or SIZE_MAX if it has none of this form. */
+static size_t rows_of(uint8_t form, const uint8_t *text, size_t length, struct deb_row **rows) {
+    size_t count;
+    *rows = NULL;
+    if (deb_rows(form, text, length, NULL, 0, &count).status == DEB_NO_ROOM) {
+        *rows = malloc(count * sizeof **rows);
+        if (deb_rows(form, text, length, *rows, count, &count).status == DEB_YES)
+            return count;
+    }
+    return count == 0 && length == 0 ? 0 : SIZE_MAX;
+}
+
+/* Whether the text of an answer is what its rows print. */
+static int rows_agree(const struct question *q, const uint8_t *text, size_t length) {
+    uint8_t form = is_query(q)         ? DEB_REPORT
+                   : calls(q, "unmet") ? DEB_UNMET_LINES
+                   : calls(q, "diff")  ? DEB_DIFF_LINES
+                                       : DEB_EXPLANATION;
+    struct deb_row *rows;
+    size_t count;
+    int agree;
+    if (form == DEB_EXPLANATION && strncmp(q->call, "explain", 7) != 0)
+        return 1;
+    count = rows_of(form, text, length, &rows);
+    agree = count != SIZE_MAX && prints_as(rows, count, text, length);
+    free(rows);
+    return agree;
+}
+
+/* Whether the parts of a version, put together again, are the version. */
+static int version_agrees(const struct file *file) {
+    struct deb_version_parts it = deb_version_parts(file->bytes, file->length);
+    size_t at = it.has_epoch ? it.epoch_length + 1 : 0;
+    int is_version = deb_version_compare(file->bytes, file->length, file->bytes, file->length)
+                         .status == DEB_YES;
+    if (!is_version)
+        return it.status == DEB_REFUSED && it.code == DEB_BAD_VERSION;
+    if (it.status != DEB_YES || (it.has_epoch && file->bytes[it.epoch_length] != ':') ||
+        it.upstream != at)
         return 0;
+    at += it.upstream_length;
+    if (it.has_revision && (file->bytes[at] != '-' || it.revision != at + 1))
+        return 0;
+    return at + (it.has_revision ? 1 + it.revision_length : 0) == file->length;
+}
+
+/* Appends a part of a relation, if it isn't absent, with what is before and after it. */
+static char *append(char *to, const char *before, const struct file *from, size_t start,
+                    size_t length, const char *after) {
+    if (length == 0)
+        return to;
+    to += sprintf(to, "%s", before);
+    memcpy(to, from->bytes + start, length);
+    return to + length + sprintf(to + length, "%s", after);
+}
+
+/* Puts the alternatives of a relation together again; each takes at most 13 bytes more than its parts. */
+static size_t rebuild(const struct file *from, const struct deb_alternative *all, size_t count,
+                      char *text) {
+    size_t at;
+    char *to = text;
+    for (at = 0; at < count; at++) {
+        const struct deb_alternative *it = &all[at];
+        if (at)
+            *to++ = it->group == all[at - 1].group ? '|' : ',';
+        to = append(to, "", from, it->name, it->name_length, "");
+        to = append(to, ":", from, it->qualifier, it->qualifier_length, "");
+        to = append(to, " (", from, it->op, it->op_length, " ");
+        to = append(to, "", from, it->version, it->version_length, ")");
+        to = append(to, " [", from, it->architectures, it->architectures_length, "]");
+        to = append(to, " ", from, it->formula, it->formula_length, "");
     }
-    for (at = 6; at < count && at < 11; at++) { /* of a query, and of unmet relations */
-        profiles[at - 6].bytes = files[at - 3].bytes;
-        profiles[at - 6].length = files[at - 3].length;
+    return (size_t)(to - text);
+}
+
+/* The canonical text of a relation, to be freed. */
+static struct file canonical_of(const uint8_t *text, size_t length) {
+    struct file it = {NULL, 0};
+    if (deb_relation_canonical(text, length, NULL, 0, &it.length).status == DEB_NO_ROOM) {
+        it.bytes = malloc(it.length);
+        deb_relation_canonical(text, length, it.bytes, it.length, &it.length);
     }
-    for (turn = 0; turn < 2; turn++) {
-        if (strcmp(call, "canonical") == 0)
-            answer = deb_version_canonical(files[0].bytes, files[0].length, out, room, &length);
-        else if (strcmp(call, "key") == 0)
-            answer = deb_version_key(files[0].bytes, files[0].length, out, room, &length);
-        else if (strcmp(call, "unmet") == 0)
-            answer = deb_unmet((uint8_t)(kind % 8), (uint8_t)(kind / 8), files[0].bytes,
-                               files[0].length, profiles, (size_t)(count - 6), files[1].bytes,
-                               files[1].length, files[2].bytes, files[2].length, out, room,
-                               &length);
-        else if (strcmp(call, "check") == 0)
-            answer = deb_check((uint8_t)kind, files[0].bytes, files[0].length);
-        else if (strcmp(call, "normalise") == 0)
-            answer = deb_normalise((uint8_t)kind, files[0].bytes, files[0].length, out, room,
-                                   &length);
-        else if (strcmp(call, "explain") == 0)
-            answer = deb_explain((uint8_t)kind, files[0].bytes, files[0].length, out, room,
-                                 &length);
-        else if (strcmp(call, "check-all") == 0)
-            answer = deb_check_all((uint8_t)kind, files[0].bytes, files[0].length, refusals, room,
-                                   &length);
-        else if (strcmp(call, "explain-all") == 0)
-            answer = deb_explain_all((uint8_t)kind, files[0].bytes, files[0].length, out, room,
-                                     &length);
-        else if (strcmp(call, "same") == 0)
-            answer = deb_same((uint8_t)kind, files[0].bytes, files[0].length, files[1].bytes,
-                              files[1].length);
-        else
-            answer = deb_query(files[0].bytes, files[0].length, profiles, (size_t)kind,
-                               files[1].bytes, files[1].length, files[2].bytes, files[2].length,
-                               out, room, &length);
-        if (answer.status != DEB_NO_ROOM)
-            break;
-        out = malloc(length);
-        refusals = malloc(length * sizeof *refusals);
-        room = length;
+    return it;
+}
+
+/* Whether the parts of a relation, put together again, mean what the relation does. */
+static int relation_agrees(const struct file *file) {
+    struct deb_alternative *all = malloc((file->length + 1) * sizeof *all);
+    char *text = malloc(file->length * 14 + 1);
+    size_t count, none;
+    struct deb_answer first = deb_relation_canonical(file->bytes, file->length, NULL, 0, &none);
+    struct deb_answer answer =
+        deb_relation_parts(file->bytes, file->length, all, file->length + 1, &count);
+    int agree = answer.status == first.status && answer.code == first.code;
+    if (first.status != DEB_REFUSED) {
+        struct file one = canonical_of(file->bytes, file->length), two;
+        two = canonical_of((uint8_t *)text, rebuild(file, all, count, text));
+        agree = answer.status == DEB_YES && one.length == two.length &&
+                (one.length == 0 || memcmp(one.bytes, two.bytes, one.length) == 0);
+        free(one.bytes);
+        free(two.bytes);
+    }
+    free(all);
+    free(text);
+    return agree;
+}
+
+/* Whether the versions and relations of a question are what their parts say. */
+static int parts_agree(const struct question *q) {
+    if (calls(q, "compare"))
+        return version_agrees(&q->files[0]) && version_agrees(&q->files[1]);
+    if (calls(q, "canonical") || calls(q, "key") || calls(q, "explain-version"))
+        return version_agrees(&q->files[0]);
+    if (calls(q, "explain-relation"))
+        return relation_agrees(&q->files[0]);
+    return !is_query(q) || relation_agrees(&q->files[1]);
+}
+
+/* Whether an index keeps of a package what a report says of it: `NAME VERSION ARCHITECTURE`. */
+static int details_agree(const struct deb_index *index, uint64_t number, const char *said,
+                         size_t said_length) {
+    char shown[3][256] = {"", "", ""}, wanted[768];
+    uint8_t kept[4096], again[4096];
+    size_t length, again_length;
+    const char *line;
+    struct deb_answer answer = deb_index_details(index, number, kept, sizeof kept - 1, &length);
+    if (answer.status == DEB_NO_ROOM || said_length > 255)
+        return 1;
+    kept[answer.status == DEB_YES ? length : 0] = '\0';
+    for (line = (const char *)kept; line && *line; line = strchr(line, '\n') + 1) {
+        sscanf(line, "Package: %255s", shown[0]);
+        sscanf(line, "Version: %255s", shown[1]);
+        sscanf(line, "Architecture: %255s", shown[2]);
+    }
+    sprintf(wanted, "%s %s %s", shown[0], shown[1], shown[2]);
+    answer = deb_normalise(DEB_PACKAGES, kept, length, again, sizeof again, &again_length);
+    return strlen(wanted) == said_length && memcmp(wanted, said, said_length) == 0 &&
+           answer.status == DEB_YES && again_length == length && memcmp(again, kept, length) == 0;
+}
+
+/* Whether the index keeps of each package of a report what the report says. */
+static int packages_agree(const struct deb_index *index, const uint8_t *text, size_t length) {
+    struct deb_row *rows;
+    size_t count = rows_of(DEB_REPORT, text, length, &rows), at;
+    int agree = count != SIZE_MAX;
+    for (at = 0; at < count && agree; at++) {
+        size_t number = rows[at].kind == DEB_ROW_PACKAGE_REASON;
+        const struct deb_span *cells = rows[at].cells + number;
+        if (rows[at].kind == DEB_ROW_PACKAGE || number)
+            agree = details_agree(index, strtoull((const char *)text + cells[0].start, NULL, 10),
+                                  (const char *)text + cells[1].start,
+                                  cells[3].start + cells[3].length - cells[1].start);
+    }
+    free(rows);
+    return agree;
+}
+
+/* Whether a loaded index gives the same answer. */
+static int index_agrees(const struct question *q, struct deb_answer answer, const uint8_t *text,
+                        size_t length) {
+    const struct file *file = &q->files[is_query(q) ? 2 : 1];
+    struct deb_answer read, asked;
+    struct deb_index *index;
+    uint8_t *again;
+    size_t again_length;
+    int agree;
+    if (!is_query(q) && !calls(q, "unmet"))
+        return 1;
+    index = deb_index_new(file->bytes, file->length, &read);
+    if (!index)
+        return answer.status > DEB_NO;
+    again = malloc(length + 1);
+    asked = ask_index(q, index, again, length, &again_length);
+    agree = asked.status == answer.status && asked.code == answer.code &&
+            asked.line == answer.line && asked.count == answer.count && again_length == length &&
+            (length == 0 || memcmp(again, text, length) == 0) &&
+            (!is_query(q) || packages_agree(index, text, length));
+    free(again);
+    deb_index_delete(index);
+    return agree;
+}
+
+/* Whether a reader that is fed the file in pieces reads the same of it. */
+static int reader_agrees(const struct question *q) {
+    const struct file *file = &q->files[0];
+    if (!calls(q, "check") || file->length > SMALL)
+        return 1;
+    return reads_alike((uint8_t)q->number, file->bytes, file->length, file->length / 3 + 1) &&
+           reads_alike((uint8_t)q->number, file->bytes, file->length, file->length / 100 + 1);
+}
+
+/* Writes all refusals of a file: `LINE CODE` of each. */
+static void write_refusals(const struct question *q) {
+    const struct file *file = &q->files[0];
+    struct deb_refusal *refusals = NULL;
+    size_t count, at;
+    uint8_t kind = (uint8_t)q->number;
+    struct deb_answer answer = deb_check_all(kind, file->bytes, file->length, NULL, 0, &count);
+    if (answer.status == DEB_NO_ROOM) {
+        refusals = malloc(count * sizeof *refusals);
+        answer = deb_check_all(kind, file->bytes, file->length, refusals, count, &count);
     }
     printf("%d %d %llu %llu\n", answer.status, answer.code, (unsigned long long)answer.line,
            (unsigned long long)answer.count);
-    if (strcmp(call, "check-all") == 0)
-        for (refused = 0; refused < length; refused++)
-            printf("%llu %d\n", (unsigned long long)refusals[refused].line, refusals[refused].code);
-    else
-        fwrite(out, 1, room ? length : 0, stdout);
-    free(out);
+    for (at = 0; at < count; at++)
+        printf("%llu %d\n", (unsigned long long)refusals[at].line, refusals[at].code);
     free(refusals);
-    for (at = 0; at < 8; at++)
-        free(files[at].bytes);
+}
+
+/* Writes the answer of a call and its text, and whether it is the same in other ways. */
+static void write_answer(const struct question *q) {
+    uint8_t *out = NULL;
+    size_t length;
+    struct deb_answer answer = ask(q, NULL, 0, &length);
+    if (answer.status == DEB_NO_ROOM) {
+        out = malloc(length + 1);
+        answer = ask(q, out, length, &length);
+        out[length] = '\0';
+    }
+    printf("%d %d %llu %llu\n", answer.status, answer.code, (unsigned long long)answer.line,
+           (unsigned long long)answer.count);
+    if (out)
+        fwrite(out, 1, length, stdout);
+    if (!rows_agree(q, out, length))
+        printf("rows differ\n");
+    if (!index_agrees(q, answer, out, length))
+        printf("index differs\n");
+    if (!reader_agrees(q))
+        printf("reader differs\n");
+    free(out);
+}
+
+int main(int count, char **words) {
+    static struct question q;
+    int at;
+    q.call = count > 1 ? words[1] : "";
+    q.number = count > 2 ? atoi(words[2]) : 0;
+    for (at = 3; at < count && at < 3 + FILES; at++)
+        q.files[at - 3] = read_file(words[at]);
+    for (at = 3; at + 3 < count && at < FILES; at++) {
+        q.profiles[at - 3].bytes = q.files[at].bytes;
+        q.profiles[at - 3].length = q.files[at].length;
+        q.profile_count = (size_t)at - 2;
+    }
+    if (calls(&q, "compare")) {
+        struct deb_comparison order =
+            deb_version_compare(q.files[0].bytes, q.files[0].length, q.files[1].bytes,
+                                q.files[1].length);
+        printf("%d %d %d\n", order.status, order.code, order.order);
+    } else if (calls(&q, "check-all")) {
+        write_refusals(&q);
+    } else {
+        write_answer(&q);
+    }
+    if (!parts_agree(&q))
+        printf("parts differ\n");
+    for (at = 0; at < FILES; at++)
+        free(q.files[at].bytes);
     return 0;
 }

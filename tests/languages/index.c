@@ -1,17 +1,8 @@
-/* An index that is read once and asked often: each status, each buffer, and four threads at once. */
-#include "debctl.h"
+/* An index that is read once and asked often: each status, each buffer, and four threads at once, so
+ * often as the first argument says, or 2000 times. */
+#include "tried.h"
 
 #include <pthread.h>
-#include <stdio.h>
-#include <stdlib.h>
-#include <string.h>
-
-static int passed, failed;
-
-#define IS(what) \
-    ((what) ? (void)passed++ : (void)(failed++, printf("index.c:%d: %s\n", __LINE__, #what)))
-
-static const uint8_t *bytes(const char *text) { return (const uint8_t *)text; }
 
 static const char *text_of_three =
     "Package: hello\nVersion: 1.0-0\nArchitecture: amd64\n\n"
@@ -19,11 +10,6 @@ static const char *text_of_three =
     "Package: hello\nVersion: 0:2.10\nArchitecture: i386\nProvides: mta\n";
 
 static const char *bad = "Package: hello\nVersion: 1.1\nArchitecture: amd64\nSize: 1k\n";
-
-static int is(struct deb_answer answer, int status, int code, uint64_t line, uint64_t count) {
-    return answer.status == status && answer.code == code && answer.line == line &&
-           answer.count == count;
-}
 
 /* An index in as much memory as it needs, so that a byte too many is one for the sanitiser. */
 static struct deb_index *loaded(const char *text, size_t length, struct deb_answer *answer) {
@@ -158,7 +144,117 @@ static void try_numbers(const struct deb_index *index) {
     IS(is(deb_index_package(index, UINT64_MAX, NULL, 0, &length), DEB_NO, 0, 0, 0));
 }
 
-/* An index that is refused holds none, and is freed as any other. */
+/* What an index keeps of a package, in each amount of room. */
+static void try_details(void) {
+    static const char *text =
+        "\nPackage: aa\nVersion: 01\nArchitecture: all\n\n\n"
+        "Multi-Arch: same\nArchitecture: amd64\nPackage: bb\nSize: 1\nVersion: 0:2-0\n"
+        "Provides: dd (= 03), cc\n\nPackage: ee\nVersion: 1\nArchitecture: i386\nProvides: ff:any\n";
+    static const char *kept[] = {
+        "Architecture: all\nPackage: aa\nVersion: 1\n",
+        "Architecture: amd64\nMulti-Arch: same\nPackage: bb\nProvides: cc, dd (= 3)\nVersion: 2\n",
+        "Architecture: i386\nPackage: ee\nVersion: 1\n",
+    };
+    static const uint64_t lines[] = {2, 7, 14};
+    struct deb_answer answer;
+    struct deb_index *index = loaded(text, strlen(text), &answer);
+    size_t number, room, length;
+    IS(is(answer, DEB_YES, 0, 0, 3));
+    for (number = 1; number <= 3; number++) {
+        size_t whole = strlen(kept[number - 1]);
+        for (room = whole - 1; room <= whole + 1; room++) {
+            uint8_t *out = sevens(room);
+            answer = deb_index_details(index, number, out, room, &length);
+            IS(length == whole);
+            if (room < whole)
+                IS(is(answer, DEB_NO_ROOM, 0, 0, 0) && untouched(out, room));
+            else
+                IS(is(answer, DEB_YES, 0, lines[number - 1], 0) &&
+                   memcmp(out, kept[number - 1], whole) == 0 && untouched(out + whole, room - whole));
+            free(out);
+        }
+        IS(is(deb_index_details(index, number, NULL, 0, &length), DEB_NO_ROOM, 0, 0, 0));
+        IS(length == whole);
+    }
+    IS(is(deb_index_details(index, 0, NULL, 0, &length), DEB_NO, 0, 0, 0) && length == 0);
+    IS(is(deb_index_details(index, 4, NULL, 0, &length), DEB_NO, 0, 0, 0) && length == 0);
+    IS(is(deb_index_details(index, UINT64_MAX, NULL, 0, &length), DEB_NO, 0, 0, 0));
+    release(index);
+}
+
+/* A report with reasons, in each amount of room, and each status. */
+static void try_reasons(const struct deb_index *index) {
+    static const char *report =
+        "met hello\n 1 hello 1.0 amd64\nunmet hello (>= 2) | xx\n"
+        " hello (>= 2): 1 hello 1.0 amd64 is earlier\n"
+        " hello (>= 2): 3 hello 2.10 i386 is of another architecture\n"
+        " xx: no package has this name\n"
+        "ignored other <!nocheck>\n"
+        "ignored xx [linux-amd64]\n xx [linux-amd64]: linux-amd64 isn't the target amd64\n";
+    static const char *relation = "other <!nocheck>, hello, hello (>= 2) | xx, xx [linux-amd64]";
+    static const char *relations[] = {"hello", "mta | aa, xx", "aa [linux-any]", "aa (", "other", ""};
+    struct deb_text profile = {bytes("nocheck"), 7};
+    size_t size = strlen(text_of_three), at, whole = 0, length, other_length;
+    struct deb_answer answer, direct;
+    uint8_t out[1024], other[1024];
+    answer = deb_index_query_why(index, bytes("amd64"), 5, &profile, 1, bytes(relation),
+                                 strlen(relation), NULL, 0, &whole);
+    IS(is(answer, DEB_NO_ROOM, 0, 0, 0) && whole == strlen(report));
+    for (at = whole - 1; at <= whole + 1; at++) {
+        uint8_t *one = sevens(at), *two = sevens(at);
+        answer = deb_index_query_why(index, bytes("amd64"), 5, &profile, 1, bytes(relation),
+                                     strlen(relation), one, at, &length);
+        direct = deb_query_why(bytes("amd64"), 5, &profile, 1, bytes(relation), strlen(relation),
+                               bytes(text_of_three), size, two, at, &other_length);
+        IS(is(answer, at < whole ? DEB_NO_ROOM : DEB_NO, 0, 0, 0) && length == whole);
+        IS(is(direct, answer.status, 0, 0, 0) && other_length == whole);
+        IS(memcmp(one, two, at) == 0);
+        IS(at < whole ? untouched(one, at)
+                      : memcmp(one, report, whole) == 0 && untouched(one + whole, at - whole));
+        free(one);
+        free(two);
+    }
+    for (at = 0; at < sizeof relations / sizeof *relations; at++) {
+        const char *target = at % 2 ? "amd64" : "i386";
+        memset(out, 7, sizeof out);
+        memset(other, 7, sizeof other);
+        answer = deb_index_query_why(index, bytes(target), strlen(target), NULL, 0,
+                                     bytes(relations[at]), strlen(relations[at]), out, sizeof out,
+                                     &length);
+        direct = deb_query_why(bytes(target), strlen(target), NULL, 0, bytes(relations[at]),
+                               strlen(relations[at]), bytes(text_of_three), size, other,
+                               sizeof other, &other_length);
+        IS(is(answer, direct.status, direct.code, direct.line, direct.count));
+        IS(length == other_length && memcmp(out, other, sizeof out) == 0);
+    }
+    IS(is(deb_query_why(bytes("any"), 3, NULL, 0, bytes("aa"), 2, bytes("x"), 1, out, 9, &length),
+          DEB_REFUSED, DEB_BAD_ENVIRONMENT, 0, 0) && length == 0);
+    IS(is(deb_query_why(bytes("amd64"), 5, NULL, 0, NULL, 0, bytes(bad), strlen(bad), NULL, 0,
+                        &length), DEB_REFUSED, DEB_BAD_NUMBER, 4, 0) && length == 0);
+    IS(is(deb_query_why(bytes("amd64"), 5, NULL, 0, NULL, 0, NULL, 0, NULL, 0, &length), DEB_YES, 0,
+          0, 0) && length == 0);
+    IS(is(deb_index_query_why(index, NULL, 0, NULL, 0, bytes("aa"), 2, NULL, 0, &length),
+          DEB_REFUSED, DEB_BAD_ENVIRONMENT, 0, 0) && length == 0);
+}
+
+/* An index in memory of malloc: none if the file is refused. */
+static void try_new(void) {
+    struct deb_answer answer;
+    struct deb_index *index = deb_index_new(bytes(text_of_three), strlen(text_of_three), &answer);
+    uint8_t out[32];
+    size_t length;
+    IS(index != NULL && is(answer, DEB_YES, 0, 0, 3));
+    IS(is(deb_index_package(index, 3, out, sizeof out, &length), DEB_YES, 0, 0, 0));
+    deb_index_delete(index);
+    IS(deb_index_new(bytes(bad), strlen(bad), &answer) == NULL);
+    IS(is(answer, DEB_REFUSED, DEB_BAD_NUMBER, 4, 0));
+    index = deb_index_new(NULL, 0, &answer);
+    IS(index != NULL && is(answer, DEB_YES, 0, 0, 0));
+    deb_index_delete(index);
+    deb_index_delete(NULL);
+}
+
+/* An index that is refused holds none, and is freed as any other. DEB_NO_KIND comes first. */
 static void try_refused(void) {
     struct deb_answer answer;
     struct deb_index *index = loaded(bad, strlen(bad), &answer);
@@ -171,6 +267,11 @@ static void try_refused(void) {
     IS(is(deb_index_packages(index, bytes("aa"), 2, &number, 1, &length), DEB_NO_INDEX, 0, 0, 0));
     IS(is(deb_index_providers(index, bytes("aa"), 2, &number, 1, &length), DEB_NO_INDEX, 0, 0, 0));
     IS(is(deb_index_package(index, 1, out, 9, &length), DEB_NO_INDEX, 0, 0, 0) && length == 0);
+    IS(is(deb_index_details(index, 1, out, 9, &length), DEB_NO_INDEX, 0, 0, 0) && length == 0);
+    IS(is(deb_index_query_why(index, bytes("any"), 3, NULL, 0, bytes("("), 1, out, 9, &length),
+          DEB_NO_INDEX, 0, 0, 0) && length == 0);
+    IS(is(deb_index_unmet(index, DEB_ANY, 0, bytes("any"), 3, NULL, 0, bytes("x"), 1, out, 9,
+                          &length), DEB_NO_KIND, 0, 0, 0) && length == 0);
     IS(number == 9 && out[0] == 7);
     deb_index_free(index);
     deb_index_read(index, NULL, 0, &answer); /* its memory may be used again */
@@ -180,10 +281,11 @@ static void try_refused(void) {
 }
 
 static const struct deb_index *shared;
+static int turns = 2000;
 
 static void *ask(void *wrong) {
     int turn;
-    for (turn = 0; turn < 2000; turn++) {
+    for (turn = 0; turn < turns; turn++) {
         uint8_t out[64];
         uint64_t number;
         size_t length;
@@ -194,6 +296,11 @@ static void *ask(void *wrong) {
                          number != 2;
         *(int *)wrong += unmet(shared, text_of_three, out, 0, &length).status != DEB_YES;
         *(int *)wrong += deb_index_package(shared, 2, out, sizeof out, &length).status != DEB_YES;
+        *(int *)wrong += deb_index_details(shared, 1, out, sizeof out, &length).line != 1 ||
+                         length != 48;
+        *(int *)wrong += deb_index_query_why(shared, bytes("amd64"), 5, NULL, 0, bytes("zz"), 2, out,
+                                             sizeof out, &length).status != DEB_NO ||
+                         length != 39;
     }
     return NULL;
 }
@@ -211,17 +318,21 @@ static void try_threads(const struct deb_index *index) {
     }
 }
 
-int main(void) {
+int main(int count, char **words) {
     struct deb_answer answer;
     struct deb_index *index = loaded(text_of_three, strlen(text_of_three), &answer);
+    if (count > 1)
+        turns = atoi(words[1]);
     IS(is(answer, DEB_YES, 0, 0, 3));
     try_queries(index);
     try_unmet(index);
     try_names(index);
     try_numbers(index);
+    try_reasons(index);
     try_threads(index);
     release(index);
+    try_details();
+    try_new();
     try_refused();
-    printf("index: %d passed, %d failed\n", passed, failed);
-    return failed != 0;
+    return counted("index");
 }

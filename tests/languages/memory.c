@@ -85,6 +85,40 @@ static struct deb_answer read_index(const char *text) {
     return answer;
 }
 
+/* An index in memory of malloc: there is one exactly if the answer is DEB_YES. */
+static struct deb_answer new_index(const char *text) {
+    struct deb_answer answer;
+    struct deb_index *index = deb_index_new(bytes(text), strlen(text), &answer);
+    if ((index != NULL) != (answer.status == DEB_YES))
+        length = 1;
+    deb_index_delete(index);
+    return answer;
+}
+
+/* Feeds a file to a reader in three pieces: each answer after one that isn't DEB_YES is the same, and
+ * then no fields are read. */
+static struct deb_answer feed_file(const char *text) {
+    static union {
+        uint64_t words[512];
+        unsigned char bytes[4096];
+    } memory;
+    struct deb_reader *reader = (struct deb_reader *)(void *)&memory;
+    struct deb_answer answer, last;
+    size_t third = strlen(text) / 3, at, count = 0, names = 0, values = 0;
+    length += deb_reader_size() > sizeof memory;
+    deb_reader_start(reader, DEB_PACKAGES, &answer);
+    for (at = 0; at < 3; at++) {
+        last = answer;
+        deb_reader_feed(reader, bytes(text) + third * at, at < 2 ? third : strlen(text) - 2 * third,
+                        at == 2, &answer);
+        deb_reader_fields(reader, NULL, 0, &count, NULL, 0, &names, NULL, 0, &values);
+        if (last.status != DEB_YES)
+            length += answer.status != last.status || count != 0;
+    }
+    deb_reader_free(reader);
+    return answer;
+}
+
 static struct deb_answer call(int which) {
     const uint8_t *text = bytes(index_of_two);
     size_t size = strlen(index_of_two);
@@ -135,6 +169,33 @@ static struct deb_answer call(int which) {
     case 18:
         return deb_explain_all(DEB_PACKAGES, bytes(twice_refused), strlen(twice_refused), out,
                                sizeof out, &length);
+    case 19:
+        return deb_query_why(bytes("amd64"), 5, &profile, 1, bytes("hello (>= 2) | xx, mta"), 22,
+                             text, size, out, sizeof out, &length);
+    case 20:
+        return deb_index_query_why(loaded, bytes("amd64"), 5, &profile, 1,
+                                   bytes("hello (>= 2) | xx, mta"), 22, out, sizeof out, &length);
+    case 21:
+        return deb_index_details(loaded, 2, out, sizeof out, &length);
+    case 22:
+        return deb_explain_relation(bytes("aa [!amd64] <xx yy>, bb cc"), 26, out, sizeof out,
+                                    &length);
+    case 23:
+        return deb_explain_relation(bytes("bb (>= 01) | cc:any, aa [!amd64] <xx yy>"), 40, out,
+                                    sizeof out, &length);
+    case 24:
+        return deb_explain_version(bytes("1_2"), 3, out, sizeof out, &length);
+    case 25:
+        return deb_explain_version(bytes("1:2-3"), 5, out, sizeof out, &length);
+    case 26:
+        return deb_relation_parts(bytes("bb (>= 01) | cc:any, aa [!amd64] <xx yy>"), 40,
+                                  (struct deb_alternative *)(void *)out, 3, &length);
+    case 27:
+        return feed_file(index_of_two);
+    case 28:
+        return feed_file(refused);
+    case 29:
+        return new_index(index_of_two);
     default:
         return deb_query(bytes("amd64"), 5, &profile, 1, bytes("hello (>= 1) | xx, mta"), 22, text,
                          size, out, sizeof out, &length);
@@ -148,13 +209,19 @@ int main(void) {
                                   "unmet",             "index_read", "index_query",
                                   "index_package",     "diff",    "index_unmet",
                                   "check_all",         "explain_all", "explain_all, refused",
-                                  "query"};
+                                  "query_why",         "index_query_why", "index_details",
+                                  "explain_relation, refused", "explain_relation",
+                                  "explain_version, refused",  "explain_version",
+                                  "relation_parts",    "reader_feed", "reader_feed, refused",
+                                  "index_new",         "query"};
     enum { CALLS = sizeof names / sizeof *names };
     static const int statuses[CALLS] = {
         DEB_YES, DEB_YES, DEB_YES, DEB_YES, DEB_REFUSED, DEB_YES,
         DEB_YES, DEB_YES, DEB_YES, DEB_REFUSED, DEB_NO, DEB_YES,
         DEB_YES, DEB_YES, DEB_NO,  DEB_NO,  DEB_REFUSED, DEB_YES,
-        DEB_REFUSED, DEB_YES,
+        DEB_REFUSED, DEB_NO,  DEB_NO,  DEB_YES, DEB_REFUSED, DEB_YES,
+        DEB_REFUSED, DEB_YES, DEB_YES, DEB_YES, DEB_REFUSED, DEB_YES,
+        DEB_YES,
     };
     struct deb_answer reading;
     int which, passed = 0, failed = 0;

@@ -1,8 +1,10 @@
-/* Four threads call every function at once, and each is answered as one alone is. */
+/* Four threads call every function at once, and each is answered as one alone is; so often as the first
+ * argument says, or 2000 times. */
 #include "debctl.h"
 
 #include <pthread.h>
 #include <stdio.h>
+#include <stdlib.h>
 #include <string.h>
 
 static const uint8_t *bytes(const char *text) { return (const uint8_t *)text; }
@@ -11,10 +13,16 @@ static const char *hello = "Package: hello\nVersion: 1.0-0\nArchitecture: amd64\
 
 static const char *bad = "Package: hello\nVersion: 1-\n";
 
+static int turns = 2000;
+
 static void *run(void *wrong) {
     int turn;
-    for (turn = 0; turn < 2000; turn++) {
+    struct deb_reader *reader = malloc(deb_reader_size());
+    for (turn = 0; turn < turns; turn++) {
         uint8_t out[512];
+        struct deb_alternative alternative;
+        struct deb_row rows[2];
+        struct deb_answer answer;
         struct deb_refusal refusal;
         size_t length;
         const uint8_t *text = bytes(hello);
@@ -46,13 +54,35 @@ static void *run(void *wrong) {
         *(int *)wrong += deb_unmet(DEB_PACKAGES, 0, bytes("amd64"), 5, NULL, 0, text, size, text,
                                    size, out, sizeof out, &length)
                              .status != DEB_YES;
+        *(int *)wrong += deb_query_why(bytes("amd64"), 5, NULL, 0, bytes("zz"), 2, text, size, out,
+                                       sizeof out, &length)
+                                 .status != DEB_NO ||
+                         deb_rows(DEB_REPORT, out, length, rows, 2, &length).status != DEB_YES ||
+                         length != 2 || rows[0].kind != DEB_ROW_UNMET ||
+                         rows[1].kind != DEB_ROW_REASON;
+        *(int *)wrong += deb_version_parts(bytes("1:2-3"), 5).revision != 4;
+        *(int *)wrong +=
+            deb_relation_parts(bytes("aa:any"), 6, &alternative, 1, &length).status != DEB_YES ||
+            alternative.qualifier != 3;
+        *(int *)wrong += deb_explain_version(bytes("1_"), 2, out, sizeof out, &length).code !=
+                             DEB_BAD_VERSION ||
+                         deb_explain_relation(bytes("("), 1, out, sizeof out, &length).code !=
+                             DEB_BAD_RELATION;
+        deb_reader_start(reader, DEB_PACKAGES, &answer);
+        deb_reader_feed(reader, text, 20, 0, &answer);
+        deb_reader_feed(reader, text + 20, size - 20, 1, &answer);
+        *(int *)wrong += answer.status != DEB_YES || answer.count != 1;
+        deb_reader_free(reader);
     }
+    free(reader);
     return NULL;
 }
 
-int main(void) {
+int main(int count, char **words) {
     pthread_t threads[4];
     int wrong[4] = {0}, sum = 0, at;
+    if (count > 1)
+        turns = atoi(words[1]);
     for (at = 0; at < 4; at++)
         if (pthread_create(&threads[at], NULL, run, &wrong[at]) != 0)
             return 1;

@@ -1,0 +1,148 @@
+"""What the words of a call of the program ask of the libraries."""
+
+from pathlib import Path
+
+KINDS = ["binary", "packages", "source", "sources", "any"]
+ORDERS = {
+    "lt": {-1}, "le": {-1, 0}, "eq": {0}, "ne": {-1, 1}, "ge": {0, 1}, "gt": {1},
+    "<<": {-1}, "<=": {-1, 0}, "=": {0}, ">=": {0, 1}, ">>": {1},
+}
+LONGEST_RELATION = 16_777_216  # in a file that the program reads; the libraries have no such limit
+FLAGS = ["--recommends", "--all", "--why", "--values"]
+VALUES = ["--kind", "--arch", "--profiles", "--relation", "--version-text", "--relation-from"]
+
+
+class Unknown(Exception):
+    """The words ask for nothing that the libraries answer."""
+
+
+def options_of(words):
+    """The values of the options, and the other words."""
+    options, others, ended = {}, [], False
+    words = iter(words)
+    for word in words:
+        name, equals, value = ("--kind" if word == "-k" else word).partition("=")
+        if ended or not word.startswith("-") or word == "-":
+            others.append(word)
+        elif word == "--":
+            ended = True
+        elif word in FLAGS and name not in options:
+            options[name] = ""
+        elif name in VALUES and name not in options:
+            options[name] = value if equals else next(words, "")
+        else:
+            raise Unknown
+    return options, others
+
+
+def read(path, given):
+    """The bytes of a file, or of standard input. A device may have no end."""
+    if path in (None, "-"):
+        return given
+    if path != "/dev/null" and not Path(path).is_file():
+        raise Unknown
+    try:
+        return Path(path).read_bytes()
+    except OSError as error:
+        raise Unknown from error
+
+
+def bytes_of(word):
+    """The bytes of a word."""
+    return word.encode(errors="surrogateescape")
+
+
+def profiles_of(options):
+    """The profiles that are active."""
+    profiles = options.pop("--profiles", None)
+    return [] if profiles is None else [bytes_of(it) for it in profiles.split(",")]
+
+
+def unmet_question(options, others, given):
+    """A question for unmet relations: its number is that of the kind, and 8 more if Recommends is asked;
+    its texts are the target, the index, the file and the profiles."""
+    kind = options.pop("--kind", "packages")
+    if not 0 < len(others) < 3 or kind not in KINDS:
+        raise Unknown
+    index = read(others[0], given)
+    file = read(others[1], given) if len(others) > 1 else index
+    number = KINDS.index(kind) + 8 * ("--recommends" in options)
+    texts = [bytes_of(options.pop("--arch")), index, file, *profiles_of(options)]
+    options.pop("--recommends", None)
+    return "unmet", number, texts
+
+
+def query_question(options, others, given):
+    """A query, whose number is how many profiles are active; its texts are the target, the relation, the
+    index and the profiles."""
+    why = options.pop("--why", None)
+    if options.pop("--kind", "packages") != "packages":
+        raise Unknown
+    if "--relation-from" in options:
+        path = options.pop("--relation-from")
+        if path == "-" and others in ([], ["-"]):
+            raise Unknown
+        relation = read(path, given)
+        if len(relation) > LONGEST_RELATION:
+            raise Unknown
+    elif others:
+        relation = bytes_of(others.pop(0))
+    else:
+        raise Unknown
+    if len(others) > 1:
+        raise Unknown
+    texts = [bytes_of(options.pop("--arch")), relation, read(others[0] if others else None, given)]
+    profiles = profiles_of(options)
+    return "query" if why is None else "why", len(profiles), texts + profiles
+
+
+def text_question(call, options, others):
+    """A question about versions, or about a relation."""
+    if call == "version-key" and len(others) == 1:
+        return "key", 0, [bytes_of(others[0])]
+    if call == "compare" and len(others) == 3 and others[1] in ORDERS:
+        return call, 0, [bytes_of(others[0]), bytes_of(others[2])]
+    if call == "canon-version" and len(others) == 1:
+        return "canonical", 0, [bytes_of(others[0])]
+    for option, name in [("--relation", "explain-relation"), ("--version-text", "explain-version")]:
+        if call == "explain" and option in options and not others:
+            return name, 0, [bytes_of(options.pop(option))]
+    return None
+
+
+def file_question(call, options, others, given):
+    """A question about a file, or about two: its number is that of the kind, and 8 more for values."""
+    kind = options.pop("--kind", "packages")
+    if kind not in KINDS:
+        raise Unknown
+    number = KINDS.index(kind)
+    if call in ("check", "explain") and "--all" in options:
+        call += "-all"
+        del options["--all"]
+    if call.split("-")[0] in ("check", "explain", "normalise") and len(others) < 2:
+        return call, number, [read(others[0] if others else None, given)]
+    if call == "diff" and kind != "any":
+        number += 8 * (options.pop("--values", None) is not None)
+    elif call != "same":
+        raise Unknown
+    if len(others) != 2 or others == ["-", "-"]:
+        raise Unknown
+    return call, number, [read(path, given) for path in others]
+
+
+def question(words, given):
+    """The function that the words ask for, its number, and its texts."""
+    call, (options, others) = words[0], options_of(words[1:])
+    try:
+        if call == "unmet":
+            asked = unmet_question(options, others, given)
+        elif call == "query":
+            asked = query_question(options, others, given)
+        else:
+            asked = text_question(call, options, others)
+            asked = asked or file_question(call, options, others, given)
+    except KeyError:
+        raise Unknown from None
+    if options:
+        raise Unknown
+    return asked
