@@ -42,9 +42,9 @@ def canonical_is(text, name, wanted, kind="any"):
 
 
 def long_paragraph(line_end="\n"):
-    """A paragraph with as many bytes as one may have, many fields and no space after a colon."""
-    fields = "".join(f"a{at}:b\n" for at in range(5000))
-    return f"{fields}Long:{'y' * (LIMIT - len(fields) - len(line_end) - 5)}{line_end}"
+    """A paragraph with as many bytes as its canonical text may have, and many empty fields."""
+    fields = "".join(f"A{at}:\n" for at in range(5000))
+    return f"{fields}Long:\n {'y' * (LIMIT - len(fields) - 8)}{line_end}"
 
 
 TESTS = {
@@ -60,13 +60,14 @@ TESTS = {
     and field_of(HEAD + "\nx: 1\n y: 2\n") == "Package",
     "missing in the second": field_of(HEAD + "\n\nPackage: bb\nVersion: 2\n") == "Architecture",
     "none": field_of("bad\n") is field_of(" x: 1\n") is field_of("#x: 1\n") is None,
-    "none of a bad name": field_of("X Y: 1\n") is None and field_of("-x: 1\n") is None,
+    "a bad name": field_of("X Y: 1\n") == "X Y" and field_of("-x: 1\n") == "-x"
+    and field_of("\u00e9\\: x:y\n") == "\u00e9\\" and field_of(f"{LONG} : 1\n") == LONG + " ",
     "all refusals": [
         it.field for it in debctl.check_all(f"A\\B:\na\\b:\n\nx\n\nPackage: a\n\n{LONG}: \n{LONG}:\n").refused
     ] == ["a\\b", None, "Version", LONG],
-    "canonical, a long paragraph": canonical_is(long_paragraph(), "a7", "b"),
-    "canonical, a last line without an end": canonical_is(long_paragraph(""), "A8", "b"),
-    "canonical, a long value": canonical_is(f"x:{'y' * (LIMIT - 3)}\n", "X", "y" * (LIMIT - 3)),
+    "canonical, a long paragraph": canonical_is(long_paragraph(), "a7", ""),
+    "canonical, a last line without an end": canonical_is(long_paragraph(""), "A8", ""),
+    "canonical, a long value": canonical_is(f"X:{'y' * (LIMIT - 4)}\n", "X", "y" * (LIMIT - 4)),
     "canonical, empty and continued": canonical_is("a:\nb: \n c: d\ne:f\n", "B", "\n c: d")
     and canonical_is("a:\nb: \n c\n", "a", ""),
     "canonical, a colon": canonical_is("a::\nb:: c\n", "b", ": c"),
