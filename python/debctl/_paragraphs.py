@@ -4,7 +4,7 @@ import ctypes
 import functools
 import itertools
 from array import array
-from bisect import bisect_right
+from bisect import bisect_left, bisect_right
 from collections import deque
 from typing import (
     IO, Any, Deque, Dict, Iterator, List, Mapping, Optional, Sequence, Tuple, Union,
@@ -48,6 +48,11 @@ class _Tables:
         self.kind = kind
         self.numbers = array("I", numbers)
         self.count = len(self.numbers) // _SPAN
+
+    def last_line(self) -> int:
+        """Returns the line at which the last paragraph starts."""
+        paragraph_of = self.numbers[::_SPAN]
+        return self.numbers[_SPAN * bisect_left(paragraph_of, paragraph_of[-1]) + 1]
 
 
 class Paragraph(Mapping[str, str]):
@@ -195,7 +200,7 @@ def _read(kind: int, pieces: Iterator[bytes]) -> Iterator[Paragraph]:
         found = reader.ask(functools.partial(_Tables, kind, len(piece)))
         yield from _paragraphs(found, known)
         if found.count:
-            recent.passed(found.numbers[_SPAN * (found.count - 1) + 1])
+            recent.passed(found.last_line())
         if answer.status != YES:
             recent.refused(answer, kind)
 

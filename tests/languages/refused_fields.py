@@ -55,15 +55,15 @@ TESTS = {
     "of several lines": field_of(HEAD + "Size: 1\nDepends: aa,\n bb,\n cc (\nTag: x\n") == "Depends",
     "not one line": field_of(HEAD + "Size: 1\n 2\n") == "Size",
     "a carriage return": field_of(HEAD + "Tag: a\r\nSize: 1\r\n") == "Size",
-    "other line ends": duplicate("A", HEAD.replace("1", "1\n\n\n") + "x: \v\f\x1c\u2028y\r\rA:z\n\n") == "a",
-    "missing": field_of("Package: aa\n\nVersion: 1\n") == "Architecture"
+    "other line ends": duplicate("A", f"\n\n\n{HEAD}x: \v\f\x1c\u2028y\r\rA:z\n") == "a",
+    "missing": field_of("Package: aa\n\nVersion: 1\n") == "Version"
     and field_of(HEAD + "\nx: 1\n y: 2\n") == "Package",
     "missing in the second": field_of(HEAD + "\n\nPackage: bb\nVersion: 2\n") == "Architecture",
     "none": field_of("bad\n") is field_of(" x: 1\n") is field_of("#x: 1\n") is None,
     "a bad name": field_of("X Y: 1\n") == "X Y" and field_of("-x: 1\n") == "-x"
     and field_of("\u00e9\\: x:y\n") == "\u00e9\\" and field_of(f"{LONG} : 1\n") == LONG + " ",
     "all refusals": [
-        it.field for it in debctl.check_all(f"A\\B:\na\\b:\n\nx\n\nPackage: a\n\n{LONG}: \n{LONG}:\n").refused
+        it.field for it in debctl.check_all(f"A\\B:\na\\b:\n\nx\n\nPackage: aa\n\n{LONG}: \n{LONG}:\n").refused
     ] == ["a\\b", None, "Version", LONG],
     "canonical, a long paragraph": canonical_is(long_paragraph(), "a7", ""),
     "canonical, a last line without an end": canonical_is(long_paragraph(""), "A8", ""),
