@@ -14,7 +14,7 @@ Text = Union[str, bytes, bytearray, memoryview]
 Kind = Literal["packages", "binary", "sources", "source", "any"]
 
 YES, NO, REFUSED, SECOND_REFUSED, NO_ROOM, NO_MEMORY, NO_KIND, NO_INDEX = range(8)
-_LONG = 1 << 16  # the length from which a buffer's pages are taken as they are written
+_LONG = 1 << 18  # the length from which a buffer's pages are taken as they are written
 _KINDS = {"binary": 0, "packages": 1, "source": 2, "sources": 3, "any": 4}
 _TEXT: List[Any] = [ctypes.c_char_p, ctypes.c_size_t]
 _LENGTH = ctypes.POINTER(ctypes.c_size_t)

@@ -18,7 +18,7 @@ from ._relations import Alternative, relations, text_of_fields
 
 _SPAN = 6  # numbers of a field: its paragraph, line, name, name's length, value, value's length
 _SIZES = [4 * _SPAN, 1, 1]
-_PIECE = 1 << 18
+_PIECE = 1 << 16
 _KNOWN = 4096  # lists of names that are known at most
 
 
@@ -218,7 +218,7 @@ def paragraphs(
     file: Union[Text, IO[bytes], IO[str]], kind: Kind = "any"
 ) -> Iterator[Paragraph]:
     """Reads a text, or a file that is open for reading, and yields its paragraphs in file order. The
-    file is read as the paragraphs are taken, in pieces of 256 KiB: one is held, and those of which
+    file is read as the paragraphs are taken, in pieces of 64 KiB: one is held, and those of which
     a paragraph is still in use.
 
     The kind is `any`, `packages`, `binary`, `source` or `sources`. After the paragraphs that pass,
