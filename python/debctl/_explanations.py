@@ -140,7 +140,7 @@ def explain_relation(relation: Text) -> Explanation:
     relation the text is the line `ok`.
 
         >>> import debctl
-        >>> why = debctl.explain_relation("hello, world (> 1)")
+        >>> why = debctl.explain_relation("hello, world (1)")
         >>> why.place, why.reason, debctl.explain_relation("hello").refusal
         (14, 'OperatorBad', None)
     """

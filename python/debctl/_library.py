@@ -92,7 +92,6 @@ def _library() -> ctypes.CDLL:
         ("deb_check", Answer, kind + _TEXT),
         ("deb_check_all", Answer, kind + _TEXT + _TABLE),
         ("deb_normalise", Answer, kind + _TEXT + _BUFFER),
-        ("deb_fields", Answer, kind + _TEXT + _TABLE + _TABLE + _TABLE),
         ("deb_explain", Answer, kind + _TEXT + _BUFFER),
         ("deb_explain_all", Answer, kind + _TEXT + _BUFFER),
         ("deb_same", Answer, kind + _TEXT + _TEXT),

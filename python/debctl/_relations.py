@@ -51,9 +51,8 @@ def _alternative(data: bytes, spans: Tuple[int, ...]) -> Alternative:
 
 
 def relations(relation: Text, spelled: bool = False) -> List[List[Alternative]]:
-    """Returns the groups of a relation, each with its alternatives: those of its canonical text, in its
-    order, without repeats; with `spelled` those of the text itself, in its order, with the operator and
-    the version as they are there.
+    """Returns the groups of a relation, each with its alternatives: those of its canonical text, each
+    once; with `spelled` those of the text itself, with the operator and the version as they are there.
 
         >>> import debctl
         >>> text = "bb (< 1.01), aa | cc"
