@@ -389,7 +389,7 @@ pub fn diff(kind: Compared, values: bool, old: &[u8], new: &[u8]) -> Result<Vec<
     let call =
         |out: &mut [u8], length: &mut usize| library::diff(compared, (old, new), out, length);
     let text = String::from_utf8(given(4096, call)?.1).expect("an accepted file is UTF-8");
-    Ok(text.lines().map(str::to_owned).collect())
+    Ok(text.split_terminator('\n').map(str::to_owned).collect())
 }
 
 /// Finds the packages of an index that meet a relation, for a target architecture and with these

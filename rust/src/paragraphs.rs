@@ -151,10 +151,11 @@ impl<'a> Paragraph<'a> {
     /// Returns the canonical text of the value of the field with a name, or `None` if there is no
     /// such field: two values mean the same exactly if theirs are the same.
     pub fn canonical(&self, name: &str) -> Result<Option<Vec<u8>>, Error> {
+        // No longer than in the file, so that the limit of a paragraph's length holds.
         let mut text = Vec::new();
         for field in self.fields() {
             text.extend_from_slice(field.name.as_bytes());
-            text.extend_from_slice(b": ");
+            text.push(b':');
             text.extend_from_slice(field.value);
             text.push(b'\n');
         }

@@ -182,3 +182,25 @@ fn a_file_has_several_refusals() -> Result<(), Error> {
     assert_eq!(many.refused[4999], at(9999, Code::NoColon));
     Ok(())
 }
+
+#[test]
+fn lines_of_a_diff_keep_their_carriage_returns() -> Result<(), Error> {
+    let old = b"Package: aa\nVersion: 1\nArchitecture: all\nNote: a\r\n b\r\n";
+    let new = b"Package: aa\nVersion: 1\nArchitecture: all\nNote: a\r\n c\r\r\n";
+    let lines = diff(Compared::Packages, true, old, new)?;
+    assert_eq!(lines, ["changed 1 aa 1 all Note", " -Note: a\r", " - b\r", " +Note: a\r", " + c\r\r"]);
+    Ok(())
+}
+
+#[test]
+fn a_paragraph_of_the_greatest_length_has_canonical_values() -> Result<(), Error> {
+    let mut text = b"Package:aa\nVersion:1\nArchitecture:all\nDepends:bb,".to_vec();
+    text.resize((1 << 24) - 3, b' ');
+    text.extend_from_slice(b"aa\n");
+    for text in [&text[..], &text[..text.len() - 1]] {
+        let all = paragraphs(Kind::Packages, text)?;
+        let first = all.iter().next().expect("a paragraph")?;
+        assert_eq!(first.canonical("depends")?.as_deref(), Some(&b"aa, bb"[..]));
+    }
+    Ok(())
+}
