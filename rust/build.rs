@@ -33,7 +33,7 @@ fn finds_shared_library() -> Option<bool> {
     }
     let out = Path::new(&var_os("OUT_DIR")?).join("tried");
     let mut compiler = Command::new("cc");
-    compiler.args(&["-shared", "-x", "c", "/dev/null", "-ldebctl", "-o"]);
+    compiler.args(["-shared", "-x", "c", "/dev/null", "-ldebctl", "-o"]);
     compiler
         .arg(out)
         .stdout(Stdio::null())

@@ -1,5 +1,6 @@
-//! Calls one function on files, and writes what it answers, as `tests/languages/driver.c` does. What
-//! an answer has as values is printed again from them; where that isn't its text, a line says so.
+//! Calls one function on files, and writes what it answers, as `tests/languages/driver.c` does.
+//! What an answer has as values is printed again from them; where that isn't its text, a line says
+//! so.
 
 #[path = "driver/printed.rs"]
 mod printed;

@@ -80,9 +80,9 @@ fn change(row: &Row) -> Option<Change> {
     })
 }
 
-/// Returns what changed in meaning between two files: each paragraph that was removed, added, changed
-/// or upgraded. With `values` the values that differ are returned too. If the new file is refused,
-/// the error is [`Error::SecondRefused`].
+/// Returns what changed in meaning between two files: each paragraph that was removed, added,
+/// changed or upgraded. With `values` the values that differ are returned too. If the new file is
+/// refused, the error is [`Error::SecondRefused`].
 ///
 /// ```
 /// use debctl::{diff, ChangeKind, Compared};

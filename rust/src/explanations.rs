@@ -8,8 +8,8 @@ use std::fmt;
 
 /// Why a text is refused, or that it is accepted.
 ///
-/// `field` and `value` are as the lines of the text have them: what isn't printable ASCII is escaped,
-/// and what is long is cut. The field of the refusal is neither.
+/// `field` and `value` are as the lines of the text have them: what isn't printable ASCII is
+/// escaped, and what is long is cut. The field of the refusal is neither.
 #[derive(Clone, Debug, PartialEq, Eq, Hash)]
 #[non_exhaustive]
 pub struct Explanation {
@@ -31,8 +31,8 @@ pub struct Explanation {
     pub rule: Option<String>,
     /// What usually causes the refusal.
     pub usually: Option<String>,
-    /// The lines `key: value`. For an accepted file of N paragraphs the line `ok N`, for an accepted
-    /// relation or version the line `ok`.
+    /// The lines `key: value`. For an accepted file of N paragraphs the line `ok N`, for an
+    /// accepted relation or version the line `ok`.
     pub text: String,
 }
 
@@ -97,12 +97,12 @@ fn explanation(rows: &[Row], text: &str, lines: &mut Option<Lines>) -> Explanati
     }
 }
 
-/// Returns the field of a refusal, of which the explanation has `told`: a field that is missing is in
-/// no line, and any other is at the start of its line.
-fn field_of(refusal: &Refusal, told: Option<&str>, lines: &mut Option<Lines>) -> Option<String> {
-    let told = told?;
+/// Returns the field of a refusal, which the explanation names. A field that is missing is in no
+/// line; any other is at the start of the line that is refused.
+fn field_of(refusal: &Refusal, named: Option<&str>, lines: &mut Option<Lines>) -> Option<String> {
+    let named = named?;
     if refusal.code == Code::MissingField {
-        return Some(told.to_owned());
+        return Some(named.to_owned());
     }
     let name = lines.as_mut()?.name_at(refusal.line)?.to_vec();
     Some(String::from_utf8(name).expect("a line that is refused for its field is UTF-8"))
@@ -123,16 +123,16 @@ fn explained((answer, text): (Answer, Vec<u8>), file: Option<&[u8]>) -> Result<E
     ))
 }
 
-/// Returns why a file is refused as a document of a kind: the lines that the program `debctl explain`
-/// writes, except for its first, `file`. The only error is [`Error::Memory`].
+/// Returns why a file is refused as a document of a kind: the lines that the program `debctl
+/// explain` writes, except for its first, `file`. The only error is [`Error::Memory`].
 ///
 /// ```
 /// use debctl::{explain, Code, Kind};
 ///
-/// let told = explain(Kind::Packages, b"Package: aa\nVersion: 1_2\n")?;
-/// assert_eq!(told.refusal.map(|it| it.code), Some(Code::BadVersion));
-/// assert_eq!((told.place, told.at), (Some(1), Some((2, 11))));
-/// assert_eq!(told.reason.as_deref(), Some("UpstreamByte"));
+/// let why = explain(Kind::Packages, b"Package: aa\nVersion: 1_2\n")?;
+/// assert_eq!(why.refusal.map(|it| it.code), Some(Code::BadVersion));
+/// assert_eq!((why.place, told.at), (Some(1), Some((2, 11))));
+/// assert_eq!(why.reason.as_deref(), Some("UpstreamByte"));
 /// # Ok::<(), debctl::Error>(())
 /// ```
 pub fn explain(kind: Kind, text: impl AsRef<[u8]>) -> Result<Explanation, Error> {
@@ -141,8 +141,8 @@ pub fn explain(kind: Kind, text: impl AsRef<[u8]>) -> Result<Explanation, Error>
     explained(written(4096, call), Some(text))
 }
 
-/// Returns why a file is refused at each of its refusals, which are those of [`crate::check_all`]. The
-/// only error is [`Error::Memory`].
+/// Returns why a file is refused at each of its refusals, which are those of [`crate::check_all`].
+/// The only error is [`Error::Memory`].
 pub fn explain_all(kind: Kind, text: impl AsRef<[u8]>) -> Result<AllExplained, Error> {
     let file = text.as_ref();
     let call =
@@ -171,8 +171,8 @@ pub fn explain_all(kind: Kind, text: impl AsRef<[u8]>) -> Result<AllExplained, E
     })
 }
 
-/// Returns why a text isn't a relation: the lines that the program `debctl explain --relation` writes.
-/// The only error is [`Error::Memory`].
+/// Returns why a text isn't a relation: the lines that the program `debctl explain --relation`
+/// writes. The only error is [`Error::Memory`].
 pub fn explain_relation(text: impl AsRef<[u8]>) -> Result<Explanation, Error> {
     let text = text.as_ref();
     let call = |out: &mut [u8], length: &mut usize| library::explain_relation(text, out, length);
@@ -183,8 +183,8 @@ pub fn explain_relation(text: impl AsRef<[u8]>) -> Result<Explanation, Error> {
 /// writes. The only error is [`Error::Memory`].
 ///
 /// ```
-/// let told = debctl::explain_version("1_2")?;
-/// assert_eq!((told.place, told.reason.as_deref()), (Some(1), Some("UpstreamByte")));
+/// let why = debctl::explain_version("1_2")?;
+/// assert_eq!((why.place, told.reason.as_deref()), (Some(1), Some("UpstreamByte")));
 /// # Ok::<(), debctl::Error>(())
 /// ```
 pub fn explain_version(text: impl AsRef<[u8]>) -> Result<Explanation, Error> {

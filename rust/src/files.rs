@@ -22,9 +22,9 @@ pub fn check(kind: Kind, text: impl AsRef<[u8]>) -> Result<u64, Error> {
 }
 
 /// Checks all of a file as a document of a kind, where [`check`] ends at the first refusal, and
-/// returns the number of paragraphs that pass and the refusals in file order: those that the program
-/// `debctl check --all` prints. What follows lines that are refused is checked as if these lines
-/// were blank. The only error is [`Error::Memory`].
+/// returns the number of paragraphs that pass and the refusals in file order: those that the
+/// program `debctl check --all` prints. What follows lines that are refused is checked as if these
+/// lines were blank. The only error is [`Error::Memory`].
 ///
 /// ```
 /// use debctl::{check_all, Code, Kind};

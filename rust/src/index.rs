@@ -111,8 +111,8 @@ impl Index {
         Ok(report(given(16 * relation.len() + 4096, call)?))
     }
 
-    /// Finds the relations of a file that no package meets, as [`crate::unmet`] does, without reading
-    /// the index again. If the file is refused, the error is [`Error::SecondRefused`].
+    /// Finds the relations of a file that no package meets, as [`crate::unmet`] does, without
+    /// reading the index again. If the file is refused, the error is [`Error::SecondRefused`].
     pub fn unmet(
         &self,
         asked: Asked,
@@ -172,8 +172,8 @@ impl Index {
         }))
     }
 
-    /// Returns all that the index keeps of the package with a number, or `None` if there is none. The
-    /// only error is [`Error::Memory`].
+    /// Returns all that the index keeps of the package with a number, or `None` if there is none.
+    /// The only error is [`Error::Memory`].
     ///
     /// ```
     /// let text = "\nPackage: mailer\nVersion: 2\nArchitecture: all\nProvides: mta (= 1)\n";

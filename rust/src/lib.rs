@@ -17,9 +17,9 @@
 //! let refusal = error.refusal().expect("a refusal");
 //! assert_eq!((refusal.code, refusal.line), (Code::BadVersion, 2));
 //! assert_eq!(refusal.field.as_deref(), Some("Version"));
-//! let told = explain(Kind::Packages, refused)?;
-//! assert_eq!(told.reason.as_deref(), Some("RevisionEmpty"));
-//! assert!(told.text.starts_with("line: 2\ncode: 18\nname: BadVersion\nfield: Version\n"));
+//! let why = explain(Kind::Packages, refused)?;
+//! assert_eq!(why.reason.as_deref(), Some("RevisionEmpty"));
+//! assert!(why.text.starts_with("line: 2\ncode: 18\nname: BadVersion\nfield: Version\n"));
 //! # Ok::<(), debctl::Error>(())
 //! ```
 

@@ -216,7 +216,8 @@ impl<'a> Paragraph<'a> {
             .find(|field| field.name.eq_ignore_ascii_case(name))
     }
 
-    /// Returns the value of the field with a name, without case, or `None` if there is no such field.
+    /// Returns the value of the field with a name, without case, or `None` if there is no such
+    /// field.
     pub fn get(&self, name: &str) -> Option<&'a [u8]> {
         Some(self.field(name)?.value)
     }
@@ -246,8 +247,8 @@ impl<'a> Paragraph<'a> {
         self.get(name).map(spelled_relations).transpose()
     }
 
-    /// Returns a file of this paragraph alone. It is no longer than in its file, so that the limit of
-    /// a paragraph's length holds.
+    /// Returns a file of this paragraph alone. It is no longer than in its file, so that the limit
+    /// of a paragraph's length holds.
     pub(crate) fn to_text(self) -> Vec<u8> {
         let mut text = Vec::new();
         for field in self.fields() {

@@ -10,8 +10,8 @@ use std::io::{self, Read};
 /// How many bytes are read at once.
 const PIECE: usize = 1 << 16;
 
-/// Reads the paragraphs of a file from anything that is [`Read`], in pieces. It holds the paragraphs
-/// that end in one piece, and the bytes of the one after them.
+/// Reads the paragraphs of a file from anything that is [`Read`], in pieces. It holds the
+/// paragraphs that end in one piece, and the bytes of the one after them.
 ///
 /// ```
 /// use debctl::{Kind, Reader};
@@ -88,8 +88,9 @@ impl<Source: Read> Reader<Source> {
     }
 
     /// Returns the next paragraph, or `None` after the last one of a file that is accepted. It must
-    /// be dropped before the next call. A file that is refused has an error after the paragraphs that
-    /// pass, which each later call returns too. After [`ReadError::Read`] the next call reads on.
+    /// be dropped before the next call. A file that is refused has an error after the paragraphs
+    /// that pass, which each later call returns too. After [`ReadError::Read`] the next call reads
+    /// on.
     pub fn next_paragraph(&mut self) -> Result<Option<Paragraph<'_>>, ReadError> {
         while self.next == self.tables.spans.len() {
             if let Some(error) = &self.error {

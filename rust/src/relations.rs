@@ -109,8 +109,8 @@ fn words(list: &str) -> Vec<String> {
     list.split_ascii_whitespace().map(str::to_owned).collect()
 }
 
-/// Returns whether an alternative applies to a target architecture with these build profiles active,
-/// by its architecture list and its restriction formula.
+/// Returns whether an alternative applies to a target architecture with these build profiles
+/// active, by its architecture list and its restriction formula.
 ///
 /// ```
 /// let groups = debctl::relations("aa [amd64] <!nocheck>")?;
@@ -128,8 +128,8 @@ pub fn applies(
     Ok(report.groups[0].verdict != Verdict::Ignored)
 }
 
-/// Returns whether a package satisfies an alternative on a target architecture: by its name, what it
-/// provides, its version and its architecture. Whether the alternative applies is left out, see
+/// Returns whether a package satisfies an alternative on a target architecture: by its name, what
+/// it provides, its version and its architecture. Whether the alternative applies is left out, see
 /// [`applies`]. The paragraph must be accepted in an index of packages.
 ///
 /// ```

@@ -57,7 +57,8 @@ pub fn key(version: impl AsRef<[u8]>) -> Result<Vec<u8>, Error> {
 /// assert_eq!(versions[0].text(), "1.9");
 ///
 /// let version = Version::new("00:1.02-1")?;
-/// assert_eq!((version.epoch(), version.upstream(), version.revision()), (Some("00"), "1.02", Some("1")));
+/// assert_eq!((version.epoch(), version.revision()), (Some("00"), Some("1")));
+/// assert_eq!(version.upstream(), "1.02");
 /// assert_eq!(version.canonical()?.text(), "1.2-1");
 /// # Ok::<(), debctl::Error>(())
 /// ```
@@ -118,11 +119,12 @@ impl Version {
 
     fn parts(&self) -> Parts<'_> {
         let parts = library::version_parts(self.text.as_bytes());
+        let epoch = &self.text[..parts.epoch_length];
         let revision = &self.text[parts.revision..][..parts.revision_length];
         Parts {
-            epoch: (parts.has_epoch != 0).then(|| &self.text[..parts.epoch_length]),
+            epoch: (parts.has_epoch != 0).then_some(epoch),
             upstream: &self.text[parts.upstream..][..parts.upstream_length],
-            revision: (parts.has_revision != 0).then(|| revision),
+            revision: (parts.has_revision != 0).then_some(revision),
         }
     }
 }

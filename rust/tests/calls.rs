@@ -38,9 +38,9 @@ fn keys_have_the_order_of_versions() -> Result<(), Error> {
         .collect::<Result<_, _>>()?;
     assert_eq!(set.len(), VERSIONS.len() - 2);
     assert_eq!(refused(Version::new(b"1_")), (Code::BadVersion, 0, None));
-    let second = compare("1", "1_").err().expect("a refusal");
+    let second = compare("1", "1_").expect_err("a refusal");
     assert!(matches!(second, Error::SecondRefused(_)));
-    assert_eq!(key(&[b'1'; 1000])?.len(), 1010);
+    assert_eq!(key([b'1'; 1000])?.len(), 1010);
     Ok(())
 }
 

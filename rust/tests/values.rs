@@ -1,5 +1,5 @@
-//! The values of answers: groups, changes, explanations, parts of relations and versions, and what an
-//! index keeps.
+//! The values of answers: groups, changes, explanations, parts of relations and versions, and what
+//! an index keeps.
 
 use debctl::{
     applies, canonical, compare, diff, explain, explain_relation, explain_version, paragraphs,
@@ -132,24 +132,24 @@ fn changes_have_versions_and_lines() -> Result<(), Error> {
 
 #[test]
 fn explanations_have_a_place() -> Result<(), Error> {
-    let told = explain(
+    let why = explain(
         Kind::Packages,
         "Package: aa\nVersion: 1\nDepends: bb,\n cc dd\n",
     )?;
-    assert_eq!((told.place, told.at), (Some(8), Some((4, 5))));
+    assert_eq!((why.place, why.at), (Some(8), Some((4, 5))));
     assert_eq!(
-        [told.field.as_deref(), told.reason.as_deref()],
+        [why.field.as_deref(), why.reason.as_deref()],
         [Some("Depends"), Some("Trailing")]
     );
-    assert_eq!(told.value.as_deref(), Some("bb,\\n cc dd"));
-    assert!(told.rule.is_some() && told.usually.is_some() && told.passed.is_none());
+    assert_eq!(why.value.as_deref(), Some("bb,\\n cc dd"));
+    assert!(why.rule.is_some() && why.usually.is_some() && why.passed.is_none());
     let passed = explain(Kind::Any, "a: 1\n\nb: 1\n")?;
     assert_eq!(
         (passed.passed, passed.refusal, passed.text.as_str()),
         (Some(2), None, "ok 2\n")
     );
-    let of = |told: &Explanation| {
-        told.refusal
+    let of = |why: &Explanation| {
+        why.refusal
             .as_ref()
             .map(|it| (it.code, it.line, it.field.clone()))
     };
