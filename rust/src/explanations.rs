@@ -131,7 +131,7 @@ fn explained((answer, text): (Answer, Vec<u8>), file: Option<&[u8]>) -> Result<E
 ///
 /// let why = explain(Kind::Packages, b"Package: aa\nVersion: 1_2\n")?;
 /// assert_eq!(why.refusal.map(|it| it.code), Some(Code::BadVersion));
-/// assert_eq!((why.place, told.at), (Some(1), Some((2, 11))));
+/// assert_eq!((why.place, why.at), (Some(1), Some((2, 11))));
 /// assert_eq!(why.reason.as_deref(), Some("UpstreamByte"));
 /// # Ok::<(), debctl::Error>(())
 /// ```
@@ -184,7 +184,7 @@ pub fn explain_relation(text: impl AsRef<[u8]>) -> Result<Explanation, Error> {
 ///
 /// ```
 /// let why = debctl::explain_version("1_2")?;
-/// assert_eq!((why.place, told.reason.as_deref()), (Some(1), Some("UpstreamByte")));
+/// assert_eq!((why.place, why.reason.as_deref()), (Some(1), Some("UpstreamByte")));
 /// # Ok::<(), debctl::Error>(())
 /// ```
 pub fn explain_version(text: impl AsRef<[u8]>) -> Result<Explanation, Error> {
