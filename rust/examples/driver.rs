@@ -7,13 +7,14 @@ mod printed;
 
 use debctl::{
     canonical, check, check_all, compare, diff, explain, explain_all, explain_relation,
-    explain_version, key, normalise, query, query_why, relations, same, spelled_relations, unmet,
-    AllChecked, Asked, Compared, Error, Explanation, Index, Kind, Refusal, Report, Version,
+    explain_version, key, normalise, paragraphs, query, query_why, relations, same,
+    spelled_relations, unmet, AllChecked, Asked, Compared, Error, Explanation, Index, Kind,
+    ReadError, Reader, Refusal, Report, Version,
 };
 use printed::Printed;
 use std::env::args_os;
 use std::fs::read;
-use std::io::{stdout, Write};
+use std::io::{stdout, Read, Write};
 
 const KINDS: [Kind; 5] = [
     Kind::Binary,
@@ -85,6 +86,56 @@ fn has_its_alternatives(text: &[u8]) -> bool {
     relations(groups.join(", ")) == relations(text)
 }
 
+/// Whether a reader that reads a file in pieces reads as many paragraphs, with these fields.
+fn reads_alike(kind: Kind, file: &[u8], checked: &Result<u64, Error>) -> bool {
+    let whole = paragraphs(kind, file).expect("memory");
+    let mut whole = whole.iter().filter_map(Result::ok);
+    let mut reader = Reader::new(kind, Pieces(file));
+    let mut count = 0;
+    loop {
+        let read = match reader.next_paragraph() {
+            Ok(None) => return whole.next().is_none() && checked == &Ok(count),
+            Ok(Some(paragraph)) => paragraph,
+            Err(ReadError::File(error)) => {
+                let head = checked.as_ref().err().map(told);
+                return whole.next().is_none() && head == Some(told(&error));
+            }
+            Err(error) => panic!("{error}"),
+        };
+        count += 1;
+        if !whole
+            .next()
+            .map_or(false, |it| it.fields().eq(read.fields()))
+        {
+            return false;
+        }
+    }
+}
+
+/// A file that is read in pieces of at most 7 bytes, or of a hundredth of it.
+struct Pieces<'a>(&'a [u8]);
+
+impl Read for Pieces<'_> {
+    fn read(&mut self, out: &mut [u8]) -> std::io::Result<usize> {
+        let length = out.len().min(7 + self.0.len() / 100);
+        self.0.read(&mut out[..length])
+    }
+}
+
+/// Whether an index keeps of each package what a report says of it.
+fn keeps_packages(index: &Index, report: &Result<Report, Error>) -> bool {
+    let groups = report.iter().flat_map(|it| &it.groups);
+    let mut packages = groups.flat_map(|it| {
+        let of_reasons = it.reasons.iter().filter_map(|it| it.package.as_ref());
+        it.packages.iter().chain(of_reasons)
+    });
+    packages.all(|it| {
+        let (package, details) = (index.package(it.number), index.details(it.number));
+        let kept = details.map(|it| it.map(|it| it.package));
+        package == kept && kept == Ok(Some(it.clone()))
+    })
+}
+
 fn of_explanation(explained: &Explanation) -> String {
     let head = match &explained.refusal {
         Some(refusal) => told(&Error::Refused(refusal.clone())),
@@ -97,17 +148,19 @@ fn of_explanation(explained: &Explanation) -> String {
 fn of_query(call: &str, files: &[Vec<u8>]) -> Result<String, Error> {
     let (target, relation, index) = (&files[0], &files[1], &files[2]);
     let profiles: Vec<&[u8]> = files[3..].iter().map(Vec::as_slice).collect();
-    let (whole, loaded): (Result<Report, Error>, _) = match call {
-        "why" => (
-            query_why(target, &profiles, relation, index),
-            Index::read(index).map(|it| it.query_why(target, &profiles, relation)),
-        ),
-        _ => (
-            query(target, &profiles, relation, index),
-            Index::read(index).map(|it| it.query(target, &profiles, relation)),
-        ),
+    let why = call == "why";
+    let whole = match why {
+        true => query_why(target, &profiles, relation, index),
+        false => query(target, &profiles, relation, index),
     };
-    let differs = differing("index differs", loaded.map_or(true, |it| it == whole))
+    let answers_alike = Index::read(index).map_or(true, |index| {
+        let again = match why {
+            true => index.query_why(target, &profiles, relation),
+            false => index.query(target, &profiles, relation),
+        };
+        again == whole && keeps_packages(&index, &whole)
+    });
+    let differs = differing("index differs", answers_alike)
         + &differing("parts differ", has_its_alternatives(relation));
     Ok(match whole {
         Ok(report) => with_rows(&done(report.met, 0), &report.text, &report.printed()),
@@ -179,10 +232,21 @@ fn answer(call: &str, number: usize, files: &[Vec<u8>]) -> Result<Vec<u8>, Error
         "query" | "why" => of_query(call, files)?,
         "unmet" => of_unmet(number, files)?,
         "diff" => of_diff(number, files)?,
-        "check" => done(true, check(KINDS[number], &files[0])?),
+        "check" => {
+            let checked = check(KINDS[number], &files[0]);
+            let is_same = reads_alike(KINDS[number], &files[0], &checked);
+            let head = checked.map_or_else(|error| told(&error), |count| done(true, count));
+            head + &differing("reader differs", is_same)
+        }
         "explain" => of_explanation(&explain(KINDS[number], &files[0])?),
-        "explain-relation" => of_explanation(&explain_relation(&files[0])?),
-        "explain-version" => of_explanation(&explain_version(&files[0])?),
+        "explain-relation" => {
+            let is_same = has_its_alternatives(&files[0]);
+            of_explanation(&explain_relation(&files[0])?) + &differing("parts differ", is_same)
+        }
+        "explain-version" => {
+            let is_same = has_its_parts(&files[0]);
+            of_explanation(&explain_version(&files[0])?) + &differing("parts differ", is_same)
+        }
         "check-all" => {
             let all = check_all(KINDS[number], &files[0])?;
             let line = |it: &Refusal| format!("{} {}\n", it.line, it.code.number());
