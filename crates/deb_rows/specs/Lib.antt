@@ -1,0 +1,5 @@
+pub mod Calls
+pub mod Cells
+pub mod Kinds
+pub mod Reads
+pub mod Rows

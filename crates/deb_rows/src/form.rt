@@ -1,5 +1,8 @@
 //! The texts that this library writes in lines.
 
+ghost use Rattle.std.specs.Prelude.{◌≡◌};
+ghost use Rattle.deb_rows.specs.Kinds.{kinds_of};
+
 use crate::kind::RowKind;
 
 /// The form of a text: which kinds its lines may have.
@@ -16,7 +19,9 @@ pub enum Form {
 }
 
 /// The kinds of the lines of a text.
-pub(crate) fn kinds_of(form: Form) -> &'static [RowKind] {
+pub(crate) fn kinds_of(form: Form) -> &'static [RowKind]
+    ensures { result.now ≡ kinds_of form }
+{
     match form {
         Form::Report => &[
             RowKind::Met,

@@ -1,5 +1,8 @@
 //! The kinds of rows, and how the line of each is spelled.
 
+ghost use Rattle.std.specs.Prelude.{◌≡◌, ◌≤◌, length, map};
+ghost use Rattle.deb_rows.specs.Kinds.{front_of, piece_in, pieces_of};
+
 use crate::cell::Class;
 
 /// What a line says.
@@ -46,85 +49,73 @@ pub enum RowKind {
     Valid = 18,
 }
 
-/// The cells of a line of this kind.
-pub(crate) fn pieces_of(kind: RowKind) -> &'static [(&'static [u8], Class)] {
+/// The text before the first cell of a line of this kind.
+pub(crate) fn front_of(kind: RowKind) -> &'static [u8]
+    ensures { result.now ≡ front_of kind }
+{
     match kind {
-        RowKind::Met => &[(b"met ", Class::Line)],
-        RowKind::Unmet => &[(b"unmet ", Class::Line)],
-        RowKind::Ignored => &[(b"ignored ", Class::Line)],
-        RowKind::Package => &[
-            (b" ", Class::Number),
-            (b" ", Class::Word),
-            (b" ", Class::Word),
-            (b" ", Class::Word),
-        ],
-        RowKind::Reason => &[(b" ", Class::Alternative), (b": ", Class::Reason)],
-        RowKind::PackageReason => &[
-            (b" ", Class::Alternative),
-            (b": ", Class::Number),
-            (b" ", Class::Word),
-            (b" ", Class::Word),
-            (b" ", Class::Word),
-            (b" ", Class::Line),
-        ],
-        RowKind::UnmetGroup => &[
-            (b"unmet ", Class::Number),
-            (b" ", Class::Word),
-            (b" ", Class::Word),
-            (b" ", Class::Word),
-            (b" ", Class::Word),
-            (b" ", Class::Line),
-        ],
-        RowKind::UnsureGroup => &[
-            (b"unsure ", Class::Number),
-            (b" ", Class::Word),
-            (b" ", Class::Word),
-            (b" ", Class::Word),
-            (b" ", Class::Word),
-            (b" ", Class::Line),
-        ],
-        RowKind::Removed => &[
-            (b"removed ", Class::Number),
-            (b" ", Class::Word),
-            (b" ", Class::Word),
-            (b" ", Class::Word),
-        ],
-        RowKind::Changed => &[
-            (b"changed ", Class::Number),
-            (b" ", Class::Word),
-            (b" ", Class::Word),
-            (b" ", Class::Word),
-            (b" ", Class::Line),
-        ],
-        RowKind::Upgraded => &[
-            (b"upgraded ", Class::Number),
-            (b" ", Class::Word),
-            (b" ", Class::Word),
-            (b" ", Class::Word),
-            (b" ", Class::Word),
-            (b" ", Class::Line),
-        ],
-        RowKind::Added => &[
-            (b"added ", Class::Number),
-            (b" ", Class::Word),
-            (b" ", Class::Word),
-            (b" ", Class::Word),
-        ],
-        RowKind::OldLine => &[(b" -", Class::Line)],
-        RowKind::NewLine => &[(b" +", Class::Line)],
-        RowKind::Key => &[(b"", Class::Key), (b": ", Class::Line)],
-        RowKind::End => &[],
-        RowKind::Count => &[(b"ok ", Class::Number)],
-        RowKind::Summary => &[(b"ok ", Class::Number), (b", ", Class::Number)],
-        RowKind::Valid => &[],
+        RowKind::Met => b"met ",
+        RowKind::Unmet | RowKind::UnmetGroup => b"unmet ",
+        RowKind::Ignored => b"ignored ",
+        RowKind::Package | RowKind::Reason | RowKind::PackageReason => b" ",
+        RowKind::UnsureGroup => b"unsure ",
+        RowKind::Removed => b"removed ",
+        RowKind::Changed => b"changed ",
+        RowKind::Upgraded => b"upgraded ",
+        RowKind::Added => b"added ",
+        RowKind::OldLine => b" -",
+        RowKind::NewLine => b" +",
+        RowKind::Key => b"",
+        RowKind::End => b"\n",
+        RowKind::Count | RowKind::Summary => b"ok ",
+        RowKind::Valid => b"ok\n",
     }
 }
 
-/// What follows the last cell of a line of this kind.
-pub(crate) fn ending_of(kind: RowKind) -> &'static [u8] {
+/// The cells of a line of this kind, each with the text after it.
+pub(crate) fn pieces_of(kind: RowKind) -> &'static [(Class, &'static [u8])]
+    ensures pieces { map piece_in result.now ≡ pieces_of kind }
+    ensures few { length result.now ≤ 6 }
+{
     match kind {
-        RowKind::Summary => b" refused",
-        RowKind::Valid => b"ok",
-        _ => b"",
+        RowKind::Met
+        | RowKind::Unmet
+        | RowKind::Ignored
+        | RowKind::OldLine
+        | RowKind::NewLine => &[(Class::Line, b"\n")],
+        RowKind::Package | RowKind::Removed | RowKind::Added => &[
+            (Class::Number, b" "),
+            (Class::Word, b" "),
+            (Class::Word, b" "),
+            (Class::Word, b"\n"),
+        ],
+        RowKind::Reason => &[(Class::Alternative, b": "), (Class::Reason, b"\n")],
+        RowKind::PackageReason => &[
+            (Class::Alternative, b": "),
+            (Class::Number, b" "),
+            (Class::Word, b" "),
+            (Class::Word, b" "),
+            (Class::Word, b" "),
+            (Class::Line, b"\n"),
+        ],
+        RowKind::UnmetGroup | RowKind::UnsureGroup | RowKind::Upgraded => &[
+            (Class::Number, b" "),
+            (Class::Word, b" "),
+            (Class::Word, b" "),
+            (Class::Word, b" "),
+            (Class::Word, b" "),
+            (Class::Line, b"\n"),
+        ],
+        RowKind::Changed => &[
+            (Class::Number, b" "),
+            (Class::Word, b" "),
+            (Class::Word, b" "),
+            (Class::Word, b" "),
+            (Class::Line, b"\n"),
+        ],
+        RowKind::Key => &[(Class::Key, b": "), (Class::Line, b"\n")],
+        RowKind::Count => &[(Class::Number, b"\n")],
+        RowKind::Summary => &[(Class::Number, b", "), (Class::Number, b" refused\n")],
+        RowKind::End | RowKind::Valid => &[],
     }
 }

@@ -1,13 +1,17 @@
 //! Reads the rows of a text.
 
+ghost use Rattle.std.specs.Prelude.{◌≡◌, List, slice_set, IfNone, IfSome};
+ghost use Rattle.deb_rows.specs.Calls.{IsOther, LacksRoom, Reads, Scans};
+ghost use Rattle.deb_rows.specs.Rows.{HasRows, RowText};
+
 use crate::form::Form;
-use crate::line::read_line;
+use crate::line::read_row;
 use crate::row::Row;
 
 /// What became of a text.
 #[derive(Clone, Copy, Debug, PartialEq, Eq)]
 pub enum Outcome {
-    /// The table has its rows.
+    /// Its rows are in the table.
     Read,
     /// It isn't a text of this form.
     Other,
@@ -15,57 +19,56 @@ pub enum Outcome {
     NoRoom,
 }
 
-/// Writes the rows of a text of a form to the start of `rows`. `count` becomes how many there are,
-/// or 0 if the text is of another form. Takes no memory.
-pub fn read_rows(form: Form, text: &[u8], rows: &mut [Row], count: &mut usize) -> Outcome {
-    *count = 0;
-    let Some(found) = count_rows(form, text) else {
-        return Outcome::Other;
-    };
-    *count = found;
-    if found > rows.len() {
-        return Outcome::NoRoom;
+/// Writes the rows of a text of a form to the start of `rows`, and sets `count` to their number; to
+/// 0 if the text is of another form. Takes no memory.
+///
+/// Except for `Outcome::Read`, `rows` is unchanged.
+pub fn read_rows(form: Form, text: &[u8], rows: &mut [Row], count: &mut usize) -> Outcome
+    ensures read { result ≡ Outcome.Read → Reads form text.now rows.old rows.new count.new }
+    ensures other { result ≡ Outcome.Other → IsOther form text.now rows.old rows.new count.new }
+    ensures no_room { result ≡ Outcome.NoRoom
+        → LacksRoom form text.now rows.old rows.new count.new }
+{
+    match scan(form, text, &mut []) {
+        None => {
+            *count = 0;
+            Outcome::Other
+        }
+        Some(found) => {
+            *count = found;
+            if found > rows.len() {
+                return Outcome::NoRoom;
+            }
+            let _ = scan(form, text, rows);
+            Outcome::Read
+        }
     }
-    fill_rows(form, text, rows);
-    Outcome::Read
 }
 
-/// How many rows a text has, if it is of a form.
-fn count_rows(form: Form, text: &[u8]) -> Option<usize> {
+/// How many rows a text has, if it is of a form. The first rows are written to `rows`, as many as
+/// have room.
+fn scan(form: Form, text: &[u8], rows: &mut [Row]) -> Option<usize>
+    ensures some { IfSome result (Scans form text.now rows.old rows.new) }
+    ensures none { IfNone result ((rows : List RowText) → HasRows form text.now rows → ⊥) }
+{
     let mut at = 0;
     let mut count = 0;
     while at < text.len() {
-        let end = line_end(text, at)?;
-        read_line(form, &text[at..end], at)?;
-        at = end + 1;
+        let Some(found) = read_row(form, text, at) else {
+            return None;
+        };
+        put(rows, count, found.row);
+        at = found.next;
         count += 1;
     }
     Some(count)
 }
 
-/// Writes the rows of a text, which has at most as many.
-fn fill_rows(form: Form, text: &[u8], rows: &mut [Row]) {
-    let mut at = 0;
-    let mut count = 0;
-    while at < text.len() && count < rows.len() {
-        let Some(end) = line_end(text, at) else {
-            return;
-        };
-        let Some(row) = read_line(form, &text[at..end], at) else {
-            return;
-        };
-        rows[count] = row;
-        at = end + 1;
-        count += 1;
+/// Writes a row to its place, if there is one.
+fn put(rows: &mut [Row], place: usize, row: Row)
+    ensures { rows.new ≡ slice_set rows.old place row }
+{
+    if place < rows.len() {
+        rows[place] = row;
     }
-}
-
-/// Where the line at an offset ends, if it ends with a newline.
-fn line_end(text: &[u8], at: usize) -> Option<usize> {
-    for end in at..text.len() {
-        if text[end] == b'\n' {
-            return Some(end);
-        }
-    }
-    None
 }

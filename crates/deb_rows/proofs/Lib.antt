@@ -1,0 +1,4 @@
+pub mod Cells
+pub mod Ends
+pub mod Found
+pub mod Steps
