@@ -51,6 +51,10 @@ package_last = (Number, codes " ") ∷ (Word, codes " ") ∷ (Word, codes " ") �
 abbrev pub any_text : List Piece
 any_text = (Line, codes "\n") ∷ []
 
+-- a word, and after it any text
+abbrev pub word_and_text : List Piece
+word_and_text = (Word, codes " ") ∷ any_text
+
 -- the cells of a line
 abbrev pub pieces_of : RowKind → List Piece
 pieces_of kind.Met = any_text
@@ -59,11 +63,11 @@ pieces_of kind.Ignored = any_text
 pieces_of kind.Package = package_last
 pieces_of kind.Reason = (Alternative, codes ": ") ∷ (Reason, codes "\n") ∷ []
 pieces_of kind.PackageReason = (Alternative, codes ": ") ∷ package_and any_text
-pieces_of kind.UnmetGroup = package_and ((Word, codes " ") ∷ any_text)
-pieces_of kind.UnsureGroup = package_and ((Word, codes " ") ∷ any_text)
+pieces_of kind.UnmetGroup = package_and word_and_text
+pieces_of kind.UnsureGroup = package_and word_and_text
 pieces_of kind.Removed = package_last
 pieces_of kind.Changed = package_and any_text
-pieces_of kind.Upgraded = package_and ((Word, codes " ") ∷ any_text)
+pieces_of kind.Upgraded = package_and word_and_text
 pieces_of kind.Added = package_last
 pieces_of kind.OldLine = any_text
 pieces_of kind.NewLine = any_text
