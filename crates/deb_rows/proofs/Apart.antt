@@ -19,46 +19,46 @@ use Rattle.deb_rows.proofs.KindFacts.{alternative_colon, key_colon, number_comma
 -- ---- the kind of the line that a text begins with
 
 -- from the end of an alternative on
-abbrev past : List ℕ → List ℕ
+abbrev pub past : List ℕ → List ℕ
 past [] = []
 past (b ∷ bs) = cond (stops Alternative b bs) (b ∷ bs) (past bs)
 
-abbrev rest_of : List ℕ → List ℕ
+abbrev pub rest_of : List ℕ → List ℕ
 rest_of [] = []
 rest_of (b ∷ bs) = bs
 
 -- of what follows an alternative, or a package: a colon and a space, or a newline
-abbrev past_kind : List ℕ → RowKind
+abbrev pub past_kind : List ℕ → RowKind
 past_kind [] = kind.Package
 past_kind (b ∷ bs) = cond (b == 10) kind.Package (cond (begins_with_number (rest_of bs)) kind.PackageReason kind.Reason)
 
-abbrev report_kind : List ℕ → RowKind
+abbrev pub report_kind : List ℕ → RowKind
 report_kind [] = kind.Package
 report_kind (b ∷ bs) = cond (b == 109) kind.Met (cond (b == 117) kind.Unmet (cond (b == 105) kind.Ignored (past_kind (past bs))))
 
-abbrev unmet_kind : List ℕ → RowKind
+abbrev pub unmet_kind : List ℕ → RowKind
 unmet_kind text = cond (get_or text 2 0 == 109) kind.UnmetGroup kind.UnsureGroup
 
-abbrev diff_kind : List ℕ → RowKind
+abbrev pub diff_kind : List ℕ → RowKind
 diff_kind text =
     cond (get_or text 0 0 == 114) kind.Removed
     (cond (get_or text 0 0 == 99) kind.Changed
     (cond (get_or text 0 0 == 117) kind.Upgraded
     (cond (get_or text 0 0 == 97) kind.Added (cond (get_or text 1 0 == 45) kind.OldLine kind.NewLine))))
 
-abbrev number_kind : List ℕ → RowKind
+abbrev pub number_kind : List ℕ → RowKind
 number_kind text = cond (get_or (drop (length (cell_of Number text)) text) 0 0 == 10) kind.Count kind.Summary
 
 -- of a text, and of what follows a key
-abbrev key_kind : List ℕ → List ℕ → RowKind
+abbrev pub key_kind : List ℕ → List ℕ → RowKind
 key_kind text tail =
     cond (get_or tail 0 0 == 58) kind.Key
     (cond (get_or tail 0 0 == 10) (cond (get_or text 0 0 == 10) kind.End kind.Valid) (number_kind (drop 1 tail)))
 
-abbrev explanation_kind : List ℕ → RowKind
+abbrev pub explanation_kind : List ℕ → RowKind
 explanation_kind text = key_kind text (drop (length (cell_of Key text)) text)
 
-abbrev text_kind : Form → List ℕ → RowKind
+abbrev pub text_kind : Form → List ℕ → RowKind
 text_kind form.Report text = report_kind text
 text_kind form.UnmetLines text = unmet_kind text
 text_kind form.DiffLines text = diff_kind text
@@ -66,14 +66,14 @@ text_kind form.Explanation text = explanation_kind text
 
 -- ---- cells, one by one
 
-record Split (piece : Piece) (pieces : List Piece) (cells : List (List ℕ)) : Type 0 where
-  first : List ℕ
-  rest : List (List ℕ)
-  same : cells ≡ first ∷ rest
-  is : is_cell piece.0 first ≡ true
-  are : are_cells pieces rest ≡ true
+pub record Split (piece : Piece) (pieces : List Piece) (cells : List (List ℕ)) : Type 0 where
+  pub first : List ℕ
+  pub rest : List (List ℕ)
+  pub same : cells ≡ first ∷ rest
+  pub is : is_cell piece.0 first ≡ true
+  pub are : are_cells pieces rest ≡ true
 
-split : (piece : Piece) (pieces : List Piece) (cells : List (List ℕ)) → are_cells (piece ∷ pieces) cells ≡ true → Split piece pieces cells
+pub split : (piece : Piece) (pieces : List Piece) (cells : List (List ℕ)) → are_cells (piece ∷ pieces) cells ≡ true → Split piece pieces cells
 split piece pieces [] e = absurd (false≢true e)
 split piece pieces (cell ∷ cells) e =
     let parts = and_parts (is_cell piece.0 cell) (are_cells pieces cells) e in
@@ -83,10 +83,10 @@ none_left : (cells : List (List ℕ)) → are_cells [] cells ≡ true → cells 
 none_left [] e = refl
 none_left (cell ∷ cells) e = absurd (false≢true e)
 
-free : (class : Class) (cell : List ℕ) → is_cell class cell ≡ true → is_unstopped class cell ≡ true
+pub free : (class : Class) (cell : List ℕ) → is_cell class cell ≡ true → is_unstopped class cell ≡ true
 free class cell e = (and_parts (is_unstopped class cell) (fits class cell) e).0
 
-fitting : (class : Class) (cell : List ℕ) → is_cell class cell ≡ true → fits class cell ≡ true
+pub fitting : (class : Class) (cell : List ℕ) → is_cell class cell ≡ true → fits class cell ≡ true
 fitting class cell e = (and_parts (is_unstopped class cell) (fits class cell) e).1
 
 -- what follows a cell
@@ -152,10 +152,10 @@ past_word_cell : (word rest more : List ℕ) → is_cell Word word ≡ true → 
 past_word_cell word rest more is =
     ap past (append_assoc word rest more) ∙ past_word word (rest ++ more) (free Word word is) (not-true (ends_with_colon word) (fitting Word word is))
 
-abbrev word : Piece
+abbrev pub word : Piece
 word = (Word, codes " ")
 
-abbrev last_word : Piece
+abbrev pub last_word : Piece
 last_word = (Word, codes "\n")
 
 package_kind : (cells : List (List ℕ)) (more : List ℕ) → are_cells package_last cells ≡ true → past_kind (past (cells_text package_last cells ++ more)) ≡ kind.Package

@@ -4,4 +4,6 @@ pub mod Ends
 pub mod Found
 pub mod KindFacts
 pub mod RowsFound
+pub mod Same
+pub mod Scanned
 pub mod Steps

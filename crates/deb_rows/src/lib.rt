@@ -5,6 +5,7 @@
 mod cell;
 mod form;
 mod kind;
+pub mod laws;
 mod line;
 mod reading;
 mod row;
