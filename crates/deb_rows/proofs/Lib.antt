@@ -3,6 +3,7 @@ pub mod Cells
 pub mod Ends
 pub mod Found
 pub mod KindFacts
+pub mod Named
 pub mod RowsFound
 pub mod Same
 pub mod Scanned

@@ -2,4 +2,4 @@ use Rattle.deb_rows.proofs.Same.{one_text}
 use Rattle.deb_rows.proofs.laws.one_text.Goals as goal
 
 pub returns : goal.returns
-returns c = λ form text rows others has also. one_text form text rows others has also
+returns c = one_text
