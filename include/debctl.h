@@ -350,6 +350,58 @@ struct deb_answer deb_index_providers(const struct deb_index *index,
 struct deb_answer deb_index_package(const struct deb_index *index, uint64_t number,
                                     uint8_t *out, size_t out_size, size_t *length);
 
+/* A part of a text: the offset of its first byte, and the number of its bytes. */
+struct deb_span {
+    size_t start;
+    size_t length;
+};
+
+/* What wrote a text. */
+enum deb_form {
+    DEB_REPORT = 0,      /* deb_query, deb_index_query, and both with _why */
+    DEB_UNMET_LINES = 1, /* deb_unmet, deb_index_unmet */
+    DEB_DIFF_LINES = 2,  /* deb_diff */
+    DEB_EXPLANATION = 3  /* deb_explain, deb_explain_all, deb_explain_relation, deb_explain_version */
+};
+
+/* What a line of a text says, and its cells. */
+enum deb_row_kind {
+    DEB_ROW_MET = 0,            /* group */
+    DEB_ROW_UNMET = 1,          /* group */
+    DEB_ROW_IGNORED = 2,        /* group */
+    DEB_ROW_PACKAGE = 3,        /* number, name, version, architecture */
+    DEB_ROW_REASON = 4,         /* alternative, reason */
+    DEB_ROW_PACKAGE_REASON = 5, /* alternative, number, name, version, architecture, reason */
+    DEB_ROW_UNMET_GROUP = 6,    /* number, package, version, architecture, field, group */
+    DEB_ROW_UNSURE_GROUP = 7,   /* the same */
+    DEB_ROW_REMOVED = 8,        /* number, package, version, architecture */
+    DEB_ROW_CHANGED = 9,        /* number, package, version, architecture, fields */
+    DEB_ROW_UPGRADED = 10,      /* number, package, old version, new version, architecture, fields */
+    DEB_ROW_ADDED = 11,         /* number, package, version, architecture */
+    DEB_ROW_OLD_LINE = 12,      /* a line of the old canonical text */
+    DEB_ROW_NEW_LINE = 13,      /* a line of the new one */
+    DEB_ROW_KEY = 14,           /* key, value */
+    DEB_ROW_END = 15,           /* no cell: the empty line after an explanation of deb_explain_all */
+    DEB_ROW_OK = 16,            /* the number in `ok N` */
+    DEB_ROW_SUMMARY = 17,       /* the numbers in `ok N, M refused` */
+    DEB_ROW_VALID = 18          /* no cell: the line `ok` of deb_explain_relation or _version */
+};
+
+/* A line of a text. `fields` is one cell, with a space between two names. */
+struct deb_row {
+    uint8_t kind;              /* one of deb_row_kind */
+    uint8_t cell_count;        /* how many cells the kind has */
+    struct deb_span cells[6];  /* where they are in the text; after them only zeros */
+};
+
+/* Writes what the lines of a text say to the start of `rows`: a row for each line, in their order.
+ * `form` is one of deb_form. `row_count` is how many rows there are, also if there is no room for
+ * them. Takes no memory.
+ * DEB_YES; DEB_NO: the text isn't one of this form, `row_count` is 0; DEB_NO_ROOM; DEB_NO_KIND: no
+ * such form. */
+struct deb_answer deb_rows(uint8_t form, const uint8_t *text, size_t text_length,
+                           struct deb_row *rows, size_t rows_size, size_t *row_count);
+
 #ifdef __cplusplus
 }
 #endif

@@ -33,5 +33,6 @@ mod read_refusals;
 mod refusal_row;
 mod relations;
 mod report;
+mod rows;
 mod unmet;
 mod versions;
