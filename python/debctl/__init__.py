@@ -20,28 +20,44 @@ such as `bytes` or `memoryview`. A function raises TypeError for an argument of 
     >>> debctl.check("Package: hello\\nVersion: 1-\\n")
     Traceback (most recent call last):
     debctl.Refused: line 2: 18 BadVersion
-    >>> told = debctl.explain("Package: hello\\nVersion: 1-\\n")
-    >>> told.text.splitlines()[3:7]
-    [b'field: Version', b'place: 0', b'at: 2:10', b'reason: RevisionEmpty']
+    >>> why = debctl.explain("Package: hello\\nVersion: 1-\\n")
+    >>> why.refusal.field, why.place, why.at, why.reason
+    ('Version', 0, (2, 10), 'RevisionEmpty')
 """
 
-from ._files import (
-    AllChecked, Explanation, Report, check, check_all, diff, explain, explain_all, normalise, query,
-    same, unmet,
+from ._explanations import (
+    AllExplained, Explanation, explain, explain_all, explain_relation, explain_version,
 )
-from ._index import Index, Package
-from ._library import Text
-from ._paragraphs import Alternative, Paragraph, paragraphs, relations
+from ._files import (
+    AllChecked, Report, UnmetReport, check, check_all, diff, normalise, query, same, unmet,
+)
+from ._index import Details, Index, Package
+from ._library import Kind, Text, lib
+from ._paragraphs import Paragraph, paragraphs
 from ._refusals import Code, Refused
-from ._versions import Version, canonical, compare, key
+from ._relations import Alternative, applies, relations, satisfies
+from ._rows import Change, Group, NumberedPackage, Reason, UnmetGroup
+from ._versions import Parts, Version, canonical, compare, key
+
+__version__ = "0.1.0"
+
+
+def library_version() -> str:
+    """Returns the version of the library libdebctl that is loaded."""
+    number = lib.deb_library_version()
+    return f"{number // 10000}.{number // 100 % 100}.{number % 100}"
+
 
 __all__ = [
-    "AllChecked", "Alternative", "Code", "Explanation", "Index", "Package", "Paragraph", "Refused",
-    "Report", "Text", "Version", "canonical", "check", "check_all", "compare", "diff", "explain",
-    "explain_all", "key", "normalise", "paragraphs", "query", "relations", "same", "unmet",
+    "AllChecked", "AllExplained", "Alternative", "Change", "Code", "Details", "Explanation", "Group",
+    "Index", "Kind", "NumberedPackage", "Package", "Paragraph", "Parts", "Reason", "Refused", "Report",
+    "Text", "UnmetGroup", "UnmetReport", "Version", "applies", "canonical", "check", "check_all",
+    "compare", "diff", "explain", "explain_all", "explain_relation", "explain_version", "key",
+    "library_version", "normalise", "paragraphs", "query", "relations", "same", "satisfies", "unmet",
 ]
 
 for _public in (
-    AllChecked, Alternative, Code, Explanation, Index, Package, Paragraph, Refused, Report, Version,
+    AllChecked, AllExplained, Alternative, Change, Code, Details, Explanation, Group, Index,
+    NumberedPackage, Package, Paragraph, Parts, Reason, Refused, Report, UnmetGroup, UnmetReport, Version,
 ):
     _public.__module__ = __name__

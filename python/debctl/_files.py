@@ -1,23 +1,20 @@
 """Files of control data, and questions to an index of packages."""
 
-import ctypes
 import functools
-from typing import Iterable, List, NamedTuple, Optional, Tuple
+import struct
+from typing import Iterable, List, NamedTuple, Tuple
 
+from ._explanations import answered_file, explain_all
 from ._library import (
-    NO_KIND, NO_ROOM, REFUSED, YES, Answer, RefusalAt, Text, answered_file, explained,
-    explained_all, field_in, kind_of, lib, refusal_of, text_of, texts_of, written,
+    NO_KIND, REFUSED, YES, Answer, Kind, Text, kind_of, lib, refusal_of, tables, text_of, texts_of,
+    written,
 )
 from ._refusals import Refused
+from ._rows import Change, Group, UnmetGroup, changes_of, groups_of, unmet_groups_of
 
 _PACKAGES = 1
-
-
-class Explanation(NamedTuple):
-    """The answer for a file: its refusal, or None if it is accepted, and the text of that."""
-
-    refusal: Optional[Refused]
-    text: bytes
+_REFUSAL = struct.Struct("@QB7x")  # its line and its code
+_REPORT_ROOM = 1 << 18
 
 
 class AllChecked(NamedTuple):
@@ -28,13 +25,36 @@ class AllChecked(NamedTuple):
 
 
 class Report(NamedTuple):
-    """The report on relations: whether no group is unmet, and its text."""
+    """The report on a relation, which is true if no group is unmet, and its text."""
 
     met: bool
-    text: bytes
+    text: str
+
+    def __bool__(self) -> bool:
+        return self.met
+
+    @property
+    def groups(self) -> List[Group]:
+        """The groups of the relation, in the order of the text."""
+        return groups_of(self.text)
 
 
-def check(text: Text, kind: str = "packages") -> int:
+class UnmetReport(NamedTuple):
+    """The report on the relations of a file, which is true if no group is unmet, and its text."""
+
+    met: bool
+    text: str
+
+    def __bool__(self) -> bool:
+        return self.met
+
+    @property
+    def groups(self) -> List[UnmetGroup]:
+        """The groups that are unmet, or may be, in the order of the text."""
+        return unmet_groups_of(self.text)
+
+
+def check(text: Text, kind: Kind = "packages") -> int:
     """Returns the number of paragraphs of a file that is accepted as a document of this kind:
     `packages`, `binary`, `source`, `sources` or `any`.
 
@@ -45,7 +65,7 @@ def check(text: Text, kind: str = "packages") -> int:
     return answered_file(answer, number, data).count
 
 
-def check_all(text: Text, kind: str = "packages") -> AllChecked:
+def check_all(text: Text, kind: Kind = "packages") -> AllChecked:
     """Checks all of a file as a document of this kind, where `check` ends at the first refusal, and
     returns the number of paragraphs that pass and the refusals in file order: those that the
     program `debctl check --all` prints. It raises no Refused.
@@ -60,53 +80,31 @@ def check_all(text: Text, kind: str = "packages") -> AllChecked:
     What follows lines that are refused is checked as if these lines were blank.
     """
     number, (data, length) = kind_of(kind), text_of(text)
-    count = ctypes.c_size_t(64)
-    while True:
-        table = (RefusalAt * count.value)()
-        room, out = len(table), ctypes.byref(count)
-        answer: Answer = lib.deb_check_all(number, data, length, table, room, out)
-        if answer.status != NO_ROOM:
-            break
+    call = functools.partial(lib.deb_check_all, number, data, length)
+    answer, (rows,) = tables([_REFUSAL.size], [4096], call)
     if refusal_of(answer) is None:
         return AllChecked(answer.count, [])
-    blocks = explained_all(number, data).split(b"\n\n")
+    explained = explain_all(data, kind).refused
     return AllChecked(answer.count, [
-        Refused(at.code, at.line, field=field_in(block))
-        for at, block in zip(table[: count.value], blocks)
+        Refused(code, line, field=why.refusal.field if why.refusal else None)
+        for (line, code), why in zip(_REFUSAL.iter_unpack(rows), explained)
     ])
 
 
-def normalise(text: Text, kind: str = "packages") -> bytes:
-    """Returns the canonical text of a file: two accepted files mean the same exactly if theirs are
-    the same.
+def normalise(text: Text, kind: Kind = "packages") -> bytes:
+    """Returns the canonical text of a file, as bytes that can be written to one: two accepted files
+    mean the same exactly if theirs are the same.
 
     Raises Refused if the file is refused.
     """
     number, (data, length) = kind_of(kind), text_of(text)
     call = functools.partial(lib.deb_normalise, number, data, length)
-    answer, canonical = written(length + 64, call)
+    answer, canonical = written(length + length // 8 + 64, call)
     answered_file(answer, number, data)
     return canonical
 
 
-def explain(text: Text, kind: str = "packages") -> Explanation:
-    """Returns why a file is refused as a document of this kind, in lines `key: value`: those that
-    the program `debctl explain` writes, except for its first, `file`. For an accepted file of N
-    paragraphs the text is the line `ok N`.
-    """
-    answer, told = explained(kind_of(kind), text_of(text)[0])
-    return Explanation(refusal_of(answer, field_in(told)), told)
-
-
-def explain_all(text: Text, kind: str = "packages") -> str:
-    """Returns why a file is refused at each of its refusals: for each the lines `key: value` of
-    `explain` and an empty line, and at the end the line `ok N, M refused`, with the number of
-    paragraphs that pass and the number of refusals. It raises no Refused.
-    """
-    return explained_all(kind_of(kind), text_of(text)[0]).decode()
-
-
-def same(text: Text, other: Text, kind: str = "packages") -> bool:
+def same(text: Text, other: Text, kind: Kind = "packages") -> bool:
     """Returns whether two files mean the same.
 
     Raises Refused if one of them is refused; its `second` says which.
@@ -116,40 +114,55 @@ def same(text: Text, other: Text, kind: str = "packages") -> bool:
     return answered_file(answer, number, data, second).status == YES
 
 
-def diff(old: Text, new: Text, kind: str = "packages", values: bool = False) -> List[str]:
-    """Returns what changed in meaning between two files of this kind, in the lines that the program
-    `debctl diff` writes: one for each paragraph that was removed, added, changed or upgraded. With
-    `values` the values that differ are in lines below it, ` -NAME: VALUE` and ` +NAME: VALUE`.
+def diff(old: Text, new: Text, kind: Kind = "packages", values: bool = False) -> List[Change]:
+    """Returns what changed in meaning between two files of this kind: each paragraph that was removed,
+    added, changed or upgraded, in the order of the lines that the program `debctl diff` writes. With
+    `values` a change has the lines of the fields that differ.
 
         >>> import debctl
         >>> old = "Package: hello\\nVersion: 1\\nArchitecture: all\\n"
-        >>> debctl.diff(old, old.replace("1", "2"), values=True)
-        ['upgraded 1 hello 1 2 all Version', ' -Version: 1', ' +Version: 2']
+        >>> for change in debctl.diff(old, old.replace("1", "2"), values=True):
+        ...     print(change)
+        ...     print(change.kind, change.fields, change.old, change.new_version)
+        upgraded 1 hello 1 2 all Version
+         -Version: 1
+         +Version: 2
+        upgraded ('Version',) ('Version: 1',) 2
 
     Raises Refused if one of them is refused; its `second` says which. Raises ValueError for the kind
     `any`.
     """
     number, (data, length), (second, size) = kind_of(kind), text_of(old), text_of(new)
     call = functools.partial(lib.deb_diff, number, bool(values), data, length, second, size)
-    answer, lines = written(4096, call)
+    answer, lines = written(length + size + _REPORT_ROOM, call)
     if answer.status == NO_KIND:
         raise ValueError(f"files of {kind!r} aren't compared")
     answered_file(answer, number, data, second)
-    return lines.decode().split("\n")[:-1]
+    return changes_of(lines.decode())
 
 
-def query(relation: Text, index: Text, arch: Text, profiles: Iterable[Text] = ()) -> Report:
+def query(
+    relation: Text, index: Text, arch: Text, profiles: Iterable[Text] = (), why: bool = False
+) -> Report:
     """Finds the packages of an index that meet a relation, for this architecture and these build
-    profiles.
+    profiles. With `why` the report has the reasons why a group isn't met.
+
+        >>> import debctl
+        >>> index = "Package: hello\\nVersion: 2\\nArchitecture: all\\n"
+        >>> report = debctl.query("hello (>= 3)", index, "amd64", why=True)
+        >>> for group in report.groups:
+        ...     print(bool(report), group.verdict, group.text, group.reasons[0].reason)
+        False unmet hello (>= 3) is earlier
 
     Raises Refused if one of these is refused, and TypeError if the profiles are a single text.
     """
     active, (data, length) = texts_of(profiles), text_of(index)
     call = functools.partial(
-        lib.deb_query, *text_of(arch), active, len(active), *text_of(relation), data, length
+        lib.deb_query_why if why else lib.deb_query, *text_of(arch), active, len(active),
+        *text_of(relation), data, length,
     )
-    answer, report = written(4096, call)
-    return Report(answered_file(answer, _PACKAGES, data).status == YES, report)
+    answer, report = written(_REPORT_ROOM, call)
+    return Report(answered_file(answer, _PACKAGES, data).status == YES, report.decode())
 
 
 def unmet(
@@ -157,9 +170,9 @@ def unmet(
     file: Text,
     arch: Text,
     profiles: Iterable[Text] = (),
-    kind: str = "packages",
+    kind: Kind = "packages",
     recommends: bool = False,
-) -> Report:
+) -> UnmetReport:
     """Finds the relations of a file that no package of an index meets, for this architecture and
     these build profiles: the lines that the program `debctl unmet` writes. `kind` is that of the
     file. Of `packages` and `binary` Pre-Depends and Depends are asked, with `recommends` Recommends
@@ -174,12 +187,13 @@ def unmet(
         lib.deb_unmet, number, bool(recommends), *text_of(arch), active, len(active), data, length,
         text, size,
     )
-    return unmet_report(written(4096, call), (kind, recommends), data, text)
+    answered = written(size + _REPORT_ROOM, call)
+    return unmet_report(answered, (kind, recommends), data, text)
 
 
 def unmet_report(
-    answered: Tuple[Answer, bytes], asked: Tuple[str, bool], index: bytes, file: bytes
-) -> Report:
+    answered: Tuple[Answer, bytes], asked: Tuple[Kind, bool], index: bytes, file: bytes
+) -> UnmetReport:
     """Returns the report of a call that finds unmet relations, or raises the exception of its answer.
     """
     (answer, lines), (kind, recommends) = answered, asked
@@ -187,4 +201,5 @@ def unmet_report(
         what = "Recommends of sources" if recommends and kind != "any" else f"relations of {kind!r}"
         raise ValueError(f"there are no {what}")
     refused_as = _PACKAGES if answer.status == REFUSED else kind_of(kind)
-    return Report(answered_file(answer, refused_as, index, file).status == YES, lines)
+    met = answered_file(answer, refused_as, index, file).status == YES
+    return UnmetReport(met, lines.decode())

@@ -1,16 +1,20 @@
 """The functions of the library libdebctl, as `debctl.h` declares them."""
 
 import ctypes
-import functools
+import mmap
 import os
 from pathlib import Path
-from typing import Any, Callable, Iterable, List, Optional, Tuple, TypeVar, Union
+from typing import (
+    Any, Callable, ClassVar, Iterable, List, Literal, Optional, Tuple, TypeVar, Union,
+)
 
 from ._refusals import Refused
 
 Text = Union[str, bytes, bytearray, memoryview]
+Kind = Literal["packages", "binary", "sources", "source", "any"]
 
 YES, NO, REFUSED, SECOND_REFUSED, NO_ROOM, NO_MEMORY, NO_KIND, NO_INDEX = range(8)
+_LONG = 1 << 18  # the length from which a buffer's pages are taken as they are written
 _KINDS = {"binary": 0, "packages": 1, "source": 2, "sources": 3, "any": 4}
 _TEXT: List[Any] = [ctypes.c_char_p, ctypes.c_size_t]
 _LENGTH = ctypes.POINTER(ctypes.c_size_t)
@@ -37,14 +41,6 @@ class Answer(ctypes.Structure):
     ]
 
 
-class RefusalAt(ctypes.Structure):
-    """One refusal of a file."""
-
-    line: int
-    code: int
-    _fields_ = [("line", ctypes.c_uint64), ("code", ctypes.c_uint8)]
-
-
 class Comparison(ctypes.Structure):
     """The answer of a comparison of two versions."""
 
@@ -54,7 +50,28 @@ class Comparison(ctypes.Structure):
     _fields_ = [("status", ctypes.c_uint8), ("code", ctypes.c_uint8), ("order", ctypes.c_int8)]
 
 
+class VersionParts(ctypes.Structure):
+    """The parts of a version: offsets and lengths in its text."""
+
+    status: int
+    code: int
+    has_epoch: int
+    has_revision: int
+    epoch_length: int
+    upstream: int
+    upstream_length: int
+    revision: int
+    revision_length: int
+    _fields_ = [
+        *((name, ctypes.c_uint8) for name in ("status", "code", "has_epoch", "has_revision")),
+        *((name, ctypes.c_size_t) for name in (
+            "epoch_length", "upstream", "upstream_length", "revision", "revision_length",
+        )),
+    ]
+
+
 AnyAnswer = TypeVar("AnyAnswer", Answer, Comparison)
+Asked = TypeVar("Asked")
 
 
 def _library() -> ctypes.CDLL:
@@ -63,32 +80,46 @@ def _library() -> ctypes.CDLL:
     library = ctypes.CDLL(str(path))
     kind: List[Any] = [ctypes.c_uint8]
     profiles: List[Any] = [ctypes.POINTER(TextAt), ctypes.c_size_t]
-    refusals: List[Any] = [ctypes.POINTER(RefusalAt), ctypes.c_size_t, _LENGTH]
-    index: List[Any] = [ctypes.c_void_p]
+    memory: List[Any] = [ctypes.c_void_p]
+    to_answer: List[Any] = [ctypes.POINTER(Answer)]
     number: List[Any] = [ctypes.c_uint64]
+    query: List[Any] = _TEXT + profiles + _TEXT
     declared: List[Tuple[str, Any, List[Any]]] = [
         ("deb_version_compare", Comparison, _TEXT + _TEXT),
         ("deb_version_canonical", Answer, _TEXT + _BUFFER),
         ("deb_version_key", Answer, _TEXT + _BUFFER),
         ("deb_relation_canonical", Answer, _TEXT + _BUFFER),
         ("deb_check", Answer, kind + _TEXT),
-        ("deb_check_all", Answer, kind + _TEXT + refusals),
+        ("deb_check_all", Answer, kind + _TEXT + _TABLE),
         ("deb_normalise", Answer, kind + _TEXT + _BUFFER),
-        ("deb_fields", Answer, kind + _TEXT + _TABLE + _TABLE + _TABLE),
         ("deb_explain", Answer, kind + _TEXT + _BUFFER),
         ("deb_explain_all", Answer, kind + _TEXT + _BUFFER),
         ("deb_same", Answer, kind + _TEXT + _TEXT),
         ("deb_diff", Answer, kind + kind + _TEXT + _TEXT + _BUFFER),
-        ("deb_query", Answer, _TEXT + profiles + _TEXT + _TEXT + _BUFFER),
-        ("deb_unmet", Answer, kind + kind + _TEXT + profiles + _TEXT + _TEXT + _BUFFER),
+        ("deb_query", Answer, query + _TEXT + _BUFFER),
+        ("deb_query_why", Answer, query + _TEXT + _BUFFER),
+        ("deb_unmet", Answer, kind + kind + query + _TEXT + _BUFFER),
         ("deb_index_size", ctypes.c_size_t, []),
-        ("deb_index_read", None, index + _TEXT + [ctypes.POINTER(Answer)]),
-        ("deb_index_free", None, index),
-        ("deb_index_query", Answer, index + _TEXT + profiles + _TEXT + _BUFFER),
-        ("deb_index_unmet", Answer, index + kind + kind + _TEXT + profiles + _TEXT + _BUFFER),
-        ("deb_index_packages", Answer, index + _TEXT + _TABLE),
-        ("deb_index_providers", Answer, index + _TEXT + _TABLE),
-        ("deb_index_package", Answer, index + number + _BUFFER),
+        ("deb_index_read", None, memory + _TEXT + to_answer),
+        ("deb_index_free", None, memory),
+        ("deb_index_query", Answer, memory + query + _BUFFER),
+        ("deb_index_query_why", Answer, memory + query + _BUFFER),
+        ("deb_index_unmet", Answer, memory + kind + kind + query + _BUFFER),
+        ("deb_index_packages", Answer, memory + _TEXT + _TABLE),
+        ("deb_index_providers", Answer, memory + _TEXT + _TABLE),
+        ("deb_index_package", Answer, memory + number + _BUFFER),
+        ("deb_index_details", Answer, memory + number + _BUFFER),
+        ("deb_version_parts", VersionParts, _TEXT),
+        ("deb_relation_parts", Answer, _TEXT + _TABLE),
+        ("deb_explain_relation", Answer, _TEXT + _BUFFER),
+        ("deb_explain_version", Answer, _TEXT + _BUFFER),
+        ("deb_rows", Answer, kind + _TEXT + _TABLE),
+        ("deb_library_version", ctypes.c_uint32, []),
+        ("deb_reader_size", ctypes.c_size_t, []),
+        ("deb_reader_start", None, memory + kind + to_answer),
+        ("deb_reader_feed", None, memory + _TEXT + kind + to_answer),
+        ("deb_reader_fields", Answer, memory + _TABLE + _TABLE + _TABLE),
+        ("deb_reader_free", None, memory),
     ]
     for name, result, arguments in declared:
         function = getattr(library, name)
@@ -153,12 +184,22 @@ def answered(answer: AnyAnswer) -> AnyAnswer:
     return answer
 
 
+def _room(size: int) -> Any:
+    """Returns zeros that can be written: a long one takes memory only as far as it is written."""
+    if size < _LONG:
+        return ctypes.create_string_buffer(size)
+    try:
+        return (ctypes.c_char * size).from_buffer(mmap.mmap(-1, size))
+    except OSError:
+        raise MemoryError from None
+
+
 def written(room: int, call: Callable[..., Answer]) -> Tuple[Answer, bytes]:
     """Returns the answer of a call that writes to a buffer, and what it wrote. If there isn't
     enough room, it is called again with as much as it needs."""
     length = ctypes.c_size_t(room)
     while True:
-        out = ctypes.create_string_buffer(length.value)
+        out = _room(length.value)
         answer = call(out, len(out), ctypes.byref(length))
         if answer.status != NO_ROOM:
             return answer, ctypes.string_at(out, length.value)
@@ -170,32 +211,82 @@ def given(room: int, call: Callable[..., Answer]) -> Tuple[Answer, bytes]:
     return answered(answer), text
 
 
-def explained(kind: int, data: bytes) -> Tuple[Answer, bytes]:
-    """Returns the answer of `deb_explain` for a file, and the lines that it writes."""
-    return written(2048, functools.partial(lib.deb_explain, kind, data, len(data)))
+def tables(
+    sizes: Iterable[int], rooms: List[int], call: Callable[..., Answer]
+) -> Tuple[Answer, List[bytes]]:
+    """Returns the answer of a call that writes tables, and what it wrote: `sizes` are those of an
+    item of each, and `rooms` how many each has room for. If there isn't enough room, it is called
+    again with as much as it needs."""
+    while True:
+        counts = [ctypes.c_size_t() for _ in rooms]
+        outs = [_room(max(size * room, 1)) for size, room in zip(sizes, rooms)]
+        words: List[Any] = []
+        for out, room, count in zip(outs, rooms, counts):
+            words += [out, room, ctypes.byref(count)]
+        answer = call(*words)
+        if answer.status != NO_ROOM:
+            parts = zip(sizes, outs, counts)
+            return answer, [ctypes.string_at(out, size * it.value) for size, out, it in parts]
+        rooms = [max(room, count.value) for room, count in zip(rooms, counts)]
 
 
-def explained_all(kind: int, data: bytes) -> bytes:
-    """Returns the lines that `deb_explain_all` writes for a file."""
-    call = functools.partial(lib.deb_explain_all, kind, data, len(data))
-    answer, lines = written(4096, call)
-    refusal_of(answer)
-    return lines
+class Memory:
+    """Memory in which a structure of the library lies, from the call that fills it to the one that
+    frees it.
+
+    It is freed once, when nothing refers to this object. The collector of garbage may end it before
+    the last question: one of `__del__` in the same cycle, or of a thread that this starts. A question
+    after that raises ValueError, and as long as one is being answered, nothing is freed. No lock is
+    taken, since a signal handler may ask too: each step below is a single one of the interpreter's.
+    """
+
+    __slots__ = ("_memory", "_filled", "_asking", "_ended")
+    size: ClassVar[int]
+    free: ClassVar[Any]
+
+    def __init__(self, fill: Callable[[int], object]) -> None:
+        self._asking: List[None] = []  # an item for each question that is being answered
+        self._filled: List[int] = []  # the address, until it is freed
+        self._ended = False
+        self._memory = (ctypes.c_uint64 * -(-self.size // 8))()
+        address = ctypes.addressof(self._memory)
+        fill(address)
+        self._filled.append(address)
+
+    def ask(self, call: Callable[[int], Asked]) -> Asked:
+        """Returns what a call returns that takes the address."""
+        self._asking.append(None)
+        try:
+            if self._ended:
+                raise ValueError("the memory is closed")
+            return call(self._filled[0])
+        finally:
+            self._asking.pop()
+            if self._ended:
+                self._free()
+
+    def _free(self) -> None:
+        if not self._asking:
+            try:
+                address = self._filled.pop()
+            except IndexError:
+                return
+            self.free(address)
+
+    def __del__(self) -> None:
+        self._ended = True
+        self._free()
 
 
-def field_in(lines: bytes) -> Optional[str]:
-    """Returns the name of the field in the lines of an explanation, or None."""
-    for line in lines.split(b"\n"):
-        if line.startswith(b"field: "):
-            return line[len(b"field: ") :].decode()
-    return None
+class IndexMemory(Memory):
+    """Memory of a loaded index."""
+
+    __slots__ = ()
+    size, free = lib.deb_index_size(), lib.deb_index_free
 
 
-def answered_file(answer: Answer, kind: int, data: bytes, second: bytes = b"") -> Answer:
-    """Returns the answer for a file, or for two, or raises its exception with the field."""
-    if answer.status in (REFUSED, SECOND_REFUSED) and answer.line:
-        of = second if answer.status == SECOND_REFUSED else data
-        refusal = refusal_of(answer, field_in(explained(kind, of)[1]))
-        if refusal is not None:
-            raise refusal
-    return answered(answer)
+class ReaderMemory(Memory):
+    """Memory of a reader that is fed a file in pieces."""
+
+    __slots__ = ()
+    size, free = lib.deb_reader_size(), lib.deb_reader_free

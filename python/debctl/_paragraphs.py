@@ -2,68 +2,24 @@
 
 import ctypes
 import functools
-import mmap
-import re
+import itertools
 from array import array
-from bisect import bisect_right
-from typing import IO, Any, Dict, Iterator, List, Mapping, NamedTuple, Optional, Sequence, Tuple, Union
-
-from ._library import (
-    NO_ROOM, Answer, Text, answered_file, bytes_of, given, kind_of, lib, text_of,
+from bisect import bisect_left, bisect_right
+from collections import deque
+from typing import (
+    IO, Any, Deque, Dict, Iterator, List, Mapping, Optional, Sequence, Tuple, Union,
 )
+
+from ._explanations import refused_in
+from ._library import (
+    YES, Answer, Kind, ReaderMemory, Text, bytes_of, given, kind_of, lib, tables,
+)
+from ._relations import Alternative, relations, text_of_fields
 
 _SPAN = 6  # numbers of a field: its paragraph, line, name, name's length, value, value's length
-_ALTERNATIVE = re.compile(
-    r"([^ :]+)(?::([^ ]+))?(?: \((\S+) (\S+)\))?(?: \[([^]]+)\])?((?: <[^>]+>)*)"
-)
-
-
-class Alternative(NamedTuple):
-    """One alternative of a group of a relation, as in its canonical text.
-
-    An architecture, and an item of a list of profiles, may have `!` before it.
-    """
-
-    name: str
-    qualifier: Optional[str]
-    operator: Optional[str]
-    version: Optional[str]
-    architectures: Tuple[str, ...]
-    profiles: Tuple[Tuple[str, ...], ...]
-
-    def __str__(self) -> str:
-        return "".join([
-            self.name,
-            f":{self.qualifier}" if self.qualifier else "",
-            f" ({self.operator} {self.version})" if self.operator else "",
-            f" [{' '.join(self.architectures)}]" if self.architectures else "",
-            *(f" <{' '.join(items)}>" for items in self.profiles),
-        ])
-
-
-def _alternative(text: str) -> Alternative:
-    match = _ALTERNATIVE.fullmatch(text)
-    if match is None:
-        raise AssertionError(f"the canonical text of an alternative: {text!r}")
-    name, qualifier, operator, version, architectures, formula = match.groups()
-    lists = formula[2:-1].split("> <") if formula else []
-    return Alternative(
-        name, qualifier, operator, version, tuple((architectures or "").split()),
-        tuple(tuple(items.split()) for items in lists),
-    )
-
-
-def relations(relation: Text) -> List[List[Alternative]]:
-    """Returns the groups of a relation, in the order of their canonical texts, each with its
-    alternatives.
-
-    Raises Refused if it isn't a relation.
-    """
-    data, length = text_of(relation)
-    call = functools.partial(lib.deb_relation_canonical, data, length)
-    text = given(length + 64, call)[1].decode()
-    groups = text.split(", ") if text else []
-    return [[_alternative(part) for part in group.split(" | ")] for group in groups]
+_SIZES = [4 * _SPAN, 1, 1]
+_PIECE = 1 << 16
+_KNOWN = 4096  # lists of names that are known at most
 
 
 class _Names(Dict[str, int]):
@@ -81,27 +37,22 @@ class _Names(Dict[str, int]):
 
 
 class _Tables:
-    """The fields of a file, in the tables of `deb_fields`."""
+    """The fields of the paragraphs that the last piece ended, in the tables of `deb_fields`."""
 
     __slots__ = ("kind", "answer", "count", "numbers", "names", "values")
 
-    def __init__(self, kind: int, data: bytes) -> None:
-        length = len(data)
+    def __init__(self, kind: int, length: int, reader: int) -> None:
         rooms = [length // 24 + 16, length // 2 + 64, length + length // 8 + 64]
-        while True:
-            tables = [mmap.mmap(-1, size) for size in (4 * _SPAN * rooms[0], rooms[1], rooms[2])]
-            counts = [ctypes.c_size_t() for _ in tables]
-            outs: List[Any] = []
-            for table, room, count in zip(tables, rooms, counts):
-                outs += [(ctypes.c_char * len(table)).from_buffer(table), room, ctypes.byref(count)]
-            self.answer: Answer = lib.deb_fields(kind, data, length, *outs)
-            if self.answer.status != NO_ROOM:
-                break
-            rooms = [max(count.value, 1) for count in counts]
+        call = functools.partial(lib.deb_reader_fields, reader)
+        self.answer, (numbers, self.names, self.values) = tables(_SIZES, rooms, call)
         self.kind = kind
-        self.count = counts[0].value
-        self.numbers = array("I", tables[0][: 4 * _SPAN * self.count])
-        self.names, self.values = tables[1], tables[2]
+        self.numbers = array("I", numbers)
+        self.count = len(self.numbers) // _SPAN
+
+    def last_line(self) -> int:
+        """Returns the line at which the last paragraph starts."""
+        paragraph_of = self.numbers[::_SPAN]
+        return self.numbers[_SPAN * bisect_left(paragraph_of, paragraph_of[-1]) + 1]
 
 
 class Paragraph(Mapping[str, str]):
@@ -163,31 +114,28 @@ class Paragraph(Mapping[str, str]):
         Raises KeyError if there is no such field.
         """
         if self._canonical is None:
-            text = b"".join(
-                field.encode() + b": " + self.bytes(field) + b"\n" for field in self._names.in_order
-            )
+            text = text_of_fields(self)
             kind, length = self._tables.kind, len(text)
             call = functools.partial(lib.deb_normalise, kind, text, length)
-            self._canonical = next(_paragraphs(_Tables(kind, given(length + 64, call)[1]), b""))
+            canonical = given(length + length // 8 + 64, call)[1]
+            self._canonical = next(_read(kind, iter([canonical])))
         return self._canonical[name]
 
-    def relations(self, name: str) -> List[List[Alternative]]:
-        """Returns the groups of the relation that the value of the field with this name is, in the
-        order of their canonical texts, each with its alternatives.
+    def relations(self, name: str, spelled: bool = False) -> List[List[Alternative]]:
+        """Returns the groups of the relation that the value of the field with this name is, each with
+        its alternatives, as `debctl.relations` does. There are none if there is no such field.
 
-        Raises KeyError if there is no such field, and Refused if its value isn't a relation, as a
-        value in a file of the kind `any` may not be.
+        Raises Refused if its value isn't a relation, as a value in a file of the kind `any` may not be.
         """
-        return relations(self.bytes(name))
+        return relations(self.bytes(name), spelled) if name in self else []
 
     def __repr__(self) -> str:
         return f"<Paragraph at line {self.line}: {', '.join(self._names.in_order)}>"
 
 
-def _paragraphs(tables: _Tables, data: bytes) -> Iterator[Paragraph]:
-    """Yields the paragraphs of tables, and raises the exception of their answer, if it has one."""
+def _paragraphs(tables: _Tables, known: Dict[bytes, _Names]) -> Iterator[Paragraph]:
+    """Yields the paragraphs of tables. Paragraphs with the same names share what is known of these."""
     numbers, names, count = tables.numbers, tables.names, tables.count
-    known: Dict[bytes, _Names] = {}
     paragraph_of, first = numbers[::_SPAN], 0
     while first < count:
         number = paragraph_of[first]
@@ -198,20 +146,80 @@ def _paragraphs(tables: _Tables, data: bytes) -> Iterator[Paragraph]:
         text = names[numbers[begin + 2] : numbers[end + 2] + numbers[end + 3]]
         found = known.get(text)
         if found is None:
+            if len(known) == _KNOWN:
+                known.clear()
             found = known[text] = _Names(text.decode().split("\0"))
         yield Paragraph(tables, begin, found)
         first = last
-    answered_file(tables.answer, tables.kind, data)
 
 
-def _content(file: Any) -> bytes:
-    """Returns the bytes of a text, or of a file that is open for reading."""
-    read = getattr(file, "read", None)
-    return bytes_of(file if read is None else read())
+class _Recent:
+    """The text of a file from the last paragraph on that passes, in pieces, each with the number of the
+    line at which it starts: what the explanation of a refusal needs."""
+
+    def __init__(self) -> None:
+        self._pieces: Deque[Tuple[int, bytes]] = deque()
+        self._first = self._next = 1
+
+    def add(self, piece: bytes) -> None:
+        """Adds the next piece."""
+        self._pieces.append((self._next, piece))
+        self._next += piece.count(b"\n")
+
+    def passed(self, line: int) -> None:
+        """The last paragraph that passes starts at this line."""
+        self._first = line
+        while len(self._pieces) > 1 and self._pieces[1][0] < line:
+            self._pieces.popleft()
+
+    def refused(self, answer: Answer, kind: int) -> None:
+        """Raises the exception of an answer, if it has one."""
+        text = b"".join(piece for _, piece in self._pieces)
+        at, start = self._pieces[0][0], 0
+        for _ in range(at, self._first):
+            start = text.index(b"\n", start) + 1
+        refusal = refused_in(answer, kind, text[start:], self._first)
+        if refusal is not None:
+            raise refusal
 
 
-def paragraphs(file: Union[Text, IO[bytes], IO[str]], kind: str = "any") -> Iterator[Paragraph]:
-    """Reads a text, or a file that is open for reading, and yields its paragraphs in file order.
+def _feed(words: Tuple[Any, ...], reader: int) -> None:
+    lib.deb_reader_feed(reader, *words)
+
+
+def _read(kind: int, pieces: Iterator[bytes]) -> Iterator[Paragraph]:
+    """Yields the paragraphs of a file that passes, which is read in pieces."""
+    answer, recent = Answer(), _Recent()
+    known: Dict[bytes, _Names] = {}
+    pointer = ctypes.byref(answer)
+    reader = ReaderMemory(lambda at: lib.deb_reader_start(at, kind, pointer))
+    for piece in itertools.chain(pieces, [b""]):
+        recent.add(piece)
+        words = piece, len(piece), not piece, pointer
+        reader.ask(functools.partial(_feed, words))
+        found = reader.ask(functools.partial(_Tables, kind, len(piece)))
+        yield from _paragraphs(found, known)
+        if found.count:
+            recent.passed(found.last_line())
+        if answer.status != YES:
+            recent.refused(answer, kind)
+
+
+def _pieces(file: Union[Text, IO[bytes], IO[str]]) -> Iterator[bytes]:
+    """Returns the pieces of a text, or of a file that is open for reading; none is empty."""
+    read: Any = getattr(file, "read", None)
+    if read is not None:
+        return iter(lambda: bytes_of(read(_PIECE)), b"")
+    data = bytes_of(file)  # type: ignore[arg-type]
+    return (data[at : at + _PIECE] for at in range(0, len(data), _PIECE))
+
+
+def paragraphs(
+    file: Union[Text, IO[bytes], IO[str]], kind: Kind = "any"
+) -> Iterator[Paragraph]:
+    """Reads a text, or a file that is open for reading, and yields its paragraphs in file order. The
+    file is read as the paragraphs are taken, in pieces of 64 KiB: one is held, and those of which
+    a paragraph is still in use.
 
     The kind is `any`, `packages`, `binary`, `source` or `sources`. After the paragraphs that pass,
     Refused is raised if the file is refused.
@@ -223,6 +231,4 @@ def paragraphs(file: Union[Text, IO[bytes], IO[str]], kind: str = "any") -> Iter
         1 hello
         [['aa', 'cc'], ['bb']]
     """
-    number = kind_of(kind)
-    data = _content(file)
-    return _paragraphs(_Tables(number, data), data)
+    return _read(kind_of(kind), _pieces(file))

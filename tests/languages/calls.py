@@ -38,7 +38,7 @@ def explained(*words, **more):
     """The code and the line of an explained refusal, or none, and the lines of the text."""
     told = debctl.explain(*words, **more)
     head = told.refusal and (told.refusal.code, told.refusal.line, told.refusal.second)
-    return head, told.text.decode().split("\n")
+    return head, told.text.split("\n")
 
 
 def all_refused(*words, **more):
@@ -123,7 +123,7 @@ def from_one_index():
         thread.start()
     for thread in threads:
         thread.join()
-    return answers == [b"met hello\n 1 hello 1.0 amd64\n"] * 2000
+    return answers == ["met hello\n 1 hello 1.0 amd64\n"] * 2000
 
 
 INDEX = debctl.Index(HELLO + "\n" + "Package: mailer\nVersion: 2\nArchitecture: all\nProvides: mta\n")
@@ -149,14 +149,14 @@ TESTS = {
     "no version first": refusal(debctl.compare, "1_", "1") == bad_version,
     "no version second": refusal(debctl.compare, "1", "") == (*bad_version[:3], True),
     "no text": error(debctl.compare, None, "1") is TypeError,
-    "canonical version": debctl.canonical("00:1:02-0") == b"0:1:2",
-    "long canonical version": debctl.canonical(long_version) == b"1" * 100000,
+    "canonical version": debctl.canonical("00:1:02-0") == "0:1:2",
+    "long canonical version": debctl.canonical(long_version) == "1" * 100000,
     "no canonical version": refusal(debctl.canonical, "") == bad_version,
     "order": sorted(map(Version, ["1.10", "1.9", "1~"])) == [Version(v) for v in ("1~", "1.9", "1.10")],
     "every comparison": Version("1") <= Version("1.0-1") and Version("2") > Version("1")
     and Version("2") >= Version("2-0") and Version("2") != Version("1"),
     "keys": len({Version("1.0"), Version("0:1.0-0"), Version("1.1")}) == 2,
-    "versions and others": Version("1") != "1" and error(lambda: Version("1") < "1") is TypeError,
+    "versions and others": Version("1") != 1 and error(lambda: Version("1") < 1) is TypeError,
     "spelled": (str(Version("01.0")), repr(Version(b"1"))) == ("01.0", "Version(b'1')"),
     "no Version": refusal(Version, "1-") == bad_version,
     "check": debctl.check(HELLO) == 1,
@@ -194,20 +194,20 @@ TESTS = {
     "check all, many": all_refused("x\n\n" * 5000 + HELLO)
     == (1, [(Code.NoColon, 2 * at + 1, None) for at in range(5000)]),
     "check all, unknown kind": error(debctl.check_all, HELLO, "foo") is ValueError,
-    "explain all": debctl.explain_all(HELLO) == "ok 1, 0 refused\n",
-    "explain all, refused": debctl.explain_all("x\n\n" + BAD) == "".join([
-        debctl.explain("x\n").text.decode(), "\n",
-        debctl.explain("\n\n" + BAD).text.decode(), "\nok 0, 2 refused\n",
+    "explain all": str(debctl.explain_all(HELLO)) == "ok 1, 0 refused\n",
+    "explain all, refused": debctl.explain_all("x\n\n" + BAD).text == "".join([
+        debctl.explain("x\n").text, "\n", debctl.explain("\n\n" + BAD).text, "\nok 0, 2 refused\n",
     ]),
-    "explain all, many": debctl.explain_all("x\n\n" * 5000).count("\nname: NoColon\n") == 5000,
+    "explain all, many": debctl.explain_all("x\n\n" * 5000).text.count("\nname: NoColon\n") == 5000,
     "explain all, unknown kind": error(debctl.explain_all, HELLO, "foo") is ValueError,
     "same": debctl.same(HELLO, CANONICAL) is True,
     "different": debctl.same(HELLO, "") is False,
     "first refused": refusal(debctl.same, BAD, "x") == (Code.BadNumber, 4, "BadNumber", False),
     "second refused": refusal(debctl.same, HELLO, BAD) == (Code.BadNumber, 4, "BadNumber", True),
     "no change": debctl.diff(HELLO, CANONICAL) == [],
-    "changes": debctl.diff(HELLO, HELLO + "Size: 1\n") == ["changed 1 hello 1.0 amd64 Size"],
-    "changed values": debctl.diff(HELLO, HELLO + "Size: 1\n", "binary", values=True)[1:]
+    "changes": [str(it) for it in debctl.diff(HELLO, HELLO + "Size: 1\n")]
+    == ["changed 1 hello 1.0 amd64 Size"],
+    "changed values": debctl.diff(HELLO, HELLO + "Size: 1\n", "binary", values=True)[0].text.split("\n")[1:]
     == [" +Size: 1"],
     "all removed": len(debctl.diff(long_index, "")) == 2000,
     "diff's first": refusal(debctl.diff, BAD, "x") == (Code.BadNumber, 4, "BadNumber", False),
@@ -215,14 +215,14 @@ TESTS = {
     "diff's kind": [error(debctl.diff, "", "", kind) for kind in ("any", "foo")]
     == [ValueError, ValueError],
     "met": debctl.query("hello (>= 1)", HELLO, "amd64")
-    == (True, b"met hello (>= 1)\n 1 hello 1.0 amd64\n"),
-    "unmet": debctl.query("hello", HELLO, "i386") == (False, b"unmet hello\n"),
+    == (True, "met hello (>= 1)\n 1 hello 1.0 amd64\n"),
+    "unmet": debctl.query("hello", HELLO, "i386") == (False, "unmet hello\n"),
     "profiles": debctl.query("hello <!nodoc>", HELLO, "amd64", ["stage1", "nodoc"]).text
-    == b"ignored hello <!nodoc>\n",
+    == "ignored hello <!nodoc>\n",
     "profiles of a generator": with_profiles(f"no{it}" for it in ("check", "doc"))
-    == b"ignored hello <!nodoc>\n",
+    == "ignored hello <!nodoc>\n",
     "profiles of bytes-like objects": with_profiles([like(b"nodoc") for like in BYTES_LIKE])
-    == b"ignored hello <!nodoc>\n",
+    == "ignored hello <!nodoc>\n",
     "no texts": no_type_errors(TAKE_TEXT, NO_TEXTS) == [],
     "no kinds": no_type_errors(TAKE_KIND, [5, None, b"packages", ["packages"], Code.NotUtf8]) == [],
     "one text for the profiles": no_type_errors(
@@ -232,7 +232,7 @@ TESTS = {
     "bytes-like objects": from_bytes_like(),
     "no UTF-8 of a str": error(debctl.check, "A: \udcff\n") is UnicodeEncodeError,
     "long report": debctl.query(" | ".join(f"p{at}" for at in range(2000)), long_index, "amd64")
-    .text.count(b"\n") == 2001,
+    .text.count("\n") == 2001,
     "bad relation": refusal(debctl.query, "a (", HELLO, "amd64") == (19, 0, "BadRelation", False),
     "bad target": refusal(debctl.query, "hello", HELLO, "any") == (23, 0, "BadEnvironment", False),
     "bad profile": refusal(debctl.query, "hello", HELLO, "amd64", [""]) == (23, 0, "BadEnvironment", False),
@@ -241,9 +241,9 @@ TESTS = {
     "threads": from_threads(),
     "an index": (len(INDEX), repr(INDEX)) == (2, "<debctl.Index of 2 packages>"),
     "an index is asked": INDEX.query("hello, mta (>= 1)", "amd64")
-    == (False, b"met hello\n 1 hello 1.0 amd64\nunmet mta (>= 1)\n"),
+    == (False, "met hello\n 1 hello 1.0 amd64\nunmet mta (>= 1)\n"),
     "an index with profiles": INDEX.query("hello <!nodoc>", "amd64", ["nodoc"]).text
-    == b"ignored hello <!nodoc>\n",
+    == "ignored hello <!nodoc>\n",
     "an index by names": (INDEX.packages("hello"), INDEX.providers("mta"), INDEX.packages(b"mta"))
     == ([1], [2], []),
     "an index by numbers": [INDEX.package(at) for at in (0, 1, 3, -1)]
@@ -252,7 +252,7 @@ TESTS = {
     "many numbers": debctl.Index(long_index.replace("Package: p", "Package: pp\nX: ")).packages("pp")
     == list(range(1, 2001)),
     "long report of an index": debctl.Index(long_index)
-    .query(" | ".join(f"p{at}" for at in range(2000)), "amd64").text.count(b"\n") == 2001,
+    .query(" | ".join(f"p{at}" for at in range(2000)), "amd64").text.count("\n") == 2001,
     "refused index": refusal(debctl.Index, BAD) == (15, 4, "BadNumber", False),
     "an index and a bad relation": refusal(INDEX.query, "a (", "amd64") == (19, 0, "BadRelation", False),
     "an index and no text": error(debctl.Index, 5) is TypeError,

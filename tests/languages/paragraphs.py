@@ -142,7 +142,7 @@ def alternatives():
 
 def unmet(**more):
     """The lines of the unmet relations of the index in itself."""
-    return debctl.unmet(INDEX, INDEX, "amd64", **more).text.decode().splitlines()
+    return debctl.unmet(INDEX, INDEX, "amd64", **more).text.splitlines()
 
 
 def answer(call, *words):
@@ -178,14 +178,14 @@ TESTS = {
     "key of Version": Version("01.0").key() == debctl.key(b"1.0-0"),
     "long key": debctl.key("1" * 1000) == b"\1\0\2\xf1\3\xe8" + b"1" * 1000 + b"\2\2\0\2",
     "no key": error(debctl.key, "1_").code == debctl.Code.BadVersion,
-    "canonical of Version": Version("01.0").canonical == b"1.0",
+    "canonical of Version": Version("01.0").canonical == "1.0",
     "unmet": unmet() == [BB] and debctl.unmet(INDEX, INDEX, "amd64").met is False,
     "unmet with Recommends": unmet(recommends=True) == [BB, EE],
-    "unmet in nothing": debctl.unmet("", INDEX, "amd64").text.decode().splitlines() == [BB, CC],
+    "unmet in nothing": debctl.unmet("", INDEX, "amd64").text.splitlines() == [BB, CC],
     "unmet of a source": debctl.unmet(INDEX, SOURCE, "amd64", kind="source").text
-    == b"unmet 1 ss 1 source Build-Depends zz\n",
+    == "unmet 1 ss 1 source Build-Depends zz\n",
     "nothing is unmet": debctl.unmet(INDEX, "", "amd64", ["nocheck"], kind="sources")
-    == (True, b""),
+    == (True, ""),
     "unmet of any": isinstance(error(debctl.unmet, INDEX, INDEX, "amd64", kind="any"), ValueError),
     "unmet of sources, with Recommends": isinstance(
         error(debctl.unmet, INDEX, "", "amd64", kind="sources", recommends=True), ValueError

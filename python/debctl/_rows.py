@@ -1,0 +1,157 @@
+"""What the lines of a text that the library wrote say, as objects."""
+
+import functools
+import struct
+from typing import Dict, Iterator, List, Literal, NamedTuple, Optional, Tuple
+
+from ._library import YES, lib, tables
+
+REPORT, UNMET_LINES, DIFF_LINES, EXPLANATION = range(4)
+(
+    MET, UNMET, IGNORED, PACKAGE, REASON, PACKAGE_REASON, UNMET_GROUP, UNSURE_GROUP, REMOVED, CHANGED,
+    UPGRADED, ADDED, OLD_LINE, NEW_LINE, KEY, END, OK, SUMMARY, VALID,
+) = range(19)
+_ROW = struct.Struct("@BB6x12N")  # its kind, how many cells it has, and where they are
+
+Row = Tuple[int, List[str]]
+Verdict = Literal["met", "unmet", "ignored"]
+_VERDICTS: Dict[int, Verdict] = {MET: "met", UNMET: "unmet", IGNORED: "ignored"}
+
+
+def rows_of(form: int, text: str) -> Iterator[Row]:
+    """Yields the kind and the cells of each line of a text of this form."""
+    data = text.encode()
+    call = functools.partial(lib.deb_rows, form, data, len(data))
+    answer, (rows,) = tables([_ROW.size], [data.count(b"\n") + 1], call)
+    if answer.status != YES:
+        raise AssertionError(f"a text of form {form}")
+    for kind, count, *spans in _ROW.iter_unpack(rows):
+        yield kind, [
+            data[spans[at] : spans[at] + spans[at + 1]].decode() for at in range(0, 2 * count, 2)
+        ]
+
+
+class NumberedPackage(NamedTuple):
+    """A package of an index: its number, its name, its canonical version and its architecture."""
+
+    number: int
+    name: str
+    version: str
+    architecture: str
+
+
+class Reason(NamedTuple):
+    """Why an alternative isn't met: by a package that has or provides its name, or by any."""
+
+    alternative: str
+    reason: str
+    package: Optional[NumberedPackage]
+
+
+class Group(NamedTuple):
+    """The report on a group of a relation: its canonical text, the packages that meet it and, if they
+    were asked for, the reasons why it isn't met."""
+
+    verdict: Verdict
+    text: str
+    packages: Tuple[NumberedPackage, ...]
+    reasons: Tuple[Reason, ...]
+
+
+class UnmetGroup(NamedTuple):
+    """A group that is unmet, or may be: the number of its paragraph in the file, the package, the
+    name of its field, and its canonical text."""
+
+    verdict: Literal["unmet", "unsure"]
+    number: int
+    package: str
+    version: str
+    architecture: str
+    field: str
+    group: str
+
+
+class Change(NamedTuple):
+    """What became of a paragraph: the number that it has in the old file or, if it was added, in the
+    new one; its versions, canonical; the names of the fields that differ. `old` and `new` are the
+    lines of these fields, if values were asked for. As a `str` it is the lines that the program prints.
+    """
+
+    kind: Literal["removed", "changed", "upgraded", "added"]
+    number: int
+    package: str
+    old_version: Optional[str]
+    new_version: Optional[str]
+    architecture: str
+    fields: Tuple[str, ...]
+    old: Tuple[str, ...]
+    new: Tuple[str, ...]
+    text: str
+
+    def __str__(self) -> str:
+        return self.text
+
+
+def _package(cells: List[str]) -> NumberedPackage:
+    return NumberedPackage(int(cells[0]), *cells[1:4])
+
+
+def groups_of(text: str) -> List[Group]:
+    """Returns the groups of a report."""
+    verdicts: List[Tuple[Verdict, str]] = []
+    packages: List[List[NumberedPackage]] = []
+    reasons: List[List[Reason]] = []
+    for kind, cells in rows_of(REPORT, text):
+        if kind == PACKAGE:
+            packages[-1].append(_package(cells))
+        elif kind == REASON:
+            reasons[-1].append(Reason(cells[0], cells[1], None))
+        elif kind == PACKAGE_REASON:
+            reasons[-1].append(Reason(cells[0], cells[5], _package(cells[1:])))
+        else:
+            verdicts.append((_VERDICTS[kind], cells[0]))
+            packages.append([])
+            reasons.append([])
+    return [
+        Group(*verdict, tuple(found), tuple(why))
+        for verdict, found, why in zip(verdicts, packages, reasons)
+    ]
+
+
+def unmet_groups_of(text: str) -> List[UnmetGroup]:
+    """Returns the groups of a report on a file."""
+    return [
+        UnmetGroup("unmet" if kind == UNMET_GROUP else "unsure", int(cells[0]), *cells[1:])
+        for kind, cells in rows_of(UNMET_LINES, text)
+    ]
+
+
+def _change(head: Row, below: List[Row], text: str) -> Change:
+    """Returns the change of a paragraph: the row of it, the rows below, and their lines."""
+    kind, cells = head
+    old = tuple(cells[0] for kind, cells in below if kind == OLD_LINE)
+    new = tuple(cells[0] for kind, cells in below if kind == NEW_LINE)
+    number, package = int(cells[0]), cells[1]
+    if kind == REMOVED:
+        return Change("removed", number, package, cells[2], None, cells[3], (), old, new, text)
+    if kind == ADDED:
+        return Change("added", number, package, None, cells[2], cells[3], (), old, new, text)
+    versions, fields = (cells[2], cells[-3]), tuple(cells[-1].split(" "))
+    what: Literal["changed", "upgraded"] = "changed" if kind == CHANGED else "upgraded"
+    return Change(what, number, package, *versions, cells[-2], fields, old, new, text)
+
+
+def changes_of(text: str) -> List[Change]:
+    """Returns the changes in the lines of a comparison."""
+    heads: List[Row] = []
+    below: List[List[Row]] = []
+    lines: List[List[str]] = []
+    for row, line in zip(rows_of(DIFF_LINES, text), text.split("\n")):
+        if row[0] in (OLD_LINE, NEW_LINE):
+            below[-1].append(row)
+            lines[-1].append(line)
+        else:
+            heads.append(row)
+            below.append([])
+            lines.append([line])
+    return [_change(row, more, "\n".join(text)) for row, more, text in zip(heads, below, lines)]

@@ -1,0 +1,80 @@
+"""The texts of the Python module's objects, printed again from what the objects say alone."""
+
+from debctl import AllExplained, Explanation, Report, UnmetReport
+
+
+def of_package(package):
+    """The words of a package."""
+    return f"{package.number} {package.name} {package.version} {package.architecture}"
+
+
+def of_group(group):
+    """The lines of a group of a relation."""
+    lines = [f"{group.verdict} {group.text}"]
+    lines += [f" {of_package(package)}" for package in group.packages]
+    for why in group.reasons:
+        package = f"{of_package(why.package)} " if why.package else ""
+        lines.append(f" {why.alternative}: {package}{why.reason}")
+    return lines
+
+
+def of_unmet(group):
+    """The line of a group that is unmet, or may be."""
+    return " ".join([
+        group.verdict, str(group.number), group.package, group.version, group.architecture,
+        group.field, group.group,
+    ])
+
+
+def of_change(change):
+    """The first line of a change; those below it are sorted by the names of their fields."""
+    versions = {
+        "removed": [change.old_version], "added": [change.new_version], "changed": [change.old_version],
+        "upgraded": [change.old_version, change.new_version],
+    }[change.kind]
+    words = [change.kind, str(change.number), change.package, *versions, change.architecture]
+    return " ".join([*words, *change.fields])
+
+
+def fields_of(sign, lines):
+    """The lines of each field, with a sign before them."""
+    fields = {}
+    for line in lines:
+        if not line.startswith(" "):
+            name = line.partition(":")[0]
+        fields.setdefault(name, []).append(f" {sign}{line}")
+    return fields
+
+
+def of_values(change):
+    """The lines below a change: of each field those of the old paragraph, then those of the new."""
+    old, new = fields_of("-", change.old), fields_of("+", change.new)
+    names = [*old, *(name for name in new if name not in old)]
+    order = change.fields or names
+    return [line for name in order for lines in (old, new) for line in lines.get(name, [])]
+
+
+def of_explanation(why):
+    """The lines of an explanation."""
+    if not why.lines:
+        return ["ok" if why.passed is None else f"ok {why.passed}"]
+    at = {"line": why.refusal.line, "code": int(why.refusal.code), "name": why.refusal.name,
+          "place": why.place, "at": why.at and "%d:%d" % why.at, "reason": why.reason,
+          "value": why.value, "rule": why.rule, "usually": why.usually, "field": why.lines.get("field")}
+    return [f"{key}: {at[key]}" for key in why.lines]
+
+
+def printed(it):
+    """The text of a report, of the changes between files, or of explanations, as bytes."""
+    if isinstance(it, Report):
+        lines = [line for group in it.groups for line in of_group(group)]
+    elif isinstance(it, UnmetReport):
+        lines = [of_unmet(group) for group in it.groups]
+    elif isinstance(it, Explanation):
+        lines = of_explanation(it)
+    elif isinstance(it, AllExplained):
+        lines = [line for why in it.refused for line in [*of_explanation(why), ""]]
+        lines.append(f"ok {it.passed}, {len(it.refused)} refused")
+    else:
+        lines = [line for change in it for line in [of_change(change), *of_values(change)]]
+    return "".join(f"{line}\n" for line in lines).encode()
