@@ -1,12 +1,20 @@
 //! Calls one function on files, and writes what it answers, as `tests/languages/driver.c` does.
+//! What an answer has as values is printed again from them; where that isn't its text, a line says
+//! so.
+
+#[path = "driver/printed.rs"]
+mod printed;
 
 use debctl::{
-    canonical, check, check_all, compare, explain, explain_all, key, normalise, query, same, unmet,
-    AllChecked, Asked, Error, Kind, Refusal,
+    canonical, check, check_all, compare, diff, explain, explain_all, explain_relation,
+    explain_version, key, normalise, paragraphs, query, query_why, relations, same,
+    spelled_relations, unmet, AllChecked, Asked, Compared, Error, Explanation, Index, Kind,
+    ReadError, Reader, Refusal, Report, Version,
 };
+use printed::Printed;
 use std::env::args_os;
 use std::fs::read;
-use std::io::{stdout, Write};
+use std::io::{stdout, Read, Write};
 
 const KINDS: [Kind; 5] = [
     Kind::Binary,
@@ -17,86 +25,242 @@ const KINDS: [Kind; 5] = [
 ];
 
 /// The line of an error.
-fn told(error: Error) -> String {
-    match error {
-        Error::Refused(refusal) => format!("2 {} {} 0\n", refusal.code as u8, refusal.line),
-        Error::SecondRefused(refusal) => format!("3 {} {} 0\n", refusal.code as u8, refusal.line),
-        Error::Memory => "5 0 0 0\n".to_owned(),
+fn told(error: &Error) -> String {
+    let status = match error {
+        Error::Refused(_) => 2,
+        Error::SecondRefused(_) => 3,
+        _ => 5,
+    };
+    match error.refusal() {
+        Some(refusal) => format!("{status} {} {} 0\n", refusal.code.number(), refusal.line),
+        None => format!("{status} 0 0 0\n"),
     }
+}
+
+/// The line of an answer without an error.
+fn done(is_yes: bool, count: u64) -> String {
+    format!("{} 0 0 {count}\n", u8::from(!is_yes))
 }
 
 /// The line of all refusals of a file: the first, and how many paragraphs pass.
 fn head_of(all: &AllChecked) -> String {
     match all.refused.first() {
-        Some(first) => format!("2 {} {} {}\n", first.code as u8, first.line, all.passed),
-        None => format!("0 0 0 {}\n", all.passed),
+        Some(first) => format!("2 {} {} {}\n", first.code.number(), first.line, all.passed),
+        None => done(true, all.passed),
     }
 }
 
-fn answer(call: &str, number: usize, files: &[Vec<u8>]) -> Result<Vec<u8>, Error> {
-    let text = |line: &str, text: Vec<u8>| [line.as_bytes(), &text].concat();
-    Ok(match call {
+/// A line that says what differs, if it does.
+fn differing(what: &str, is_same: bool) -> String {
+    match is_same {
+        true => String::new(),
+        false => format!("{what}\n"),
+    }
+}
+
+/// An answer, with the text that its values print.
+fn with_rows(head: &str, text: &str, printed: &str) -> String {
+    format!("{head}{text}{}", differing("rows differ", text == printed))
+}
+
+/// Whether the parts of a version are its text.
+fn has_its_parts(text: &[u8]) -> bool {
+    let version = match Version::new(text) {
+        Ok(version) => version,
+        Err(_) => return true,
+    };
+    let epoch = version.epoch().map_or(String::new(), |it| format!("{it}:"));
+    let revision = version
+        .revision()
+        .map_or(String::new(), |it| format!("-{it}"));
+    format!("{epoch}{}{revision}", version.upstream()) == version.text()
+}
+
+/// Whether the parts of a relation mean what it does.
+fn has_its_alternatives(text: &[u8]) -> bool {
+    let spelled = match spelled_relations(text) {
+        Ok(spelled) => spelled,
+        Err(_) => return relations(text).is_err(),
+    };
+    let groups: Vec<String> = spelled.iter().map(|group| printed::group(group)).collect();
+    relations(groups.join(", ")) == relations(text)
+}
+
+/// Whether a reader that reads a file in pieces reads as many paragraphs, with these fields.
+fn reads_alike(kind: Kind, file: &[u8], checked: &Result<u64, Error>) -> bool {
+    let whole = paragraphs(kind, file).expect("memory");
+    let mut whole = whole.iter().filter_map(Result::ok);
+    let mut reader = Reader::new(kind, Pieces(file));
+    let mut count = 0;
+    loop {
+        let read = match reader.next_paragraph() {
+            Ok(None) => return whole.next().is_none() && checked == &Ok(count),
+            Ok(Some(paragraph)) => paragraph,
+            Err(ReadError::File(error)) => {
+                let head = checked.as_ref().err().map(told);
+                return whole.next().is_none() && head == Some(told(&error));
+            }
+            Err(error) => panic!("{error}"),
+        };
+        count += 1;
+        if !whole
+            .next()
+            .map_or(false, |it| it.fields().eq(read.fields()))
+        {
+            return false;
+        }
+    }
+}
+
+/// A file that is read in pieces of at most 7 bytes, or of a hundredth of it.
+struct Pieces<'a>(&'a [u8]);
+
+impl Read for Pieces<'_> {
+    fn read(&mut self, out: &mut [u8]) -> std::io::Result<usize> {
+        let length = out.len().min(7 + self.0.len() / 100);
+        self.0.read(&mut out[..length])
+    }
+}
+
+/// Whether an index keeps of each package what a report says of it.
+fn keeps_packages(index: &Index, report: &Result<Report, Error>) -> bool {
+    let groups = report.iter().flat_map(|it| &it.groups);
+    let mut packages = groups.flat_map(|it| {
+        let of_reasons = it.reasons.iter().filter_map(|it| it.package.as_ref());
+        it.packages.iter().chain(of_reasons)
+    });
+    packages.all(|it| {
+        let (package, details) = (index.package(it.number), index.details(it.number));
+        let kept = details.map(|it| it.map(|it| it.package));
+        package == kept && kept == Ok(Some(it.clone()))
+    })
+}
+
+fn of_explanation(explained: &Explanation) -> String {
+    let head = match &explained.refusal {
+        Some(refusal) => told(&Error::Refused(refusal.clone())),
+        None => done(true, explained.passed.unwrap_or(0)),
+    };
+    with_rows(&head, &explained.text, &explained.printed())
+}
+
+/// What is asked of an index: the target, the relation, the index and the profiles.
+fn of_query(call: &str, files: &[Vec<u8>]) -> Result<String, Error> {
+    let (target, relation, index) = (&files[0], &files[1], &files[2]);
+    let profiles: Vec<&[u8]> = files[3..].iter().map(Vec::as_slice).collect();
+    let why = call == "why";
+    let whole = match why {
+        true => query_why(target, &profiles, relation, index),
+        false => query(target, &profiles, relation, index),
+    };
+    let answers_alike = Index::read(index).map_or(true, |index| {
+        let again = match why {
+            true => index.query_why(target, &profiles, relation),
+            false => index.query(target, &profiles, relation),
+        };
+        again == whole && keeps_packages(&index, &whole)
+    });
+    let differs = differing("index differs", answers_alike)
+        + &differing("parts differ", has_its_alternatives(relation));
+    Ok(match whole {
+        Ok(report) => with_rows(&done(report.met, 0), &report.text, &report.printed()),
+        Err(error) => told(&error),
+    } + &differs)
+}
+
+/// What is asked of a file: the target, the index, the file and the profiles.
+fn of_unmet(number: usize, files: &[Vec<u8>]) -> Result<String, Error> {
+    let (target, index, file) = (&files[0], &files[1], &files[2]);
+    let recommends = number >= 8;
+    let asked = match KINDS[number % 8] {
+        Kind::Binary => Asked::Binary { recommends },
+        Kind::Packages => Asked::Packages { recommends },
+        Kind::Source => Asked::Source,
+        _ => Asked::Sources,
+    };
+    let profiles: Vec<&[u8]> = files[3..].iter().map(Vec::as_slice).collect();
+    let whole = unmet(asked, target, &profiles, index, file);
+    let loaded = Index::read(index).map(|it| it.unmet(asked, target, &profiles, file));
+    let differs = differing("index differs", loaded.map_or(true, |it| it == whole));
+    Ok(match whole {
+        Ok(report) => with_rows(&done(report.met, 0), &report.text, &report.printed()),
+        Err(error) => told(&error),
+    } + &differs)
+}
+
+/// What changed between two files.
+fn of_diff(number: usize, files: &[Vec<u8>]) -> Result<String, Error> {
+    let kind = match KINDS[number % 8] {
+        Kind::Binary => Compared::Binary,
+        Kind::Packages => Compared::Packages,
+        Kind::Source => Compared::Source,
+        _ => Compared::Sources,
+    };
+    let changes = diff(kind, number >= 8, &files[0], &files[1])?;
+    let text: String = changes.iter().map(|it| format!("{it}\n")).collect();
+    Ok(with_rows(
+        &done(changes.is_empty(), 0),
+        &text,
+        &changes.printed(),
+    ))
+}
+
+/// What is asked of versions.
+fn of_versions(call: &str, files: &[Vec<u8>]) -> Result<Vec<u8>, Error> {
+    let mut bytes = match call {
         "compare" => match compare(&files[0], &files[1]) {
             Ok(order) => format!("0 0 {}\n", order as i8).into_bytes(),
-            Err(error) => told(error).replace(" 0 0\n", " 0\n").into_bytes(),
+            Err(error) => told(&error).replace(" 0 0\n", " 0\n").into_bytes(),
         },
-        "canonical" => text("0 0 0 0\n", canonical(&files[0])?),
-        "key" => text("0 0 0 0\n", key(&files[0])?),
-        "unmet" => {
-            let recommends = number >= 8;
-            let asked = match KINDS[number % 8] {
-                Kind::Binary => Asked::Binary { recommends },
-                Kind::Packages => Asked::Packages { recommends },
-                Kind::Source => Asked::Source,
-                _ => Asked::Sources,
-            };
-            let profiles: Vec<&[u8]> = files[3..].iter().map(Vec::as_slice).collect();
-            let report = unmet(asked, &files[0], &profiles, &files[1], &files[2])?;
-            text(
-                if report.met { "0 0 0 0\n" } else { "1 0 0 0\n" },
-                report.text,
-            )
-        }
-        "check" => format!("0 0 0 {}\n", check(KINDS[number], &files[0])?).into_bytes(),
+        "canonical" => (done(true, 0) + &canonical(&files[0])?).into_bytes(),
+        _ => [done(true, 0).into_bytes(), key(&files[0])?].concat(),
+    };
+    if !files.iter().all(|text| has_its_parts(text)) {
+        bytes.extend_from_slice(b"parts differ\n");
+    }
+    Ok(bytes)
+}
+
+fn answer(call: &str, number: usize, files: &[Vec<u8>]) -> Result<Vec<u8>, Error> {
+    let text = match call {
+        "compare" | "canonical" | "key" => return of_versions(call, files),
         "normalise" => {
-            let count = check(KINDS[number], &files[0])?;
-            text(
-                &format!("0 0 0 {count}\n"),
-                normalise(KINDS[number], &files[0])?,
-            )
+            let canonical = normalise(KINDS[number], &files[0])?;
+            let head = done(true, check(KINDS[number], &files[0])?);
+            return Ok([head.into_bytes(), canonical].concat());
         }
-        "explain" => {
-            let explained = explain(KINDS[number], &files[0])?;
-            let head = match explained.refusal {
-                Some(refusal) => told(Error::Refused(refusal)),
-                None => format!("0 0 0 {}\n", check(KINDS[number], &files[0])?),
-            };
-            text(&head, explained.text)
+        "query" | "why" => of_query(call, files)?,
+        "unmet" => of_unmet(number, files)?,
+        "diff" => of_diff(number, files)?,
+        "check" => {
+            let checked = check(KINDS[number], &files[0]);
+            let is_same = reads_alike(KINDS[number], &files[0], &checked);
+            let head = checked.map_or_else(|error| told(&error), |count| done(true, count));
+            head + &differing("reader differs", is_same)
+        }
+        "explain" => of_explanation(&explain(KINDS[number], &files[0])?),
+        "explain-relation" => {
+            let is_same = has_its_alternatives(&files[0]);
+            of_explanation(&explain_relation(&files[0])?) + &differing("parts differ", is_same)
+        }
+        "explain-version" => {
+            let is_same = has_its_parts(&files[0]);
+            of_explanation(&explain_version(&files[0])?) + &differing("parts differ", is_same)
         }
         "check-all" => {
             let all = check_all(KINDS[number], &files[0])?;
-            let line = |it: &Refusal| format!("{} {}\n", it.line, it.code as u8);
-            let lines: String = all.refused.iter().map(line).collect();
-            text(&head_of(&all), lines.into_bytes())
+            let line = |it: &Refusal| format!("{} {}\n", it.line, it.code.number());
+            head_of(&all) + &all.refused.iter().map(line).collect::<String>()
         }
         "explain-all" => {
-            let all = check_all(KINDS[number], &files[0])?;
-            let lines = explain_all(KINDS[number], &files[0])?;
-            text(&head_of(&all), lines.into_bytes())
+            let head = head_of(&check_all(KINDS[number], &files[0])?);
+            let all = explain_all(KINDS[number], &files[0])?;
+            with_rows(&head, &all.text, &all.printed())
         }
-        "same" => match same(KINDS[number], &files[0], &files[1])? {
-            true => b"0 0 0 0\n".to_vec(),
-            false => b"1 0 0 0\n".to_vec(),
-        },
-        _ => {
-            let profiles: Vec<&[u8]> = files[3..].iter().map(Vec::as_slice).collect();
-            let report = query(&files[0], &profiles, &files[1], &files[2])?;
-            text(
-                if report.met { "0 0 0 0\n" } else { "1 0 0 0\n" },
-                report.text,
-            )
-        }
-    })
+        "same" => done(same(KINDS[number], &files[0], &files[1])?, 0),
+        _ => panic!("no call {call}"),
+    };
+    Ok(text.into_bytes())
 }
 
 fn main() {
@@ -108,7 +272,7 @@ fn main() {
         .map(|path| read(path).expect("a file"))
         .collect();
     let bytes = answer(call, number.expect("a number"), &files)
-        .unwrap_or_else(|error| told(error).into_bytes());
+        .unwrap_or_else(|error| told(&error).into_bytes());
     stdout()
         .write_all(&bytes)
         .expect("standard output takes all");

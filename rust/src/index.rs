@@ -1,11 +1,18 @@
 //! An index that is read once and asked often.
 
-use crate::library::{self, Text};
-use crate::{answered, given, Asked, Error, Report};
+use crate::library::{self, Answer};
+use crate::refusals::answered_of;
+use crate::reports::{report, texts_of, unmet_report};
+use crate::texts::{filled, given, string, written};
+use crate::{paragraphs, Alternative, Asked, Error, Kind, Report, UnmetReport};
+use std::fmt;
 
-/// What an index keeps of a package.
-#[derive(Clone, Debug, PartialEq, Eq)]
+/// A package of an index, or of another file.
+#[derive(Clone, Debug, PartialEq, Eq, Hash)]
+#[non_exhaustive]
 pub struct Package {
+    /// The number of its paragraph in the file, from 1.
+    pub number: u64,
     /// The name.
     pub name: String,
     /// The canonical version.
@@ -14,26 +21,48 @@ pub struct Package {
     pub architecture: String,
 }
 
+/// All that an index keeps of a package.
+#[derive(Clone, Debug, PartialEq, Eq, Hash)]
+#[non_exhaustive]
+pub struct Details {
+    /// The package.
+    pub package: Package,
+    /// The line at which its paragraph starts in the file, from 1.
+    pub line: u64,
+    /// Its Multi-Arch, if it has one.
+    pub multi_arch: Option<String>,
+    /// What it provides, each with the version in its bound, if there is one.
+    pub provides: Vec<Alternative>,
+}
+
 /// An index of packages, which is read once and asked often, by any number of threads at once.
 ///
 /// ```
-/// let text = b"Package: mailer\nVersion: 2\nArchitecture: all\nProvides: mta\n";
+/// let text = "Package: mailer\nVersion: 2\nArchitecture: all\nProvides: mta\n";
 /// let index = debctl::Index::read(text)?;
-/// assert_eq!(index.query(b"amd64", &[], b"mta")?.text, b"met mta\n 1 mailer 2 all\n");
-/// assert_eq!((index.providers(b"mta"), index.packages(b"mta")), (vec![1], vec![]));
+/// assert_eq!(index.query("amd64", &[], "mta")?.text, "met mta\n 1 mailer 2 all\n");
+/// assert_eq!((index.providers("mta"), index.packages("mta")), (vec![1], vec![]));
 /// # Ok::<(), debctl::Error>(())
 /// ```
-#[derive(Debug)]
 pub struct Index {
     memory: library::Index,
     length: u64,
 }
 
+impl fmt::Debug for Index {
+    fn fmt(&self, out: &mut fmt::Formatter<'_>) -> fmt::Result {
+        out.debug_struct("Index")
+            .field("len", &self.length)
+            .finish_non_exhaustive()
+    }
+}
+
 impl Index {
     /// Reads an index; it doesn't borrow the text.
-    pub fn read(text: &[u8]) -> Result<Index, Error> {
-        let (memory, answer) = library::Index::read(text);
-        let length = answered(answer)?.count;
+    pub fn read(text: impl AsRef<[u8]>) -> Result<Index, Error> {
+        let file = (Kind::Packages, text.as_ref());
+        let (memory, answer) = library::Index::read(file.1);
+        let length = answered_of(answer, file, file)?.count;
         Ok(Index { memory, length })
     }
 
@@ -51,52 +80,78 @@ impl Index {
     /// again.
     pub fn query(
         &self,
-        target: &[u8],
+        target: impl AsRef<[u8]>,
         profiles: &[&[u8]],
-        relation: &[u8],
+        relation: impl AsRef<[u8]>,
     ) -> Result<Report, Error> {
-        let profiles: Vec<Text> = profiles.iter().map(|profile| Text::of(profile)).collect();
-        let call = |out: &mut [u8], length: &mut usize| {
-            self.memory.query(target, &profiles, relation, out, length)
-        };
-        let (answer, text) = given(4096, call)?;
-        Ok(Report {
-            met: answer.status == library::YES,
-            text,
-        })
+        self.ask(false, (target.as_ref(), profiles), relation.as_ref())
     }
 
-    /// Finds the relations of a file that no package meets, as [`crate::unmet`] does, without reading
-    /// the index again. If the file is refused, the error is [`Error::SecondRefused`].
+    /// Returns what [`Index::query`] does, with the reasons why a group is unmet or ignored.
+    pub fn query_why(
+        &self,
+        target: impl AsRef<[u8]>,
+        profiles: &[&[u8]],
+        relation: impl AsRef<[u8]>,
+    ) -> Result<Report, Error> {
+        self.ask(true, (target.as_ref(), profiles), relation.as_ref())
+    }
+
+    fn ask(
+        &self,
+        why: bool,
+        (target, profiles): (&[u8], &[&[u8]]),
+        relation: &[u8],
+    ) -> Result<Report, Error> {
+        let profiles = texts_of(profiles);
+        let call = |out: &mut [u8], length: &mut usize| {
+            let environment = (target, &profiles[..]);
+            self.memory.query(why, environment, relation, out, length)
+        };
+        Ok(report(given(16 * relation.len() + 4096, call)?))
+    }
+
+    /// Finds the relations of a file that no package meets, as [`crate::unmet`] does, without
+    /// reading the index again. If the file is refused, the error is [`Error::SecondRefused`].
     pub fn unmet(
         &self,
         asked: Asked,
-        target: &[u8],
+        target: impl AsRef<[u8]>,
         profiles: &[&[u8]],
-        file: &[u8],
-    ) -> Result<Report, Error> {
-        let profiles: Vec<Text> = profiles.iter().map(|profile| Text::of(profile)).collect();
-        let asked = asked.numbers();
+        file: impl AsRef<[u8]>,
+    ) -> Result<UnmetReport, Error> {
+        let (target, file) = (target.as_ref(), file.as_ref());
+        let (kind, recommends) = asked.parts();
+        let asked = (kind as u8, u8::from(recommends));
+        let profiles = texts_of(profiles);
         let call = |out: &mut [u8], length: &mut usize| {
-            self.memory
-                .unmet(asked, target, &profiles, file, out, length)
+            let environment = (target, &profiles[..]);
+            self.memory.unmet(asked, environment, file, out, length)
         };
-        let (answer, text) = given(4096, call)?;
-        Ok(Report {
-            met: answer.status == library::YES,
+        let (answer, text) = written(file.len() + 4096, call);
+        Ok(unmet_report((
+            answered_of(answer, (kind, file), (kind, file))?,
             text,
-        })
+        )))
     }
 
     /// Returns the numbers of the packages that have a name, counted from 1, in ascending order.
-    pub fn packages(&self, name: &[u8]) -> Vec<u64> {
-        numbers(|out, count| self.memory.packages(name, out, count))
+    pub fn packages(&self, name: impl AsRef<[u8]>) -> Vec<u64> {
+        let name = name.as_ref();
+        filled(16, |out, count: &mut usize| {
+            self.memory.packages(name, out, count)
+        })
+        .1
     }
 
     /// Returns the numbers of the packages that provide a name, in some version or without one,
     /// likewise. A package is among them for its own name only if it provides that.
-    pub fn providers(&self, name: &[u8]) -> Vec<u64> {
-        numbers(|out, count| self.memory.providers(name, out, count))
+    pub fn providers(&self, name: impl AsRef<[u8]>) -> Vec<u64> {
+        let name = name.as_ref();
+        filled(16, |out, count: &mut usize| {
+            self.memory.providers(name, out, count)
+        })
+        .1
     }
 
     /// Returns the package with a number, which is counted from 1, or `None` if there is none. The
@@ -104,28 +159,55 @@ impl Index {
     pub fn package(&self, number: u64) -> Result<Option<Package>, Error> {
         let call = |out: &mut [u8], length: &mut usize| self.memory.package(number, out, length);
         let (answer, words) = given(256, call)?;
-        if answer.status == library::NO {
+        Ok(found(answer).map(|_| {
+            let words = string(words);
+            let mut words = words.split(' ').map(str::to_owned);
+            let mut next = || words.next().expect("there are three words");
+            Package {
+                number,
+                name: next(),
+                version: next(),
+                architecture: next(),
+            }
+        }))
+    }
+
+    /// Returns all that the index keeps of the package with a number, or `None` if there is none.
+    /// The only error is [`Error::Memory`].
+    ///
+    /// ```
+    /// let text = "\nPackage: mailer\nVersion: 2\nArchitecture: all\nProvides: mta (= 1)\n";
+    /// let details = debctl::Index::read(text)?.details(1)?.expect("there is one");
+    /// assert_eq!((details.line, details.multi_arch), (2, None));
+    /// assert_eq!(details.provides[0].to_string(), "mta (= 1)");
+    /// # Ok::<(), debctl::Error>(())
+    /// ```
+    pub fn details(&self, number: u64) -> Result<Option<Details>, Error> {
+        let call = |out: &mut [u8], length: &mut usize| self.memory.details(number, out, length);
+        let (answer, text) = given(1024, call)?;
+        if found(answer).is_none() {
             return Ok(None);
         }
-        let words = String::from_utf8(words).expect("the words are ASCII");
-        let mut words = words.split(' ').map(str::to_owned);
-        let mut next = || words.next().expect("there are three words");
-        Ok(Some(Package {
-            name: next(),
-            version: next(),
-            architecture: next(),
+        let paragraphs = paragraphs(Kind::Any, text)?;
+        let paragraph = paragraphs.iter().next().expect("there is a paragraph")?;
+        let value = |name| paragraph.text(name).map(str::to_owned);
+        let required = |name| value(name).expect("the paragraph has this field");
+        let provides = paragraph.relations("Provides")?.unwrap_or_default();
+        Ok(Some(Details {
+            package: Package {
+                number,
+                name: required("Package"),
+                version: required("Version"),
+                architecture: required("Architecture"),
+            },
+            line: answer.line,
+            multi_arch: value("Multi-Arch"),
+            provides: provides.into_iter().flatten().collect(),
         }))
     }
 }
 
-/// What a call writes to a buffer of numbers, which is called again if there isn't enough room.
-fn numbers(call: impl Fn(&mut [u64], &mut usize) -> library::Answer) -> Vec<u64> {
-    let mut count = 16;
-    loop {
-        let mut out = vec![0; count];
-        if call(&mut out, &mut count).status != library::NO_ROOM {
-            out.truncate(count);
-            return out;
-        }
-    }
+/// Returns the answer of a call about a package, or `None` if there is no such package.
+fn found(answer: Answer) -> Option<Answer> {
+    Some(answer).filter(|answer| answer.status != library::NO)
 }

@@ -1,10 +1,16 @@
 //! Relations, by their groups and alternatives.
 
-use crate::library;
-use crate::{given, Error};
+use crate::library::{self, AlternativeAt};
+use crate::refusals::answered;
+use crate::texts::{filled, given, string};
+use crate::{query, Error, Paragraph, Verdict};
+use std::fmt;
 
-/// One alternative of a group of a relation, as in its canonical text.
-#[derive(Clone, Debug, PartialEq, Eq)]
+/// One alternative of a group of a relation.
+///
+/// It displays as the text of a relation: the canonical one, if its parts are.
+#[derive(Clone, Debug, PartialEq, Eq, Hash)]
+#[non_exhaustive]
 pub struct Alternative {
     /// The name of the package.
     pub name: String,
@@ -18,60 +24,137 @@ pub struct Alternative {
     pub profiles: Vec<Vec<String>>,
 }
 
+impl fmt::Display for Alternative {
+    fn fmt(&self, out: &mut fmt::Formatter<'_>) -> fmt::Result {
+        out.write_str(&self.name)?;
+        if let Some(qualifier) = &self.qualifier {
+            write!(out, ":{qualifier}")?;
+        }
+        if let Some((operator, version)) = &self.bound {
+            write!(out, " ({operator} {version})")?;
+        }
+        if !self.architectures.is_empty() {
+            write!(out, " [{}]", self.architectures.join(" "))?;
+        }
+        for items in &self.profiles {
+            write!(out, " <{}>", items.join(" "))?;
+        }
+        Ok(())
+    }
+}
+
 /// Returns the groups of a relation, in the order of their canonical texts, each with its
-/// alternatives.
+/// alternatives. All parts are canonical: a version may be spelled otherwise in the relation.
 ///
 /// ```
-/// let groups = debctl::relations(b"bb, aa (>= 01) | cc")?;
+/// let groups = debctl::relations("bb, aa (>= 01) | cc")?;
 /// assert_eq!(groups[0][0].name, "aa");
 /// assert_eq!(groups[0][0].bound, Some((">=".into(), "1".into())));
 /// # Ok::<(), debctl::Error>(())
 /// ```
-pub fn relations(text: &[u8]) -> Result<Vec<Vec<Alternative>>, Error> {
+pub fn relations(text: impl AsRef<[u8]>) -> Result<Vec<Vec<Alternative>>, Error> {
+    let text = text.as_ref();
     let call = |out: &mut [u8], length: &mut usize| library::relation_canonical(text, out, length);
-    let canonical = given(text.len() + 64, call)?.1;
-    let canonical = String::from_utf8(canonical).expect("a relation is ASCII");
-    if canonical.is_empty() {
-        return Ok(Vec::new());
-    }
-    let group = |group: &str| group.split(" | ").map(alternative).collect();
-    Ok(canonical.split(", ").map(group).collect())
+    spelled_relations(given(2 * text.len() + 64, call)?.1)
 }
 
-/// Reads the canonical text of an alternative.
-fn alternative(text: &str) -> Alternative {
-    let (text, profiles) = match text.split_once(" <") {
-        Some((text, lists)) => (text, lists.trim_end_matches('>').split("> <").map(words)),
-        None => return without_profiles(text),
+/// Returns the groups of a relation in the order of its text, with repeats, each with its
+/// alternatives. All parts are as they are spelled.
+///
+/// ```
+/// let groups = debctl::spelled_relations("bb, aa (>= 01) | cc")?;
+/// assert_eq!(groups[0][0].name, "bb");
+/// assert_eq!(groups[1][0].bound, Some((">=".into(), "01".into())));
+/// # Ok::<(), debctl::Error>(())
+/// ```
+pub fn spelled_relations(text: impl AsRef<[u8]>) -> Result<Vec<Vec<Alternative>>, Error> {
+    let text = text.as_ref();
+    let call = |table: &mut [AlternativeAt], count: &mut usize| {
+        library::relation_parts(text, table, count)
     };
+    let separators = text
+        .iter()
+        .filter(|byte| matches!(byte, b',' | b'|'))
+        .count();
+    let (answer, table) = filled(separators + 1, call);
+    answered(answer)?;
+    let mut groups: Vec<Vec<Alternative>> = Vec::new();
+    for at in &table {
+        if at.group > groups.len() {
+            groups.push(Vec::new());
+        }
+        groups[at.group - 1].push(alternative(text, at));
+    }
+    Ok(groups)
+}
+
+/// Returns the alternative whose parts are there.
+fn alternative(text: &[u8], at: &AlternativeAt) -> Alternative {
+    let part = |start: usize, length: usize| string(text[start..][..length].to_vec());
+    let some = |start, length| Some(part(start, length)).filter(|part| !part.is_empty());
+    let formula = part(at.formula, at.formula_length);
+    let lists = formula.split('>').filter_map(|list| list.split_once('<'));
+    let version = some(at.version, at.version_length);
     Alternative {
-        profiles: profiles.collect(),
-        ..without_profiles(text)
+        name: part(at.name, at.name_length),
+        qualifier: some(at.qualifier, at.qualifier_length),
+        bound: version.map(|version| (part(at.operator, at.operator_length), version)),
+        architectures: items(&part(at.architectures, at.architectures_length)),
+        profiles: lists.map(|(_, list)| items(list)).collect(),
     }
 }
 
-fn without_profiles(text: &str) -> Alternative {
-    let (text, architectures) = match text.split_once(" [") {
-        Some((text, list)) => (text, words(list.trim_end_matches(']'))),
-        None => (text, Vec::new()),
-    };
-    let (text, bound) = match text.split_once(" (") {
-        Some((text, bound)) => (text, bound.trim_end_matches(')').split_once(' ')),
-        None => (text, None),
-    };
-    let (name, qualifier) = match text.split_once(':') {
-        Some((name, qualifier)) => (name, Some(qualifier.to_owned())),
-        None => (text, None),
-    };
-    Alternative {
-        name: name.to_owned(),
-        qualifier,
-        bound: bound.map(|(operator, version)| (operator.to_owned(), version.to_owned())),
-        architectures,
+/// Returns the items of a list, between which are spaces, tabs and newlines.
+fn items(list: &str) -> Vec<String> {
+    let items = list.split([' ', '\t', '\n']);
+    items
+        .filter(|it| !it.is_empty())
+        .map(str::to_owned)
+        .collect()
+}
+
+/// Returns whether an alternative applies to a target architecture with these build profiles
+/// active, by its architecture list and its restriction formula.
+///
+/// ```
+/// let groups = debctl::relations("aa [amd64] <!nocheck>")?;
+/// assert!(debctl::applies(&groups[0][0], "amd64", &[])?);
+/// assert!(!debctl::applies(&groups[0][0], "amd64", &[b"nocheck"])?);
+/// assert!(!debctl::applies(&groups[0][0], "i386", &[])?);
+/// # Ok::<(), debctl::Error>(())
+/// ```
+pub fn applies(
+    alternative: &Alternative,
+    target: impl AsRef<[u8]>,
+    profiles: &[&[u8]],
+) -> Result<bool, Error> {
+    let report = query(target, profiles, alternative.to_string(), "")?;
+    Ok(report.groups[0].verdict != Verdict::Ignored)
+}
+
+/// Returns whether a package satisfies an alternative on a target architecture: by its name, what
+/// it provides, its version and its architecture. Whether the alternative applies is left out, see
+/// [`applies`]. The paragraph must be accepted in an index of packages.
+///
+/// ```
+/// use debctl::{paragraphs, relations, satisfies, Kind};
+///
+/// let index = "Package: mailer\nVersion: 2\nArchitecture: all\nProvides: mta\n";
+/// let paragraphs = paragraphs(Kind::Packages, index)?;
+/// let mailer = paragraphs.iter().next().expect("a paragraph")?;
+/// assert!(satisfies(&relations("mta")?[0][0], &mailer, "amd64")?);
+/// assert!(!satisfies(&relations("mailer (>= 3)")?[0][0], &mailer, "amd64")?);
+/// # Ok::<(), debctl::Error>(())
+/// ```
+pub fn satisfies(
+    alternative: &Alternative,
+    package: &Paragraph<'_>,
+    target: impl AsRef<[u8]>,
+) -> Result<bool, Error> {
+    let unrestricted = Alternative {
+        architectures: Vec::new(),
         profiles: Vec::new(),
-    }
-}
-
-fn words(text: &str) -> Vec<String> {
-    text.split(' ').map(str::to_owned).collect()
+        ..alternative.clone()
+    };
+    Ok(query(target, &[], unrestricted.to_string(), package.to_text())?.met)
 }

@@ -7,6 +7,16 @@ use debctl::{
 };
 use std::collections::HashSet;
 
+/// The code, the line and the field of the refusal that an answer is.
+fn refused<Answer>(answer: Result<Answer, Error>) -> (Code, u64, Option<String>) {
+    let error = answer.err().expect("a refusal");
+    of_refusal(error.refusal().expect("a refusal"))
+}
+
+fn of_refusal(refusal: &Refusal) -> (Code, u64, Option<String>) {
+    (refusal.code, refusal.line, refusal.field.clone())
+}
+
 /// Ascending; the second is the same version as the first, and so are two others.
 const VERSIONS: &[&str] = &[
     "0", "00-0", "1~~", "1~", "1", "1-0", "1a", "1+", "1.0~rc1", "1.0", "1.0-1", "1.9", "1.10",
@@ -27,12 +37,10 @@ fn keys_have_the_order_of_versions() -> Result<(), Error> {
         .map(|version| version.parse())
         .collect::<Result<_, _>>()?;
     assert_eq!(set.len(), VERSIONS.len() - 2);
-    let refusal = Refusal {
-        code: Code::BadVersion,
-        line: 0,
-    };
-    assert_eq!(Version::new(b"1_").unwrap_err(), Error::Refused(refusal));
-    assert_eq!(key(&[b'1'; 1000])?.len(), 1010);
+    assert_eq!(refused(Version::new(b"1_")), (Code::BadVersion, 0, None));
+    let second = compare("1", "1_").expect_err("a refusal");
+    assert!(matches!(second, Error::SecondRefused(_)));
+    assert_eq!(key([b'1'; 1000])?.len(), 1010);
     Ok(())
 }
 
@@ -57,16 +65,20 @@ fn unmet_relations_have_lines() -> Result<(), Error> {
     let asked = Asked::Packages { recommends: false };
     let report = unmet(asked, b"amd64", &[], index, index)?;
     assert!(!report.met);
-    assert_eq!(report.text, b"unmet 1 aa 1 amd64 Depends bb\n");
+    assert_eq!(report.text, "unmet 1 aa 1 amd64 Depends bb\n");
     let all = Asked::Packages { recommends: true };
     let report = unmet(all, b"amd64", &[b"nocheck"], index, index)?;
-    assert!(report.text.ends_with(b"Recommends cc\n"));
+    assert!(report.text.ends_with("Recommends cc\n"));
     assert!(unmet(Asked::Sources, b"amd64", &[], index, b"")?.met);
     let second = unmet(Asked::Source, b"amd64", &[], index, b"x\n");
     assert!(matches!(second, Err(Error::SecondRefused(it)) if it.line == 1));
     let loaded = Index::read(index)?;
     for asked in [asked, all, Asked::Source] {
-        for (target, file) in [(b"amd64", index.as_slice()), (b"amd64", b"x\n"), (b"a_d64", b"")] {
+        for (target, file) in [
+            (b"amd64", index.as_slice()),
+            (b"amd64", b"x\n"),
+            (b"a_d64", b""),
+        ] {
             let whole = unmet(asked, target, &[b"nocheck"], index, file);
             assert_eq!(loaded.unmet(asked, target, &[b"nocheck"], file), whole);
         }
@@ -127,12 +139,9 @@ fn an_index_is_asked_from_threads() -> Result<(), Error> {
             });
         }
     });
-    let refusal = Refusal {
-        code: Code::BadVersion,
-        line: 2,
-    };
-    let refused = Index::read(b"Package: aa\nVersion: 1-\n");
-    assert_eq!(refused.unwrap_err(), Error::Refused(refusal));
+    let version = Some("Version".to_owned());
+    let index = Index::read(b"Package: aa\nVersion: 1-\n");
+    assert_eq!(refused(index), (Code::BadVersion, 2, version));
     Ok(())
 }
 
@@ -141,17 +150,17 @@ fn what_changed_has_lines() -> Result<(), Error> {
     let old = b"Package: aa\nVersion: 1\nArchitecture: all\nSize: 1\n";
     let new = b"Size: 2\nPackage: aa\nVersion: 1.0-0\nArchitecture: all\n\n\
         Package: bb\nVersion: 1\nArchitecture: all\n";
-    let lines = diff(Compared::Packages, false, old, new)?;
-    assert_eq!(lines, ["upgraded 1 aa 1 1.0 all Size Version", "added 2 bb 1 all"]);
-    let lines = diff(Compared::Binary, true, old, &new[..53])?;
-    assert_eq!(lines[1..], [" -Size: 1", " +Size: 2", " -Version: 1", " +Version: 1.0"]);
+    let changes = diff(Compared::Packages, false, old, new)?;
+    let lines: Vec<String> = changes.iter().map(|it| it.to_string()).collect();
+    let added = "added 2 bb 1 all";
+    assert_eq!(lines, ["upgraded 1 aa 1 1.0 all Size Version", added]);
+    let changes = diff(Compared::Binary, true, old, &new[..53])?;
+    let lines: Vec<&str> = changes[0].text.split('\n').skip(1).collect();
+    let wanted = [" -Size: 1", " +Size: 2", " -Version: 1", " +Version: 1.0"];
+    assert_eq!(lines, wanted);
     assert!(diff(Compared::Packages, true, old, old)?.is_empty());
-    let refusal = Refusal {
-        code: Code::NoParagraph,
-        line: 1,
-    };
-    let refused = diff(Compared::Binary, false, old, b"");
-    assert_eq!(refused, Err(Error::SecondRefused(refusal)));
+    let second = diff(Compared::Binary, false, old, b"");
+    assert!(matches!(second, Err(Error::SecondRefused(it)) if it.code == Code::NoParagraph));
     Ok(())
 }
 
@@ -160,25 +169,89 @@ fn a_file_has_several_refusals() -> Result<(), Error> {
     let good = b"Package: aa\nVersion: 1\nArchitecture: all\n";
     let all = check_all(Kind::Packages, good)?;
     assert_eq!((all.passed, all.refused), (1, vec![]));
-    assert_eq!(explain_all(Kind::Packages, good)?, "ok 1, 0 refused\n");
-    let text = [&good[..], b"\nVersion: 1-\n\nbad\n\n", good].concat();
+    assert_eq!(explain_all(Kind::Packages, good)?.text, "ok 1, 0 refused\n");
+    let text = [&good[..], b"\nvERSION: 1-\n\nbad\n\n", good].concat();
     let all = check_all(Kind::Packages, &text)?;
-    let at = |line, code| Refusal { code, line };
-    let refused = [at(5, Code::BadVersion), at(7, Code::NoColon)];
-    assert_eq!((all.passed, &all.refused[..]), (2, &refused[..]));
-    assert_eq!(
-        check(Kind::Packages, &text),
-        Err(Error::Refused(refused[0]))
-    );
+    let version = Some("vERSION".to_owned());
+    let wanted = [(Code::BadVersion, 5, version), (Code::NoColon, 7, None)];
+    let found: Vec<_> = all.refused.iter().map(of_refusal).collect();
+    assert_eq!((all.passed, &found[..]), (2, &wanted[..]));
+    assert_eq!(refused(check(Kind::Packages, &text)), wanted[0]);
+    let first = explain(Kind::Packages, &text)?;
     let told = explain_all(Kind::Packages, &text)?;
-    let first = String::from_utf8(explain(Kind::Packages, &text)?.text).expect("ASCII");
-    assert!(told.starts_with(&format!("{first}\nline: 7\ncode: 6\n")));
-    assert!(told.ends_with("\n\nok 2, 2 refused\n"));
-    assert_eq!(check_all(Kind::Any, &text)?.refused, refused[1..]);
+    assert!(told
+        .text
+        .starts_with(&format!("{first}\nline: 7\ncode: 6\n")));
+    assert!(told.text.ends_with("\n\nok 2, 2 refused\n"));
+    assert_eq!((told.passed, &told.refused[0]), (2, &first));
+    let refusals: Vec<_> = told.refused.iter().map(|it| it.refusal.clone()).collect();
+    assert_eq!(
+        refusals,
+        [Some(all.refused[0].clone()), Some(all.refused[1].clone())]
+    );
+    let any = check_all(Kind::Any, &text)?.refused;
+    assert_eq!(any.iter().map(of_refusal).collect::<Vec<_>>(), wanted[1..]);
     let single = check_all(Kind::Binary, &text)?;
-    assert_eq!(single.refused, [at(5, Code::TooManyParagraphs)]);
-    let many = check_all(Kind::Any, &b"x\n\n".repeat(5000))?;
+    let codes: Vec<_> = single.refused.iter().map(|it| (it.line, it.code)).collect();
+    assert_eq!(codes, [(5, Code::TooManyParagraphs)]);
+    let many = check_all(Kind::Any, b"x\n\n".repeat(5000))?;
     assert_eq!((many.passed, many.refused.len()), (0, 5000));
-    assert_eq!(many.refused[4999], at(9999, Code::NoColon));
+    assert_eq!(of_refusal(&many.refused[4999]), (Code::NoColon, 9999, None));
+    Ok(())
+}
+
+/// A field that is refused has its name as it stands: neither escaped nor cut.
+#[test]
+fn a_refusal_has_the_name_of_its_field() -> Result<(), Error> {
+    let long = "x".repeat(300);
+    for name in ["X\\Y", &long, "\u{e9}", "a\"b", "X Y", ""] {
+        let text = format!("Package: aa\nVersion: 1\n\n{name}: 1\n{name}: 2\n");
+        let (code, line, field) = refused(check(Kind::Any, &text));
+        let expected = if name.is_ascii() && !name.contains(' ') && !name.is_empty() {
+            (Code::DuplicateField, 5)
+        } else {
+            (Code::BadFieldName, 4)
+        };
+        assert_eq!(((code, line), field.as_deref()), (expected, Some(name)));
+        assert_eq!(check_all(Kind::Any, &text)?.refused[0].field, field);
+        assert_eq!(
+            explain(Kind::Any, &text)?.refusal.and_then(|it| it.field),
+            field
+        );
+    }
+    let spaced = refused(check(Kind::Any, "a: 1\na : 2\n"));
+    assert_eq!(spaced, (Code::BadFieldName, 2, Some("a ".to_owned())));
+    let returns = refused(check(Kind::Any, "a: 1\r\nb\r: 2\n"));
+    assert_eq!(returns, (Code::BadFieldName, 2, Some("b\r".to_owned())));
+    let missing = refused(check(Kind::Packages, "\nPackage: aa\n"));
+    assert_eq!(missing, (Code::MissingField, 2, Some("Version".to_owned())));
+    let folded = "Package: aa\nVersion: 1\nArchitecture: all\ndepends: bb,\n cc dd\n";
+    let folded = refused(check(Kind::Packages, folded));
+    assert_eq!(folded, (Code::BadRelation, 4, Some("depends".to_owned())));
+    Ok(())
+}
+
+#[test]
+fn lines_of_a_diff_keep_their_carriage_returns() -> Result<(), Error> {
+    let old = b"Package: aa\nVersion: 1\nArchitecture: all\nNote: a\r\n b\r\n";
+    let new = b"Package: aa\nVersion: 1\nArchitecture: all\nNote: a\r\n c\r\r\n";
+    let change = &diff(Compared::Packages, true, old, new)?[0];
+    let text = "changed 1 aa 1 all Note\n -Note: a\r\n - b\r\n +Note: a\r\n + c\r\r";
+    assert_eq!(change.text, text);
+    assert_eq!(change.old, ["Note: a\r", " b\r"]);
+    assert_eq!(change.new, ["Note: a\r", " c\r\r"]);
+    Ok(())
+}
+
+#[test]
+fn a_paragraph_of_the_greatest_length_has_canonical_values() -> Result<(), Error> {
+    let mut text = b"Package:aa\nVersion:1\nArchitecture:all\nDepends:bb,".to_vec();
+    text.resize((1 << 24) - 3, b' ');
+    text.extend_from_slice(b"aa\n");
+    for text in [&text[..], &text[..text.len() - 1]] {
+        let all = paragraphs(Kind::Packages, text)?;
+        let first = all.iter().next().expect("a paragraph")?;
+        assert_eq!(first.canonical("depends")?.as_deref(), Some(&b"aa, bb"[..]));
+    }
     Ok(())
 }

@@ -1,0 +1,137 @@
+//! The texts of answers, printed again from their values alone.
+
+use debctl::{
+    AllExplained, Alternative, Change, ChangeKind, Explanation, Package, Report, UnmetReport,
+    Verdict,
+};
+
+/// What has a text.
+pub trait Printed {
+    /// The text, from the values alone.
+    fn printed(&self) -> String;
+}
+
+/// A group of alternatives.
+pub fn group(alternatives: &[Alternative]) -> String {
+    let texts: Vec<String> = alternatives.iter().map(Alternative::to_string).collect();
+    texts.join(" | ")
+}
+
+fn verdict(verdict: Verdict) -> &'static str {
+    match verdict {
+        Verdict::Met => "met",
+        Verdict::Unmet => "unmet",
+        Verdict::Ignored => "ignored",
+        _ => "unsure",
+    }
+}
+
+fn package(it: &Package) -> String {
+    format!(
+        "{} {} {} {}",
+        it.number, it.name, it.version, it.architecture
+    )
+}
+
+impl Printed for Report {
+    fn printed(&self) -> String {
+        let mut text = String::new();
+        for group in &self.groups {
+            text += &format!("{} {}\n", verdict(group.verdict), group.text);
+            for it in &group.packages {
+                text += &format!(" {}\n", package(it));
+            }
+            for it in &group.reasons {
+                let of = it.package.as_ref();
+                let of = of.map_or(String::new(), |it| package(it) + " ");
+                text += &format!(" {}: {of}{}\n", it.alternative, it.reason);
+            }
+        }
+        text
+    }
+}
+
+impl Printed for UnmetReport {
+    fn printed(&self) -> String {
+        let mut text = String::new();
+        for it in &self.groups {
+            text += &format!("{} {} {} ", verdict(it.verdict), it.number, it.package);
+            text += &format!(
+                "{} {} {} {}\n",
+                it.version, it.architecture, it.field, it.group
+            );
+        }
+        text
+    }
+}
+
+impl Printed for Vec<Change> {
+    fn printed(&self) -> String {
+        let mut text = String::new();
+        for it in self {
+            let word = match it.kind {
+                ChangeKind::Removed => "removed",
+                ChangeKind::Changed => "changed",
+                ChangeKind::Upgraded => "upgraded",
+                _ => "added",
+            };
+            text += &format!("{word} {} {}", it.number, it.package);
+            let old = it
+                .old_version
+                .iter()
+                .filter(|_| it.kind != ChangeKind::Changed);
+            for version in old.chain(&it.new_version) {
+                text += &format!(" {version}");
+            }
+            text += &format!(" {}", it.architecture);
+            for field in &it.fields {
+                text += &format!(" {field}");
+            }
+            text += "\n";
+            for line in &it.old {
+                text += &format!(" -{line}\n");
+            }
+            for line in &it.new {
+                text += &format!(" +{line}\n");
+            }
+        }
+        text
+    }
+}
+
+impl Printed for Explanation {
+    fn printed(&self) -> String {
+        let refusal = match (&self.refusal, self.passed) {
+            (Some(refusal), _) => refusal,
+            (None, Some(count)) => return format!("ok {count}\n"),
+            (None, None) => return "ok\n".to_owned(),
+        };
+        let line = Some(refusal.line).filter(|line| *line > 0);
+        let at = self.at.map(|(line, column)| format!("{line}:{column}"));
+        let keys = [
+            ("line", line.map(|it| it.to_string())),
+            ("code", Some(refusal.code.number().to_string())),
+            ("name", Some(refusal.code.to_string())),
+            ("field", self.field.clone()),
+            ("place", self.place.map(|it| it.to_string())),
+            ("at", at),
+            ("reason", self.reason.clone()),
+            ("value", self.value.clone()),
+            ("rule", self.rule.clone()),
+            ("usually", self.usually.clone()),
+        ];
+        let mut text = String::new();
+        for (key, value) in keys {
+            text += &value.map_or(String::new(), |value| format!("{key}: {value}\n"));
+        }
+        text
+    }
+}
+
+impl Printed for AllExplained {
+    fn printed(&self) -> String {
+        let blocks = self.refused.iter().map(|it| it.printed() + "\n");
+        let text: String = blocks.collect();
+        text + &format!("ok {}, {} refused\n", self.passed, self.refused.len())
+    }
+}

@@ -1,0 +1,262 @@
+//! Which packages meet a relation, and which relations of a file nothing meets.
+
+use crate::library::{self, Answer, Text};
+use crate::refusals::answered_of;
+use crate::texts::{self, rows, string, written, Form, Row};
+use crate::{Asked, Error, Kind, Package};
+use std::fmt;
+
+/// The report on a relation.
+#[derive(Clone, Debug, PartialEq, Eq, Hash)]
+#[non_exhaustive]
+pub struct Report {
+    /// Whether no group is unmet.
+    pub met: bool,
+    /// The groups of the relation, in the order of their canonical texts.
+    pub groups: Vec<Group>,
+    /// The lines of the report.
+    pub text: String,
+}
+
+/// A group of a relation that is asked.
+#[derive(Clone, Debug, PartialEq, Eq, Hash)]
+#[non_exhaustive]
+pub struct Group {
+    /// The answer.
+    pub verdict: Verdict,
+    /// The canonical text.
+    pub text: String,
+    /// The packages that meet it, in ascending order.
+    pub packages: Vec<Package>,
+    /// Why it is unmet or ignored, if that is asked.
+    pub reasons: Vec<Reason>,
+}
+
+/// The answer for a group.
+#[derive(Clone, Copy, Debug, PartialEq, Eq, Hash)]
+#[non_exhaustive]
+pub enum Verdict {
+    /// Some package meets it.
+    Met,
+    /// No package meets it.
+    Unmet,
+    /// None of its alternatives applies to the target and the profiles.
+    Ignored,
+    /// The answer depends on an architecture wildcard: no package meets it, or it is ignored. Only
+    /// [`unmet`] has this answer.
+    Unsure,
+}
+
+/// Why an alternative of a group isn't met.
+#[derive(Clone, Debug, PartialEq, Eq, Hash)]
+#[non_exhaustive]
+pub struct Reason {
+    /// The canonical text of the alternative.
+    pub alternative: String,
+    /// The reason, such as `is earlier`.
+    pub reason: String,
+    /// The package that doesn't meet it, if the reason is about one.
+    pub package: Option<Package>,
+}
+
+/// The report on the relations of a file.
+#[derive(Clone, Debug, PartialEq, Eq, Hash)]
+#[non_exhaustive]
+pub struct UnmetReport {
+    /// Whether there is no group in the report.
+    pub met: bool,
+    /// The groups that no package meets, or perhaps none.
+    pub groups: Vec<UnmetGroup>,
+    /// The lines of the report.
+    pub text: String,
+}
+
+/// A group of a file's relations that no package meets, or perhaps none.
+#[derive(Clone, Debug, PartialEq, Eq, Hash)]
+#[non_exhaustive]
+pub struct UnmetGroup {
+    /// The answer: [`Verdict::Unmet`] or [`Verdict::Unsure`].
+    pub verdict: Verdict,
+    /// The number of its paragraph in the file, from 1.
+    pub number: u64,
+    /// The name of the package.
+    pub package: String,
+    /// The canonical version.
+    pub version: String,
+    /// The architecture.
+    pub architecture: String,
+    /// The name of the field.
+    pub field: String,
+    /// The canonical text.
+    pub group: String,
+}
+
+impl fmt::Display for Report {
+    fn fmt(&self, out: &mut fmt::Formatter<'_>) -> fmt::Result {
+        out.write_str(&self.text)
+    }
+}
+
+impl fmt::Display for UnmetReport {
+    fn fmt(&self, out: &mut fmt::Formatter<'_>) -> fmt::Result {
+        out.write_str(&self.text)
+    }
+}
+
+/// Returns the package in the cells of a row, of which the first is its number.
+fn package(row: &Row, first: usize) -> Package {
+    Package {
+        number: row.number(first),
+        name: row.text(first + 1),
+        version: row.text(first + 2),
+        architecture: row.text(first + 3),
+    }
+}
+
+/// Returns the report that a call wrote.
+pub(crate) fn report((answer, text): (Answer, Vec<u8>)) -> Report {
+    let text = string(text);
+    let mut groups: Vec<Group> = Vec::new();
+    for row in rows(Form::Report, &text) {
+        let verdict = match row.kind {
+            texts::MET => Verdict::Met,
+            texts::UNMET => Verdict::Unmet,
+            texts::IGNORED => Verdict::Ignored,
+            _ => {
+                let group = groups.last_mut().expect("a group comes first");
+                add_to_group(group, &row);
+                continue;
+            }
+        };
+        groups.push(Group {
+            verdict,
+            text: row.text(0),
+            packages: Vec::new(),
+            reasons: Vec::new(),
+        });
+    }
+    Report {
+        met: answer.status == library::YES,
+        groups,
+        text,
+    }
+}
+
+/// Adds a package or a reason to its group.
+fn add_to_group(group: &mut Group, row: &Row) {
+    let (package, reason) = match row.kind {
+        texts::PACKAGE => return group.packages.push(package(row, 0)),
+        texts::PACKAGE_REASON => (Some(package(row, 1)), row.text(5)),
+        _ => (None, row.text(1)),
+    };
+    group.reasons.push(Reason {
+        alternative: row.text(0),
+        package,
+        reason,
+    });
+}
+
+/// Returns the report on a file that a call wrote.
+pub(crate) fn unmet_report((answer, text): (Answer, Vec<u8>)) -> UnmetReport {
+    let text = string(text);
+    let group = |row: &Row| UnmetGroup {
+        verdict: match row.kind {
+            texts::UNSURE_GROUP => Verdict::Unsure,
+            _ => Verdict::Unmet,
+        },
+        number: row.number(0),
+        package: row.text(1),
+        version: row.text(2),
+        architecture: row.text(3),
+        field: row.text(4),
+        group: row.text(5),
+    };
+    UnmetReport {
+        met: answer.status == library::YES,
+        groups: rows(Form::UnmetLines, &text).iter().map(group).collect(),
+        text,
+    }
+}
+
+/// Returns profiles as the library takes them.
+pub(crate) fn texts_of<'a>(profiles: &[&'a [u8]]) -> Vec<Text<'a>> {
+    profiles.iter().map(|profile| Text::of(profile)).collect()
+}
+
+/// Finds the packages of an index that meet a relation, for a target architecture and with these
+/// build profiles active.
+///
+/// ```
+/// use debctl::{query, Verdict};
+///
+/// let index = "Package: mailer\nVersion: 2\nArchitecture: all\nProvides: mta\n";
+/// let report = query("amd64", &[], "mta, hello", index)?;
+/// assert_eq!(report.groups[0].verdict, Verdict::Unmet);
+/// assert_eq!(report.groups[1].packages[0].name, "mailer");
+/// assert_eq!(report.text, "unmet hello\nmet mta\n 1 mailer 2 all\n");
+/// # Ok::<(), debctl::Error>(())
+/// ```
+pub fn query(
+    target: impl AsRef<[u8]>,
+    profiles: &[&[u8]],
+    relation: impl AsRef<[u8]>,
+    index: impl AsRef<[u8]>,
+) -> Result<Report, Error> {
+    let asked = (relation.as_ref(), index.as_ref());
+    query_index(false, (target.as_ref(), profiles), asked)
+}
+
+/// Returns what [`query`] does, with the reasons why a group is unmet or ignored.
+///
+/// ```
+/// let index = "Package: aa\nVersion: 2\nArchitecture: all\n";
+/// let report = debctl::query_why("amd64", &[], "aa (>= 3)", index)?;
+/// let reason = &report.groups[0].reasons[0];
+/// assert_eq!((reason.alternative.as_str(), reason.reason.as_str()), ("aa (>= 3)", "is earlier"));
+/// # Ok::<(), debctl::Error>(())
+/// ```
+pub fn query_why(
+    target: impl AsRef<[u8]>,
+    profiles: &[&[u8]],
+    relation: impl AsRef<[u8]>,
+    index: impl AsRef<[u8]>,
+) -> Result<Report, Error> {
+    let asked = (relation.as_ref(), index.as_ref());
+    query_index(true, (target.as_ref(), profiles), asked)
+}
+
+fn query_index(
+    why: bool,
+    (target, profiles): (&[u8], &[&[u8]]),
+    (relation, index): (&[u8], &[u8]),
+) -> Result<Report, Error> {
+    let profiles = texts_of(profiles);
+    let call = |out: &mut [u8], length: &mut usize| {
+        library::query(why, (target, &profiles), (relation, index), out, length)
+    };
+    let (answer, text) = written(index.len() + 16 * relation.len() + 4096, call);
+    let file = (Kind::Packages, index);
+    Ok(report((answered_of(answer, file, file)?, text)))
+}
+
+/// Finds the relations of a file that no package of an index meets, for a target architecture and
+/// with these build profiles active: the lines that the program `debctl unmet` writes. If the file
+/// is refused, the error is [`Error::SecondRefused`].
+pub fn unmet(
+    asked: Asked,
+    target: impl AsRef<[u8]>,
+    profiles: &[&[u8]],
+    index: impl AsRef<[u8]>,
+    file: impl AsRef<[u8]>,
+) -> Result<UnmetReport, Error> {
+    let (target, index, file) = (target.as_ref(), index.as_ref(), file.as_ref());
+    let (kind, recommends) = asked.parts();
+    let asked = (kind as u8, u8::from(recommends));
+    let profiles = texts_of(profiles);
+    let call = |out: &mut [u8], length: &mut usize| {
+        library::unmet(asked, (target, &profiles), (index, file), out, length)
+    };
+    let (answer, text) = written(file.len() + 4096, call);
+    let answer = answered_of(answer, (Kind::Packages, index), (kind, file))?;
+    Ok(unmet_report((answer, text)))
+}

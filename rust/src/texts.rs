@@ -1,0 +1,114 @@
+//! The texts that calls write, and the rows of their lines.
+
+use crate::library::{self, Answer};
+use crate::refusals::{answered, Error};
+
+/// Returns the answer of a call that writes to a buffer, and what it wrote. If there isn't enough
+/// room, it is called again with as much as it needs. Room that isn't used costs no memory.
+pub(crate) fn written(
+    room: usize,
+    call: impl Fn(&mut [u8], &mut usize) -> Answer,
+) -> (Answer, Vec<u8>) {
+    let (answer, mut out) = filled(room, call);
+    if out.len() < out.capacity() / 2 {
+        out.shrink_to_fit();
+    }
+    (answer, out)
+}
+
+/// Returns the same, of a text that isn't about a file, or the error of the answer.
+pub(crate) fn given(
+    room: usize,
+    call: impl Fn(&mut [u8], &mut usize) -> Answer,
+) -> Result<(Answer, Vec<u8>), Error> {
+    let (answer, out) = written(room, call);
+    Ok((answered(answer)?, out))
+}
+
+/// Returns the answer of a call that writes to a table, and the rows that it wrote. If there isn't
+/// enough room, it is called again with as many as it needs.
+pub(crate) fn filled<Entry: Clone + Default>(
+    room: usize,
+    call: impl Fn(&mut [Entry], &mut usize) -> Answer,
+) -> (Answer, Vec<Entry>) {
+    let mut length = room;
+    loop {
+        let mut out = vec![Entry::default(); length];
+        let answer = call(&mut out, &mut length);
+        if answer.status != library::NO_ROOM {
+            out.truncate(length);
+            return (answer, out);
+        }
+    }
+}
+
+/// Returns a text of the library, which is UTF-8.
+pub(crate) fn string(text: Vec<u8>) -> String {
+    String::from_utf8(text).expect("the library writes UTF-8")
+}
+
+/// What wrote a text.
+#[derive(Clone, Copy)]
+pub(crate) enum Form {
+    Report = 0,
+    UnmetLines = 1,
+    DiffLines = 2,
+    Explanation = 3,
+}
+
+/// A line of a text: its kind, its cells, and where the line ends.
+pub(crate) struct Row<'a> {
+    pub kind: u8,
+    pub cells: [&'a str; 6],
+    pub end: usize,
+}
+
+pub(crate) const MET: u8 = 0;
+pub(crate) const UNMET: u8 = 1;
+pub(crate) const IGNORED: u8 = 2;
+pub(crate) const PACKAGE: u8 = 3;
+pub(crate) const PACKAGE_REASON: u8 = 5;
+pub(crate) const UNSURE_GROUP: u8 = 7;
+pub(crate) const REMOVED: u8 = 8;
+pub(crate) const CHANGED: u8 = 9;
+pub(crate) const UPGRADED: u8 = 10;
+pub(crate) const ADDED: u8 = 11;
+pub(crate) const OLD_LINE: u8 = 12;
+pub(crate) const KEY: u8 = 14;
+pub(crate) const END: u8 = 15;
+pub(crate) const OK: u8 = 16;
+
+impl Row<'_> {
+    /// Returns the number in a cell.
+    pub(crate) fn number(&self, cell: usize) -> u64 {
+        number(self.cells[cell])
+    }
+
+    /// Returns a copy of a cell.
+    pub(crate) fn text(&self, cell: usize) -> String {
+        self.cells[cell].to_owned()
+    }
+}
+
+/// Returns a number that the library wrote.
+pub(crate) fn number(digits: &str) -> u64 {
+    digits.parse().expect("the library writes a number")
+}
+
+/// Returns the rows of the lines of a text that the library wrote.
+pub(crate) fn rows(form: Form, text: &str) -> Vec<Row<'_>> {
+    let lines = text.split_inclusive('\n');
+    let call = |table: &mut [library::Row], count: &mut usize| {
+        library::rows(form as u8, text.as_bytes(), table, count)
+    };
+    let (answer, table) = filled(lines.clone().count(), call);
+    assert_eq!(answer.status, library::YES, "the library wrote these lines");
+    let mut end = 0;
+    let row = |(line, row): (&str, &library::Row)| {
+        end += line.len();
+        let cells = row.cells.map(|cell| &text[cell.start..][..cell.length]);
+        let kind = row.kind;
+        Row { kind, cells, end }
+    };
+    lines.zip(&table).map(row).collect()
+}
