@@ -99,14 +99,18 @@ fn alternative(text: &[u8], at: &AlternativeAt) -> Alternative {
         name: part(at.name, at.name_length),
         qualifier: some(at.qualifier, at.qualifier_length),
         bound: version.map(|version| (part(at.operator, at.operator_length), version)),
-        architectures: words(&part(at.architectures, at.architectures_length)),
-        profiles: lists.map(|(_, items)| words(items)).collect(),
+        architectures: items(&part(at.architectures, at.architectures_length)),
+        profiles: lists.map(|(_, list)| items(list)).collect(),
     }
 }
 
-/// Returns the words of a list in an accepted relation, where only blanks and newlines are between.
-fn words(list: &str) -> Vec<String> {
-    list.split_ascii_whitespace().map(str::to_owned).collect()
+/// Returns the items of a list, between which are spaces, tabs and newlines.
+fn items(list: &str) -> Vec<String> {
+    let items = list.split([' ', '\t', '\n']);
+    items
+        .filter(|it| !it.is_empty())
+        .map(str::to_owned)
+        .collect()
 }
 
 /// Returns whether an alternative applies to a target architecture with these build profiles

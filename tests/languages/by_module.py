@@ -1,68 +1,16 @@
 """What the Python module answers, as a driver writes it."""
 
+import io
+
 import debctl
 
+from printed import printed
 from questions import KINDS
 
 
-def package_line(it):
-    """A package of a report."""
-    return f"{it.number} {it.name} {it.version} {it.architecture}"
-
-
-def report_text(report):
-    """The text of a report, from its groups."""
-    lines = []
-    for group in report.groups:
-        lines.append(f"{group.verdict} {group.text}")
-        lines += [f" {package_line(it)}" for it in group.packages]
-        for it in group.reasons:
-            package = f"{package_line(it.package)} " if it.package else ""
-            lines.append(f" {it.alternative}: {package}{it.reason}")
-    return "".join(f"{line}\n" for line in lines)
-
-
-def unmet_text(report):
-    """The text of a report on a file, from its groups."""
-    return "".join(
-        f"{it.verdict} {it.number} {it.package} {it.version} {it.architecture} {it.field} {it.group}\n"
-        for it in report.groups
-    )
-
-
-def change_line(it):
-    """The first line of a change, from its parts."""
-    versions = [it.old_version, it.new_version][it.kind == "added" : 2 if it.kind == "upgraded" else None]
-    parts = [it.kind, str(it.number), it.package, *versions[: 1 + (it.kind == "upgraded")], it.architecture]
-    return " ".join([*parts, *it.fields])
-
-
-def is_change(it):
-    """Whether a change has the lines that its text has."""
-    first, *more = str(it).split("\n")
-    return (
-        first == change_line(it) and [line[2:] for line in more if line[:2] == " -"] == list(it.old)
-        and [line[2:] for line in more if line[:2] == " +"] == list(it.new)
-        and len(more) == len(it.old) + len(it.new)
-    )
-
-
-def explanation_text(it):
-    """The text of an explanation, from its lines."""
-    if it.refusal is None:
-        return "ok\n" if it.passed is None else f"ok {it.passed}\n"
-    return "".join(f"{key}: {value}\n" for key, value in it.lines.items())
-
-
-def all_explained_text(it):
-    """The text of all explanations, from each."""
-    blocks = "".join(explanation_text(one) + "\n" for one in it.refused)
-    return f"{blocks}ok {it.passed}, {len(it.refused)} refused\n"
-
-
-def by_rows(text, printed):
+def by_rows(text, it):
     """A text, with a line more if its objects say something else."""
-    return (text + ("" if printed == text else "rows differ\n")).encode()
+    return text.encode() + (b"" if printed(it) == text.encode() else b"rows differ\n")
 
 
 def relation_agrees(relation):
@@ -80,16 +28,37 @@ def version_agrees(text):
     return f"{epoch}{it.upstream}{revision}".encode() == text
 
 
+class Slow(io.BytesIO):
+    """A file of which each read returns 100 bytes at most."""
+
+    def read(self, size=-1):
+        return super().read(100 if size < 0 else min(size, 100))
+
+
+def paragraphs_of(file, kind):
+    """The paragraphs of a file or of its text, and its refusal."""
+    found = []
+    try:
+        for it in debctl.paragraphs(file, kind):
+            found.append((it.line, [(name, it.bytes(name)) for name in it]))
+    except debctl.Refused as refused:
+        found.append((refused.line, refused.code, refused.field))
+    return found
+
+
+def reader_agrees(text, kind):
+    """Whether a file that is read in pieces has the paragraphs that its text has."""
+    return len(text) > 1 << 20 or paragraphs_of(Slow(text), kind) == paragraphs_of(text, kind)
+
+
 def report_of(call, number, texts, loaded):
-    """The report on relations, of the text of an index or of a loaded one, and its text by rows."""
+    """The report on relations, of the text of an index or of a loaded one."""
     target, first, second, *profiles = texts
     if call == "unmet":
         more = (target, profiles, KINDS[number % 8], number >= 8)
-        it = debctl.Index(first).unmet(second, *more) if loaded else debctl.unmet(first, second, *more)
-        return it, unmet_text(it)
+        return debctl.Index(first).unmet(second, *more) if loaded else debctl.unmet(first, second, *more)
     more = (target, profiles, call == "why")
-    it = debctl.Index(second).query(first, *more) if loaded else debctl.query(first, second, *more)
-    return it, report_text(it)
+    return debctl.Index(second).query(first, *more) if loaded else debctl.query(first, second, *more)
 
 
 def explained(call, number, texts):
@@ -101,7 +70,7 @@ def explained(call, number, texts):
     head = b"0 0 0 %d\n" % (it.passed or 0)
     if it.refusal:
         head = b"2 %d %d 0\n" % (it.refusal.code, it.refusal.line)
-    return head + by_rows(it.text, explanation_text(it))
+    return head + by_rows(it.text, it)
 
 
 def on_all(call, number, texts):
@@ -112,7 +81,7 @@ def on_all(call, number, texts):
     if call == "check-all":
         return head + b"".join(b"%d %d\n" % (it.line, it.code) for it in refused)
     it = debctl.explain_all(*texts, KINDS[number])
-    return head + by_rows(it.text, all_explained_text(it))
+    return head + by_rows(it.text, it)
 
 
 def on_text(call, texts):
@@ -130,7 +99,7 @@ def changes(number, texts):
     """The answer of a comparison of two files."""
     found = debctl.diff(*texts, KINDS[number % 8], number >= 8)
     text = "".join(f"{it}\n" for it in found)
-    return b"%d 0 0 0\n" % bool(found) + by_rows(text, text if all(map(is_change, found)) else "")
+    return b"%d 0 0 0\n" % bool(found) + by_rows(text, found)
 
 
 def answered(call, number, texts, loaded):
@@ -138,9 +107,9 @@ def answered(call, number, texts, loaded):
     if call in ("compare", "canonical", "key"):
         return on_text(call, texts)
     if call in ("query", "why", "unmet"):
-        it, text = report_of(call, number, texts, loaded)
+        it = report_of(call, number, texts, loaded)
         more = b"" if call == "unmet" or relation_agrees(texts[1]) else b"parts differ\n"
-        return b"%d 0 0 0\n" % (not it) + by_rows(it.text, text) + more
+        return b"%d 0 0 0\n" % (not it) + by_rows(it.text, it) + more
     if call in ("explain", "explain-relation", "explain-version"):
         return explained(call, number, texts)
     if call in ("check-all", "explain-all"):
@@ -149,6 +118,8 @@ def answered(call, number, texts, loaded):
         return changes(number, texts)
     if call == "same":
         return b"%d 0 0 0\n" % (not debctl.same(*texts, KINDS[number]))
+    if call == "check" and not reader_agrees(*texts, KINDS[number]):
+        return b"reader differs\n"
     head = b"0 0 0 %d\n" % debctl.check(*texts, KINDS[number])
     return head if call == "check" else head + debctl.normalise(*texts, KINDS[number])
 

@@ -40,7 +40,7 @@ def fields_of(sign, lines):
     """The lines of each field, with a sign before them."""
     fields = {}
     for line in lines:
-        if not line.startswith(" "):
+        if not line.startswith((" ", "\t")):
             name = line.partition(":")[0]
         fields.setdefault(name, []).append(f" {sign}{line}")
     return fields

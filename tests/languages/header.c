@@ -1,0 +1,4 @@
+/* Nothing of the header is used. */
+#include <debctl.h>
+
+int main(void) { return 0; }
