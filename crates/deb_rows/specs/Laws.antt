@@ -1,6 +1,6 @@
 -- The laws of rows: a text has one list of rows, and the spans of a table name exactly its cells.
 use Rattle.std.specs.Prelude.{◌≡◌, ℕ, List, [], ◌∷◌, codes, drop, map, refl, take}
-use Rattle.deb_rows.specs.Rows.{HasRows, RowText, row, rows_text, span, table_of}
+use Rattle.deb_rows.specs.Rows.{HasRows, RowText, row, span, table_of}
 use Rattle.deb_rows.specs.declared.form.Form.{Form}
 use Rattle.deb_rows.specs.declared.kind.RowKind.TheVariants.{Met, Package}
 use Rattle.deb_rows.specs.declared.row.Row.{Row}

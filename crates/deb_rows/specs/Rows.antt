@@ -83,7 +83,7 @@ row_at start row =
       kind = number_of row.kind;
       cell_count = length (pieces_of row.kind);
       cells = placed 0 no_cells
-        (spans_of (start + length (front_of row.kind)) (pieces_of row.kind) row.cells);
+          (spans_of (start + length (front_of row.kind)) (pieces_of row.kind) row.cells);
     }
 
 -- the table of the rows of a text, from this offset on
@@ -164,9 +164,13 @@ rows : HasRows form.Report (codes "unmet b\nmet a\n 3 a 1 all\n")
     (row kind.Unmet (codes "b" ∷ []) ∷ row kind.Met (codes "a" ∷ [])
     ∷ row kind.Package (codes "3" ∷ codes "a" ∷ codes "1" ∷ codes "all" ∷ []) ∷ [])
 rows = record {
-  allowed =
-      (record { kind = refl; cells = refl }, (record { kind = refl; cells = refl },
-      (record { kind = refl; cells = refl }, tt)));
+  allowed = (
+    record { kind = refl; cells = refl },
+    (
+      record { kind = refl; cells = refl },
+      (record { kind = refl; cells = refl }, tt),
+    ),
+  );
   printed = refl;
 }
 
