@@ -1,14 +1,14 @@
 -- The line of a row says which kind it is: the kinds of a form are told apart by their lines.
-use Rattle.std.proofs.Common.{◌≡◌, ◌+◌, ℕ, Bool, true, false, cond, not, List, [], ◌∷◌, ◌++◌, length, drop, get_or, eqb, refl, sym, ap, ◌∙◌, subst, inl, inr, append_assoc}
+use Rattle.std.proofs.Common.{◌≡◌, ℕ, Bool, true, false, cond, not, List, [], ◌∷◌, ◌++◌, length, drop, get_or, refl, sym, ap, ◌∙◌, inl, inr, append_assoc}
 use Rattle.std.specs.Prelude.{◌==◌, ◌&&◌, ◌||◌, codes}
 use Rattle.std.specs.Char.{is_ascii_digit}
-use Rattle.std.proofs.lemmas.Bool.{cases_Bool, and_parts, or_parts, or_from, and_right, and_left, false≢true, eqb-true, not-true, not-false, false_from_ne_true}
+use Rattle.std.proofs.lemmas.Bool.{cases_Bool, and_parts, or_parts, or_from, and_right, and_left, false≢true, eqb-true, not-true, false_from_ne_true}
 use Rattle.std.proofs.lemmas.List.{drop_at}
-use Rattle.deb_rows.specs.Cells.{begins_with_number, begins_with_space, cell_of, ends_with_colon, fits, has_bytes, is_cell, is_unstopped, number_goes_on, stops}
-use Rattle.deb_rows.specs.Kinds.{Piece, any_text, form_of, front_of, package_and, package_last, pieces_of, word_and_text}
+use Rattle.deb_rows.specs.Cells.{begins_with_number, begins_with_space, cell_of, ends_with_colon, fits, is_cell, is_unstopped, number_goes_on, stops}
+use Rattle.deb_rows.specs.Kinds.{Piece, any_text, form_of, front_of, package_and, package_last, pieces_of}
 use Rattle.deb_rows.specs.Rows.{are_cells, cells_text}
 use Rattle.deb_rows.specs.declared.cell.Class.{Class}
-use Rattle.deb_rows.specs.declared.cell.Class.TheVariants.{Number, Word, Key, Alternative, Reason, Line}
+use Rattle.deb_rows.specs.declared.cell.Class.TheVariants.{Number, Word, Key, Alternative, Reason}
 use Rattle.deb_rows.specs.declared.form.Form.{Form}
 use Rattle.deb_rows.specs.declared.form.Form.TheVariants as form
 use Rattle.deb_rows.specs.declared.kind.RowKind.{RowKind}
@@ -106,9 +106,10 @@ past-drop (b ∷ bs) = elim (cases_Bool (stops Alternative b bs)) [
 
 -- a byte of a number or of a word isn't the end of an alternative
 number_byte : (b : ℕ) → is_ascii_digit b ≡ true → ((b == 10) ≡ false) × ((b == 58) ≡ false)
-number_byte b e =
-    (false_from_ne_true (b == 10) (λ h. false≢true (ap is_ascii_digit (sym (eqb-true b 10 h)) ∙ e)),
-    false_from_ne_true (b == 58) (λ h. false≢true (ap is_ascii_digit (sym (eqb-true b 58 h)) ∙ e)))
+number_byte b e = (
+  false_from_ne_true (b == 10) (λ h. false≢true (ap is_ascii_digit (sym (eqb-true b 10 h)) ∙ e)),
+  false_from_ne_true (b == 58) (λ h. false≢true (ap is_ascii_digit (sym (eqb-true b 58 h)) ∙ e)),
+)
 
 first_digit : (b : ℕ) (bs : List ℕ) → is_unstopped Number (b ∷ bs) ≡ true → (is_ascii_digit b ≡ true) × (is_unstopped Number bs ≡ true)
 first_digit b bs e = elim (cases_Bool (is_ascii_digit b)) [

@@ -1,15 +1,13 @@
 -- Where a cell ends.
-use Rattle.std.proofs.Common.{◌≡◌, ◌≤◌, ◌+◌, ◌-◌, ℕ, Bool, true, false, cond, not, List, [], ◌∷◌, ◌++◌, length, take, drop, get_or, eqb, refl, sym, ap, ◌∙◌, subst, arith, inl, inr}
-use Rattle.std.specs.Prelude.{◌==◌, ◌&&◌, ◌||◌}
-use Rattle.std.specs.Char.{is_ascii_digit, is_ascii_lowercase}
+use Rattle.std.proofs.Common.{◌≡◌, ◌≤◌, ◌+◌, ◌-◌, ℕ, Bool, true, false, cond, List, [], ◌∷◌, ◌++◌, length, take, drop, get_or, eqb, refl, sym, ap, ◌∙◌, arith, inl, inr}
+use Rattle.std.specs.Prelude.{◌==◌, ◌&&◌}
 use Rattle.std.proofs.lemmas.Bool.{cases_Bool}
-use Rattle.std.specs.Prelude.{Option, Some, None}
+use Rattle.std.specs.Prelude.{Some, None}
 use Rattle.std.specs.List.{starts_with}
 use Rattle.std.proofs.lemmas.List.{take_rest}
-use Rattle.deb_rows.specs.Cells.{begins_with_space, stops, cell_of, is_unstopped, ends_with_colon, fits}
+use Rattle.deb_rows.specs.Cells.{stops, cell_of, ends_with_colon, fits}
 use Rattle.deb_rows.specs.Reads.{read_cell}
 use Rattle.deb_rows.specs.declared.cell.Class.{Class}
-use Rattle.deb_rows.specs.declared.cell.Class.TheVariants.{Number, Word, Key, Alternative, Reason, Line}
 
 -- the last byte decides
 last_colon : (b : ℕ) (bs : List ℕ) → (get_or (b ∷ bs) (length bs) 0 == 58) ≡ ends_with_colon (b ∷ bs)
@@ -61,5 +59,5 @@ tests_cell class after text n f g e ef eg =
     let cell : take n text ≡ cell_of class text = ap (λ k. take k text) e ∙ take-cell_of class text in
     let first : fits class (cell_of class text) ≡ f = ap (fits class) (sym cell) ∙ sym ef in
     let second : starts_with eqb (drop (length (cell_of class text)) text) after ≡ g =
-        ap (λ k. starts_with eqb (drop k text) after) (sym e) ∙ ap (λ t. starts_with eqb t after) (sym (take_rest text n)) ∙ sym eg in
+    ap (λ k. starts_with eqb (drop k text) after) (sym e) ∙ ap (λ t. starts_with eqb t after) (sym (take_rest text n)) ∙ sym eg in
     rw (first, second, e) refl

@@ -1,20 +1,16 @@
 -- A row is found exactly if the text goes on with the line of one.
-use Rattle.std.proofs.Common.{◌≡◌, ◌+◌, ◌≤◌, ℕ, Bool, true, false, cond, List, [], ◌∷◌, ◌++◌, length, drop, refl, sym, ap, ◌∙◌, subst, arith, inl, inr, length-append, append_assoc}
-use Rattle.std.specs.Prelude.{◌&&◌, Option, Some, None, slice_set}
-use Rattle.std.specs.Option.{is_some, option_and_then, option_map, option_map_or, option_or}
-use Rattle.std.proofs.lemmas.Bool.{cases_Bool, and_parts, and_from, false≢true}
-use Rattle.std.proofs.lemmas.List.{drop_at, drop-drop, drop_all}
+use Rattle.std.proofs.Common.{◌≡◌, ◌+◌, ℕ, true, List, [], ◌∷◌, ◌++◌, length, drop, refl, sym, ap, ◌∙◌, subst, arith, length-append, append_assoc}
+use Rattle.std.specs.Prelude.{Option, Some, slice_set}
+use Rattle.std.specs.Option.{option_and_then, option_map_or}
+use Rattle.std.proofs.lemmas.Bool.{and_parts, and_from, false≢true}
+use Rattle.std.proofs.lemmas.List.{drop_at, drop-drop}
 use Rattle.std.proofs.lemmas.Option.{option_and_then_some}
 use Rattle.deb_rows.specs.Cells.{is_cell}
-use Rattle.deb_rows.specs.Kinds.{Piece, form_of, front_of, kinds_of, number_of, pieces_of}
-use Rattle.deb_rows.specs.Reads.{begins_with, found, read_cell, read_cells, read_first, read_kind, read_row}
-use Rattle.deb_rows.specs.Rows.{IsRow, RowText, are_cells, cells_text, no_cells, placed, row_at, row_line, span, spans_of}
-use Rattle.deb_rows.specs.declared.cell.Class.{Class}
-use Rattle.deb_rows.specs.declared.form.Form.{Form}
-use Rattle.deb_rows.specs.declared.kind.RowKind.{RowKind}
-use Rattle.deb_rows.specs.declared.line.Found.{Found}
+use Rattle.deb_rows.specs.Kinds.{Piece}
+use Rattle.deb_rows.specs.Reads.{read_cell, read_cells}
+use Rattle.deb_rows.specs.Rows.{are_cells, cells_text, placed, span, spans_of}
 use Rattle.deb_rows.specs.declared.row.Span.{Span}
-use Rattle.deb_rows.proofs.Ends.{Closes, CellFound, begins-append, begins-rest, cell_found, cell_is_read}
+use Rattle.deb_rows.proofs.Ends.{Closes, CellFound, cell_found, cell_is_read}
 
 -- ---- cells
 

@@ -6,7 +6,7 @@ use Rattle.std.proofs.lemmas.List.{drop-drop, drop_at, take_at, take_more_set}
 use Rattle.deb_rows.specs.Cells.{is_cell}
 use Rattle.deb_rows.specs.Kinds.{Piece, front_of, pieces_of}
 use Rattle.deb_rows.specs.Laws.{cells_in, cells_of, part}
-use Rattle.deb_rows.specs.Rows.{AreRows, HasRows, IsRow, RowText, are_cells, cells_text, no_cells, placed, row_at, row_line, rows_text, span, spans_of, table_at, table_of}
+use Rattle.deb_rows.specs.Rows.{AreRows, HasRows, IsRow, RowText, are_cells, cells_text, no_cells, placed, row_at, row_line, rows_text, spans_of, table_at, table_of}
 use Rattle.deb_rows.specs.declared.form.Form.{Form}
 use Rattle.deb_rows.specs.declared.kind.RowKind.{RowKind}
 use Rattle.deb_rows.specs.declared.kind.RowKind.TheVariants as kind

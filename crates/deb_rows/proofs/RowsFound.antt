@@ -1,12 +1,12 @@
 -- The row of a line is found, and only such a row.
-use Rattle.std.proofs.Common.{◌≡◌, ◌+◌, ◌≤◌, ◌<◌, ℕ, Bool, true, false, cond, List, [], ◌∷◌, ◌++◌, length, drop, refl, sym, ap, ◌∙◌, subst, arith, inl, inr, length-append, length-drop, append_assoc}
+use Rattle.std.proofs.Common.{◌≡◌, ◌+◌, ℕ, true, cond, List, [], ◌∷◌, ◌++◌, length, drop, refl, sym, ap, ◌∙◌, subst, arith, inl, inr, length-append, append_assoc}
 use Rattle.std.specs.Prelude.{Option, Some, None}
 use Rattle.std.specs.Option.{is_some, option_map, option_map_or, option_or}
 use Rattle.std.proofs.lemmas.Bool.{cases_Bool, false≢true}
 use Rattle.std.proofs.lemmas.List.{drop_at, drop-drop}
-use Rattle.deb_rows.specs.Kinds.{form_of, front_of, kinds_of, number_of, pieces_of}
+use Rattle.deb_rows.specs.Kinds.{form_of, front_of, kinds_of, pieces_of}
 use Rattle.deb_rows.specs.Reads.{begins_with, found, read_cells, read_first, read_kind, read_row}
-use Rattle.deb_rows.specs.Rows.{IsRow, RowText, are_cells, cells_text, no_cells, placed, row_at, row_line, spans_of}
+use Rattle.deb_rows.specs.Rows.{IsRow, RowText, are_cells, cells_text, no_cells, row_at, row_line}
 use Rattle.deb_rows.specs.declared.form.Form.{Form}
 use Rattle.deb_rows.specs.declared.kind.RowKind.{RowKind}
 use Rattle.deb_rows.specs.declared.line.Found.{Found}
@@ -86,7 +86,7 @@ kind_is_read row text more start cells e =
     let front_read : begins_with (drop start text) front ≡ true = ap (λ t. begins_with t front) begins ∙ begins-append front (rest ++ more) in
     let inner = read_cells (pieces_of row.kind) text (start + length front) 0 no_cells in
     let goes_on : drop (start + length front) text ≡ rest ++ more =
-        sym (drop-drop (length front) start text) ∙ ap (drop (length front)) begins ∙ drop_at front (rest ++ more) (length front) refl in
+    sym (drop-drop (length front) start text) ∙ ap (drop (length front)) begins ∙ drop_at front (rest ++ more) (length front) refl in
     let read = cells_are_read (pieces_of row.kind) row.cells text more (start + length front) 0 no_cells (cells_close row.kind) cells goes_on in
     ap (λ t. is_some (cond t (option_map (found row.kind) inner) None)) front_read
     ∙ ap (λ o. is_some (option_map (found row.kind) o)) read
@@ -102,6 +102,7 @@ first_is_read kind (one ∷ more) text start among some = elim among [
     here : (o : Option Found) → is_some o ≡ true → is_some (option_or o (read_first more text start)) ≡ true
     here None h = absurd (false≢true h)
     here (Some x) h = refl
+
     there : (o : Option Found) → is_some (read_first more text start) ≡ true → is_some (option_or o (read_first more text start)) ≡ true
     there None h = h
     there (Some x) h = refl

@@ -1,12 +1,11 @@
 -- Texts that begin with the lines of two rows alike have the same row there.
-use Rattle.std.proofs.Common.{◌≡◌, ◌+◌, ◌≤◌, ◌<◌, ℕ, Bool, true, false, List, [], ◌∷◌, ◌++◌, length, drop, refl, sym, ap, ◌∙◌, subst, arith, length-append, append_assoc}
+use Rattle.std.proofs.Common.{◌≡◌, ◌≤◌, ℕ, true, List, [], ◌∷◌, ◌++◌, length, refl, sym, ap, ◌∙◌, subst, arith, length-append, append_assoc}
 use Rattle.std.specs.Prelude.{codes}
 use Rattle.std.proofs.lemmas.Bool.{and_parts, false≢true}
 use Rattle.std.proofs.lemmas.List.{append_cancel_left}
-use Rattle.deb_rows.specs.Cells.{cell_of, fits, has_bytes, is_cell, is_unstopped}
-use Rattle.deb_rows.specs.Kinds.{Piece, any_text, form_of, front_of, pieces_of}
+use Rattle.deb_rows.specs.Cells.{cell_of, has_bytes, is_cell}
+use Rattle.deb_rows.specs.Kinds.{Piece, any_text, front_of, pieces_of}
 use Rattle.deb_rows.specs.Rows.{AreRows, HasRows, IsRow, RowText, are_cells, cells_text, row_line, rows_text}
-use Rattle.deb_rows.specs.declared.cell.Class.{Class}
 use Rattle.deb_rows.specs.declared.cell.Class.TheVariants.{Key}
 use Rattle.deb_rows.specs.declared.form.Form.{Form}
 use Rattle.deb_rows.specs.declared.kind.RowKind.{RowKind}

@@ -1,5 +1,5 @@
 -- How far a text was read, and what is in the table.
-use Rattle.std.proofs.Common.{◌≡◌, ◌+◌, ◌-◌, ◌≤◌, ◌<◌, ℕ, List, [], ◌∷◌, ◌++◌, length, drop, get_or, refl, sym, ap, ◌∙◌, subst, arith, length-append, length-drop, length-set, append_assoc, append-nil, add_assoc, drop_of_length-le}
+use Rattle.std.proofs.Common.{◌≡◌, ◌+◌, ◌≤◌, ◌<◌, ℕ, List, [], ◌∷◌, ◌++◌, length, drop, get_or, refl, sym, ap, ◌∙◌, arith, length-append, length-drop, length-set, append_assoc, append-nil, drop_of_length-le}
 use Rattle.std.specs.Prelude.{Option, slice_set, Some, None, IfNone, IfSome}
 use Rattle.std.proofs.lemmas.List.{drop_more, length_push, set_at}
 use Rattle.deb_rows.specs.Calls.{Reads, Scans}

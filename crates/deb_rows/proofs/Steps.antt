@@ -1,5 +1,5 @@
 -- One cell of a line, and one kind of a form, after the other.
-use Rattle.std.proofs.Common.{◌≡◌, ◌<◌, ◌+◌, ◌-◌, ◌≤◌, ℕ, List, [], ◌∷◌, length, take, drop, get_or, map, sym, ap, ◌∙◌, refl, Some, None, Bor, drop_of_length-le}
+use Rattle.std.proofs.Common.{◌≡◌, ◌<◌, ◌+◌, ◌-◌, ◌≤◌, ℕ, List, length, take, drop, get_or, map, sym, ap, ◌∙◌, Some, None, Bor, drop_of_length-le}
 use Rattle.std.specs.Prelude.{Option, slice_set}
 use Rattle.std.specs.Option.{option_and_then, option_or}
 use Rattle.std.proofs.lemmas.List.{drop-map, drop_more, take_rest}
@@ -8,7 +8,6 @@ use Rattle.deb_rows.specs.Reads.{read_cell, read_cells, read_first, read_kind}
 use Rattle.deb_rows.specs.Rows.{span}
 use Rattle.deb_rows.specs.declared.cell.Class.{Class}
 use Rattle.deb_rows.specs.declared.kind.RowKind.{RowKind}
-use Rattle.deb_rows.specs.declared.line.Found.{Found}
 use Rattle.deb_rows.specs.declared.row.Span.{Span}
 
 abbrev Pieces : Type 0

@@ -60,3 +60,36 @@ fits Line cell = true
 -- whether a text is a cell of a class
 abbrev pub is_cell : Class → List ℕ → Bool
 is_cell class text = is_unstopped class text && fits class text
+
+-- Worked cases: what is read at the start of a text, and what is a cell.
+
+numbers : (cell_of Number (codes "12 a") ≡ codes "12") × (cell_of Number (codes "a") ≡ [])
+    × (map (is_cell Number) (codes "0" ∷ codes "012" ∷ codes "" ∷ codes "1a" ∷ codes "-1" ∷ [])
+    ≡ true ∷ true ∷ false ∷ false ∷ false ∷ [])
+numbers = (refl, refl, refl)
+
+words : (cell_of Word (codes "a:b c") ≡ codes "a:b") × (cell_of Word (codes "a\nb") ≡ codes "a")
+    × (map (is_cell Word) (codes "a:b" ∷ codes "" ∷ codes "a:" ∷ codes ":" ∷ codes "a b" ∷ [])
+    ≡ true ∷ true ∷ false ∷ false ∷ false ∷ [])
+words = (refl, refl, refl)
+
+keys : (cell_of Key (codes "at: 1") ≡ codes "at")
+    × (map (is_cell Key) (codes "az" ∷ codes "" ∷ codes "Az" ∷ codes "a1" ∷ codes "a:" ∷ [])
+    ≡ true ∷ false ∷ false ∷ false ∷ false ∷ [])
+keys = (refl, refl)
+
+-- a colon ends an alternative if a space is after it
+alternatives : (cell_of Alternative (codes "a:any (>= 1:2): b: c") ≡ codes "a:any (>= 1:2)")
+    × (map (is_cell Alternative) (codes "a:b c" ∷ codes "a:" ∷ codes "a: b" ∷ codes "a\n" ∷ [])
+    ≡ true ∷ true ∷ false ∷ false ∷ [])
+alternatives = (refl, refl)
+
+reasons : (cell_of Reason (codes "1 a: b\nc") ≡ codes "1 a: b")
+    × (map (is_cell Reason) (codes "a 1 b" ∷ codes "1a b" ∷ codes "12" ∷ codes "12 a" ∷ codes "1 " ∷ [])
+    ≡ true ∷ true ∷ true ∷ false ∷ false ∷ [])
+reasons = (refl, refl)
+
+texts : (cell_of Line (codes "12 a: b\n") ≡ codes "12 a: b")
+    × (map (is_cell Line) (codes "12 a: b" ∷ codes "" ∷ codes "a\n" ∷ [])
+    ≡ true ∷ true ∷ false ∷ [])
+texts = (refl, refl)

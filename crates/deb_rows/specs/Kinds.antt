@@ -1,6 +1,6 @@
 -- How the line of each kind of row is spelled, and which kinds a text of a form has. The forms are
 -- this project's own.
-use Rattle.std.specs.Prelude.{◌≡◌, ℕ, List, [], ◌∷◌, codes}
+use Rattle.std.specs.Prelude.{◌≡◌, ℕ, List, [], ◌∷◌, codes, map, replicate, refl}
 use Rattle.std.specs.Borrow.{Bor}
 use Rattle.deb_rows.specs.declared.cell.Class.{Class}
 use Rattle.deb_rows.specs.declared.cell.Class.TheVariants.{Number, Word, Key, Alternative, Reason, Line}
@@ -129,3 +129,29 @@ kinds_of form.UnmetLines = kind.UnmetGroup ∷ kind.UnsureGroup ∷ []
 kinds_of form.DiffLines =
     kind.Removed ∷ kind.Changed ∷ kind.Upgraded ∷ kind.Added ∷ kind.OldLine ∷ kind.NewLine ∷ []
 kinds_of form.Explanation = kind.Key ∷ kind.End ∷ kind.Count ∷ kind.Summary ∷ kind.Valid ∷ []
+
+-- Worked cases.
+
+pieces : (piece_in (Word, record { ref_ptr = (0, 0); now = codes " " }) ≡ (Word, codes " "))
+    × (pieces_of kind.Upgraded ≡ (Number, codes " ") ∷ (Word, codes " ") ∷ (Word, codes " ")
+    ∷ (Word, codes " ") ∷ (Word, codes " ") ∷ (Line, codes "\n") ∷ [])
+    × (pieces_of kind.Changed ≡ (Number, codes " ") ∷ (Word, codes " ") ∷ (Word, codes " ")
+    ∷ (Word, codes " ") ∷ (Line, codes "\n") ∷ [])
+    × (pieces_of kind.Added
+    ≡ (Number, codes " ") ∷ (Word, codes " ") ∷ (Word, codes " ") ∷ (Word, codes "\n") ∷ [])
+pieces = (refl, refl, refl, refl)
+
+-- the kinds have the numbers of `deb_row_kind` in `include/debctl.h`
+numbers : map (map number_of)
+    (kinds_of form.Report ∷ kinds_of form.UnmetLines ∷ kinds_of form.DiffLines
+    ∷ kinds_of form.Explanation ∷ [])
+    ≡ (0 ∷ 1 ∷ 2 ∷ 3 ∷ 4 ∷ 5 ∷ []) ∷ (6 ∷ 7 ∷ []) ∷ (8 ∷ 9 ∷ 10 ∷ 11 ∷ 12 ∷ 13 ∷ [])
+    ∷ (14 ∷ 15 ∷ 16 ∷ 17 ∷ 18 ∷ []) ∷ []
+numbers = refl
+
+forms : map (map form_of)
+    (kinds_of form.Report ∷ kinds_of form.UnmetLines ∷ kinds_of form.DiffLines
+    ∷ kinds_of form.Explanation ∷ [])
+    ≡ replicate 6 form.Report ∷ replicate 2 form.UnmetLines ∷ replicate 6 form.DiffLines
+    ∷ replicate 5 form.Explanation ∷ []
+forms = refl

@@ -1,7 +1,8 @@
 -- The laws of rows: a text has one list of rows, and the spans of a table name exactly its cells.
-use Rattle.std.specs.Prelude.{◌≡◌, ℕ, List, drop, map, take}
-use Rattle.deb_rows.specs.Rows.{AreRows, HasRows, RowText, rows_text, table_of}
+use Rattle.std.specs.Prelude.{◌≡◌, ℕ, List, [], ◌∷◌, codes, drop, map, refl, take}
+use Rattle.deb_rows.specs.Rows.{HasRows, RowText, row, span, table_of}
 use Rattle.deb_rows.specs.declared.form.Form.{Form}
+use Rattle.deb_rows.specs.declared.kind.RowKind.TheVariants.{Met, Package}
 use Rattle.deb_rows.specs.declared.row.Row.{Row}
 use Rattle.deb_rows.specs.declared.row.Span.{Span}
 
@@ -27,3 +28,17 @@ abbrev pub SpansNameCells : Type 0
 SpansNameCells =
     (form : Form) (text : List ℕ) (rows : List RowText) → HasRows form text rows
     → map (cells_in text) (table_of rows) ≡ map cells_of rows
+
+-- Worked cases.
+
+parts : (part (codes "abcd") (span 1 2) ≡ codes "bc") × (part (codes "abcd") (span 4 0) ≡ [])
+parts = (refl, refl)
+
+cells : map (cells_in (codes "met a\n 1 b 2 all\n"))
+    (table_of (row Met (codes "a" ∷ [])
+    ∷ row Package (codes "1" ∷ codes "b" ∷ codes "2" ∷ codes "all" ∷ []) ∷ []))
+    ≡ (codes "a" ∷ []) ∷ (codes "1" ∷ codes "b" ∷ codes "2" ∷ codes "all" ∷ []) ∷ []
+cells = refl
+
+rows_by_cells : map cells_of (row Met (codes "a" ∷ []) ∷ []) ≡ (codes "a" ∷ []) ∷ []
+rows_by_cells = refl

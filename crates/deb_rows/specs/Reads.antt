@@ -1,14 +1,17 @@
 -- How a row is read at an offset of a text. The proofs show that this finds a row exactly if the
 -- text goes on with the line of one.
-use Rattle.std.specs.Prelude.{◌≡◌, ℕ, ◌+◌, ◌==◌, ◌&&◌, Bool, cond, List, [], ◌∷◌, drop, length, slice_set, Option, Some, None}
+use Rattle.std.specs.Prelude.{◌≡◌, ℕ, ◌+◌, ◌==◌, ◌&&◌, Bool, cond, List, [], ◌∷◌, drop, length, slice_set, Option, Some, None, codes, refl}
 use Rattle.std.specs.List.{starts_with}
 use Rattle.std.specs.Option.{option_and_then, option_map, option_or}
 use Rattle.deb_rows.specs.Cells.{cell_of, fits}
 use Rattle.deb_rows.specs.Kinds.{Piece, front_of, kinds_of, number_of, pieces_of}
 use Rattle.deb_rows.specs.Rows.{no_cells, span}
 use Rattle.deb_rows.specs.declared.cell.Class.{Class}
+use Rattle.deb_rows.specs.declared.cell.Class.TheVariants.{Alternative, Number}
 use Rattle.deb_rows.specs.declared.form.Form.{Form}
+use Rattle.deb_rows.specs.declared.form.Form.TheVariants.{Report}
 use Rattle.deb_rows.specs.declared.kind.RowKind.{RowKind}
+use Rattle.deb_rows.specs.declared.kind.RowKind.TheVariants.{Met, Package}
 use Rattle.deb_rows.specs.declared.line.Found.{Found}
 use Rattle.deb_rows.specs.declared.row.Span.{Span}
 
@@ -60,3 +63,23 @@ read_first (kind ∷ kinds) text start =
 
 abbrev pub read_row : Form → List ℕ → ℕ → Option Found
 read_row form text start = read_first (kinds_of form) text start
+
+-- Worked cases.
+
+cells_read : (read_cell Number (codes " ") (codes "12 a") ≡ Some 2)
+    × (read_cell Number (codes ", ") (codes "12 a") ≡ None)
+    × (read_cell Number (codes " ") (codes " a") ≡ None)
+    × (read_cell Alternative (codes ": ") (codes "a:b: c") ≡ Some 3)
+unfolding read_cell
+cells_read = (refl, refl, refl, refl)
+
+-- a row, at an offset; none, where the line has another form; none, where it has no newline
+rows_read : (read_row Report (codes "met a\nmet b c\n") 6
+    ≡ Some (found Met (span 10 3 ∷ span 0 0 ∷ span 0 0 ∷ span 0 0 ∷ span 0 0 ∷ span 0 0 ∷ [], 14)))
+    × (read_row Report (codes " 1 b 2 all\n") 0
+    ≡ Some (found Package
+    (span 1 1 ∷ span 3 1 ∷ span 5 1 ∷ span 7 3 ∷ span 0 0 ∷ span 0 0 ∷ [], 11)))
+    × (read_row Report (codes "removed 1 a 1 all\n") 0 ≡ None)
+    × (read_row Report (codes "met a") 0 ≡ None)
+unfolding read_cell
+rows_read = (refl, refl, refl, refl)

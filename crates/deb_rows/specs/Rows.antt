@@ -1,10 +1,12 @@
 -- The rows of a text that this library writes: what a line says, how it is printed, and where its
 -- cells then are. The forms are this project's own.
-use Rattle.std.specs.Prelude.{◌≡◌, ℕ, ◌+◌, ◌&&◌, Bool, true, false, List, [], ◌∷◌, ◌++◌, length, slice_set, IsTrue, codes, refl}
+use Rattle.std.specs.Prelude.{◌≡◌, ℕ, ◌+◌, ◌&&◌, Bool, true, false, List, [], ◌∷◌, ◌++◌, length, map, slice_set, codes, refl}
 use Rattle.deb_rows.specs.Cells.{is_cell}
 use Rattle.deb_rows.specs.Kinds.{Piece, form_of, front_of, number_of, pieces_of}
 use Rattle.deb_rows.specs.declared.form.Form.{Form}
+use Rattle.deb_rows.specs.declared.form.Form.TheVariants as form
 use Rattle.deb_rows.specs.declared.kind.RowKind.{RowKind}
+use Rattle.deb_rows.specs.declared.kind.RowKind.TheVariants as kind
 use Rattle.deb_rows.specs.declared.row.Row.{Row}
 use Rattle.deb_rows.specs.declared.row.Span.{Span}
 
@@ -81,7 +83,7 @@ row_at start row =
       kind = number_of row.kind;
       cell_count = length (pieces_of row.kind);
       cells = placed 0 no_cells
-        (spans_of (start + length (front_of row.kind)) (pieces_of row.kind) row.cells);
+          (spans_of (start + length (front_of row.kind)) (pieces_of row.kind) row.cells);
     }
 
 -- the table of the rows of a text, from this offset on
@@ -91,3 +93,98 @@ table_at start (row ∷ rows) = row_at start row ∷ table_at (start + length (r
 
 abbrev pub table_of : List RowText → List Row
 table_of rows = table_at 0 rows
+
+-- ---- worked cases
+
+abbrev pub row : RowKind → List (List ℕ) → RowText
+row kind cells = record { kind = kind; cells = cells }
+
+-- a line of each kind; the numbers are those of lines as the program prints them
+
+groups : (row_line (row kind.Met (codes "vv (>= 2) | ww" ∷ [])) ≡ codes "met vv (>= 2) | ww\n")
+    × (row_line (row kind.Unmet (codes "dd" ∷ [])) ≡ codes "unmet dd\n")
+    × (row_line (row kind.Ignored (codes "bb [!amd64]" ∷ [])) ≡ codes "ignored bb [!amd64]\n")
+groups = (refl, refl, refl)
+
+packages : row_line (row kind.Package
+    (codes "2" ∷ codes "world" ∷ codes "1:1.0" ∷ codes "all" ∷ []))
+    ≡ codes " 2 world 1:1.0 all\n"
+packages = refl
+
+reasons : (row_line (row kind.Reason (codes "dd" ∷ codes "no package has this name" ∷ []))
+    ≡ codes " dd: no package has this name\n")
+    × (row_line (row kind.PackageReason
+    (codes "vv (>= 3)" ∷ codes "2" ∷ codes "world" ∷ codes "1.0" ∷ codes "all"
+    ∷ codes "isn't Multi-Arch: allowed" ∷ []))
+    ≡ codes " vv (>= 3): 2 world 1.0 all isn't Multi-Arch: allowed\n")
+reasons = (refl, refl)
+
+unmet_groups : (row_line (row kind.UnmetGroup
+    (codes "4735" ∷ codes "aa" ∷ codes "1.221" ∷ codes "all" ∷ codes "Depends" ∷ codes "b | c"
+    ∷ [])) ≡ codes "unmet 4735 aa 1.221 all Depends b | c\n")
+    × (row_line (row kind.UnsureGroup
+    (codes "812" ∷ codes "qemu" ∷ codes "1:7.2" ∷ codes "source" ∷ codes "Build-Depends"
+    ∷ codes "pp [linux-amd64]" ∷ []))
+    ≡ codes "unsure 812 qemu 1:7.2 source Build-Depends pp [linux-amd64]\n")
+unmet_groups = (refl, refl)
+
+changes : (row_line (row kind.Removed
+    (codes "12" ∷ codes "gone" ∷ codes "2.10-2" ∷ codes "amd64" ∷ []))
+    ≡ codes "removed 12 gone 2.10-2 amd64\n")
+    × (row_line (row kind.Changed
+    (codes "20" ∷ codes "world" ∷ codes "1.0" ∷ codes "all" ∷ codes "Depends Size" ∷ []))
+    ≡ codes "changed 20 world 1.0 all Depends Size\n")
+    × (row_line (row kind.Upgraded
+    (codes "15" ∷ codes "hello" ∷ codes "2.10-2" ∷ codes "2.10-3" ∷ codes "amd64"
+    ∷ codes "Version" ∷ [])) ≡ codes "upgraded 15 hello 2.10-2 2.10-3 amd64 Version\n")
+    × (row_line (row kind.Added
+    (codes "14" ∷ codes "fresh" ∷ codes "2.10-3" ∷ codes "amd64" ∷ []))
+    ≡ codes "added 14 fresh 2.10-3 amd64\n")
+changes = (refl, refl, refl, refl)
+
+values : (row_line (row kind.OldLine (codes "Depends: aa, bb" ∷ [])) ≡ codes " -Depends: aa, bb\n")
+    × (row_line (row kind.NewLine (codes " a line" ∷ [])) ≡ codes " + a line\n")
+values = (refl, refl)
+
+explanations : (row_line (row kind.Key (codes "value" ∷ codes "a: b" ∷ [])) ≡ codes "value: a: b\n")
+    × (row_line (row kind.End []) ≡ codes "\n")
+    × (row_line (row kind.Count (codes "12" ∷ [])) ≡ codes "ok 12\n")
+    × (row_line (row kind.Summary (codes "2" ∷ codes "1" ∷ [])) ≡ codes "ok 2, 1 refused\n")
+    × (row_line (row kind.Valid []) ≡ codes "ok\n")
+explanations = (refl, refl, refl, refl, refl)
+
+-- a cell for each piece, of its class
+cell_lists : map (are_cells (pieces_of kind.Count))
+    ((codes "12" ∷ []) ∷ [] ∷ (codes "12" ∷ codes "1" ∷ []) ∷ (codes "a" ∷ []) ∷ [])
+    ≡ true ∷ false ∷ false ∷ false ∷ []
+cell_lists = refl
+
+-- the rows of a text
+rows : HasRows form.Report (codes "unmet b\nmet a\n 3 a 1 all\n")
+    (row kind.Unmet (codes "b" ∷ []) ∷ row kind.Met (codes "a" ∷ [])
+    ∷ row kind.Package (codes "3" ∷ codes "a" ∷ codes "1" ∷ codes "all" ∷ []) ∷ [])
+rows = record {
+  allowed = (
+    record { kind = refl; cells = refl },
+    (
+      record { kind = refl; cells = refl },
+      (record { kind = refl; cells = refl }, tt),
+    ),
+  );
+  printed = refl;
+}
+
+-- where the cells are, the offsets from the text's start
+table : table_of (row kind.Met (codes "aa" ∷ [])
+    ∷ row kind.Package (codes "3" ∷ codes "aa" ∷ codes "1" ∷ codes "all" ∷ []) ∷ [])
+    ≡ record {
+      kind = 0;
+      cell_count = 1;
+      cells = span 4 2 ∷ span 0 0 ∷ span 0 0 ∷ span 0 0 ∷ span 0 0 ∷ span 0 0 ∷ [];
+    }
+    ∷ record {
+      kind = 3;
+      cell_count = 4;
+      cells = span 8 1 ∷ span 10 2 ∷ span 13 1 ∷ span 15 3 ∷ span 0 0 ∷ span 0 0 ∷ [];
+    } ∷ []
+table = refl

@@ -78,11 +78,9 @@ pub(crate) fn pieces_of(kind: RowKind) -> &'static [(Class, &'static [u8])]
     ensures few { length result.now ≤ 6 }
 {
     match kind {
-        RowKind::Met
-        | RowKind::Unmet
-        | RowKind::Ignored
-        | RowKind::OldLine
-        | RowKind::NewLine => &[(Class::Line, b"\n")],
+        RowKind::Met | RowKind::Unmet | RowKind::Ignored | RowKind::OldLine | RowKind::NewLine => &[
+            (Class::Line, b"\n"),
+        ],
         RowKind::Package | RowKind::Removed | RowKind::Added => &[
             (Class::Number, b" "),
             (Class::Word, b" "),

@@ -10,6 +10,7 @@ pub mod Askers
 pub mod Fields
 pub mod Tables
 pub mod Relations
+pub mod RowTables
 pub mod FieldLaws
 pub mod Loads
 pub mod Diffs

@@ -1,6 +1,5 @@
 -- The last byte decides.
-use Rattle.std.proofs.Common.{List, ℕ, ◌≡◌, ◌+◌, ◌-◌, ◌∙◌, sym, false, length, arith}
-use Rattle.std.specs.Prelude.{◌==◌}
+use Rattle.std.proofs.Common.{◌-◌, ◌∙◌, sym, length}
 use Rattle.deb_rows.proofs.Cells.{at_last-colon, more_than_none}
 use Rattle.deb_rows.proofs.cell.ends_with_colon.Goals as goal
 

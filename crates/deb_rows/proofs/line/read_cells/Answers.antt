@@ -1,9 +1,9 @@
 -- One cell more, or none.
-use Rattle.std.proofs.Common.{◌≡◌, ◌∙◌, sym, ap, subst, length, arith, length-drop, length-set}
+use Rattle.std.proofs.Common.{◌∙◌, sym, ap, length, arith, length-drop, length-set}
 use Rattle.std.specs.Option.{option_map}
 use Rattle.std.proofs.lemmas.List.{take_rest}
 use Rattle.deb_rows.specs.Reads.{found}
-use Rattle.deb_rows.proofs.Steps.{cell_read, no_cell_read, all_cells_read}
+use Rattle.deb_rows.proofs.Steps.{cell_read, no_cell_read}
 use Rattle.deb_rows.proofs.line.read_cells.Goals as goal
 
 pub returns-in_default : goal.returns-in_default

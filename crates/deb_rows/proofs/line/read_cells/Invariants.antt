@@ -1,5 +1,5 @@
 -- What is read of the pieces that are left, with the cells so far.
-use Rattle.std.proofs.Common.{◌≡◌, ◌+◌, ◌≤◌, drop, length, map}
+use Rattle.std.proofs.Common.{◌≡◌, ◌≤◌, drop, length, map}
 use Rattle.deb_rows.specs.Kinds.{piece_in, pieces_of}
 use Rattle.deb_rows.specs.Reads.{read_cells}
 use Rattle.deb_rows.specs.Rows.{no_cells}
