@@ -1,0 +1,116 @@
+//! The alternatives of a relation.
+
+use crate::parts::{cut_architectures, cut_bound, cut_formula, cut_name, cut_qualifier};
+use crate::run::{begins, skip_gap, skip_one, skip_white};
+use crate::span::Span;
+use deb_relation::{RelationFault, RelationText};
+use std::alloc::{AllocError, Global};
+
+/// Where the parts of an alternative are in the text of its relation (Debian Policy 7.1).
+#[repr(C)]
+#[derive(Clone, Copy, Debug, PartialEq, Eq)]
+pub struct AlternativeSpans {
+    /// The number of its group in the text, from 1. Empty pieces between commas aren't counted.
+    pub group: usize,
+    /// The name of the package.
+    pub name: Span,
+    /// The qualifier, without the colon.
+    pub qualifier: Span,
+    /// The operator of the bound.
+    pub operator: Span,
+    /// The version of the bound.
+    pub version: Span,
+    /// What is between the brackets of the architecture list.
+    pub architectures: Span,
+    /// The restriction formula, from its first `<` to its last `>`.
+    pub formula: Span,
+}
+
+/// The alternative that a text begins with, and what is left after it.
+fn cut_alternative(total: usize, group: usize, text: &[u8]) -> (AlternativeSpans, &[u8]) {
+    let (name, rest) = cut_name(total, text);
+    let (qualifier, rest) = cut_qualifier(total, rest);
+    let (operator, version, rest) = cut_bound(total, rest);
+    let (architectures, rest) = cut_architectures(total, rest);
+    let (formula, rest) = cut_formula(total, rest);
+    let alternative = AlternativeSpans {
+        group,
+        name,
+        qualifier,
+        operator,
+        version,
+        architectures,
+        formula,
+    };
+    (alternative, rest)
+}
+
+/// The next alternative and what is left after it, if there is a further one. After a bar it is of
+/// the same group as the one before it, else of the next group.
+fn next_alternative(total: usize, group: usize, text: &[u8]) -> Option<(AlternativeSpans, &[u8])> {
+    let text = skip_gap(text);
+    if text.is_empty() {
+        None
+    } else if begins(text, b'|') {
+        Some(cut_alternative(total, group, skip_white(skip_one(text))))
+    } else {
+        Some(cut_alternative(total, group.saturating_add(1), text))
+    }
+}
+
+/// The alternatives of a text that is a relation.
+fn cut_alternatives(alloc: Global, text: &[u8]) -> Result<Vec<AlternativeSpans>, AllocError> {
+    let mut alternatives = Vec::new(alloc);
+    let mut group = 0;
+    let mut rest = text;
+    for _ in 0..text.len() {
+        let Some((alternative, behind)) = next_alternative(text.len(), group, rest) else {
+            return Ok(alternatives);
+        };
+        alternatives.push(alternative)?;
+        group = alternative.group;
+        rest = behind;
+    }
+    Ok(alternatives)
+}
+
+/// Returns where the parts of each alternative of a relation are in its text, in the order of the
+/// text, repeats kept.
+///
+/// # Errors
+///
+/// The reason and the offset of the first step that fails, if the text isn't a relation; or out of
+/// memory.
+pub fn read_alternatives(
+    alloc: Global,
+    text: &[u8],
+) -> Result<Vec<AlternativeSpans>, RelationFault> {
+    let _ = RelationText::parse(alloc, text)?;
+    match cut_alternatives(alloc, text) {
+        Ok(alternatives) => Ok(alternatives),
+        Err(_) => Err(RelationFault::Memory),
+    }
+}
+
+#[cfg(test)]
+mod tests {
+    use super::*;
+    use std::test::Fail;
+
+    #[test]
+    fn parts_of_an_alternative(rt: HostRuntime) -> Result<(), Fail> {
+        let text = b" aa:any ( <<\t01.0 ) [ !i386 ] < !x y > <z> ,, bb | cc";
+        let found = read_alternatives(rt.alloc(), text).expect(&rt, "memory");
+        assert_eq!(rt; found.len(), 3);
+        let first = found[0];
+        assert_eq!(rt; (first.group, first.name.start, first.name.length), (1, 1, 2));
+        assert_eq!(rt; (first.qualifier.start, first.qualifier.length), (4, 3));
+        assert_eq!(rt; (first.operator.start, first.operator.length), (10, 2));
+        assert_eq!(rt; (first.version.start, first.version.length), (13, 4));
+        assert_eq!(rt; (first.architectures.start, first.architectures.length), (21, 7));
+        assert_eq!(rt; (first.formula.start, first.formula.length), (30, 12));
+        assert_eq!(rt; (found[1].group, found[1].name.start), (2, 46));
+        assert_eq!(rt; (found[2].group, found[2].name.start), (2, 51));
+        Ok(())
+    }
+}
