@@ -1,5 +1,14 @@
 //! The alternatives of a relation.
 
+ghost use Rattle.std.specs.Prelude.{◌≡◌, ◌<◌, IfErr, IfOk};
+ghost use Rattle.std.specs.Option.{option_map};
+ghost use Rattle.deb_relation.specs.Faults.{first_fault};
+ghost use Rattle.deb_relation.specs.Grammar.{SpellsRelation};
+ghost use Rattle.deb_relation.specs.Meaning.{Relation};
+ghost use Rattle.deb_relation.specs.Relations.{Tells};
+ghost use Rattle.deb_spelled.specs.Alternatives.{alternatives_in, cut_alternative, cut_behind, next_alternative};
+ghost use Rattle.deb_spelled.specs.Relations.{HasAlternatives, IsCut};
+
 use crate::parts::{cut_architectures, cut_bound, cut_formula, cut_name, cut_qualifier};
 use crate::run::{begins, skip_gap, skip_one, skip_white};
 use crate::span::Span;
@@ -27,7 +36,10 @@ pub struct AlternativeSpans {
 }
 
 /// The alternative that a text begins with, and what is left after it.
-fn cut_alternative(total: usize, group: usize, text: &[u8]) -> (AlternativeSpans, &[u8]) {
+#[tactic(auto, unfolding(crate::specs::Alternatives::cut_alternative))]
+fn cut_alternative(total: usize, group: usize, text: &[u8]) -> (AlternativeSpans, &[u8])
+    ensures { cut_behind result ≡ cut_alternative total group text.now }
+{
     let (name, rest) = cut_name(total, text);
     let (qualifier, rest) = cut_qualifier(total, rest);
     let (operator, version, rest) = cut_bound(total, rest);
@@ -47,19 +59,25 @@ fn cut_alternative(total: usize, group: usize, text: &[u8]) -> (AlternativeSpans
 
 /// The next alternative and what is left after it, if there is a further one. After a bar it is of
 /// the same group as the one before it, else of the next group.
-fn next_alternative(total: usize, group: usize, text: &[u8]) -> Option<(AlternativeSpans, &[u8])> {
+#[tactic(auto, unfolding(crate::specs::Alternatives::next_alternative))]
+fn next_alternative(total: usize, group: usize, text: &[u8]) -> Option<(AlternativeSpans, &[u8])>
+    requires { group < usize.MAX }
+    ensures { option_map cut_behind result ≡ next_alternative total group text.now }
+{
     let text = skip_gap(text);
     if text.is_empty() {
         None
     } else if begins(text, b'|') {
         Some(cut_alternative(total, group, skip_white(skip_one(text))))
     } else {
-        Some(cut_alternative(total, group.saturating_add(1), text))
+        Some(cut_alternative(total, group + 1, text))
     }
 }
 
 /// The alternatives of a text that is a relation.
-fn cut_alternatives(alloc: Global, text: &[u8]) -> Result<Vec<AlternativeSpans>, AllocError> {
+fn cut_alternatives(alloc: Global, text: &[u8]) -> Result<Vec<AlternativeSpans>, AllocError>
+    ensures { IfOk result (λ found. found.items ≡ alternatives_in text.now) }
+{
     let mut alternatives = Vec::new(alloc);
     let mut group = 0;
     let mut rest = text;
@@ -84,11 +102,17 @@ fn cut_alternatives(alloc: Global, text: &[u8]) -> Result<Vec<AlternativeSpans>,
 pub fn read_alternatives(
     alloc: Global,
     text: &[u8],
-) -> Result<Vec<AlternativeSpans>, RelationFault> {
-    let _ = RelationText::parse(alloc, text)?;
-    match cut_alternatives(alloc, text) {
-        Ok(alternatives) => Ok(alternatives),
-        Err(_) => Err(RelationFault::Memory),
+) -> Result<Vec<AlternativeSpans>, RelationFault>
+    ensures ok { IfOk result (λ found. HasAlternatives text.now found.items) }
+    ensures accepted { (m : Relation) → SpellsRelation text.now m → IsCut result }
+    ensures refused { IfErr result (Tells (first_fault text.now)) }
+{
+    match RelationText::parse(alloc, text) {
+        Ok(_) => match cut_alternatives(alloc, text) {
+            Ok(alternatives) => Ok(alternatives),
+            Err(_) => Err(RelationFault::Memory),
+        },
+        Err(fault) => Err(fault),
     }
 }
 

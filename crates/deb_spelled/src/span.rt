@@ -1,5 +1,8 @@
 //! A part of a text.
 
+ghost use Rattle.std.specs.Prelude.{◌≡◌};
+ghost use Rattle.deb_spelled.specs.Parts.{no_span, span_at};
+
 /// Where a part is in its text. A part that is absent has the offset 0 and the length 0.
 #[repr(C)]
 #[derive(Clone, Copy, Debug, PartialEq, Eq)]
@@ -11,7 +14,9 @@ pub struct Span {
 }
 
 /// No part.
-pub(crate) fn no_span() -> Span {
+pub(crate) fn no_span() -> Span
+    ensures { result ≡ no_span }
+{
     Span {
         start: 0,
         length: 0,
@@ -19,7 +24,9 @@ pub(crate) fn no_span() -> Span {
 }
 
 /// The span of a part of so many bytes, at the start of what is left of a text of `total` bytes.
-pub(crate) fn span_at(total: usize, rest: &[u8], length: usize) -> Span {
+pub(crate) fn span_at(total: usize, rest: &[u8], length: usize) -> Span
+    ensures { result ≡ span_at total rest.now length }
+{
     if length == 0 {
         no_span()
     } else {
