@@ -2,8 +2,9 @@
 use Rattle.std.specs.Prelude.{◌≡◌, ℕ, zero, suc, ◌||◌, ◌==◌, Bool, if◌then◌else◌, List, [], ◌∷◌, length, drop, Option, Some, None, codes, refl}
 use denote.Ref.{Bor}
 use Rattle.deb_relation.specs.Reading.{begins, behind_run, behind_white, is_at_end, is_white}
+use Rattle.deb_version.specs.Lent.{lent}
 use Rattle.deb_spelled.specs.declared.alternative.AlternativeSpans.{AlternativeSpans}
-use Rattle.deb_spelled.specs.Parts.{cut_architectures, cut_bound, cut_brackets, cut_formula, cut_inside, cut_name, cut_qualifier, formula_len, no_span}
+use Rattle.deb_spelled.specs.Parts.{cut_architectures, cut_bound, cut_formula, cut_name, cut_qualifier, no_span, steps}
 
 -- the parts of the alternative that a text begins with, and the text after it
 unfoldable pub cut_alternative : ℕ → ℕ → List ℕ → AlternativeSpans × List ℕ
@@ -12,16 +13,18 @@ cut_alternative total group text =
     let qualifier = cut_qualifier total name.1 in
     let bound = cut_bound total qualifier.1 in
     let architectures = cut_architectures total bound.2 in
-    let formula = cut_formula total architectures.1 in
-    (record {
-      group = group;
-      name = name.0;
-      qualifier = qualifier.0;
-      operator = bound.0;
-      version = bound.1;
-      architectures = architectures.0;
-      formula = formula.0;
-    }, formula.1)
+    let formula = cut_formula total architectures.1 in (
+      record {
+        group = group;
+        name = name.0;
+        qualifier = qualifier.0;
+        operator = bound.0;
+        version = bound.1;
+        architectures = architectures.0;
+        formula = formula.0;
+      },
+      formula.1,
+    )
 
 -- the parts of an alternative, with the text after it as a list
 abbrev pub cut_behind : AlternativeSpans × Bor (List ℕ) → AlternativeSpans × List ℕ
@@ -80,16 +83,19 @@ worked-parts : alternatives_in (codes " aa:any ( <<\t01.0 ) [ !i386 ] < !x y > <
       architectures = record { start = 21; length = 7 };
       formula = record { start = 30; length = 12 };
     } ∷ []
-unfolding alternatives_in next_alternative cut_alternative cut_name cut_qualifier cut_bound cut_inside cut_architectures cut_brackets cut_formula formula_len
+unfolding steps alternatives_in next_alternative cut_alternative
 worked-parts = refl
 
 -- groups, with pieces of white space between them, and repeats
 worked-groups : alternatives_in (codes ", aa|bb ,\n, bb,aa")
     ≡ bare 1 2 2 ∷ bare 1 5 2 ∷ bare 2 12 2 ∷ bare 3 15 2 ∷ []
-unfolding alternatives_in next_alternative cut_alternative cut_name cut_qualifier cut_bound cut_architectures cut_formula formula_len
+unfolding steps alternatives_in next_alternative cut_alternative
 worked-groups = refl
 
 -- none
 worked-none : (alternatives_in [] ≡ []) × (alternatives_in (codes " ,, ") ≡ [])
 unfolding alternatives_in next_alternative
 worked-none = (refl, refl)
+
+worked-behind : cut_behind (bare 1 0 2, lent (codes ",bb")) ≡ (bare 1 0 2, codes ",bb")
+worked-behind = refl

@@ -43,10 +43,11 @@ cut_qualifier total text =
 -- closing parenthesis, and white space after each
 unfoldable pub cut_inside : ℕ → List ℕ → Span × Span × List ℕ
 cut_inside total text =
-    let version = behind_white (behind_run is_in_operator text) in
-    (span_at total text (prefix_len is_in_operator text),
-    span_at total version (prefix_len (is_before 41) version),
-    behind_white (drop 1 (behind_white (behind_run (is_before 41) version))))
+    let version = behind_white (behind_run is_in_operator text) in (
+      span_at total text (prefix_len is_in_operator text),
+      span_at total version (prefix_len (is_before 41) version),
+      behind_white (drop 1 (behind_white (behind_run (is_before 41) version))),
+    )
 
 -- a bound and white space, or nothing
 unfoldable pub cut_bound : ℕ → List ℕ → Span × Span × List ℕ
@@ -57,59 +58,75 @@ cut_bound total text =
 -- what comes after the opening bracket of an architecture list: all up to the closing one, that,
 -- and white space
 unfoldable pub cut_brackets : ℕ → List ℕ → Span × List ℕ
-cut_brackets total text =
-    (span_at total text (prefix_len is_in_brackets text),
-    behind_white (drop 1 (behind_run is_in_brackets text)))
+cut_brackets total text = (
+  span_at total text (prefix_len is_in_brackets text),
+  behind_white (drop 1 (behind_run is_in_brackets text)),
+)
 
 -- an architecture list and white space, or nothing
 unfoldable pub cut_architectures : ℕ → List ℕ → Span × List ℕ
 cut_architectures total text =
     if begins 91 text then cut_brackets total (drop 1 text) else (no_span, text)
 
--- how many bytes a text has up to its last `>`, with it
 abbrev pub is_no_closing : ℕ → Bool
 is_no_closing b = not (b == 62)
 
+-- how many bytes a text has up to its last `>`, with it
 unfoldable pub formula_len : List ℕ → ℕ
 formula_len text = length text - suffix_len is_no_closing text
 
 -- a formula, or nothing; and all before the comma or the bar after the alternative
 unfoldable pub cut_formula : ℕ → List ℕ → Span × List ℕ
-cut_formula total text =
-    (span_at total text (formula_len (run_of is_in_alternative text)),
-    behind_run is_in_alternative text)
+cut_formula total text = (
+  span_at total text (formula_len (run_of is_in_alternative text)),
+  behind_run is_in_alternative text,
+)
+
+-- the steps laid open, so that cases compute: whoever unfolds `steps` has them
+lists : ℕ → List ℕ → Span × List ℕ
+unfolding cut_architectures cut_brackets formula_len cut_formula
+lists total text = cut_formula total text
+
+bounds : ℕ → List ℕ → Span × List ℕ
+unfolding lists cut_inside cut_bound
+bounds total text = cut_formula total text
+
+unfoldable pub steps : ℕ → List ℕ → Span × List ℕ
+unfolding bounds cut_name cut_qualifier
+steps total text = cut_formula total text
+
+-- a part with these two numbers
+abbrev at : ℕ → ℕ → Span
+at start size = record { start = start; length = size }
 
 -- a name at its offset; a text without one
-worked-name : (cut_name 9 (codes "aa (=1)") ≡ (record { start = 2; length = 2 }, codes " (=1)"))
+worked-name : (cut_name 9 (codes "aa (=1)") ≡ (at 2 2, codes " (=1)"))
     × (cut_name 9 (codes "(=1)") ≡ (no_span, codes "(=1)"))
-unfolding cut_name
+unfolding steps
 worked-name = (refl, refl)
 
 -- with a colon, and without
-worked-qualifier : (cut_qualifier 9 (codes ":any\n|b") ≡ (record { start = 3; length = 3 }, codes "|b"))
+worked-qualifier : (cut_qualifier 9 (codes ":any\n|b") ≡ (at 3 3, codes "|b"))
     × (cut_qualifier 9 (codes " |b") ≡ (no_span, codes "|b"))
-unfolding cut_qualifier cut_name
+unfolding steps
 worked-qualifier = (refl, refl)
 
 -- with white space in all its places and without; and no bound
-worked-bound : (cut_bound 20 (codes "( <<\t01.0 ) [a]") ≡
-    (record { start = 7; length = 2 }, record { start = 10; length = 4 }, codes "[a]"))
-    × (cut_bound 20 (codes "(=1)|b")
-    ≡ (record { start = 15; length = 1 }, record { start = 16; length = 1 }, codes "|b"))
+worked-bound : (cut_bound 20 (codes "( <<\t01.0 ) [a]") ≡ (at 7 2, at 10 4, codes "[a]"))
+    × (cut_bound 20 (codes "(=1)|b") ≡ (at 15 1, at 16 1, codes "|b"))
     × (cut_bound 20 (codes "<a>") ≡ (no_span, no_span, codes "<a>"))
-unfolding cut_bound cut_inside
+unfolding steps
 worked-bound = (refl, refl, refl)
 
 -- the white space in a list belongs to it
-worked-architectures : (cut_architectures 9 (codes "[ !a ] <b>")
-    ≡ (record { start = 0; length = 4 }, codes "<b>"))
+worked-architectures : (cut_architectures 9 (codes "[ !a ] <b>") ≡ (at 0 4, codes "<b>"))
     × (cut_architectures 9 (codes "<b>") ≡ (no_span, codes "<b>"))
-unfolding cut_architectures cut_brackets
+unfolding steps
 worked-architectures = (refl, refl)
 
 -- several lists; white space after a list, and without one
-worked-formula : (cut_formula 9 (codes "<a> <b> |") ≡ (record { start = 0; length = 7 }, codes "|"))
-    × (cut_formula 9 (codes "<a>,<b>") ≡ (record { start = 2; length = 3 }, codes ",<b>"))
+worked-formula : (cut_formula 9 (codes "<a> <b> |") ≡ (at 0 7, codes "|"))
+    × (cut_formula 9 (codes "<a>,<b>") ≡ (at 2 3, codes ",<b>"))
     × (cut_formula 9 (codes " ,<b>") ≡ (no_span, codes ",<b>"))
-unfolding cut_formula formula_len
+unfolding steps
 worked-formula = (refl, refl, refl)

@@ -99,10 +99,7 @@ fn cut_alternatives(alloc: Global, text: &[u8]) -> Result<Vec<AlternativeSpans>,
 ///
 /// The reason and the offset of the first step that fails, if the text isn't a relation; or out of
 /// memory.
-pub fn read_alternatives(
-    alloc: Global,
-    text: &[u8],
-) -> Result<Vec<AlternativeSpans>, RelationFault>
+pub fn read_alternatives(alloc: Global, text: &[u8]) -> Result<Vec<AlternativeSpans>, RelationFault>
     ensures ok { IfOk result (λ found. HasAlternatives text.now found.items) }
     ensures accepted { (m : Relation) → SpellsRelation text.now m → IsCut result }
     ensures refused { IfErr result (Tells (first_fault text.now)) }
@@ -113,28 +110,5 @@ pub fn read_alternatives(
             Err(_) => Err(RelationFault::Memory),
         },
         Err(fault) => Err(fault),
-    }
-}
-
-#[cfg(test)]
-mod tests {
-    use super::*;
-    use std::test::Fail;
-
-    #[test]
-    fn parts_of_an_alternative(rt: HostRuntime) -> Result<(), Fail> {
-        let text = b" aa:any ( <<\t01.0 ) [ !i386 ] < !x y > <z> ,, bb | cc";
-        let found = read_alternatives(rt.alloc(), text).expect(&rt, "memory");
-        assert_eq!(rt; found.len(), 3);
-        let first = found[0];
-        assert_eq!(rt; (first.group, first.name.start, first.name.length), (1, 1, 2));
-        assert_eq!(rt; (first.qualifier.start, first.qualifier.length), (4, 3));
-        assert_eq!(rt; (first.operator.start, first.operator.length), (10, 2));
-        assert_eq!(rt; (first.version.start, first.version.length), (13, 4));
-        assert_eq!(rt; (first.architectures.start, first.architectures.length), (21, 7));
-        assert_eq!(rt; (first.formula.start, first.formula.length), (30, 12));
-        assert_eq!(rt; (found[1].group, found[1].name.start), (2, 46));
-        assert_eq!(rt; (found[2].group, found[2].name.start), (2, 51));
-        Ok(())
     }
 }

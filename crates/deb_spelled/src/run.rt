@@ -25,7 +25,10 @@ fn is_in_name(byte: u8) -> bool
     ensures { result ≡ is_in_name byte }
 {
     !(is_white(byte)
-        || matches!(byte, b',' | b'|' | b'(' | b')' | b'[' | b']' | b'<' | b'>' | b':'))
+        || matches!(
+            byte,
+            b',' | b'|' | b'(' | b')' | b'[' | b']' | b'<' | b'>' | b':'
+        ))
 }
 
 /// The bytes of an operator.
@@ -121,7 +124,9 @@ pub(crate) fn operator_length(text: &[u8]) -> usize
     ensures value { result ≡ prefix_len is_in_operator text.now }
     ensures bound { result ≤ length text.now }
 {
-    text.iter().take_while(|byte| is_in_operator(**byte)).count()
+    text.iter()
+        .take_while(|byte| is_in_operator(**byte))
+        .count()
 }
 
 /// Returns how many bytes of a version a text begins with.
@@ -137,7 +142,9 @@ pub(crate) fn brackets_length(text: &[u8]) -> usize
     ensures value { result ≡ prefix_len is_in_brackets text.now }
     ensures bound { result ≤ length text.now }
 {
-    text.iter().take_while(|byte| is_in_brackets(**byte)).count()
+    text.iter()
+        .take_while(|byte| is_in_brackets(**byte))
+        .count()
 }
 
 /// Returns how many bytes there are before a comma or a bar.
