@@ -133,6 +133,26 @@ struct deb_refusal {
     uint8_t code;  /* one of deb_code */
 };
 
+/* Where the parts of an alternative are in the text of its relation, in the table that
+ * deb_relation_parts writes: offsets and lengths. A part that is absent has the offset 0 and the
+ * length 0. */
+struct deb_alternative {
+    size_t group;         /* the number of its group in the text, from 1; empty pieces between commas
+                           * aren't counted */
+    size_t name;          /* the name of the package */
+    size_t name_length;
+    size_t qualifier;     /* the qualifier, without the colon */
+    size_t qualifier_length;
+    size_t op;            /* the operator of the bound */
+    size_t op_length;
+    size_t version;       /* the version of the bound */
+    size_t version_length;
+    size_t architectures; /* what is between the brackets of the architecture list */
+    size_t architectures_length;
+    size_t formula;       /* the restriction formula, from its first `<` to its last `>` */
+    size_t formula_length;
+};
+
 /* Compares two versions in Debian's order. Takes no memory.
  * DEB_YES; DEB_REFUSED: the first isn't a version; DEB_SECOND_REFUSED. */
 struct deb_comparison deb_version_compare(const uint8_t *left, size_t left_length,
@@ -156,6 +176,15 @@ struct deb_answer deb_version_key(const uint8_t *text, size_t text_length,
  * DEB_YES; DEB_REFUSED: it isn't a relation; DEB_NO_ROOM; DEB_NO_MEMORY. */
 struct deb_answer deb_relation_canonical(const uint8_t *text, size_t text_length,
                                          uint8_t *out, size_t out_size, size_t *length);
+
+/* Writes where the parts of each alternative of a relation are in its text, in the order of the text
+ * and with repeats: the relation as it is spelled, where deb_relation_canonical writes what it means.
+ * `alternatives` has room for `alternatives_size` alternatives; `alternative_count` is how many there
+ * are, also if there is no room for them.
+ * DEB_YES; DEB_REFUSED: it isn't a relation; DEB_NO_ROOM; DEB_NO_MEMORY. */
+struct deb_answer deb_relation_parts(const uint8_t *text, size_t text_length,
+                                     struct deb_alternative *alternatives,
+                                     size_t alternatives_size, size_t *alternative_count);
 
 /* Checks whether a file is accepted as a document of a kind.
  * DEB_YES, with the number of its paragraphs; DEB_REFUSED; DEB_NO_MEMORY; DEB_NO_KIND. */

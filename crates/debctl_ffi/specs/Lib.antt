@@ -9,6 +9,7 @@ pub mod Unmet
 pub mod Askers
 pub mod Fields
 pub mod Tables
+pub mod RelationParts
 pub mod Relations
 pub mod RowTables
 pub mod FieldLaws

@@ -31,6 +31,7 @@ mod query;
 mod read_fields;
 mod read_refusals;
 mod refusal_row;
+mod relation_parts;
 mod relations;
 mod report;
 mod rows;

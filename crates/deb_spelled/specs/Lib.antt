@@ -1,0 +1,3 @@
+pub mod Alternatives
+pub mod Parts
+pub mod Relations
