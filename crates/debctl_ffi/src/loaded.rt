@@ -18,7 +18,7 @@ use crate::answer::{
 };
 use crate::asker::{asked_of, lines_in, make_environment};
 use crate::buffer::give;
-use crate::report::{read_index, report_in};
+use crate::report::{Detail, read_index, report_in};
 use deb_base::Fault;
 use deb_index::{Index, Package};
 use std::alloc::{AllocError, Global};
@@ -86,11 +86,36 @@ impl Loaded {
             × GivesNothing out.old out.new len.new }
         ensures status { HasStatus result.status (0 ∷ 1 ∷ 2 ∷ 4 ∷ 5 ∷ 7 ∷ []) }
     {
+        self.report(Detail::Verdicts, target, profiles, relation, out, len)
+    }
+
+    /// The answer of [`crate::query_why::deb_index_query_why`].
+    pub(crate) fn query_why(
+        &self,
+        target: &[u8],
+        profiles: &[&[u8]],
+        relation: &[u8],
+        out: &mut [u8],
+        len: &mut usize,
+    ) -> Answer {
+        self.report(Detail::Reasons, target, profiles, relation, out, len)
+    }
+
+    /// The answer of a query, with or without reasons.
+    fn report(
+        &self,
+        detail: Detail,
+        target: &[u8],
+        profiles: &[&[u8]],
+        relation: &[u8],
+        out: &mut [u8],
+        len: &mut usize,
+    ) -> Answer {
         *len = 0;
         let Some(index) = &self.index else {
             return no_index();
         };
-        match report_in(self.alloc, target, profiles, relation, index) {
+        match report_in(self.alloc, detail, target, profiles, relation, index) {
             Ok((met, report)) => {
                 if !give(&report, out, len) {
                     return no_room();

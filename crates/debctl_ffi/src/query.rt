@@ -9,7 +9,7 @@ ghost use Rattle.debctl_ffi.specs.Queries.{GivesReport, IsRefusedQuery, LacksRoo
 
 use crate::answer::{Answer, no, no_memory, no_room, refused, yes};
 use crate::buffer::give;
-use crate::report::report_on;
+use crate::report::{Detail, report_on};
 use deb_base::Fault;
 use std::alloc::Global;
 
@@ -50,7 +50,7 @@ pub extern "C" fn deb_query(
     ensures status { HasStatus result.status (0 ∷ 1 ∷ 2 ∷ 4 ∷ 5 ∷ []) }
 {
     *len = 0;
-    match report_on(alloc, target, profiles, relation, index) {
+    match report_on(alloc, Detail::Verdicts, target, profiles, relation, index) {
         Ok((met, report)) => {
             if !give(&report, out, len) {
                 return no_room();
