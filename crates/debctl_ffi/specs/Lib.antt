@@ -1,6 +1,7 @@
 pub mod Answers
 pub mod Buffers
 pub mod Versions
+pub mod VersionParts
 pub mod Documents
 pub mod Explaining
 pub mod AllRefusals
@@ -10,6 +11,7 @@ pub mod Askers
 pub mod Fields
 pub mod Tables
 pub mod Relations
+pub mod ExplainedTexts
 pub mod FieldLaws
 pub mod Loads
 pub mod Diffs

@@ -1,4 +1,10 @@
-//! Why a relation or a version is refused, for programs in C.
+//! Why a text isn't a relation or a version, for programs in C.
+
+ghost use Rattle.std.specs.Prelude.{◌≡◌, [], ◌∷◌, IfOk, codes};
+ghost use Rattle.deb_explain.specs.Texts.{word_text};
+ghost use Rattle.debctl_ffi.specs.Answers.{HasStatus, plain, refusing};
+ghost use Rattle.debctl_ffi.specs.Buffers.{GivesNothing};
+ghost use Rattle.debctl_ffi.specs.ExplainedTexts.{ExplainedAs, GivesAccepted, GivesRefused, LacksRoomForText, refusal_as};
 
 use crate::answer::{Answer, no_memory, no_room, refused, yes};
 use crate::buffer::give;
@@ -18,7 +24,17 @@ pub extern "C" fn deb_explain_relation(
     text: &[u8],
     out: &mut [u8],
     len: &mut usize,
-) -> Answer {
+) -> Answer
+    ensures accepted { result.status ≡ 0
+        → GivesAccepted Word.Relation text.now out.old out.new len.new result }
+    ensures refused { result.status ≡ 2
+        → GivesRefused Word.Relation text.now out.old out.new len.new result }
+    ensures no_room { result.status ≡ 4 → (result ≡ plain 4)
+        × LacksRoomForText Word.Relation text.now out.old out.new len.new }
+    ensures no_memory { result.status ≡ 5 → (result ≡ plain 5)
+        × GivesNothing out.old out.new len.new }
+    ensures status { HasStatus result.status (0 ∷ 2 ∷ 4 ∷ 5 ∷ []) }
+{
     explain_as(alloc, Word::Relation, text, out, len)
 }
 
@@ -34,12 +50,32 @@ pub extern "C" fn deb_explain_version(
     text: &[u8],
     out: &mut [u8],
     len: &mut usize,
-) -> Answer {
+) -> Answer
+    ensures accepted { result.status ≡ 0
+        → GivesAccepted Word.Version text.now out.old out.new len.new result }
+    ensures refused { result.status ≡ 2
+        → GivesRefused Word.Version text.now out.old out.new len.new result }
+    ensures no_room { result.status ≡ 4 → (result ≡ plain 4)
+        × LacksRoomForText Word.Version text.now out.old out.new len.new }
+    ensures no_memory { result.status ≡ 5 → (result ≡ plain 5)
+        × GivesNothing out.old out.new len.new }
+    ensures status { HasStatus result.status (0 ∷ 2 ∷ 4 ∷ 5 ∷ []) }
+{
     explain_as(alloc, Word::Version, text, out, len)
 }
 
 /// Writes that a text is a relation or a version, or why it isn't.
-fn explain_as(alloc: Global, word: Word, text: &[u8], out: &mut [u8], len: &mut usize) -> Answer {
+fn explain_as(alloc: Global, word: Word, text: &[u8], out: &mut [u8], len: &mut usize) -> Answer
+    ensures accepted { result.status ≡ 0
+        → GivesAccepted word text.now out.old out.new len.new result }
+    ensures refused { result.status ≡ 2
+        → GivesRefused word text.now out.old out.new len.new result }
+    ensures no_room { result.status ≡ 4 → (result ≡ plain 4)
+        × LacksRoomForText word text.now out.old out.new len.new }
+    ensures no_memory { result.status ≡ 5 → (result ≡ plain 5)
+        × GivesNothing out.old out.new len.new }
+    ensures status { HasStatus result.status (0 ∷ 2 ∷ 4 ∷ 5 ∷ []) }
+{
     *len = 0;
     match explain_lines(alloc, word, text) {
         Ok((answer, lines)) => {
@@ -49,28 +85,39 @@ fn explain_as(alloc: Global, word: Word, text: &[u8], out: &mut [u8], len: &mut 
                 no_room()
             }
         }
-        Err(AllocError) => no_memory(),
+        Err(_) => no_memory(),
     }
 }
 
 /// The lines that say that a text is a relation or a version, or why it isn't, with the answer that
 /// goes with that.
-fn explain_lines(alloc: Global, word: Word, text: &[u8]) -> Result<(Answer, Vec<u8>), AllocError> {
+#[tactic(auto, using(crate::proofs::ReadTexts::accepted_as, crate::proofs::ReadTexts::refused_as))]
+fn explain_lines(alloc: Global, word: Word, text: &[u8]) -> Result<(Answer, Vec<u8>), AllocError>
+    ensures { IfOk result (λ answer. ExplainedAs word text.now answer.0 answer.1.items) }
+{
     match explain_word(alloc, word, text)? {
-        None => Ok((yes(0), ok_lines(alloc)?)),
-        Some(cause) => Ok((refused_as(word), lines_of(alloc, word, &cause, text)?)),
+        None => Ok((yes(0), ok_line(alloc)?)),
+        Some(cause) => Ok((
+            refused_as(word),
+            lines_of(alloc, word, &cause, text)?,
+        )),
     }
 }
 
 /// The line of an accepted text.
-fn ok_lines(alloc: Global) -> Result<Vec<u8>, AllocError> {
-    let mut lines = Vec::new(alloc);
-    lines.extend_from_slice(b"ok\n")?;
-    Ok(lines)
+fn ok_line(alloc: Global) -> Result<Vec<u8>, AllocError>
+    ensures { IfOk result (λ line. line.items ≡ codes "ok\n") }
+{
+    let mut line = Vec::new(alloc);
+    line.extend_from_slice(b"ok\n")?;
+    Ok(line)
 }
 
 /// The lines that say why a text is refused.
-fn lines_of(alloc: Global, word: Word, cause: &Cause, text: &[u8]) -> Result<Vec<u8>, AllocError> {
+#[tactic(auto, using(crate::proofs::Written::written_whole))]
+fn lines_of(alloc: Global, word: Word, cause: &Cause, text: &[u8]) -> Result<Vec<u8>, AllocError>
+    ensures { IfOk result (λ lines. lines.items ≡ word_text word cause.now text.now) }
+{
     let mut sink = VecSink::new(alloc);
     match write_refused_word(word, cause, text, &mut sink) {
         Ok(()) => Ok(sink.into_bytes()),
@@ -79,7 +126,9 @@ fn lines_of(alloc: Global, word: Word, cause: &Cause, text: &[u8]) -> Result<Vec
 }
 
 /// The answer 2: a text isn't a relation, or isn't a version.
-fn refused_as(word: Word) -> Answer {
+fn refused_as(word: Word) -> Answer
+    ensures { result ≡ refusing 2 (refusal_as word) }
+{
     let code = match word {
         Word::Relation => Code::BadRelation,
         Word::Version => Code::BadVersion,
