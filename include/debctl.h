@@ -13,6 +13,10 @@
  * is written to `out`, and `length` is the length that it needs. So a call with NULL and 0 returns
  * that length, and a second call does the work again.
  *
+ * Statuses. If several apply, DEB_NO_KIND comes first and DEB_NO_INDEX second; then the texts are
+ * checked, in the order in which the comment of the function names them; DEB_NO_ROOM comes last.
+ * DEB_NO_MEMORY can come in place of any other but DEB_NO_KIND and DEB_NO_INDEX.
+ *
  * Lengths are in bytes, and lines are counted from 1. Several threads may call at once. Memory is
  * taken with malloc and realloc, and freed before the call returns: only a loaded index keeps some,
  * until deb_index_free. Don't call a function from a signal handler, or between fork and exec in the
@@ -340,8 +344,7 @@ struct deb_answer deb_index_query_why(const struct deb_index *index,
                                       uint8_t *out, size_t out_size, size_t *length);
 
 /* Writes the lines that deb_unmet writes for this index, without reading it again.
- * The statuses of deb_unmet; DEB_NO_INDEX. DEB_NO_KIND comes before DEB_NO_INDEX, and both come before
- * every other. */
+ * The statuses of deb_unmet; DEB_NO_INDEX. DEB_NO_KIND comes before DEB_NO_INDEX. */
 struct deb_answer deb_index_unmet(const struct deb_index *index, uint8_t kind, uint8_t recommends,
                                   const uint8_t *target, size_t target_length,
                                   const struct deb_text *profiles, size_t profile_count,

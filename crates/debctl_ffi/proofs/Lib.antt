@@ -9,4 +9,6 @@ mod Loading
 mod Written
 mod VersionParts
 mod ReadTexts
+mod Reports
+mod AskedNumbers
 pub mod HandsOn

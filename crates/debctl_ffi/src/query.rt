@@ -34,16 +34,19 @@ pub extern "C" fn deb_query(
     len: &mut usize,
 ) -> Answer
     ensures met { result.status ≡ 0 → (result ≡ plain 0)
-        × GivesReport (question target.now (names_of profiles.now) relation.now) index.now true
+        × GivesReport Detail.Verdicts
+        (question target.now (names_of profiles.now) relation.now) index.now true
         out.old out.new len.new }
     ensures unmet { result.status ≡ 1 → (result ≡ plain 1)
-        × GivesReport (question target.now (names_of profiles.now) relation.now) index.now false
+        × GivesReport Detail.Verdicts
+        (question target.now (names_of profiles.now) relation.now) index.now false
         out.old out.new len.new }
     ensures refused { result.status ≡ 2
         → IsRefusedQuery (question target.now (names_of profiles.now) relation.now) index.now result
         × GivesNothing out.old out.new len.new }
     ensures no_room { result.status ≡ 4 → (result ≡ plain 4)
-        × LacksRoomForReport (question target.now (names_of profiles.now) relation.now) index.now
+        × LacksRoomForReport Detail.Verdicts
+        (question target.now (names_of profiles.now) relation.now) index.now
         out.old out.new len.new }
     ensures no_memory { result.status ≡ 5 → (result ≡ plain 5)
         × GivesNothing out.old out.new len.new }

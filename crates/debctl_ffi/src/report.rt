@@ -4,6 +4,7 @@ ghost use Rattle.std.specs.Prelude.{◌≡◌, ℕ, List, IfErr, IfOk, Some};
 ghost use Rattle.deb_base.specs.Faults.{RefusedOrMemory};
 ghost use Rattle.deb_base.specs.declared.doc.Doc.{Doc};
 ghost use Rattle.deb_control.specs.Documents.{refusal_of};
+ghost use Rattle.deb_index.specs.Asked.{environment_asked, relation_asked};
 ghost use Rattle.deb_index.specs.Detailed.{details_of};
 ghost use Rattle.deb_index.specs.Indexes.{packages_of};
 ghost use Rattle.deb_index.specs.Listing.{ListsAll};
@@ -12,7 +13,7 @@ ghost use Rattle.deb_index.specs.ReportText.{report_text};
 ghost use Rattle.deb_index.specs.Reported.{report_of};
 ghost use Rattle.deb_index.specs.Why.{detailed_text};
 ghost use Rattle.deb_relation.specs.Views.{names_of};
-ghost use Rattle.debctl_ffi.specs.Queries.{ReportsOn};
+ghost use Rattle.debctl_ffi.specs.Queries.{RefusesAsked, ReportsOn, ReportsOver};
 
 use deb_base::{Fault, SliceSource, VecSink};
 use deb_index::{DetailedReport, Index, Question, Report};
@@ -37,7 +38,14 @@ pub(crate) fn report_on(
     profiles: &[&[u8]],
     relation: &[u8],
     index: &[u8],
-) -> Result<(bool, Vec<u8>), Fault> {
+) -> Result<(bool, Vec<u8>), Fault>
+    ensures ok { IfOk result
+        (λ answer. ReportsOn detail (question target.now (names_of profiles.now) relation.now)
+        index.now answer.0 answer.1.items) }
+    ensures fault { IfErr result
+        (λ fault. RefusedOrMemory fault
+        (RefusesQuery (question target.now (names_of profiles.now) relation.now) index.now)) }
+{
     let question = Question::parse(alloc, target, profiles, relation)?;
     let index = read_index(alloc, index)?;
     report_over(alloc, detail, &index, &question)
@@ -51,7 +59,14 @@ pub(crate) fn report_in(
     profiles: &[&[u8]],
     relation: &[u8],
     index: &Index,
-) -> Result<(bool, Vec<u8>), Fault> {
+) -> Result<(bool, Vec<u8>), Fault>
+    ensures ok { (text : List ℕ) → ListsAll text (packages_of index.now) → IfOk result
+        (λ answer. ReportsOn detail (question target.now (names_of profiles.now) relation.now)
+        text answer.0 answer.1.items) }
+    ensures fault { (text : List ℕ) → ListsAll text (packages_of index.now) → IfErr result
+        (λ fault. RefusedOrMemory fault
+        (RefusesQuery (question target.now (names_of profiles.now) relation.now) text)) }
+{
     let question = Question::parse(alloc, target, profiles, relation)?;
     report_over(alloc, detail, index, &question)
 }
@@ -63,7 +78,13 @@ fn report_over(
     detail: Detail,
     index: &Index,
     question: &Question<'_>,
-) -> Result<(bool, Vec<u8>), Fault> {
+) -> Result<(bool, Vec<u8>), Fault>
+    ensures ok { IfOk result
+        (λ answer. ReportsOver detail (packages_of index.now) (relation_asked question.now)
+        (environment_asked question.now) answer.0 answer.1.items) }
+    ensures fault { IfErr result
+        (λ fault. RefusedOrMemory fault (RefusesAsked (relation_asked question.now))) }
+{
     match detail {
         Detail::Verdicts => verdicts_over(alloc, index, question),
         Detail::Reasons => reasons_over(alloc, index, question),
@@ -75,18 +96,31 @@ fn verdicts_over(
     alloc: Global,
     index: &Index,
     question: &Question<'_>,
-) -> Result<(bool, Vec<u8>), Fault> {
+) -> Result<(bool, Vec<u8>), Fault>
+    ensures ok { IfOk result
+        (λ answer. ReportsOver Detail.Verdicts (packages_of index.now) (relation_asked question.now)
+        (environment_asked question.now) answer.0 answer.1.items) }
+    ensures fault { IfErr result
+        (λ fault. RefusedOrMemory fault (RefusesAsked (relation_asked question.now))) }
+{
     let report = index.ask(alloc, question)?;
     let text = text_of(alloc, &report)?;
     Ok((report.all_met(), text))
 }
 
 /// The report with reasons.
+#[tactic(auto, using(deb_index::proofs::Reasoned::change_no_answer))]
 fn reasons_over(
     alloc: Global,
     index: &Index,
     question: &Question<'_>,
-) -> Result<(bool, Vec<u8>), Fault> {
+) -> Result<(bool, Vec<u8>), Fault>
+    ensures ok { IfOk result
+        (λ answer. ReportsOver Detail.Reasons (packages_of index.now) (relation_asked question.now)
+        (environment_asked question.now) answer.0 answer.1.items) }
+    ensures fault { IfErr result
+        (λ fault. RefusedOrMemory fault (RefusesAsked (relation_asked question.now))) }
+{
     let report = index.ask_why(alloc, question)?;
     let text = detailed_text_of(alloc, &report)?;
     Ok((report.all_met(), text))

@@ -97,10 +97,7 @@ fn explain_lines(alloc: Global, word: Word, text: &[u8]) -> Result<(Answer, Vec<
 {
     match explain_word(alloc, word, text)? {
         None => Ok((yes(0), ok_line(alloc)?)),
-        Some(cause) => Ok((
-            refused_as(word),
-            lines_of(alloc, word, &cause, text)?,
-        )),
+        Some(cause) => Ok((refused_as(word), lines_of(alloc, word, &cause, text)?)),
     }
 }
 
