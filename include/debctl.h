@@ -13,6 +13,10 @@
  * is written to `out`, and `length` is the length that it needs. So a call with NULL and 0 returns
  * that length, and a second call does the work again.
  *
+ * Statuses. If several apply, DEB_NO_KIND comes first and DEB_NO_INDEX second; then the texts are
+ * checked, in the order in which the comment of the function names them; DEB_NO_ROOM comes last.
+ * DEB_NO_MEMORY can come in place of any other but DEB_NO_KIND and DEB_NO_INDEX.
+ *
  * Lengths are in bytes, and lines are counted from 1. Several threads may call at once. Memory is
  * taken with malloc and realloc, and freed before the call returns: only a loaded index keeps some,
  * until deb_index_free. Don't call a function from a signal handler, or between fork and exec in the
@@ -29,6 +33,10 @@
 #ifdef __cplusplus
 extern "C" {
 #endif
+
+/* The version that this header belongs to; deb_library_version returns that of the library. */
+#define DEB_VERSION "0.1.0"
+#define DEB_VERSION_NUMBER 100
 
 /* The status of a call. */
 enum deb_status {
@@ -127,6 +135,20 @@ struct deb_field {
     uint32_t value_length;
 };
 
+/* The parts of a version as they are spelled: offsets and lengths in its text. A part that isn't
+ * there has the offset 0 and the length 0. */
+struct deb_version_parts {
+    uint8_t status;       /* DEB_YES or DEB_REFUSED */
+    uint8_t code;         /* DEB_BAD_VERSION, if the text isn't a version */
+    uint8_t has_epoch;    /* 1 or 0 */
+    uint8_t has_revision; /* 1 or 0 */
+    size_t epoch_length;  /* the epoch starts at the offset 0, and a colon follows it */
+    size_t upstream;      /* the offset of the upstream version */
+    size_t upstream_length;
+    size_t revision;      /* the offset of the revision, which follows a hyphen */
+    size_t revision_length;
+};
+
 /* One refusal of a file, in the table that deb_check_all writes. */
 struct deb_refusal {
     uint64_t line; /* its line in the file, from 1 */
@@ -153,6 +175,9 @@ struct deb_alternative {
     size_t formula_length;
 };
 
+/* Returns the version of the library, as 10000 * major + 100 * minor + patch: 0.1.0 is 100. */
+uint32_t deb_library_version(void);
+
 /* Compares two versions in Debian's order. Takes no memory.
  * DEB_YES; DEB_REFUSED: the first isn't a version; DEB_SECOND_REFUSED. */
 struct deb_comparison deb_version_compare(const uint8_t *left, size_t left_length,
@@ -169,6 +194,11 @@ struct deb_answer deb_version_canonical(const uint8_t *text, size_t text_length,
  * DEB_YES; DEB_REFUSED: it isn't a version; DEB_NO_ROOM; DEB_NO_MEMORY. */
 struct deb_answer deb_version_key(const uint8_t *text, size_t text_length,
                                   uint8_t *out, size_t out_size, size_t *length);
+
+/* Cuts a version into its parts as they are spelled: the epoch ends before the first colon, and the
+ * revision follows the last hyphen after that. Takes no memory.
+ * DEB_YES; DEB_REFUSED: it isn't a version, and all parts are 0. */
+struct deb_version_parts deb_version_parts(const uint8_t *text, size_t text_length);
 
 /* Writes the canonical text of a relation: its groups, in the order of their texts and with `, `
  * between them, each with its alternatives and ` | ` between these. Two relations mean the same
@@ -242,6 +272,21 @@ struct deb_answer deb_explain(uint8_t kind, const uint8_t *text, size_t text_len
 struct deb_answer deb_explain_all(uint8_t kind, const uint8_t *text, size_t text_length,
                                   uint8_t *out, size_t out_size, size_t *length);
 
+/* Writes why a text isn't a relation, in lines `key: value`: those that the program
+ * `debctl explain --relation` writes. The keys are, in this order: code, name, place (the offset of the
+ * error in the text), reason, value, rule and usually. Bytes that aren't printable ASCII are escaped,
+ * and a long text is cut after 200 bytes. For a relation the line `ok` is written. Each line ends with
+ * a newline.
+ * DEB_REFUSED, with DEB_BAD_RELATION; DEB_YES: it is a relation; DEB_NO_ROOM; DEB_NO_MEMORY. */
+struct deb_answer deb_explain_relation(const uint8_t *text, size_t text_length,
+                                       uint8_t *out, size_t out_size, size_t *length);
+
+/* Writes why a text isn't a version, likewise: the lines of `debctl explain --version-text`. The place
+ * is 0 if the fault has no offset of its own.
+ * DEB_REFUSED, with DEB_BAD_VERSION; DEB_YES: it is a version; DEB_NO_ROOM; DEB_NO_MEMORY. */
+struct deb_answer deb_explain_version(const uint8_t *text, size_t text_length,
+                                      uint8_t *out, size_t out_size, size_t *length);
+
 /* Compares two files by meaning, as documents of a kind.
  * DEB_YES; DEB_NO; DEB_REFUSED: the first is refused; DEB_SECOND_REFUSED; DEB_NO_MEMORY;
  * DEB_NO_KIND. */
@@ -277,6 +322,16 @@ struct deb_answer deb_query(const uint8_t *target, size_t target_length,
                             const uint8_t *relation, size_t relation_length,
                             const uint8_t *index, size_t index_length,
                             uint8_t *out, size_t out_size, size_t *length);
+
+/* Writes what deb_query writes, and below the line of each group that is unmet or ignored the lines
+ * that say why it is, in the order of its alternatives: the report that the program
+ * `debctl query --why` writes.
+ * The statuses of deb_query. */
+struct deb_answer deb_query_why(const uint8_t *target, size_t target_length,
+                                const struct deb_text *profiles, size_t profile_count,
+                                const uint8_t *relation, size_t relation_length,
+                                const uint8_t *index, size_t index_length,
+                                uint8_t *out, size_t out_size, size_t *length);
 
 /* Writes which relations of a file no package of an index meets, for a target architecture and with
  * these build profiles active: a line for each group that is unmet, or may be. They are the lines
@@ -351,8 +406,16 @@ struct deb_answer deb_index_query(const struct deb_index *index,
                                   const uint8_t *relation, size_t relation_length,
                                   uint8_t *out, size_t out_size, size_t *length);
 
+/* Writes the report that deb_query_why writes for this index, without reading it again.
+ * The statuses of deb_query; DEB_NO_INDEX. */
+struct deb_answer deb_index_query_why(const struct deb_index *index,
+                                      const uint8_t *target, size_t target_length,
+                                      const struct deb_text *profiles, size_t profile_count,
+                                      const uint8_t *relation, size_t relation_length,
+                                      uint8_t *out, size_t out_size, size_t *length);
+
 /* Writes the lines that deb_unmet writes for this index, without reading it again.
- * The statuses of deb_unmet; DEB_NO_INDEX. */
+ * The statuses of deb_unmet; DEB_NO_INDEX. DEB_NO_KIND comes before DEB_NO_INDEX. */
 struct deb_answer deb_index_unmet(const struct deb_index *index, uint8_t kind, uint8_t recommends,
                                   const uint8_t *target, size_t target_length,
                                   const struct deb_text *profiles, size_t profile_count,
