@@ -153,6 +153,10 @@ explanations : (row_line (row kind.Key (codes "value" ∷ codes "a: b" ∷ [])) 
     × (row_line (row kind.Valid []) ≡ codes "ok\n")
 explanations = (refl, refl, refl, refl, refl)
 
+lines : rows_text (row kind.Met (codes "a" ∷ []) ∷ row kind.Unmet (codes "b" ∷ []) ∷ [])
+    ≡ codes "met a\nunmet b\n"
+lines = refl
+
 -- a cell for each piece, of its class
 cell_lists : map (are_cells (pieces_of kind.Count))
     ((codes "12" ∷ []) ∷ [] ∷ (codes "12" ∷ codes "1" ∷ []) ∷ (codes "a" ∷ []) ∷ [])
