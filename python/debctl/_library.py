@@ -5,7 +5,8 @@ import mmap
 import os
 from pathlib import Path
 from typing import (
-    Any, Callable, ClassVar, Iterable, List, Literal, Optional, Tuple, TypeVar, Union,
+    Any, Callable, ClassVar, Iterable, List, Literal, Optional, Sequence, Tuple, TypeVar,
+    Union,
 )
 
 from ._refusals import Refused
@@ -184,25 +185,26 @@ def answered(answer: AnyAnswer) -> AnyAnswer:
     return answer
 
 
-def _room(size: int) -> Any:
-    """Returns zeros that can be written: a long one takes memory only as far as it is written."""
-    if size < _LONG:
-        return ctypes.create_string_buffer(size)
+def _room(size: int) -> Tuple[Any, Any]:
+    """Returns room for what a call writes, and the pointer to it. Long room takes memory only as far as
+    it is written."""
     try:
-        return (ctypes.c_char * size).from_buffer(mmap.mmap(-1, size))
+        room: Union[bytearray, mmap.mmap] = bytearray(size) if size < _LONG else mmap.mmap(-1, size)
     except OSError:
         raise MemoryError from None
+    return room, ctypes.byref(ctypes.c_char.from_buffer(room))
 
 
 def written(room: int, call: Callable[..., Answer]) -> Tuple[Answer, bytes]:
     """Returns the answer of a call that writes to a buffer, and what it wrote. If there isn't
     enough room, it is called again with as much as it needs."""
-    length = ctypes.c_size_t(room)
+    length = ctypes.c_size_t()
     while True:
-        out = _room(length.value)
-        answer = call(out, len(out), ctypes.byref(length))
+        out, pointer = _room(room)
+        answer = call(pointer, room, ctypes.byref(length))
         if answer.status != NO_ROOM:
-            return answer, ctypes.string_at(out, length.value)
+            return answer, bytes(memoryview(out)[: length.value])
+        room = length.value
 
 
 def given(room: int, call: Callable[..., Answer]) -> Tuple[Answer, bytes]:
@@ -212,22 +214,26 @@ def given(room: int, call: Callable[..., Answer]) -> Tuple[Answer, bytes]:
 
 
 def tables(
-    sizes: Iterable[int], rooms: List[int], call: Callable[..., Answer]
+    sizes: Sequence[int], rooms: List[int], call: Callable[..., Answer]
 ) -> Tuple[Answer, List[bytes]]:
     """Returns the answer of a call that writes tables, and what it wrote: `sizes` are those of an
     item of each, and `rooms` how many each has room for. If there isn't enough room, it is called
     again with as much as it needs."""
+    counts = [ctypes.c_size_t() for _ in rooms]
     while True:
-        counts = [ctypes.c_size_t() for _ in rooms]
-        outs = [_room(max(size * room, 1)) for size, room in zip(sizes, rooms)]
-        words: List[Any] = []
-        for out, room, count in zip(outs, rooms, counts):
-            words += [out, room, ctypes.byref(count)]
+        outs, words = [], []
+        for size, room, count in zip(sizes, rooms, counts):
+            out, pointer = _room(max(size * room, 1))
+            outs.append(out)
+            words += [pointer, room, ctypes.byref(count)]
         answer = call(*words)
+        lengths = [count.value for count in counts]
         if answer.status != NO_ROOM:
-            parts = zip(sizes, outs, counts)
-            return answer, [ctypes.string_at(out, size * it.value) for size, out, it in parts]
-        rooms = [max(room, count.value) for room, count in zip(rooms, counts)]
+            return answer, [
+                bytes(memoryview(out)[: size * length])
+                for size, out, length in zip(sizes, outs, lengths)
+            ]
+        rooms = [max(room, length) for room, length in zip(rooms, lengths)]
 
 
 class Memory:

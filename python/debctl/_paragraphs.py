@@ -154,20 +154,20 @@ def _paragraphs(tables: _Tables, known: Dict[bytes, _Names]) -> Iterator[Paragra
 
 
 class _Recent:
-    """The text of a file from the last paragraph on that passes, in pieces, each with the number of the
-    line at which it starts: what the explanation of a refusal needs."""
+    """The text of a file from the last paragraph on that passes, which the explanation of a refusal
+    needs: in pieces, each with the number of the line at which it starts."""
 
     def __init__(self) -> None:
         self._pieces: Deque[Tuple[int, bytes]] = deque()
-        self._first = self._next = 1
+        self._first = self.next_line = 1
 
     def add(self, piece: bytes) -> None:
         """Adds the next piece."""
-        self._pieces.append((self._next, piece))
-        self._next += piece.count(b"\n")
+        self._pieces.append((self.next_line, piece))
+        self.next_line += piece.count(b"\n")
 
     def passed(self, line: int) -> None:
-        """The last paragraph that passes starts at this line."""
+        """Drops the lines before this one, at which a paragraph may start."""
         self._first = line
         while len(self._pieces) > 1 and self._pieces[1][0] < line:
             self._pieces.popleft()
@@ -201,6 +201,8 @@ def _read(kind: int, pieces: Iterator[bytes]) -> Iterator[Paragraph]:
         yield from _paragraphs(found, known)
         if found.count:
             recent.passed(found.last_line())
+        elif not piece.strip(b" \t\n") and piece.count(b"\n") > 2:
+            recent.passed(recent.next_line)  # nothing is read, since all these lines are blank
         if answer.status != YES:
             recent.refused(answer, kind)
 

@@ -38,15 +38,21 @@ class Alternative(NamedTuple):
 
 def _items(text: bytes) -> Tuple[str, ...]:
     """Returns the items of a list: between two is a space, a tab or a newline, or several of these."""
-    return tuple(it.decode() for it in text.translate(_BLANKS).split(b" ") if it)
+    return tuple(it.decode() for it in text.translate(_BLANKS).split(b" ") if it) if text else ()
 
 
-def _alternative(data: bytes, spans: Tuple[int, ...]) -> Alternative:
-    parts = [data[spans[at] : spans[at] + spans[at + 1]] for at in range(1, len(spans), 2)]
-    name, qualifier, operator, version = (it.decode() or None for it in parts[:4])
-    lists = (it.partition(b"<")[2] for it in parts[5].split(b">")[:-1])
+def _alternative(data: bytes, row: Tuple[int, ...]) -> Alternative:
+    _, name, size, *spans, lists, length = row
+
+    def part(at: int) -> Optional[str]:
+        start, size = spans[at], spans[at + 1]
+        return data[start : start + size].decode() if size else None
+
+    architectures = data[spans[6] : spans[6] + spans[7]] if spans[7] else b""
+    formula = data[lists : lists + length].split(b">")[:-1] if length else []
     return Alternative(
-        name or "", qualifier, operator, version, _items(parts[4]), tuple(map(_items, lists))
+        data[name : name + size].decode(), part(0), part(2), part(4), _items(architectures),
+        tuple(_items(it.partition(b"<")[2]) for it in formula),
     )
 
 
@@ -72,10 +78,10 @@ def relations(relation: Text, spelled: bool = False) -> List[List[Alternative]]:
     answer, (rows,) = tables([_PARTS.size], [room], call)
     answered(answer)
     groups: List[List[Alternative]] = []
-    for group, *spans in _PARTS.iter_unpack(rows):
-        if group > len(groups):
+    for row in _PARTS.iter_unpack(rows):
+        if row[0] > len(groups):
             groups.append([])
-        groups[-1].append(_alternative(data, (group, *spans)))
+        groups[-1].append(_alternative(data, row))
     return groups
 
 
