@@ -13,9 +13,11 @@
  * is written to `out`, and `length` is the length that it needs. So a call with NULL and 0 returns
  * that length, and a second call does the work again.
  *
- * Statuses. If several apply, DEB_NO_KIND comes first and DEB_NO_INDEX second; then the texts are
- * checked, in the order in which the comment of the function names them; DEB_NO_ROOM comes last.
- * DEB_NO_MEMORY can come in place of any other but DEB_NO_KIND and DEB_NO_INDEX.
+ * Order. If several things are wrong, the status is the first of these that applies: DEB_NO_KIND,
+ * DEB_NO_INDEX, DEB_REFUSED, DEB_SECOND_REFUSED, DEB_NO_ROOM. A call that also writes something of a
+ * refused text (deb_check_all, deb_fields, and the explanations) needs room for that: it returns
+ * DEB_NO_ROOM before DEB_REFUSED. DEB_NO_MEMORY may come in place of any status but
+ * DEB_NO_KIND and DEB_NO_INDEX.
  *
  * Lengths are in bytes, and lines are counted from 1. Several threads may call at once. Memory is
  * taken with malloc and realloc, and freed before the call returns: only a loaded index keeps some,

@@ -175,6 +175,36 @@ static void try_differences(void) {
     }
 }
 
+/* If several things are wrong: no kind, the first text, the second, and room, in this order; but an
+ * explanation needs room. An index is tried in index.c. */
+static void try_order(void) {
+    const uint8_t *no = bytes("x"), *any = bytes("any");
+    const struct deb_text profile = {bytes("No"), 2};
+    size_t length, count;
+    IS(is(deb_normalise(5, no, 1, NULL, 0, &length), DEB_NO_KIND, 0, 0, 0));
+    IS(is(deb_normalise(DEB_ANY, no, 1, NULL, 0, &length), DEB_REFUSED, DEB_NO_COLON, 1, 0));
+    IS(is(same(5, "x", "x"), DEB_NO_KIND, 0, 0, 0));
+    IS(is(same(DEB_ANY, "x", "\nx"), DEB_REFUSED, DEB_NO_COLON, 1, 0));
+    IS(is(deb_diff(DEB_ANY, 0, no, 1, no, 1, NULL, 0, &length), DEB_NO_KIND, 0, 0, 0));
+    IS(is(deb_diff(DEB_BINARY, 2, no, 1, no, 1, NULL, 0, &length), DEB_NO_KIND, 0, 0, 0));
+    IS(is(deb_diff(DEB_PACKAGES, 1, bytes("\nx"), 2, no, 1, NULL, 0, &length), DEB_REFUSED,
+          DEB_NO_COLON, 2, 0));
+    IS(is(deb_diff(DEB_PACKAGES, 1, bytes(hello), strlen(hello), no, 1, NULL, 0, &length),
+          DEB_SECOND_REFUSED, DEB_NO_COLON, 1, 0));
+    IS(is(deb_unmet(DEB_ANY, 0, any, 3, &profile, 1, no, 1, no, 1, NULL, 0, &length), DEB_NO_KIND, 0,
+          0, 0));
+    IS(is(deb_unmet(DEB_SOURCE, 1, any, 3, &profile, 1, no, 1, no, 1, NULL, 0, &length), DEB_NO_KIND,
+          0, 0, 0));
+    IS(is(deb_unmet(DEB_SOURCE, 0, any, 3, NULL, 0, no, 1, no, 1, NULL, 0, &length), DEB_REFUSED,
+          DEB_BAD_ENVIRONMENT, 0, 0));
+    IS(is(deb_explain(5, no, 1, NULL, 0, &length), DEB_NO_KIND, 0, 0, 0) && length == 0);
+    IS(is(deb_explain(DEB_ANY, no, 1, NULL, 0, &length), DEB_NO_ROOM, 0, 0, 0));
+    IS(is(deb_explain_all(5, no, 1, NULL, 0, &length), DEB_NO_KIND, 0, 0, 0) && length == 0);
+    IS(is(deb_explain_all(DEB_ANY, no, 1, NULL, 0, &length), DEB_NO_ROOM, 0, 0, 0));
+    IS(is(deb_check_all(5, no, 1, NULL, 0, &count), DEB_NO_KIND, 0, 0, 0) && count == 0);
+    IS(is(deb_check_all(DEB_ANY, no, 1, NULL, 0, &count), DEB_NO_ROOM, 0, 0, 0) && count == 1);
+}
+
 struct explained {
     uint8_t kind;
     const char *text;
@@ -386,6 +416,7 @@ int main(void) {
     try_versions();
     try_files();
     try_differences();
+    try_order();
     try_explanations();
     try_all_explanations();
     try_queries();

@@ -1,8 +1,9 @@
 /* Calls one function on files, and writes what it answers: `STATUS CODE LINE COUNT`, or `STATUS
- * CODE ORDER` of a comparison, and in the lines below the text that is given, or `LINE CODE` of each
- * refusal. The words are the function and its arguments; each but a number is a file. A line such as
- * `rows differ` is added if the same answer isn't returned in another way: by the rows of the text, by
- * the parts of a version or relation put together again, by a loaded index, or by a reader. */
+ * CODE ORDER` of a comparison, and in the lines below the text that is given, or `LINE CODE` of
+ * each refusal. The words are the function and its arguments; each but a number is a file. A line
+ * such as `rows differ` is added if the same answer isn't returned in another way: by the rows of
+ * the text, by the parts of a version or relation put together again, by a loaded index, or by a
+ * reader. */
 #include "fed.h"
 #include "printed.h"
 
@@ -87,8 +88,8 @@ static struct deb_answer ask(const struct question *q, uint8_t *out, size_t room
                              length);
     if (calls(q, "unmet"))
         return deb_unmet((uint8_t)(q->number % 8), (uint8_t)(q->number / 8), target->bytes,
-                         target->length, q->profiles, q->profile_count, first->bytes,
-                         first->length, second->bytes, second->length, out, room, length);
+                         target->length, q->profiles, q->profile_count, first->bytes, first->length,
+                         second->bytes, second->length, out, room, length);
     return ask_file(q, out, room, length);
 }
 
@@ -103,9 +104,9 @@ static struct deb_answer ask_index(const struct question *q, const struct deb_in
         return deb_index_query_why(index, target->bytes, target->length, q->profiles,
                                    q->profile_count, first->bytes, first->length, out, room,
                                    length);
-    return deb_index_unmet(index, (uint8_t)(q->number % 8), (uint8_t)(q->number / 8),
-                           target->bytes, target->length, q->profiles, q->profile_count,
-                           second->bytes, second->length, out, room, length);
+    return deb_index_unmet(index, (uint8_t)(q->number % 8), (uint8_t)(q->number / 8), target->bytes,
+                           target->length, q->profiles, q->profile_count, second->bytes,
+                           second->length, out, room, length);
 }
 
 /* The rows of a text; how many there are, or SIZE_MAX if it has none of this form. */
@@ -141,8 +142,8 @@ static int rows_agree(const struct question *q, const uint8_t *text, size_t leng
 static int version_agrees(const struct file *file) {
     struct deb_version_parts it = deb_version_parts(file->bytes, file->length);
     size_t at = it.has_epoch ? it.epoch_length + 1 : 0;
-    int is_version = deb_version_compare(file->bytes, file->length, file->bytes, file->length)
-                         .status == DEB_YES;
+    int is_version =
+        deb_version_compare(file->bytes, file->length, file->bytes, file->length).status == DEB_YES;
     if (!is_version)
         return it.status == DEB_REFUSED && it.code == DEB_BAD_VERSION;
     if (it.status != DEB_YES || (it.has_epoch && file->bytes[it.epoch_length] != ':') ||
@@ -164,7 +165,8 @@ static char *append(char *to, const char *before, const struct file *from, size_
     return to + length + sprintf(to + length, "%s", after);
 }
 
-/* Puts the alternatives of a relation together again; each takes at most 13 bytes more than its parts. */
+/* Puts the alternatives of a relation together again; each takes at most 13 bytes more than its
+ * parts. */
 static size_t rebuild(const struct file *from, const struct deb_alternative *all, size_t count,
                       char *text) {
     size_t at;
@@ -353,9 +355,8 @@ int main(int count, char **words) {
         q.profile_count = (size_t)at - 2;
     }
     if (calls(&q, "compare")) {
-        struct deb_comparison order =
-            deb_version_compare(q.files[0].bytes, q.files[0].length, q.files[1].bytes,
-                                q.files[1].length);
+        struct deb_comparison order = deb_version_compare(q.files[0].bytes, q.files[0].length,
+                                                          q.files[1].bytes, q.files[1].length);
         printf("%d %d %d\n", order.status, order.code, order.order);
     } else if (calls(&q, "check-all")) {
         write_refusals(&q);

@@ -41,10 +41,10 @@ static int same_tables(const struct tables *left, const struct tables *right) {
 static int append_fields(const struct deb_reader *reader, size_t room, struct tables *to) {
     struct deb_field *fields = to->fields + to->count;
     size_t count, names, values, at;
-    struct deb_answer answer = deb_reader_fields(
-        reader, fields, room + 1 - to->count, &count, to->names + to->names_length,
-        room + 1 - to->names_length, &names, to->values + to->values_length,
-        room + 1 - to->values_length, &values);
+    struct deb_answer answer =
+        deb_reader_fields(reader, fields, room + 1 - to->count, &count,
+                          to->names + to->names_length, room + 1 - to->names_length, &names,
+                          to->values + to->values_length, room + 1 - to->values_length, &values);
     for (at = 0; at < count && answer.status == DEB_YES; at++) {
         fields[at].name += (uint32_t)to->names_length;
         fields[at].value += (uint32_t)to->values_length;
@@ -55,8 +55,8 @@ static int append_fields(const struct deb_reader *reader, size_t room, struct ta
     return answer.status == DEB_YES;
 }
 
-/* Feeds a text to a reader in pieces of so many bytes, with an empty one at the end, and gathers its
- * fields; the last answer, with the status 100 if a call went wrong. */
+/* Feeds a text to a reader in pieces of so many bytes, with an empty one at the end, and gathers
+ * its fields; the last answer, with the status 100 if a call went wrong. */
 static struct deb_answer feed(uint8_t kind, const uint8_t *text, size_t length, size_t size,
                               struct tables *gathered) {
     struct deb_reader *reader = malloc(deb_reader_size());
@@ -82,9 +82,9 @@ static struct deb_answer feed(uint8_t kind, const uint8_t *text, size_t length, 
 static int reads_alike(uint8_t kind, const uint8_t *text, size_t length, size_t size) {
     struct tables whole = room_for(length), gathered = room_for(length);
     struct deb_answer fed = feed(kind, text, length, size, &gathered);
-    struct deb_answer read = deb_fields(
-        kind, text, length, whole.fields, length + 1, &whole.count, whole.names, length + 1,
-        &whole.names_length, whole.values, length + 1, &whole.values_length);
+    struct deb_answer read =
+        deb_fields(kind, text, length, whole.fields, length + 1, &whole.count, whole.names,
+                   length + 1, &whole.names_length, whole.values, length + 1, &whole.values_length);
     int alike = fed.status == read.status && fed.code == read.code && fed.line == read.line &&
                 fed.count == read.count && same_tables(&whole, &gathered);
     free_tables(&whole);

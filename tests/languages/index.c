@@ -192,11 +192,9 @@ static void try_reasons(const struct deb_index *index) {
         "ignored other <!nocheck>\n"
         "ignored xx [linux-amd64]\n xx [linux-amd64]: linux-amd64 isn't the target amd64\n";
     static const char *relation = "other <!nocheck>, hello, hello (>= 2) | xx, xx [linux-amd64]";
-    static const char *relations[] = {"hello", "mta | aa, xx", "aa [linux-any]", "aa (", "other", ""};
     struct deb_text profile = {bytes("nocheck"), 7};
     size_t size = strlen(text_of_three), at, whole = 0, length, other_length;
     struct deb_answer answer, direct;
-    uint8_t out[1024], other[1024];
     answer = deb_index_query_why(index, bytes("amd64"), 5, &profile, 1, bytes(relation),
                                  strlen(relation), NULL, 0, &whole);
     IS(is(answer, DEB_NO_ROOM, 0, 0, 0) && whole == strlen(report));
@@ -214,6 +212,14 @@ static void try_reasons(const struct deb_index *index) {
         free(one);
         free(two);
     }
+}
+
+/* The answers with reasons are those of the text, and a refused one has no text. */
+static void try_more_reasons(const struct deb_index *index) {
+    static const char *relations[] = {"hello", "mta | aa, xx", "aa [linux-any]", "aa (", "other", ""};
+    size_t size = strlen(text_of_three), at, length, other_length;
+    struct deb_answer answer, direct;
+    uint8_t out[1024], other[1024];
     for (at = 0; at < sizeof relations / sizeof *relations; at++) {
         const char *target = at % 2 ? "amd64" : "i386";
         memset(out, 7, sizeof out);
@@ -329,6 +335,7 @@ int main(int count, char **words) {
     try_names(index);
     try_numbers(index);
     try_reasons(index);
+    try_more_reasons(index);
     try_threads(index);
     release(index);
     try_details();

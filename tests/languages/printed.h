@@ -15,9 +15,10 @@ static const char *const rules[] = {
     " -|", " +|", "|: |", "", "ok |", "ok |, | refused", "ok",
 };
 
-/* Appends a row to `to`, with the newline, and returns its end; NULL if the row isn't one of its kind,
- * or the text would have more than `room` bytes. */
-static uint8_t *print_row(const struct deb_row *row, const uint8_t *text, uint8_t *to, size_t room) {
+/* Appends a row to `to`, with the newline, and returns its end; NULL if the row isn't one of its
+ * kind, or the text would have more than `room` bytes. */
+static uint8_t *print_row(const struct deb_row *row, const uint8_t *text, uint8_t *to,
+                          size_t room) {
     const char *rule;
     uint8_t cell = 0;
     if (row->kind >= sizeof rules / sizeof *rules)
@@ -39,8 +40,9 @@ static uint8_t *print_row(const struct deb_row *row, const uint8_t *text, uint8_
     return to + 1;
 }
 
-/* Whether the rows of a text, printed again, are the text, and the spans after the last cell are 0. */
-static int prints_as(const struct deb_row *rows, size_t count, const uint8_t *text, size_t length) {
+/* Whether the rows of a text, printed again, are the text; the spans after the last cell are 0. */
+static int prints_as(const struct deb_row *rows, size_t count, const uint8_t *text,
+                     size_t length) {
     uint8_t *again = malloc(length + 1), *to = again;
     size_t at, cell;
     int same = again != NULL;
@@ -50,7 +52,8 @@ static int prints_as(const struct deb_row *rows, size_t count, const uint8_t *te
         to = print_row(&rows[at], text, to, length - (size_t)(to - again));
         same &= to != NULL;
     }
-    same = same && (size_t)(to - again) == length && (length == 0 || memcmp(again, text, length) == 0);
+    same = same && (size_t)(to - again) == length &&
+           (length == 0 || memcmp(again, text, length) == 0);
     free(again);
     return same;
 }

@@ -1,4 +1,5 @@
-/* A reader that is fed a file in pieces, of each size: it reads what deb_fields reads of all of it. */
+/* A reader that is fed a file in pieces, of each size: it reads what deb_fields reads of all of it.
+ */
 #include "fed.h"
 #include "tried.h"
 
@@ -41,8 +42,8 @@ static struct deb_answer feed_text(struct deb_reader *reader, const char *text, 
 /* How many fields the last feed read. */
 static size_t field_count(const struct deb_reader *reader) {
     size_t count = 99, names, values;
-    struct deb_answer answer = deb_reader_fields(reader, NULL, 0, &count, NULL, 0, &names, NULL, 0,
-                                                 &values);
+    struct deb_answer answer =
+        deb_reader_fields(reader, NULL, 0, &count, NULL, 0, &names, NULL, 0, &values);
     IS(answer.status == (count ? DEB_NO_ROOM : DEB_YES));
     IS((count > 0) == (names > 0) && (count > 0) == (values > 0));
     return count;

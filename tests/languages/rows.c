@@ -1,4 +1,5 @@
-/* The rows of the texts that the library writes: each kind, each status, and each amount of room. */
+/* The rows of the texts that the library writes: each kind, each status, and each amount of room.
+ */
 #include "printed.h"
 #include "tried.h"
 
@@ -12,7 +13,10 @@ struct lined {
 
 static const struct lined all[] = {
     {DEB_REPORT, "", 0, {0}, ""},
-    {DEB_REPORT, "met aa (>= 1) | bb\n 12 aa 1:2-3 amd64\n", 2, {DEB_ROW_MET, DEB_ROW_PACKAGE},
+    {DEB_REPORT,
+     "met aa (>= 1) | bb\n 12 aa 1:2-3 amd64\n",
+     2,
+     {DEB_ROW_MET, DEB_ROW_PACKAGE},
      "aa (>= 1) | bb/12/aa/1:2-3/amd64/"},
     {DEB_REPORT,
      "unmet aa (>= 3) | bb\n aa (>= 3): 1 cc 1 all is earlier\n bb: no package has this name\n"
@@ -22,8 +26,10 @@ static const struct lined all[] = {
       DEB_ROW_MET},
      "aa (>= 3) | bb/aa (>= 3)/1/cc/1/all/is earlier/bb/no package has this name/"
      "dd <!nocheck>/dd <!nocheck>/profile nocheck is active//"},
-    {DEB_UNMET_LINES, "unmet 1 aa 1 amd64 Depends bb | cc\nunsure 2 ss 2 source Build-Depends x [y]\n",
-     2, {DEB_ROW_UNMET_GROUP, DEB_ROW_UNSURE_GROUP},
+    {DEB_UNMET_LINES,
+     "unmet 1 aa 1 amd64 Depends bb | cc\nunsure 2 ss 2 source Build-Depends x [y]\n",
+     2,
+     {DEB_ROW_UNMET_GROUP, DEB_ROW_UNSURE_GROUP},
      "1/aa/1/amd64/Depends/bb | cc/2/ss/2/source/Build-Depends/x [y]/"},
     {DEB_DIFF_LINES,
      "removed 1 aa 1 all\n -Package: aa\n -x\nchanged 2 bb 1 all Depends Size\n +Size: 1\n"
@@ -32,13 +38,17 @@ static const struct lined all[] = {
      {DEB_ROW_REMOVED, DEB_ROW_OLD_LINE, DEB_ROW_OLD_LINE, DEB_ROW_CHANGED, DEB_ROW_NEW_LINE,
       DEB_ROW_UPGRADED, DEB_ROW_ADDED},
      "1/aa/1/all/Package: aa/x/2/bb/1/all/Depends Size/Size: 1/3/cc/1/2/all/Version/4/dd/1/all/"},
-    {DEB_EXPLANATION, "line: 2\nvalue: a: b\n\nok 1, 2 refused\n", 4,
-     {DEB_ROW_KEY, DEB_ROW_KEY, DEB_ROW_END, DEB_ROW_SUMMARY}, "line/2/value/a: b/1/2/"},
+    {DEB_EXPLANATION,
+     "line: 2\nvalue: a: b\n\nok 1, 2 refused\n",
+     4,
+     {DEB_ROW_KEY, DEB_ROW_KEY, DEB_ROW_END, DEB_ROW_SUMMARY},
+     "line/2/value/a: b/1/2/"},
     {DEB_EXPLANATION, "ok 12\nok\n", 2, {DEB_ROW_OK, DEB_ROW_VALID}, "12/"},
 };
 
 /* The cells of all rows, with `/` after each. */
-static int has_cells(const struct deb_row *rows, size_t count, const char *text, const char *wanted) {
+static int has_cells(const struct deb_row *rows, size_t count, const char *text,
+                     const char *wanted) {
     size_t at, cell;
     for (at = 0; at < count; at++)
         for (cell = 0; cell < rows[at].cell_count; cell++) {
@@ -73,16 +83,33 @@ static void try_lines(const struct lined *it) {
         free(rows);
     }
     IS(is(deb_rows(it->form, bytes(it->text), length, NULL, 0, &count),
-          it->count ? DEB_NO_ROOM : DEB_YES, 0, 0, 0) && count == it->count);
+          it->count ? DEB_NO_ROOM : DEB_YES, 0, 0, 0) &&
+       count == it->count);
 }
 
 /* Texts of no form, and texts of another one. */
 static void try_others(void) {
     static const char *texts[] = {
-        "x", "\n\n", "met aa", "met aa\nx\n", "met\n", " 1 aa 1\n", " x aa 1 all\n",
-        " 1 aa 1 all\nmet", "unmet 1 aa 1 all Depends\n", "unmet x aa 1 all Depends bb\n",
-        "removed 1 aa 1\n", "removed 1 aa 1 all \n", "changed 1 aa 1 all\n", "Line: 1\n", ": x\n",
-        "line:1\n", "ok x\n", "ok 1, refused\n", "ok 1, 2\n", " aa:\n",
+        "x",
+        "\n\n",
+        "met aa",
+        "met aa\nx\n",
+        "met\n",
+        " 1 aa 1\n",
+        " x aa 1 all\n",
+        " 1 aa 1 all\nmet",
+        "unmet 1 aa 1 all Depends\n",
+        "unmet x aa 1 all Depends bb\n",
+        "removed 1 aa 1\n",
+        "removed 1 aa 1 all \n",
+        "changed 1 aa 1 all\n",
+        "Line: 1\n",
+        ": x\n",
+        "line:1\n",
+        "ok x\n",
+        "ok 1, refused\n",
+        "ok 1, 2\n",
+        " aa:\n",
     };
     static const uint8_t forms[] = {4, 5, 128, 255};
     uint8_t form;
@@ -103,7 +130,8 @@ static void try_others(void) {
         for (form = 0; form < 4; form++)
             if (form != all[at].form && all[at].count)
                 IS(is(deb_rows(form, bytes(all[at].text), strlen(all[at].text), NULL, 0, &count),
-                      DEB_NO, 0, 0, 0) && count == 0);
+                      DEB_NO, 0, 0, 0) &&
+                   count == 0);
     for (at = 0; at < sizeof forms; at++)
         IS(is(deb_rows(forms[at], bytes("met aa\n"), 7, NULL, 0, &count), DEB_NO_KIND, 0, 0, 0) &&
            count == 0);
@@ -118,11 +146,11 @@ static void try_many(void) {
     to += sprintf(to, "met hello\n");
     for (line = 1; line <= LINES; line++)
         to += sprintf(to, " %u hello %u all\n", (unsigned)line, (unsigned)line);
-    IS(is(deb_rows(DEB_REPORT, bytes(text), (size_t)(to - text), rows, LINES, &count), DEB_NO_ROOM, 0,
-          0, 0));
+    IS(is(deb_rows(DEB_REPORT, bytes(text), (size_t)(to - text), rows, LINES, &count), DEB_NO_ROOM,
+          0, 0, 0));
     IS(count == LINES + 1 && untouched(rows, (LINES + 2) * sizeof *rows));
-    IS(is(deb_rows(DEB_REPORT, bytes(text), (size_t)(to - text), rows, LINES + 1, &count), DEB_YES, 0,
-          0, 0));
+    IS(is(deb_rows(DEB_REPORT, bytes(text), (size_t)(to - text), rows, LINES + 1, &count), DEB_YES,
+          0, 0, 0));
     IS(prints_as(rows, count, bytes(text), (size_t)(to - text)));
     IS(untouched(rows + count, sizeof *rows));
     free(text);

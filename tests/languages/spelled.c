@@ -1,5 +1,5 @@
-/* Versions and relations as they are spelled, why such a text is refused, the names of codes, and the
- * version of the library. */
+/* Versions and relations as they are spelled, why such a text is refused, the names of codes, and
+ * the version of the library. */
 #include "tried.h"
 
 struct version {
@@ -94,7 +94,8 @@ static void try_relation_parts(void) {
         for (at = 0; at < sizeof refused / sizeof *refused; at++) {
             memset(table, 7, size);
             count = 99;
-            answer = deb_relation_parts(bytes(refused[at]), strlen(refused[at]), table, room, &count);
+            answer =
+                deb_relation_parts(bytes(refused[at]), strlen(refused[at]), table, room, &count);
             IS(is(answer, DEB_REFUSED, DEB_BAD_RELATION, 0, 0) && count == 0);
             IS(untouched(table, size));
         }
@@ -141,13 +142,14 @@ static void try_explanations(void) {
                   "(Debian Policy 7.1).\n"
                   "usually: a substitution variable, a version without an operator, or upper case "
                   "in a name\n");
-    try_explained(deb_explain_version, "1_2", DEB_BAD_VERSION,
-                  "code: 18\nname: BadVersion\nplace: 1\nreason: UpstreamByte\nvalue: 1_2\n"
-                  "rule: A version must have the form [epoch:]upstream[-revision] (Debian Policy "
-                  "5.6.12); it consists of letters, digits, `.`, `+` and `~`, and upstream may also "
-                  "contain `-` and `:`. The epoch consists of digits, and no part is empty.\n"
-                  "usually: an underscore, an empty revision, a trailing CR, or a substitution "
-                  "variable\n");
+    try_explained(
+        deb_explain_version, "1_2", DEB_BAD_VERSION,
+        "code: 18\nname: BadVersion\nplace: 1\nreason: UpstreamByte\nvalue: 1_2\n"
+        "rule: A version must have the form [epoch:]upstream[-revision] (Debian Policy "
+        "5.6.12); it consists of letters, digits, `.`, `+` and `~`, and upstream may also "
+        "contain `-` and `:`. The epoch consists of digits, and no part is empty.\n"
+        "usually: an underscore, an empty revision, a trailing CR, or a substitution "
+        "variable\n");
 }
 
 /* Each code has a name, which is the one that an explanation writes; no other number has one. */

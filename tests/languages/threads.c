@@ -1,5 +1,5 @@
-/* Four threads call every function at once, and each is answered as one alone is; so often as the first
- * argument says, or 2000 times. */
+/* Four threads call every function at once, and each is answered as one alone is. They do so as
+ * often as the first argument says, or 2000 times. */
 #include "debctl.h"
 
 #include <pthread.h>
@@ -15,14 +15,39 @@ static const char *bad = "Package: hello\nVersion: 1-\n";
 
 static int turns = 2000;
 
+/* How many of these calls return something else than they should. */
+static int ask_more(const uint8_t *text, size_t size) {
+    struct deb_reader *reader = malloc(deb_reader_size());
+    struct deb_alternative alternative;
+    struct deb_row rows[2];
+    struct deb_answer answer;
+    uint8_t out[512];
+    size_t length;
+    int wrong = 0;
+    wrong += deb_query_why(bytes("amd64"), 5, NULL, 0, bytes("zz"), 2, text, size, out, sizeof out,
+                           &length)
+                     .status != DEB_NO ||
+             deb_rows(DEB_REPORT, out, length, rows, 2, &length).status != DEB_YES || length != 2 ||
+             rows[0].kind != DEB_ROW_UNMET || rows[1].kind != DEB_ROW_REASON;
+    wrong += deb_version_parts(bytes("1:2-3"), 5).revision != 4;
+    wrong += deb_relation_parts(bytes("aa:any"), 6, &alternative, 1, &length).status != DEB_YES ||
+             alternative.qualifier != 3;
+    wrong +=
+        deb_explain_version(bytes("1_"), 2, out, sizeof out, &length).code != DEB_BAD_VERSION ||
+        deb_explain_relation(bytes("("), 1, out, sizeof out, &length).code != DEB_BAD_RELATION;
+    deb_reader_start(reader, DEB_PACKAGES, &answer);
+    deb_reader_feed(reader, text, 20, 0, &answer);
+    deb_reader_feed(reader, text + 20, size - 20, 1, &answer);
+    wrong += answer.status != DEB_YES || answer.count != 1;
+    deb_reader_free(reader);
+    free(reader);
+    return wrong;
+}
+
 static void *run(void *wrong) {
     int turn;
-    struct deb_reader *reader = malloc(deb_reader_size());
     for (turn = 0; turn < turns; turn++) {
         uint8_t out[512];
-        struct deb_alternative alternative;
-        struct deb_row rows[2];
-        struct deb_answer answer;
         struct deb_refusal refusal;
         size_t length;
         const uint8_t *text = bytes(hello);
@@ -34,47 +59,28 @@ static void *run(void *wrong) {
         *(int *)wrong +=
             deb_normalise(DEB_PACKAGES, text, size, out, sizeof out, &length).status != DEB_YES ||
             length != 48 || memcmp(out, "Architecture: amd64\nPackage: hello\nVersion: 1.0\n", 48);
-        *(int *)wrong += deb_explain(DEB_PACKAGES, bytes(bad), strlen(bad), out, sizeof out,
-                                     &length)
-                                 .line != 2 ||
-                         memcmp(out, "line: 2\ncode: 18\nname: BadVersion\n", 34);
-        *(int *)wrong += deb_check_all(DEB_PACKAGES, bytes(bad), strlen(bad), &refusal, 1, &length)
-                                 .line != 2 ||
-                         length != 1 || refusal.line != 2 || refusal.code != DEB_BAD_VERSION;
-        *(int *)wrong += deb_explain_all(DEB_PACKAGES, text, size, out, sizeof out, &length).count !=
-                             1 ||
-                         length != 16 || memcmp(out, "ok 1, 0 refused\n", 16);
+        *(int *)wrong +=
+            deb_explain(DEB_PACKAGES, bytes(bad), strlen(bad), out, sizeof out, &length).line !=
+                2 ||
+            memcmp(out, "line: 2\ncode: 18\nname: BadVersion\n", 34);
+        *(int *)wrong +=
+            deb_check_all(DEB_PACKAGES, bytes(bad), strlen(bad), &refusal, 1, &length).line != 2 ||
+            length != 1 || refusal.line != 2 || refusal.code != DEB_BAD_VERSION;
+        *(int *)wrong +=
+            deb_explain_all(DEB_PACKAGES, text, size, out, sizeof out, &length).count != 1 ||
+            length != 16 || memcmp(out, "ok 1, 0 refused\n", 16);
         *(int *)wrong += deb_query(bytes("amd64"), 5, NULL, 0, bytes("hello"), 5, text, size, out,
                                    sizeof out, &length)
                                  .status != DEB_YES ||
                          length != 29;
-        *(int *)wrong += deb_version_key(bytes("1.0"), 3, out, sizeof out, &length).status !=
-                             DEB_YES ||
-                         length != 12;
+        *(int *)wrong +=
+            deb_version_key(bytes("1.0"), 3, out, sizeof out, &length).status != DEB_YES ||
+            length != 12;
         *(int *)wrong += deb_unmet(DEB_PACKAGES, 0, bytes("amd64"), 5, NULL, 0, text, size, text,
                                    size, out, sizeof out, &length)
                              .status != DEB_YES;
-        *(int *)wrong += deb_query_why(bytes("amd64"), 5, NULL, 0, bytes("zz"), 2, text, size, out,
-                                       sizeof out, &length)
-                                 .status != DEB_NO ||
-                         deb_rows(DEB_REPORT, out, length, rows, 2, &length).status != DEB_YES ||
-                         length != 2 || rows[0].kind != DEB_ROW_UNMET ||
-                         rows[1].kind != DEB_ROW_REASON;
-        *(int *)wrong += deb_version_parts(bytes("1:2-3"), 5).revision != 4;
-        *(int *)wrong +=
-            deb_relation_parts(bytes("aa:any"), 6, &alternative, 1, &length).status != DEB_YES ||
-            alternative.qualifier != 3;
-        *(int *)wrong += deb_explain_version(bytes("1_"), 2, out, sizeof out, &length).code !=
-                             DEB_BAD_VERSION ||
-                         deb_explain_relation(bytes("("), 1, out, sizeof out, &length).code !=
-                             DEB_BAD_RELATION;
-        deb_reader_start(reader, DEB_PACKAGES, &answer);
-        deb_reader_feed(reader, text, 20, 0, &answer);
-        deb_reader_feed(reader, text + 20, size - 20, 1, &answer);
-        *(int *)wrong += answer.status != DEB_YES || answer.count != 1;
-        deb_reader_free(reader);
+        *(int *)wrong += ask_more(text, size);
     }
-    free(reader);
     return NULL;
 }
 

@@ -10,14 +10,13 @@
 
 static int passed, failed;
 
-#define IS(what) \
-    ((what) ? (void)passed++ \
-            : (void)(failed++, printf("%s:%d: %s\n", __FILE__, __LINE__, #what)))
+#define IS(what)                                                                                   \
+    ((what) ? (void)passed++ : (void)(failed++, printf("%s:%d: %s\n", __FILE__, __LINE__, #what)))
 
 static inline const uint8_t *bytes(const char *text) { return (const uint8_t *)text; }
 
-/* Memory of so many bytes, all 7. It is taken from the heap, so that a byte after it is one too many
- * for the address sanitiser and valgrind. */
+/* Memory of so many bytes, all 7. It is taken from the heap, so that a byte after it is one too
+ * many for the address sanitiser and valgrind. */
 static inline void *sevens(size_t size) {
     void *it = malloc(size ? size : 1);
     memset(it, 7, size);
@@ -33,7 +32,8 @@ static inline int untouched(const void *from, size_t size) {
     return 1;
 }
 
-static inline int is(struct deb_answer answer, int status, int code, uint64_t line, uint64_t count) {
+static inline int is(struct deb_answer answer, int status, int code, uint64_t line,
+                     uint64_t count) {
     return answer.status == status && answer.code == code && answer.line == line &&
            answer.count == count;
 }
