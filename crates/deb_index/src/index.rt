@@ -82,7 +82,10 @@ impl Index {
                 drop(builder);
                 return Ok(Index::of(alloc, store)?);
             }
-            store.push(&builder)?;
+            let Some(paragraph) = checked.current() else {
+                unreachable!()
+            };
+            store.push(&builder, paragraph.first_line())?;
         }
         // No file has so many paragraphs.
         unreachable!()

@@ -17,6 +17,7 @@ mod answer;
 mod answer_store;
 mod candidates;
 mod cut;
+mod details;
 mod entry;
 mod fault;
 mod index;

@@ -18,7 +18,7 @@ use deb_field::MultiArch;
 use std::alloc::{AllocError, Global};
 
 /// A package: the offsets at which its texts and the entries of its Provides are in the lists of
-/// the store, which are shorter than 2^32.
+/// the store, which are shorter than 2^32, and the line at which its paragraph starts.
 #[derive(Clone, Copy, Debug)]
 pub(crate) struct Record {
     pub(crate) start: u32,
@@ -28,6 +28,7 @@ pub(crate) struct Record {
     pub(crate) end: u32,
     pub(crate) first: u32,
     pub(crate) entries_end: u32,
+    pub(crate) line: u32,
     pub(crate) multi_arch: Option<MultiArch>,
 }
 
@@ -52,8 +53,8 @@ impl Store {
         }
     }
 
-    /// Appends a package.
-    pub(crate) fn push(&mut self, kept: &PackageBuilder) -> Result<(), AllocError>
+    /// Appends a package, whose paragraph starts at a line of the file.
+    pub(crate) fn push(&mut self, kept: &PackageBuilder, line: u64) -> Result<(), AllocError>
         ensures { (p : Listed) → KeepsPackage kept.now p → IsStore self.old
             → OnOk result (KeepsOneMore self.old self.new p) }
     {
@@ -76,6 +77,7 @@ impl Store {
             end,
             first,
             entries_end: offset(self.entries.len())?,
+            line: offset(line as usize)?,
             multi_arch: kept.multi_arch,
         })?;
         Ok(())
@@ -119,6 +121,7 @@ impl Store {
                 record.version_end as usize,
                 record.architecture_end as usize,
             ),
+            line: record.line,
             multi_arch: record.multi_arch,
             provisions: Provisions {
                 text: self.provides(record),
