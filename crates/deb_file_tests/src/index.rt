@@ -126,10 +126,10 @@ fn what_is_kept(rt: HostRuntime) -> Result<(), Fail> {
     assert!(rt; hello.line() == 3 && world.line() == 10);
     assert!(rt; hello.multi_arch() == Some(MultiArch::Foreign) && world.multi_arch().is_none());
     let mut details = Vec::new(rt.alloc());
-    hello.details_into(&mut details)?;
+    hello.details_into(rt.alloc(), &mut details)?;
     assert!(rt; details.as_slice() == DETAILS);
     details.clear();
-    world.details_into(&mut details)?;
+    world.details_into(rt.alloc(), &mut details)?;
     assert!(rt;
         details.as_slice() == b"Architecture: all\nPackage: world\nVersion: 2\n".as_slice()
     );

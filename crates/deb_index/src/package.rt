@@ -29,7 +29,7 @@ pub struct Package<'a> {
 }
 
 impl<'a> Package<'a> {
-    ghost use Rattle.deb_index.specs.Kept.{listed_of};
+    ghost use Rattle.deb_index.specs.Kept.{line_of, listed_of};
 
     /// Returns the name.
     pub fn name(&self) -> &'a [u8]
@@ -60,7 +60,9 @@ impl<'a> Package<'a> {
     }
 
     /// Returns the line at which its paragraph starts in the file, counted from 1.
-    pub fn line(&self) -> u64 {
+    pub fn line(&self) -> u64
+        ensures { result ≡ line_of self.now }
+    {
         u64::from(self.line)
     }
 

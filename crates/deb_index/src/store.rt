@@ -2,11 +2,11 @@
 
 ghost use Rattle.std.specs.Prelude.{◌≡◌, ◌-◌, ◌<◌, ◌++◌, ◌∷◌, [], length, Some, IfOk, OnOk};
 ghost use Rattle.std.specs.List.{slice_get};
-ghost use Rattle.deb_index.specs.Kept.{listed_of};
+ghost use Rattle.deb_index.specs.Kept.{line_of, listed_of};
 ghost use Rattle.deb_index.specs.Listed.{Listed};
 ghost use Rattle.deb_index.specs.PackageBuilder.{KeepsPackage};
 ghost use Rattle.deb_index.specs.Spans.{part};
-ghost use Rattle.deb_index.specs.Stores.{IsStore, KeepsOneMore, listed_in};
+ghost use Rattle.deb_index.specs.Stores.{IsStore, KeepsOneMore, lines_in, listed_in};
 
 use crate::cut::append_entries;
 use crate::entry::Entry;
@@ -55,8 +55,9 @@ impl Store {
 
     /// Appends a package, whose paragraph starts at a line of the file.
     pub(crate) fn push(&mut self, kept: &PackageBuilder, line: u64) -> Result<(), AllocError>
-        ensures { (p : Listed) → KeepsPackage kept.now p → IsStore self.old
+        ensures kept { (p : Listed) → KeepsPackage kept.now p → IsStore self.old
             → OnOk result (KeepsOneMore self.old self.new p) }
+        ensures line { OnOk result (lines_in self.new ≡ lines_in self.old ++ line ∷ []) }
     {
         let start = offset(self.bytes.len())?;
         self.bytes.extend_from_slice(&kept.name)?;
@@ -109,7 +110,8 @@ impl Store {
     pub(crate) fn package(&self, index: usize) -> Package<'_>
         requires kept { IsStore self.now }
         requires within { index < length self.now.records.items }
-        ensures { slice_get (listed_in self.now) index ≡ Some (listed_of result) }
+        ensures listed { slice_get (listed_in self.now) index ≡ Some (listed_of result) }
+        ensures line { slice_get (lines_in self.now) index ≡ Some (line_of result) }
     {
         let record = &self.records[index];
         let bytes = self.bytes.as_slice();

@@ -12,4 +12,5 @@ pub mod Tables
 pub mod Relations
 pub mod FieldLaws
 pub mod Loads
+pub mod Details
 pub mod Diffs
