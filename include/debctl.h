@@ -496,6 +496,15 @@ struct deb_row {
 struct deb_answer deb_rows(uint8_t form, const uint8_t *text, size_t text_length,
                            struct deb_row *rows, size_t rows_size, size_t *row_count);
 
+/* Writes what the index keeps of the package with a number, as a paragraph of canonical text: the
+ * fields Architecture, Multi-Arch if the package has it, Package, Provides if the index keeps an
+ * entry of it, and Version. It keeps the entries of Provides that provide a name: those without a
+ * qualifier, an architecture list and a formula. `line` of the answer is the line at which the
+ * package's paragraph starts in the file, counted from 1; it is 0 if the status isn't DEB_YES.
+ * DEB_YES; DEB_NO: the index has no such package; DEB_NO_ROOM; DEB_NO_MEMORY; DEB_NO_INDEX. */
+struct deb_answer deb_index_details(const struct deb_index *index, uint64_t number,
+                                    uint8_t *out, size_t out_size, size_t *length);
+
 #ifdef __cplusplus
 }
 #endif

@@ -5,6 +5,7 @@ pub mod PackageBuilder
 pub mod ShownValues
 pub mod ListedValues
 pub mod Indexed
+pub mod ReadLines
 pub mod ListedOnce
 pub mod WrittenParts
 pub mod Lookups

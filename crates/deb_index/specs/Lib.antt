@@ -6,6 +6,8 @@ pub mod ReportText
 pub mod Reasons
 pub mod Why
 pub mod Spans
+pub mod FirstLines
+pub mod KeptTexts
 pub mod Entries
 pub mod ProvidedNames
 pub mod Kept

@@ -1,11 +1,11 @@
 -- What is said of a loaded index holds of the index in it.
 use Rattle.std.proofs.Common.{◌≡◌, ◌∙◌, ℕ, List, None, Some, ap, subst, sym}
 use Rattle.std.specs.Option.{option_map_or}
-use Rattle.deb_index.specs.Indexes.{packages_of}
+use Rattle.deb_index.specs.Indexes.{lines_of, packages_of}
 use Rattle.deb_index.specs.Listed.{Listed}
 use Rattle.deb_index.specs.Listing.{ListsAll}
 use Rattle.deb_index.specs.declared.index.Index.{Index}
-use Rattle.debctl_ffi.specs.Loads.{HasPackages, HoldsIndex, HoldsNone}
+use Rattle.debctl_ffi.specs.Loads.{HasLines, HasPackages, HoldsIndex, HoldsNone}
 use Rattle.debctl_ffi.specs.declared.loaded.Loaded.{Loaded}
 
 -- there is one index
@@ -29,3 +29,8 @@ holds_one loaded index is none = some_not_none (sym is ∙ none)
   where
     some_not_none : Some index ≡ None → ⊥
     some_not_none e = cc
+
+pub lines_held : (loaded : Loaded) (index : Index) (lines : List ℕ)
+    → loaded.index ≡ Some index → HasLines loaded lines → lines ≡ lines_of index
+lines_held loaded index lines is has =
+    has.lines_are ∙ ap lines_of (one_index loaded has.index index has.is is)

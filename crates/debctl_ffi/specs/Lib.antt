@@ -16,4 +16,5 @@ pub mod RowTables
 pub mod ExplainedTexts
 pub mod FieldLaws
 pub mod Loads
+pub mod Details
 pub mod Diffs

@@ -17,6 +17,7 @@ mod all_refusals;
 mod answer;
 mod asker;
 mod buffer;
+mod details;
 mod diff;
 mod documents;
 mod explanation;

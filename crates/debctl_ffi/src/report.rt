@@ -6,7 +6,8 @@ ghost use Rattle.deb_base.specs.declared.doc.Doc.{Doc};
 ghost use Rattle.deb_control.specs.Documents.{refusal_of};
 ghost use Rattle.deb_index.specs.Asked.{environment_asked, relation_asked};
 ghost use Rattle.deb_index.specs.Detailed.{details_of};
-ghost use Rattle.deb_index.specs.Indexes.{packages_of};
+ghost use Rattle.deb_index.specs.FirstLines.{first_lines};
+ghost use Rattle.deb_index.specs.Indexes.{lines_of, packages_of};
 ghost use Rattle.deb_index.specs.Listing.{ListsAll};
 ghost use Rattle.deb_index.specs.Questions.{question, RefusesQuery};
 ghost use Rattle.deb_index.specs.ReportText.{report_text};
@@ -129,6 +130,7 @@ fn reasons_over(
 /// Reads an index in memory.
 pub(crate) fn read_index(alloc: Global, text: &[u8]) -> Result<Index, Fault>
     ensures ok { IfOk result (λ index. ListsAll text.now (packages_of index)) }
+    ensures lines { IfOk result (λ index. lines_of index ≡ first_lines text.now) }
     ensures fault { IfErr result
         (λ fault. RefusedOrMemory fault
         (λ refusal. refusal_of Doc.Packages text.now ≡ Some refusal)) }
