@@ -505,6 +505,49 @@ struct deb_answer deb_rows(uint8_t form, const uint8_t *text, size_t text_length
 struct deb_answer deb_index_details(const struct deb_index *index, uint64_t number,
                                     uint8_t *out, size_t out_size, size_t *length);
 
+/* A reader that is fed a file in pieces. It lies in memory of the caller, which may not move it:
+ *
+ *     struct deb_reader *reader = malloc(deb_reader_size());
+ *     struct deb_answer answer;
+ *     deb_reader_start(reader, DEB_PACKAGES, &answer);
+ *     deb_reader_feed(reader, piece, piece_length, 0, &answer);
+ *     deb_reader_fields(reader, ..);
+ *     deb_reader_free(reader);
+ *     free(reader);
+ *
+ * It holds the bytes after the last paragraph that has ended, the fields that the last call read, and
+ * one paragraph that is checked. */
+struct deb_reader;
+
+/* How many bytes the memory of a reader has. It is aligned as by malloc. */
+size_t deb_reader_size(void);
+
+/* Starts a reader of a file of this kind. Afterwards the reader has to be freed, whatever the answer.
+ * DEB_YES; DEB_NO_KIND. */
+void deb_reader_start(struct deb_reader *reader, uint8_t kind, struct deb_answer *answer);
+
+/* Takes the next piece of the file, and reads each paragraph that ends in it. With is_last != 0 the
+ * file ends with the piece, which may be empty. A paragraph ends with the newline of the blank line
+ * after it, and is read once a byte follows or the file has ended. After an error, and after the last
+ * piece, each later call takes nothing and returns the same answer.
+ * DEB_YES: `count` is the number of paragraphs so far; with the last piece, the file is accepted.
+ * DEB_REFUSED: the file is refused; DEB_NO_MEMORY; DEB_NO_KIND: the reader was started so. */
+void deb_reader_feed(struct deb_reader *reader, const uint8_t *text, size_t text_length,
+                     uint8_t is_last, struct deb_answer *answer);
+
+/* Writes the fields of the paragraphs that the last deb_reader_feed read, as deb_fields does: of those
+ * before the one that is refused, if it refused the file. Paragraphs and lines are counted in the
+ * whole file. It may be called again, and by several threads at once. Takes no memory.
+ * DEB_YES; DEB_NO_ROOM. */
+struct deb_answer deb_reader_fields(const struct deb_reader *reader,
+                                    struct deb_field *fields, size_t fields_size,
+                                    size_t *field_count,
+                                    uint8_t *names, size_t names_size, size_t *names_length,
+                                    uint8_t *values, size_t values_size, size_t *values_length);
+
+/* Frees what the reader holds. Its memory is the caller's again. */
+void deb_reader_free(struct deb_reader *reader);
+
 #ifdef __cplusplus
 }
 #endif
