@@ -22,5 +22,6 @@ pub mod Cutting
 pub mod SomeMeets
 pub mod Reasoned
 pub mod Stored
+pub mod KeptProvides
 pub mod Answered
 pub mod Details

@@ -78,7 +78,8 @@ worked-text : kept_text
     (aa (Some Foreign)
     (record { name = codes "vv"; version = None }
     ∷ record { name = codes "ww"; version = Some (version_in (codes "2")) } ∷ []))
-    ≡ codes "Architecture: all\nMulti-Arch: foreign\nPackage: aa\nProvides: vv, ww (= 2)\nVersion: 1.0\n"
+    ≡ codes "Architecture: all\nMulti-Arch: foreign\nPackage: aa\n"
+    ++ codes "Provides: vv, ww (= 2)\nVersion: 1.0\n"
 unfolding group_text
 worked-text = refl
 

@@ -9,6 +9,7 @@ pub mod Spans
 pub mod FirstLines
 pub mod KeptTexts
 pub mod Entries
+pub mod KeptEntries
 pub mod ProvidedNames
 pub mod Kept
 pub mod PackageBuilder

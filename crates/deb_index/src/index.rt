@@ -29,8 +29,8 @@ use std::alloc::{AllocError, Global};
 /// The packages that a file lists, in file order.
 ///
 /// It owns what it keeps of each package: the name, the version, the architecture, Multi-Arch, what
-/// it provides, and the line at which its paragraph starts. It also keeps which packages have or provide a name, so that they are found
-/// without going over the list.
+/// it provides, and the line at which its paragraph starts. It also keeps which packages have or
+/// provide a name, so that they are found without going over the list.
 #[derive(Debug, Drop)]
 pub struct Index {
     store: Store,
