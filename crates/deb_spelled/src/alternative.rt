@@ -7,7 +7,7 @@ ghost use Rattle.deb_relation.specs.Grammar.{SpellsRelation};
 ghost use Rattle.deb_relation.specs.Meaning.{Relation};
 ghost use Rattle.deb_relation.specs.Relations.{Tells};
 ghost use Rattle.deb_spelled.specs.Alternatives.{alternatives_in, cut_alternative, cut_behind, next_alternative};
-ghost use Rattle.deb_spelled.specs.Relations.{HasAlternatives, IsCut};
+ghost use Rattle.deb_spelled.specs.Relations.{HasAlternatives, HasFault, IsCut};
 
 use crate::parts::{cut_architectures, cut_bound, cut_formula, cut_name, cut_qualifier};
 use crate::run::{begins, skip_gap, skip_one, skip_white};
@@ -92,6 +92,13 @@ fn cut_alternatives(alloc: Global, text: &[u8]) -> Result<Vec<AlternativeSpans>,
     Ok(alternatives)
 }
 
+/// Why a text isn't a relation, or out of memory; none if it is one.
+fn fault_in(alloc: Global, text: &[u8]) -> Option<RelationFault>
+    ensures { HasFault text.now result }
+{
+    RelationText::parse(alloc, text).err()
+}
+
 /// Returns where the parts of each alternative of a relation are in its text, in the order of the
 /// text, repeats kept.
 ///
@@ -104,11 +111,11 @@ pub fn read_alternatives(alloc: Global, text: &[u8]) -> Result<Vec<AlternativeSp
     ensures accepted { (m : Relation) → SpellsRelation text.now m → IsCut result }
     ensures refused { IfErr result (Tells (first_fault text.now)) }
 {
-    match RelationText::parse(alloc, text) {
-        Ok(_) => match cut_alternatives(alloc, text) {
-            Ok(alternatives) => Ok(alternatives),
-            Err(_) => Err(RelationFault::Memory),
-        },
-        Err(fault) => Err(fault),
+    if let Some(fault) = fault_in(alloc, text) {
+        return Err(fault);
+    }
+    match cut_alternatives(alloc, text) {
+        Ok(alternatives) => Ok(alternatives),
+        Err(_) => Err(RelationFault::Memory),
     }
 }

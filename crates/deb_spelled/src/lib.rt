@@ -12,6 +12,7 @@
 #![tactic(auto)]
 
 mod alternative;
+pub mod laws;
 mod parts;
 mod run;
 mod span;
