@@ -75,54 +75,56 @@ AnyAnswer = TypeVar("AnyAnswer", Answer, Comparison)
 Asked = TypeVar("Asked")
 
 
+_KIND: List[Any] = [ctypes.c_uint8]
+_PROFILES: List[Any] = [ctypes.POINTER(TextAt), ctypes.c_size_t]
+_MEMORY: List[Any] = [ctypes.c_void_p]
+_TO_ANSWER: List[Any] = [ctypes.POINTER(Answer)]
+_NUMBER: List[Any] = [ctypes.c_uint64]
+_QUERY: List[Any] = _TEXT + _PROFILES + _TEXT
+_FUNCTIONS: List[Tuple[str, Any, List[Any]]] = [
+    ("deb_version_compare", Comparison, _TEXT + _TEXT),
+    ("deb_version_canonical", Answer, _TEXT + _BUFFER),
+    ("deb_version_key", Answer, _TEXT + _BUFFER),
+    ("deb_relation_canonical", Answer, _TEXT + _BUFFER),
+    ("deb_check", Answer, _KIND + _TEXT),
+    ("deb_check_all", Answer, _KIND + _TEXT + _TABLE),
+    ("deb_normalise", Answer, _KIND + _TEXT + _BUFFER),
+    ("deb_explain", Answer, _KIND + _TEXT + _BUFFER),
+    ("deb_explain_all", Answer, _KIND + _TEXT + _BUFFER),
+    ("deb_same", Answer, _KIND + _TEXT + _TEXT),
+    ("deb_diff", Answer, _KIND + _KIND + _TEXT + _TEXT + _BUFFER),
+    ("deb_query", Answer, _QUERY + _TEXT + _BUFFER),
+    ("deb_query_why", Answer, _QUERY + _TEXT + _BUFFER),
+    ("deb_unmet", Answer, _KIND + _KIND + _QUERY + _TEXT + _BUFFER),
+    ("deb_index_size", ctypes.c_size_t, []),
+    ("deb_index_read", None, _MEMORY + _TEXT + _TO_ANSWER),
+    ("deb_index_free", None, _MEMORY),
+    ("deb_index_query", Answer, _MEMORY + _QUERY + _BUFFER),
+    ("deb_index_query_why", Answer, _MEMORY + _QUERY + _BUFFER),
+    ("deb_index_unmet", Answer, _MEMORY + _KIND + _KIND + _QUERY + _BUFFER),
+    ("deb_index_packages", Answer, _MEMORY + _TEXT + _TABLE),
+    ("deb_index_providers", Answer, _MEMORY + _TEXT + _TABLE),
+    ("deb_index_package", Answer, _MEMORY + _NUMBER + _BUFFER),
+    ("deb_index_details", Answer, _MEMORY + _NUMBER + _BUFFER),
+    ("deb_version_parts", VersionParts, _TEXT),
+    ("deb_relation_parts", Answer, _TEXT + _TABLE),
+    ("deb_explain_relation", Answer, _TEXT + _BUFFER),
+    ("deb_explain_version", Answer, _TEXT + _BUFFER),
+    ("deb_rows", Answer, _KIND + _TEXT + _TABLE),
+    ("deb_library_version", ctypes.c_uint32, []),
+    ("deb_reader_size", ctypes.c_size_t, []),
+    ("deb_reader_start", None, _MEMORY + _KIND + _TO_ANSWER),
+    ("deb_reader_feed", None, _MEMORY + _TEXT + _KIND + _TO_ANSWER),
+    ("deb_reader_fields", Answer, _MEMORY + _TABLE + _TABLE + _TABLE),
+    ("deb_reader_free", None, _MEMORY),
+]
+
+
 def _library() -> ctypes.CDLL:
     beside = Path(__file__).with_name("libdebctl.so")
     path = os.environ.get("DEBCTL_LIBRARY") or (beside if beside.exists() else "libdebctl.so.0")
     library = ctypes.CDLL(str(path))
-    kind: List[Any] = [ctypes.c_uint8]
-    profiles: List[Any] = [ctypes.POINTER(TextAt), ctypes.c_size_t]
-    memory: List[Any] = [ctypes.c_void_p]
-    to_answer: List[Any] = [ctypes.POINTER(Answer)]
-    number: List[Any] = [ctypes.c_uint64]
-    query: List[Any] = _TEXT + profiles + _TEXT
-    declared: List[Tuple[str, Any, List[Any]]] = [
-        ("deb_version_compare", Comparison, _TEXT + _TEXT),
-        ("deb_version_canonical", Answer, _TEXT + _BUFFER),
-        ("deb_version_key", Answer, _TEXT + _BUFFER),
-        ("deb_relation_canonical", Answer, _TEXT + _BUFFER),
-        ("deb_check", Answer, kind + _TEXT),
-        ("deb_check_all", Answer, kind + _TEXT + _TABLE),
-        ("deb_normalise", Answer, kind + _TEXT + _BUFFER),
-        ("deb_explain", Answer, kind + _TEXT + _BUFFER),
-        ("deb_explain_all", Answer, kind + _TEXT + _BUFFER),
-        ("deb_same", Answer, kind + _TEXT + _TEXT),
-        ("deb_diff", Answer, kind + kind + _TEXT + _TEXT + _BUFFER),
-        ("deb_query", Answer, query + _TEXT + _BUFFER),
-        ("deb_query_why", Answer, query + _TEXT + _BUFFER),
-        ("deb_unmet", Answer, kind + kind + query + _TEXT + _BUFFER),
-        ("deb_index_size", ctypes.c_size_t, []),
-        ("deb_index_read", None, memory + _TEXT + to_answer),
-        ("deb_index_free", None, memory),
-        ("deb_index_query", Answer, memory + query + _BUFFER),
-        ("deb_index_query_why", Answer, memory + query + _BUFFER),
-        ("deb_index_unmet", Answer, memory + kind + kind + query + _BUFFER),
-        ("deb_index_packages", Answer, memory + _TEXT + _TABLE),
-        ("deb_index_providers", Answer, memory + _TEXT + _TABLE),
-        ("deb_index_package", Answer, memory + number + _BUFFER),
-        ("deb_index_details", Answer, memory + number + _BUFFER),
-        ("deb_version_parts", VersionParts, _TEXT),
-        ("deb_relation_parts", Answer, _TEXT + _TABLE),
-        ("deb_explain_relation", Answer, _TEXT + _BUFFER),
-        ("deb_explain_version", Answer, _TEXT + _BUFFER),
-        ("deb_rows", Answer, kind + _TEXT + _TABLE),
-        ("deb_library_version", ctypes.c_uint32, []),
-        ("deb_reader_size", ctypes.c_size_t, []),
-        ("deb_reader_start", None, memory + kind + to_answer),
-        ("deb_reader_feed", None, memory + _TEXT + kind + to_answer),
-        ("deb_reader_fields", Answer, memory + _TABLE + _TABLE + _TABLE),
-        ("deb_reader_free", None, memory),
-    ]
-    for name, result, arguments in declared:
+    for name, result, arguments in _FUNCTIONS:
         function = getattr(library, name)
         function.restype, function.argtypes = result, arguments
     return library
@@ -186,8 +188,8 @@ def answered(answer: AnyAnswer) -> AnyAnswer:
 
 
 def _room(size: int) -> Tuple[Any, Any]:
-    """Returns room for what a call writes, and the pointer to it. Long room takes memory only as far as
-    it is written."""
+    """Returns room for what a call writes, and the pointer to it. Long room takes memory only as
+    far as it is written."""
     try:
         room: Union[bytearray, mmap.mmap] = bytearray(size) if size < _LONG else mmap.mmap(-1, size)
     except OSError:
@@ -240,10 +242,11 @@ class Memory:
     """Memory in which a structure of the library lies, from the call that fills it to the one that
     frees it.
 
-    It is freed once, when nothing refers to this object. The collector of garbage may end it before
-    the last question: one of `__del__` in the same cycle, or of a thread that this starts. A question
-    after that raises ValueError, and as long as one is being answered, nothing is freed. No lock is
-    taken, since a signal handler may ask too: each step below is a single one of the interpreter's.
+    It is freed once, when nothing refers to this object. The collector of garbage may end it
+    before the last question: one of `__del__` in the same cycle, or of a thread that this starts.
+    A question after that raises ValueError, and as long as one is being answered, nothing is
+    freed. No lock is taken, since a signal handler may ask too: each step below is a single one of
+    the interpreter's.
     """
 
     __slots__ = ("_memory", "_filled", "_asking", "_ended")

@@ -122,10 +122,12 @@ class Paragraph(Mapping[str, str]):
         return self._canonical[name]
 
     def relations(self, name: str, spelled: bool = False) -> List[List[Alternative]]:
-        """Returns the groups of the relation that the value of the field with this name is, each with
-        its alternatives, as `debctl.relations` does. There are none if there is no such field.
+        """Returns the groups of the relation that the value of the field with this name is, each
+        with its alternatives, as `debctl.relations` does. There are none if there is no such
+        field.
 
-        Raises Refused if its value isn't a relation, as a value in a file of the kind `any` may not be.
+        Raises Refused if its value isn't a relation, as a value in a file of the kind `any` may
+        not be.
         """
         return relations(self.bytes(name), spelled) if name in self else []
 
@@ -134,7 +136,8 @@ class Paragraph(Mapping[str, str]):
 
 
 def _paragraphs(tables: _Tables, known: Dict[bytes, _Names]) -> Iterator[Paragraph]:
-    """Yields the paragraphs of tables. Paragraphs with the same names share what is known of these."""
+    """Yields the paragraphs of tables. Paragraphs with the same names share what is known of
+    these."""
     numbers, names, count = tables.numbers, tables.names, tables.count
     paragraph_of, first = numbers[::_SPAN], 0
     while first < count:
@@ -219,9 +222,9 @@ def _pieces(file: Union[Text, IO[bytes], IO[str]]) -> Iterator[bytes]:
 def paragraphs(
     file: Union[Text, IO[bytes], IO[str]], kind: Kind = "any"
 ) -> Iterator[Paragraph]:
-    """Reads a text, or a file that is open for reading, and yields its paragraphs in file order. The
-    file is read as the paragraphs are taken, in pieces of 64 KiB: one is held, and those of which
-    a paragraph is still in use.
+    """Reads a text, or a file that is open for reading, and yields its paragraphs in file order.
+    The file is read as the paragraphs are taken, in pieces of 64 KiB: one is held, and those of
+    which a paragraph is still in use.
 
     The kind is `any`, `packages`, `binary`, `source` or `sources`. After the paragraphs that pass,
     Refused is raised if the file is refused.

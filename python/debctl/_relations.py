@@ -37,7 +37,8 @@ class Alternative(NamedTuple):
 
 
 def _items(text: bytes) -> Tuple[str, ...]:
-    """Returns the items of a list: between two is a space, a tab or a newline, or several of these."""
+    """Returns the items of a list: between two is a space, a tab or a newline, or several of
+    these."""
     return tuple(it.decode() for it in text.translate(_BLANKS).split(b" ") if it) if text else ()
 
 
@@ -57,8 +58,9 @@ def _alternative(data: bytes, row: Tuple[int, ...]) -> Alternative:
 
 
 def relations(relation: Text, spelled: bool = False) -> List[List[Alternative]]:
-    """Returns the groups of a relation, each with its alternatives: those of its canonical text, each
-    once; with `spelled` those of the text itself, with the operator and the version as they are there.
+    """Returns the groups of a relation, each with its alternatives: those of its canonical text,
+    each once; with `spelled` those of the text itself, with the operator and the version as they
+    are there.
 
         >>> import debctl
         >>> text = "bb (< 1.01), aa | cc"
@@ -102,13 +104,14 @@ def _one(alternative: Union[Text, Alternative]) -> Alternative:
 def satisfies(
     alternative: Union[Text, Alternative], package: Union[Text, Mapping[str, str]], arch: Text
 ) -> bool:
-    """Returns whether a package meets an alternative for this architecture, wherever that applies: by
-    its name or what it provides, its version and its architecture. It is what `query` finds in an index
-    of this package alone, which is a paragraph or its text.
+    """Returns whether a package meets an alternative for this architecture, wherever that applies:
+    by its name or what it provides, its version and its architecture. It is what `query` finds in
+    an index of this package alone, which is a paragraph or its text.
 
         >>> import debctl
-        >>> (mailer,) = debctl.paragraphs("Package: mailer\\nVersion: 2\\nArchitecture: all\\nProvides: mta")
-        >>> [debctl.satisfies(one, mailer, "amd64") for one in ("mailer (>= 2)", "mta", "mta (>= 1)")]
+        >>> text = "Package: mailer\\nVersion: 2\\nArchitecture: all\\nProvides: mta\\n"
+        >>> (mailer,) = debctl.paragraphs(text)
+        >>> [debctl.satisfies(it, mailer, "amd64") for it in ("mailer (>= 2)", "mta", "mta (>= 1)")]
         [True, True, False]
 
     Raises Refused if one of these is refused, and ValueError if a text isn't one alternative.
