@@ -118,8 +118,9 @@ impl<Source: Read> Reader<Source> {
         let answer = self.memory.feed(&self.piece[..length], self.is_ended);
         self.error = answered(answer).err();
         let memory = &self.memory;
-        self.tables
-            .fill(length, |tables, lengths| memory.fields(tables, lengths));
+        self.tables.fill(PIECE / 24, length, |tables, lengths| {
+            memory.fields(tables, lengths)
+        });
         self.next = 0;
         Ok(())
     }
