@@ -1,5 +1,5 @@
 -- The parts that are cut show the alternative that is read.
-use Rattle.std.proofs.Common.{◌≡◌, ℕ, zero, suc, ◌+◌, ◌-◌, ◌==◌, Bool, true, false, not, if◌then◌else◌, List, [], ◌∷◌, ◌++◌, length, take, drop, Option, Some, None, Result, Ok, Err, ap, sym, subst, ◌∙◌, arith, refl}
+use Rattle.std.proofs.Common.{◌≡◌, ℕ, ◌+◌, ◌-◌, ◌==◌, Bool, true, false, not, if◌then◌else◌, List, [], ◌∷◌, ◌++◌, length, take, drop, Option, Some, None, Result, Ok, Err, ap, sym, subst, ◌∙◌, arith, refl}
 use Rattle.std.specs.List.{prefix_len}
 use Rattle.std.specs.Option.{unwrap_or}
 use Rattle.std.specs.Result.{IfOk}
@@ -15,10 +15,9 @@ use Rattle.deb_relation.specs.declared.fault.Reason.TheVariants.{Unclosed}
 use Rattle.deb_relation.specs.declared.operator.Op.{Op}
 use Rattle.deb_relation.specs.Reading.{Reading, Stopped, and_then, begins, behind_run, behind_white, is_at_end, is_before, is_in_name, is_in_operator, is_white, operator_of, or_fault, or_stop, read_alternative, read_architectures, read_bound, read_bound_behind, read_close, read_formula, read_name, read_operator, read_qualifier, read_version, run_of, some_read}
 use Rattle.deb_relation.proofs.Runs.{Stops, behind_run-stops}
-use Rattle.deb_spelled.specs.declared.span.Span.{Span}
 use Rattle.deb_spelled.specs.Alternatives.{cut_alternative}
 use Rattle.deb_spelled.specs.Parts.{behind_byte, cut_bound, cut_inside, cut_name, cut_qualifier, no_span, span_at}
-use Rattle.deb_spelled.specs.Shown.{PartsShowAlternatives, ShowsAlternative, ShowsBound, part}
+use Rattle.deb_spelled.specs.Shown.{PartsShowAlternatives, ShowsBound, part}
 
 -- ---- what is left of a text
 
