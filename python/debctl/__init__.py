@@ -4,7 +4,8 @@ questions to an index of packages.
 Each function calls the library libdebctl, whose answers are proved, and adds no rule of its own.
 The library is looked for at DEBCTL_LIBRARY, then in the folder of this package, then where the
 system keeps its libraries. A text is a `str`, of which the UTF-8 is read, or a bytes-like object
-such as `bytes` or `memoryview`. A function raises TypeError for an argument of another type.
+such as `bytes` or `memoryview`. A function raises TypeError for an argument of another type. What
+is returned is a `str`, except for keys and the file of `normalise`.
 
     >>> import debctl
     >>> debctl.compare("1.0~rc1", "1.0")

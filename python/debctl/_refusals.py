@@ -36,8 +36,8 @@ class Refused(ValueError):
     """A text is refused. The message is the line that the program debctl prints.
 
     `line` is counted from 1, and 0 for a text that isn't a file; `code` is a number from 1 to 23,
-    and `name` its name; `field` is the name of the field that is refused or missing, or None;
-    `second` is true if it is the second of two files.
+    and `name` its name; `field` is the name of the field that is refused, as it is spelled in the
+    file, or that is missing, or None; `second` is true if it is the second of two files.
     """
 
     def __init__(
