@@ -49,15 +49,17 @@ def library_version() -> str:
 
 
 __all__ = [
-    "AllChecked", "AllExplained", "Alternative", "Change", "Code", "Details", "Explanation", "Group",
-    "Index", "Kind", "NumberedPackage", "Package", "Paragraph", "Parts", "Reason", "Refused", "Report",
-    "Text", "UnmetGroup", "UnmetReport", "Version", "applies", "canonical", "check", "check_all",
-    "compare", "diff", "explain", "explain_all", "explain_relation", "explain_version", "key",
-    "library_version", "normalise", "paragraphs", "query", "relations", "same", "satisfies", "unmet",
+    "AllChecked", "AllExplained", "Alternative", "Change", "Code", "Details", "Explanation",
+    "Group", "Index", "Kind", "NumberedPackage", "Package", "Paragraph", "Parts", "Reason",
+    "Refused", "Report", "Text", "UnmetGroup", "UnmetReport", "Version", "applies", "canonical",
+    "check", "check_all", "compare", "diff", "explain", "explain_all", "explain_relation",
+    "explain_version", "key", "library_version", "normalise", "paragraphs", "query", "relations",
+    "same", "satisfies", "unmet",
 ]
 
 for _public in (
     AllChecked, AllExplained, Alternative, Change, Code, Details, Explanation, Group, Index,
-    NumberedPackage, Package, Paragraph, Parts, Reason, Refused, Report, UnmetGroup, UnmetReport, Version,
+    NumberedPackage, Package, Paragraph, Parts, Reason, Refused, Report, UnmetGroup, UnmetReport,
+    Version,
 ):
     _public.__module__ = __name__

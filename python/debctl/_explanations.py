@@ -4,15 +4,16 @@ import functools
 from typing import Dict, List, NamedTuple, Optional, Tuple
 
 from ._library import (
-    REFUSED, SECOND_REFUSED, Answer, Kind, Text, answered, kind_of, lib, refusal_of, text_of, written,
+    REFUSED, SECOND_REFUSED, Answer, Kind, Text, answered, kind_of, lib, refusal_of, text_of,
+    written,
 )
 from ._refusals import Code, Refused
 from ._rows import END, EXPLANATION, KEY, OK, SUMMARY, Row, rows_of
 
 
 class Explanation(NamedTuple):
-    """The answer for a text: its refusal, or None if it is accepted, and the lines `key: value` that
-    say why."""
+    """The answer for a text: its refusal, or None if it is accepted, and the lines `key: value`
+    that say why."""
 
     refusal: Optional[Refused]
     text: str
@@ -101,8 +102,8 @@ class _Fields:
 
 
 def refused_in(answer: Answer, kind: int, data: bytes, first: int = 1) -> Optional[Refused]:
-    """Returns the refusal of an answer for a file, with its field, or None. `data` is the file from the
-    line with the number `first` on, at which a paragraph starts."""
+    """Returns the refusal of an answer for a file, with its field, or None. `data` is the file
+    from the line with the number `first` on, at which a paragraph starts."""
     field = None
     if answer.status in (REFUSED, SECOND_REFUSED) and answer.line:
         why, text = explained(kind, data)
@@ -136,8 +137,8 @@ def explain(text: Text, kind: Kind = "packages") -> Explanation:
 
 
 def explain_relation(relation: Text) -> Explanation:
-    """Returns why a text isn't a relation, in the lines that `debctl explain --relation` writes; of a
-    relation the text is the line `ok`.
+    """Returns why a text isn't a relation, in the lines that `debctl explain --relation` writes;
+    of a relation the text is the line `ok`.
 
         >>> import debctl
         >>> why = debctl.explain_relation("hello, world (1)")
@@ -149,8 +150,8 @@ def explain_relation(relation: Text) -> Explanation:
 
 
 def explain_version(version: Text) -> Explanation:
-    """Returns why a text isn't a version, in the lines that `debctl explain --version-text` writes; of
-    a version the text is the line `ok`."""
+    """Returns why a text isn't a version, in the lines that `debctl explain --version-text`
+    writes; of a version the text is the line `ok`."""
     answer, why = written(4096, functools.partial(lib.deb_explain_version, *text_of(version)))
     return Explanation(refusal_of(answer), why.decode())
 

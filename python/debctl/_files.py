@@ -115,9 +115,9 @@ def same(text: Text, other: Text, kind: Kind = "packages") -> bool:
 
 
 def diff(old: Text, new: Text, kind: Kind = "packages", values: bool = False) -> List[Change]:
-    """Returns what changed in meaning between two files of this kind: each paragraph that was removed,
-    added, changed or upgraded, in the order of the lines that the program `debctl diff` writes. With
-    `values` a change has the lines of the fields that differ.
+    """Returns what changed in meaning between two files of this kind: each paragraph that was
+    removed, added, changed or upgraded, in the order of the lines that the program `debctl diff`
+    writes. With `values` a change has the lines of the fields that differ.
 
         >>> import debctl
         >>> old = "Package: hello\\nVersion: 1\\nArchitecture: all\\n"
@@ -129,8 +129,8 @@ def diff(old: Text, new: Text, kind: Kind = "packages", values: bool = False) ->
          +Version: 2
         upgraded ('Version',) ('Version: 1',) 2
 
-    Raises Refused if one of them is refused; its `second` says which. Raises ValueError for the kind
-    `any`.
+    Raises Refused if one of them is refused; its `second` says which. Raises ValueError for the
+    kind `any`.
     """
     number, (data, length), (second, size) = kind_of(kind), text_of(old), text_of(new)
     call = functools.partial(lib.deb_diff, number, bool(values), data, length, second, size)
@@ -179,7 +179,8 @@ def unmet(
     too; of `sources` and `source` the three fields Build-Depends.
 
     Raises Refused if the architecture, a profile, the index or the file is refused; its `second`
-    is true if the file is. Raises ValueError for another kind, or if Recommends is asked of sources.
+    is true if the file is. Raises ValueError for another kind, or if Recommends is asked of
+    sources.
     """
     number, active = kind_of(kind), texts_of(profiles)
     (data, length), (text, size) = text_of(index), text_of(file)
@@ -194,7 +195,8 @@ def unmet(
 def unmet_report(
     answered: Tuple[Answer, bytes], asked: Tuple[Kind, bool], index: bytes, file: bytes
 ) -> UnmetReport:
-    """Returns the report of a call that finds unmet relations, or raises the exception of its answer.
+    """Returns the report of a call that finds unmet relations, or raises the exception of its
+    answer.
     """
     (answer, lines), (kind, recommends) = answered, asked
     if answer.status == NO_KIND:

@@ -9,8 +9,8 @@ from typing import Any, Iterable, List, NamedTuple, NoReturn, Optional, Tuple, T
 from ._explanations import answered_file
 from ._files import Report, UnmetReport, unmet_report
 from ._library import (
-    NO, YES, Answer, IndexMemory, Kind, Memory, Text, answered, given, kind_of, lib, tables, text_of,
-    texts_of, written,
+    NO, YES, Answer, IndexMemory, Kind, Memory, Text, answered, given, kind_of, lib, tables,
+    text_of, texts_of, written,
 )
 from ._paragraphs import paragraphs
 from ._relations import Alternative
@@ -28,8 +28,8 @@ class Package(NamedTuple):
 
 
 class Details(NamedTuple):
-    """All that an index keeps of a package: also its Multi-Arch, what it provides, and the line at which
-    its paragraph starts in the text of the index."""
+    """All that an index keeps of a package: also its Multi-Arch, what it provides, and the line at
+    which its paragraph starts in the text of the index."""
 
     name: str
     version: str
@@ -43,11 +43,13 @@ class Index:
     """An index of packages, which is read once and asked often, by any number of threads at once.
 
     Raises Refused if the text isn't accepted as an index of packages. `len` is the number of
-    packages. They have the numbers from 1 in the order of the text, which isn't kept. After `close`,
-    or at the end of a `with` statement, each question raises ValueError. An index can't be copied.
+    packages. They have the numbers from 1 in the order of the text, which isn't kept. After
+    `close`, or at the end of a `with` statement, each question raises ValueError. An index can't
+    be copied.
 
         >>> import debctl
-        >>> index = debctl.Index("Package: mailer\\nVersion: 2\\nArchitecture: all\\nProvides: mta\\n")
+        >>> text = "Package: mailer\\nVersion: 2\\nArchitecture: all\\nProvides: mta\\n"
+        >>> index = debctl.Index(text)
         >>> for group in index.query("mta, hello", "amd64").groups:
         ...     print(group.verdict, group.text, [it.name for it in group.packages])
         unmet hello []
@@ -65,14 +67,16 @@ class Index:
         self._loaded = memory, answered_file(answer, _PACKAGES, data).count
 
     def _open(self) -> Tuple[Memory, int]:
-        """Returns the memory and the number of packages, also if another thread closes the index."""
+        """Returns the memory and the number of packages, also if another thread closes the index.
+        """
         loaded = self._loaded
         if loaded is None:
             raise ValueError("the index is closed, or was never read")
         return loaded
 
     def close(self) -> None:
-        """Closes the index. Its memory is freed when the last question that runs has been answered."""
+        """Closes the index. Its memory is freed when the last question that runs has been
+        answered."""
         self._loaded = None
 
     def __enter__(self) -> "Index":
@@ -108,8 +112,8 @@ class Index:
     def query(
         self, relation: Text, arch: Text, profiles: Iterable[Text] = (), why: bool = False
     ) -> Report:
-        """Finds the packages that meet a relation, as `debctl.query` does, without reading the index
-        again.
+        """Finds the packages that meet a relation, as `debctl.query` does, without reading the
+        index again.
 
         Raises Refused if the relation, the architecture or a profile is refused.
         """
@@ -129,11 +133,11 @@ class Index:
         kind: Kind = "packages",
         recommends: bool = False,
     ) -> UnmetReport:
-        """Finds the relations of a file that no package meets, as `debctl.unmet` does, without reading
-        the index again.
+        """Finds the relations of a file that no package meets, as `debctl.unmet` does, without
+        reading the index again.
 
-        Raises Refused if the architecture, a profile or the file is refused; its `second` is true if
-        the file is. Raises ValueError for another kind, or if Recommends is asked of sources.
+        Raises Refused if the architecture, a profile or the file is refused; its `second` is true
+        if the file is. Raises ValueError for another kind, or if Recommends is asked of sources.
         """
         number, active, (data, length) = kind_of(kind), texts_of(profiles), text_of(file)
         words = number, bool(recommends), *text_of(arch), active, len(active), data, length
@@ -164,8 +168,8 @@ class Index:
         """Returns all that is kept of the package with a number, or None if there is none.
 
             >>> import debctl
-            >>> index = debctl.Index("Package: aa\\nVersion: 1\\nArchitecture: all\\nProvides: bb (= 2)\\n")
-            >>> details = index.details(1)
+            >>> text = "Package: aa\\nVersion: 1\\nArchitecture: all\\nProvides: bb (= 2)\\n"
+            >>> details = debctl.Index(text).details(1)
             >>> details.line, details.multi_arch, list(map(str, details.provides))
             (1, None, ['bb (= 2)'])
         """

@@ -5,7 +5,8 @@ import mmap
 import os
 from pathlib import Path
 from typing import (
-    Any, Callable, ClassVar, Iterable, List, Literal, Optional, Tuple, TypeVar, Union,
+    Any, Callable, ClassVar, Iterable, List, Literal, Optional, Sequence, Tuple, TypeVar,
+    Union,
 )
 
 from ._refusals import Refused
@@ -74,54 +75,56 @@ AnyAnswer = TypeVar("AnyAnswer", Answer, Comparison)
 Asked = TypeVar("Asked")
 
 
+_KIND: List[Any] = [ctypes.c_uint8]
+_PROFILES: List[Any] = [ctypes.POINTER(TextAt), ctypes.c_size_t]
+_MEMORY: List[Any] = [ctypes.c_void_p]
+_TO_ANSWER: List[Any] = [ctypes.POINTER(Answer)]
+_NUMBER: List[Any] = [ctypes.c_uint64]
+_QUERY: List[Any] = _TEXT + _PROFILES + _TEXT
+_FUNCTIONS: List[Tuple[str, Any, List[Any]]] = [
+    ("deb_version_compare", Comparison, _TEXT + _TEXT),
+    ("deb_version_canonical", Answer, _TEXT + _BUFFER),
+    ("deb_version_key", Answer, _TEXT + _BUFFER),
+    ("deb_relation_canonical", Answer, _TEXT + _BUFFER),
+    ("deb_check", Answer, _KIND + _TEXT),
+    ("deb_check_all", Answer, _KIND + _TEXT + _TABLE),
+    ("deb_normalise", Answer, _KIND + _TEXT + _BUFFER),
+    ("deb_explain", Answer, _KIND + _TEXT + _BUFFER),
+    ("deb_explain_all", Answer, _KIND + _TEXT + _BUFFER),
+    ("deb_same", Answer, _KIND + _TEXT + _TEXT),
+    ("deb_diff", Answer, _KIND + _KIND + _TEXT + _TEXT + _BUFFER),
+    ("deb_query", Answer, _QUERY + _TEXT + _BUFFER),
+    ("deb_query_why", Answer, _QUERY + _TEXT + _BUFFER),
+    ("deb_unmet", Answer, _KIND + _KIND + _QUERY + _TEXT + _BUFFER),
+    ("deb_index_size", ctypes.c_size_t, []),
+    ("deb_index_read", None, _MEMORY + _TEXT + _TO_ANSWER),
+    ("deb_index_free", None, _MEMORY),
+    ("deb_index_query", Answer, _MEMORY + _QUERY + _BUFFER),
+    ("deb_index_query_why", Answer, _MEMORY + _QUERY + _BUFFER),
+    ("deb_index_unmet", Answer, _MEMORY + _KIND + _KIND + _QUERY + _BUFFER),
+    ("deb_index_packages", Answer, _MEMORY + _TEXT + _TABLE),
+    ("deb_index_providers", Answer, _MEMORY + _TEXT + _TABLE),
+    ("deb_index_package", Answer, _MEMORY + _NUMBER + _BUFFER),
+    ("deb_index_details", Answer, _MEMORY + _NUMBER + _BUFFER),
+    ("deb_version_parts", VersionParts, _TEXT),
+    ("deb_relation_parts", Answer, _TEXT + _TABLE),
+    ("deb_explain_relation", Answer, _TEXT + _BUFFER),
+    ("deb_explain_version", Answer, _TEXT + _BUFFER),
+    ("deb_rows", Answer, _KIND + _TEXT + _TABLE),
+    ("deb_library_version", ctypes.c_uint32, []),
+    ("deb_reader_size", ctypes.c_size_t, []),
+    ("deb_reader_start", None, _MEMORY + _KIND + _TO_ANSWER),
+    ("deb_reader_feed", None, _MEMORY + _TEXT + _KIND + _TO_ANSWER),
+    ("deb_reader_fields", Answer, _MEMORY + _TABLE + _TABLE + _TABLE),
+    ("deb_reader_free", None, _MEMORY),
+]
+
+
 def _library() -> ctypes.CDLL:
     beside = Path(__file__).with_name("libdebctl.so")
     path = os.environ.get("DEBCTL_LIBRARY") or (beside if beside.exists() else "libdebctl.so.0")
     library = ctypes.CDLL(str(path))
-    kind: List[Any] = [ctypes.c_uint8]
-    profiles: List[Any] = [ctypes.POINTER(TextAt), ctypes.c_size_t]
-    memory: List[Any] = [ctypes.c_void_p]
-    to_answer: List[Any] = [ctypes.POINTER(Answer)]
-    number: List[Any] = [ctypes.c_uint64]
-    query: List[Any] = _TEXT + profiles + _TEXT
-    declared: List[Tuple[str, Any, List[Any]]] = [
-        ("deb_version_compare", Comparison, _TEXT + _TEXT),
-        ("deb_version_canonical", Answer, _TEXT + _BUFFER),
-        ("deb_version_key", Answer, _TEXT + _BUFFER),
-        ("deb_relation_canonical", Answer, _TEXT + _BUFFER),
-        ("deb_check", Answer, kind + _TEXT),
-        ("deb_check_all", Answer, kind + _TEXT + _TABLE),
-        ("deb_normalise", Answer, kind + _TEXT + _BUFFER),
-        ("deb_explain", Answer, kind + _TEXT + _BUFFER),
-        ("deb_explain_all", Answer, kind + _TEXT + _BUFFER),
-        ("deb_same", Answer, kind + _TEXT + _TEXT),
-        ("deb_diff", Answer, kind + kind + _TEXT + _TEXT + _BUFFER),
-        ("deb_query", Answer, query + _TEXT + _BUFFER),
-        ("deb_query_why", Answer, query + _TEXT + _BUFFER),
-        ("deb_unmet", Answer, kind + kind + query + _TEXT + _BUFFER),
-        ("deb_index_size", ctypes.c_size_t, []),
-        ("deb_index_read", None, memory + _TEXT + to_answer),
-        ("deb_index_free", None, memory),
-        ("deb_index_query", Answer, memory + query + _BUFFER),
-        ("deb_index_query_why", Answer, memory + query + _BUFFER),
-        ("deb_index_unmet", Answer, memory + kind + kind + query + _BUFFER),
-        ("deb_index_packages", Answer, memory + _TEXT + _TABLE),
-        ("deb_index_providers", Answer, memory + _TEXT + _TABLE),
-        ("deb_index_package", Answer, memory + number + _BUFFER),
-        ("deb_index_details", Answer, memory + number + _BUFFER),
-        ("deb_version_parts", VersionParts, _TEXT),
-        ("deb_relation_parts", Answer, _TEXT + _TABLE),
-        ("deb_explain_relation", Answer, _TEXT + _BUFFER),
-        ("deb_explain_version", Answer, _TEXT + _BUFFER),
-        ("deb_rows", Answer, kind + _TEXT + _TABLE),
-        ("deb_library_version", ctypes.c_uint32, []),
-        ("deb_reader_size", ctypes.c_size_t, []),
-        ("deb_reader_start", None, memory + kind + to_answer),
-        ("deb_reader_feed", None, memory + _TEXT + kind + to_answer),
-        ("deb_reader_fields", Answer, memory + _TABLE + _TABLE + _TABLE),
-        ("deb_reader_free", None, memory),
-    ]
-    for name, result, arguments in declared:
+    for name, result, arguments in _FUNCTIONS:
         function = getattr(library, name)
         function.restype, function.argtypes = result, arguments
     return library
@@ -184,25 +187,26 @@ def answered(answer: AnyAnswer) -> AnyAnswer:
     return answer
 
 
-def _room(size: int) -> Any:
-    """Returns zeros that can be written: a long one takes memory only as far as it is written."""
-    if size < _LONG:
-        return ctypes.create_string_buffer(size)
+def _room(size: int) -> Tuple[Any, Any]:
+    """Returns room for what a call writes, and the pointer to it. Long room takes memory only as
+    far as it is written."""
     try:
-        return (ctypes.c_char * size).from_buffer(mmap.mmap(-1, size))
+        room: Union[bytearray, mmap.mmap] = bytearray(size) if size < _LONG else mmap.mmap(-1, size)
     except OSError:
         raise MemoryError from None
+    return room, ctypes.byref(ctypes.c_char.from_buffer(room))
 
 
 def written(room: int, call: Callable[..., Answer]) -> Tuple[Answer, bytes]:
     """Returns the answer of a call that writes to a buffer, and what it wrote. If there isn't
     enough room, it is called again with as much as it needs."""
-    length = ctypes.c_size_t(room)
+    length = ctypes.c_size_t()
     while True:
-        out = _room(length.value)
-        answer = call(out, len(out), ctypes.byref(length))
+        out, pointer = _room(room)
+        answer = call(pointer, room, ctypes.byref(length))
         if answer.status != NO_ROOM:
-            return answer, ctypes.string_at(out, length.value)
+            return answer, bytes(memoryview(out)[: length.value])
+        room = length.value
 
 
 def given(room: int, call: Callable[..., Answer]) -> Tuple[Answer, bytes]:
@@ -212,32 +216,37 @@ def given(room: int, call: Callable[..., Answer]) -> Tuple[Answer, bytes]:
 
 
 def tables(
-    sizes: Iterable[int], rooms: List[int], call: Callable[..., Answer]
+    sizes: Sequence[int], rooms: List[int], call: Callable[..., Answer]
 ) -> Tuple[Answer, List[bytes]]:
     """Returns the answer of a call that writes tables, and what it wrote: `sizes` are those of an
     item of each, and `rooms` how many each has room for. If there isn't enough room, it is called
     again with as much as it needs."""
+    counts = [ctypes.c_size_t() for _ in rooms]
     while True:
-        counts = [ctypes.c_size_t() for _ in rooms]
-        outs = [_room(max(size * room, 1)) for size, room in zip(sizes, rooms)]
-        words: List[Any] = []
-        for out, room, count in zip(outs, rooms, counts):
-            words += [out, room, ctypes.byref(count)]
+        outs, words = [], []
+        for size, room, count in zip(sizes, rooms, counts):
+            out, pointer = _room(max(size * room, 1))
+            outs.append(out)
+            words += [pointer, room, ctypes.byref(count)]
         answer = call(*words)
+        lengths = [count.value for count in counts]
         if answer.status != NO_ROOM:
-            parts = zip(sizes, outs, counts)
-            return answer, [ctypes.string_at(out, size * it.value) for size, out, it in parts]
-        rooms = [max(room, count.value) for room, count in zip(rooms, counts)]
+            return answer, [
+                bytes(memoryview(out)[: size * length])
+                for size, out, length in zip(sizes, outs, lengths)
+            ]
+        rooms = [max(room, length) for room, length in zip(rooms, lengths)]
 
 
 class Memory:
     """Memory in which a structure of the library lies, from the call that fills it to the one that
     frees it.
 
-    It is freed once, when nothing refers to this object. The collector of garbage may end it before
-    the last question: one of `__del__` in the same cycle, or of a thread that this starts. A question
-    after that raises ValueError, and as long as one is being answered, nothing is freed. No lock is
-    taken, since a signal handler may ask too: each step below is a single one of the interpreter's.
+    It is freed once, when nothing refers to this object. The collector of garbage may end it
+    before the last question: one of `__del__` in the same cycle, or of a thread that this starts.
+    A question after that raises ValueError, and as long as one is being answered, nothing is
+    freed. No lock is taken, since a signal handler may ask too: each step below is a single one of
+    the interpreter's.
     """
 
     __slots__ = ("_memory", "_filled", "_asking", "_ended")

@@ -122,10 +122,12 @@ class Paragraph(Mapping[str, str]):
         return self._canonical[name]
 
     def relations(self, name: str, spelled: bool = False) -> List[List[Alternative]]:
-        """Returns the groups of the relation that the value of the field with this name is, each with
-        its alternatives, as `debctl.relations` does. There are none if there is no such field.
+        """Returns the groups of the relation that the value of the field with this name is, each
+        with its alternatives, as `debctl.relations` does. There are none if there is no such
+        field.
 
-        Raises Refused if its value isn't a relation, as a value in a file of the kind `any` may not be.
+        Raises Refused if its value isn't a relation, as a value in a file of the kind `any` may
+        not be.
         """
         return relations(self.bytes(name), spelled) if name in self else []
 
@@ -134,7 +136,8 @@ class Paragraph(Mapping[str, str]):
 
 
 def _paragraphs(tables: _Tables, known: Dict[bytes, _Names]) -> Iterator[Paragraph]:
-    """Yields the paragraphs of tables. Paragraphs with the same names share what is known of these."""
+    """Yields the paragraphs of tables. Paragraphs with the same names share what is known of
+    these."""
     numbers, names, count = tables.numbers, tables.names, tables.count
     paragraph_of, first = numbers[::_SPAN], 0
     while first < count:
@@ -154,20 +157,20 @@ def _paragraphs(tables: _Tables, known: Dict[bytes, _Names]) -> Iterator[Paragra
 
 
 class _Recent:
-    """The text of a file from the last paragraph on that passes, in pieces, each with the number of the
-    line at which it starts: what the explanation of a refusal needs."""
+    """The text of a file from the last paragraph on that passes, which the explanation of a refusal
+    needs: in pieces, each with the number of the line at which it starts."""
 
     def __init__(self) -> None:
         self._pieces: Deque[Tuple[int, bytes]] = deque()
-        self._first = self._next = 1
+        self._first = self.next_line = 1
 
     def add(self, piece: bytes) -> None:
         """Adds the next piece."""
-        self._pieces.append((self._next, piece))
-        self._next += piece.count(b"\n")
+        self._pieces.append((self.next_line, piece))
+        self.next_line += piece.count(b"\n")
 
     def passed(self, line: int) -> None:
-        """The last paragraph that passes starts at this line."""
+        """Drops the lines before this one, at which a paragraph may start."""
         self._first = line
         while len(self._pieces) > 1 and self._pieces[1][0] < line:
             self._pieces.popleft()
@@ -201,6 +204,8 @@ def _read(kind: int, pieces: Iterator[bytes]) -> Iterator[Paragraph]:
         yield from _paragraphs(found, known)
         if found.count:
             recent.passed(found.last_line())
+        elif not piece.strip(b" \t\n") and piece.count(b"\n") > 2:
+            recent.passed(recent.next_line)  # nothing is read, since all these lines are blank
         if answer.status != YES:
             recent.refused(answer, kind)
 
@@ -217,9 +222,9 @@ def _pieces(file: Union[Text, IO[bytes], IO[str]]) -> Iterator[bytes]:
 def paragraphs(
     file: Union[Text, IO[bytes], IO[str]], kind: Kind = "any"
 ) -> Iterator[Paragraph]:
-    """Reads a text, or a file that is open for reading, and yields its paragraphs in file order. The
-    file is read as the paragraphs are taken, in pieces of 64 KiB: one is held, and those of which
-    a paragraph is still in use.
+    """Reads a text, or a file that is open for reading, and yields its paragraphs in file order.
+    The file is read as the paragraphs are taken, in pieces of 64 KiB: one is held, and those of
+    which a paragraph is still in use.
 
     The kind is `any`, `packages`, `binary`, `source` or `sources`. After the paragraphs that pass,
     Refused is raised if the file is refused.

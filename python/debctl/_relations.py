@@ -37,22 +37,30 @@ class Alternative(NamedTuple):
 
 
 def _items(text: bytes) -> Tuple[str, ...]:
-    """Returns the items of a list: between two is a space, a tab or a newline, or several of these."""
-    return tuple(it.decode() for it in text.translate(_BLANKS).split(b" ") if it)
+    """Returns the items of a list: between two is a space, a tab or a newline, or several of
+    these."""
+    return tuple(it.decode() for it in text.translate(_BLANKS).split(b" ") if it) if text else ()
 
 
-def _alternative(data: bytes, spans: Tuple[int, ...]) -> Alternative:
-    parts = [data[spans[at] : spans[at] + spans[at + 1]] for at in range(1, len(spans), 2)]
-    name, qualifier, operator, version = (it.decode() or None for it in parts[:4])
-    lists = (it.partition(b"<")[2] for it in parts[5].split(b">")[:-1])
+def _alternative(data: bytes, row: Tuple[int, ...]) -> Alternative:
+    _, name, size, *spans, lists, length = row
+
+    def part(at: int) -> Optional[str]:
+        start, size = spans[at], spans[at + 1]
+        return data[start : start + size].decode() if size else None
+
+    architectures = data[spans[6] : spans[6] + spans[7]] if spans[7] else b""
+    formula = data[lists : lists + length].split(b">")[:-1] if length else []
     return Alternative(
-        name or "", qualifier, operator, version, _items(parts[4]), tuple(map(_items, lists))
+        data[name : name + size].decode(), part(0), part(2), part(4), _items(architectures),
+        tuple(_items(it.partition(b"<")[2]) for it in formula),
     )
 
 
 def relations(relation: Text, spelled: bool = False) -> List[List[Alternative]]:
-    """Returns the groups of a relation, each with its alternatives: those of its canonical text, each
-    once; with `spelled` those of the text itself, with the operator and the version as they are there.
+    """Returns the groups of a relation, each with its alternatives: those of its canonical text,
+    each once; with `spelled` those of the text itself, with the operator and the version as they
+    are there.
 
         >>> import debctl
         >>> text = "bb (< 1.01), aa | cc"
@@ -72,10 +80,10 @@ def relations(relation: Text, spelled: bool = False) -> List[List[Alternative]]:
     answer, (rows,) = tables([_PARTS.size], [room], call)
     answered(answer)
     groups: List[List[Alternative]] = []
-    for group, *spans in _PARTS.iter_unpack(rows):
-        if group > len(groups):
+    for row in _PARTS.iter_unpack(rows):
+        if row[0] > len(groups):
             groups.append([])
-        groups[-1].append(_alternative(data, (group, *spans)))
+        groups[-1].append(_alternative(data, row))
     return groups
 
 
@@ -96,13 +104,14 @@ def _one(alternative: Union[Text, Alternative]) -> Alternative:
 def satisfies(
     alternative: Union[Text, Alternative], package: Union[Text, Mapping[str, str]], arch: Text
 ) -> bool:
-    """Returns whether a package meets an alternative for this architecture, wherever that applies: by
-    its name or what it provides, its version and its architecture. It is what `query` finds in an index
-    of this package alone, which is a paragraph or its text.
+    """Returns whether a package meets an alternative for this architecture, wherever that applies:
+    by its name or what it provides, its version and its architecture. It is what `query` finds in
+    an index of this package alone, which is a paragraph or its text.
 
         >>> import debctl
-        >>> (mailer,) = debctl.paragraphs("Package: mailer\\nVersion: 2\\nArchitecture: all\\nProvides: mta")
-        >>> [debctl.satisfies(one, mailer, "amd64") for one in ("mailer (>= 2)", "mta", "mta (>= 1)")]
+        >>> text = "Package: mailer\\nVersion: 2\\nArchitecture: all\\nProvides: mta\\n"
+        >>> (mailer,) = debctl.paragraphs(text)
+        >>> [debctl.satisfies(it, mailer, "amd64") for it in ("mailer (>= 2)", "mta", "mta (>= 1)")]
         [True, True, False]
 
     Raises Refused if one of these is refused, and ValueError if a text isn't one alternative.

@@ -8,8 +8,8 @@ from ._library import YES, lib, tables
 
 REPORT, UNMET_LINES, DIFF_LINES, EXPLANATION = range(4)
 (
-    MET, UNMET, IGNORED, PACKAGE, REASON, PACKAGE_REASON, UNMET_GROUP, UNSURE_GROUP, REMOVED, CHANGED,
-    UPGRADED, ADDED, OLD_LINE, NEW_LINE, KEY, END, OK, SUMMARY, VALID,
+    MET, UNMET, IGNORED, PACKAGE, REASON, PACKAGE_REASON, UNMET_GROUP, UNSURE_GROUP, REMOVED,
+    CHANGED, UPGRADED, ADDED, OLD_LINE, NEW_LINE, KEY, END, OK, SUMMARY, VALID,
 ) = range(19)
 _ROW = struct.Struct("@BB6x12N")  # its kind, how many cells it has, and where they are
 
@@ -49,8 +49,8 @@ class Reason(NamedTuple):
 
 
 class Group(NamedTuple):
-    """The report on a group of a relation: its canonical text, the packages that meet it and, if they
-    were asked for, the reasons why it isn't met."""
+    """The report on a group of a relation: its canonical text, the packages that meet it and, if
+    they were asked for, the reasons why it isn't met."""
 
     verdict: Verdict
     text: str
@@ -72,9 +72,10 @@ class UnmetGroup(NamedTuple):
 
 
 class Change(NamedTuple):
-    """What became of a paragraph: the number that it has in the old file or, if it was added, in the
-    new one; its versions, canonical; the names of the fields that differ. `old` and `new` are the
-    lines of these fields, if values were asked for. As a `str` it is the lines that the program prints.
+    """What became of a paragraph: the number that it has in the old file or, if it was added, in
+    the new one; its versions, canonical; the names of the fields that differ. `old` and `new` are
+    the lines of these fields, if values were asked for. As a `str` it is the lines that the
+    program prints.
     """
 
     kind: Literal["removed", "changed", "upgraded", "added"]

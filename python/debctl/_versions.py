@@ -11,8 +11,8 @@ from ._refusals import Refused
 
 _ROOM = 256
 _TEXTS = (str, bytes, bytearray, memoryview)
-# Buffers that no call uses: a call takes one out for as long as it uses it, since a signal handler or
-# another thread may call in between.
+# Buffers that no call uses: a call takes one out for as long as it uses it, since a signal handler
+# or another thread may call in between.
 _spare: List[Tuple[Any, Any, Any]] = []
 
 
@@ -84,21 +84,23 @@ def _parts(version: Text) -> Parts:
     at: VersionParts = lib.deb_version_parts(data, length)
     if at.status:
         raise Refused(at.code, 0)
-    epoch, upstream, revision = (
-        data[start : start + size].decode()
-        for start, size in (
-            (0, at.epoch_length), (at.upstream, at.upstream_length), (at.revision, at.revision_length),
-        )
+
+    def part(start: int, size: int) -> str:
+        return data[start : start + size].decode()
+
+    return Parts(
+        part(0, at.epoch_length) if at.has_epoch else None,
+        part(at.upstream, at.upstream_length),
+        part(at.revision, at.revision_length) if at.has_revision else None,
     )
-    return Parts(epoch if at.has_epoch else None, upstream, revision if at.has_revision else None)
 
 
 class Version:
     """A version in Debian's order, which can be compared, sorted and used as a key.
 
-    Raises Refused if the text isn't a version. A version may be compared with a text, which is read as
-    a version: then Refused is raised if it isn't one. A set or a dict finds a version by a `str` only
-    if that is its canonical text, since other texts have another hash.
+    Raises Refused if the text isn't a version. A version may be compared with a text, which is
+    read as a version: then Refused is raised if it isn't one. A set or a dict finds a version by a
+    `str` only if that is its canonical text, since other texts have another hash.
 
         >>> import debctl
         >>> version = debctl.Version("1:02.0-0")

@@ -195,6 +195,27 @@ for turn in range(5):
 """,
         {"right"}, 10,
     ),
+    "paragraphs of a cycle, and at exit": (
+        r"""
+class Asks:
+    def __del__(self):
+        churn()
+        try:
+            say("right" if next(self.paragraphs)["Package"] == "p1" else "wrong")
+        except (ValueError, StopIteration):
+            say("closed")
+for turn in range(51):
+    one = Asks()
+    one.paragraphs = debctl.paragraphs(TEXT * 50)
+    kept = next(one.paragraphs)
+    one.cycle = one
+    if turn < 50:
+        del one
+        gc.collect()
+    assert kept["package"] == "p0"
+""",
+        {"right", "closed"}, 51,
+    ),
     "a subclass that doesn't call __init__": (
         r"""
 class Bare(debctl.Index):

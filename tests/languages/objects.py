@@ -4,6 +4,7 @@ import array
 import functools
 import io
 import sys
+from pathlib import Path
 
 import debctl
 from debctl import Alternative, NumberedPackage, Parts, Reason, Refused, Version
@@ -295,7 +296,8 @@ TESTS = {
     "profiles": profiles(), "one alternative": one_alternative(), "details": details(),
     "pieces": pieces(), "texts": texts(),
     "a missing field": next(debctl.paragraphs(HELLO)).relations("Depends") == [],
-    "versions": debctl.__version__ == debctl.library_version(),
+    "versions": debctl.__version__ == debctl.library_version() and f'version = "{debctl.__version__}"'
+    in (Path(__file__).parents[2] / "python/pyproject.toml").read_text(encoding="utf-8"),
 }
 
 failed = [name for name, passed in TESTS.items() if not passed]
