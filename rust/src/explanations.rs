@@ -116,11 +116,8 @@ fn explained((answer, text): (Answer, Vec<u8>), file: Option<&[u8]>) -> Result<E
     }
     let text = string(text);
     let mut lines = file.map(Lines::of);
-    Ok(explanation(
-        &rows(Form::Explanation, &text),
-        &text,
-        &mut lines,
-    ))
+    let rows: Vec<Row> = rows(Form::Explanation, &text).collect();
+    Ok(explanation(&rows, &text, &mut lines))
 }
 
 /// Returns why a file is refused as a document of a kind: the lines that the program `debctl
@@ -153,7 +150,7 @@ pub fn explain_all(kind: Kind, text: impl AsRef<[u8]>) -> Result<AllExplained, E
     }
     let text = string(text);
     let (mut lines, mut start, mut refused) = (Some(Lines::of(file)), 0, Vec::new());
-    let rows = rows(Form::Explanation, &text);
+    let rows: Vec<Row> = rows(Form::Explanation, &text).collect();
     for block in rows.split_inclusive(|row| row.kind == texts::END) {
         let last = &block[block.len() - 1];
         if last.kind == texts::END {

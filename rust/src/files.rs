@@ -41,23 +41,22 @@ pub fn check_all(kind: Kind, text: impl AsRef<[u8]>) -> Result<AllChecked, Error
     let call = |table: &mut [RefusalAt], count: &mut usize| {
         library::check_all(kind as u8, text, table, count)
     };
-    let (answer, table) = filled(text.len() / 64 + 64, call);
+    let (answer, table) = filled(4096, call);
     let passed = answer.count;
     if let Err(Error::Memory) = answered(answer) {
         return Err(Error::Memory);
     }
-    let mut refused = Vec::new();
-    if !table.is_empty() {
-        let explained = explain_all(kind, text)?.refused.into_iter();
-        let fields = explained.map(|it| it.refusal.and_then(|it| it.field));
-        refused.extend(
-            table
-                .iter()
-                .zip(fields)
-                .map(|(at, field)| Refusal::new(at.code, at.line, field)),
-        );
-    }
-    Ok(AllChecked { passed, refused })
+    let explained = match table.is_empty() {
+        true => Vec::new(),
+        false => explain_all(kind, text)?.refused,
+    };
+    let fields = explained.into_iter().map(|it| it.refusal?.field);
+    let refused = table.iter().zip(fields);
+    let refused = refused.map(|(at, field)| Refusal::new(at.code, at.line, field));
+    Ok(AllChecked {
+        passed,
+        refused: refused.collect(),
+    })
 }
 
 /// Returns the canonical text of a file: two accepted files mean the same exactly if theirs are the

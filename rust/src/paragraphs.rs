@@ -24,14 +24,15 @@ impl Tables {
         }
     }
 
-    /// Fills the tables by a call, and returns its answer. If there isn't enough room for what
-    /// `length` bytes of a file have, the call is repeated with as much as it needs.
+    /// Fills the tables by a call, and returns its answer. If there isn't enough room for so many
+    /// fields of so many bytes, the call is repeated with as much as it needs.
     pub(crate) fn fill(
         &mut self,
+        count: usize,
         length: usize,
         call: impl Fn((&mut [Span], &mut [u8], &mut [u8]), &mut [usize; 3]) -> Answer,
     ) -> Answer {
-        let mut rooms = [length / 24 + 16, length / 2 + 64, length + 64];
+        let mut rooms = [count, length / 2 + 64, length + 64];
         loop {
             let (spans, names, values) = (&mut self.spans, &mut self.names, &mut self.values);
             resize(spans, rooms[0]);
@@ -70,7 +71,8 @@ impl Tables {
     }
 }
 
-/// Gives a table as much room. A new one isn't written to here, so that room costs no memory.
+/// Gives a table as much room. A new one of bytes isn't written to here, so that room costs no
+/// memory.
 fn resize<Entry: Clone + Default>(table: &mut Vec<Entry>, room: usize) {
     if table.capacity() < room {
         *table = vec![Entry::default(); room];
@@ -103,7 +105,8 @@ pub struct Paragraphs {
 pub fn paragraphs(kind: Kind, text: impl AsRef<[u8]>) -> Result<Paragraphs, Error> {
     let text = text.as_ref();
     let mut tables = Tables::new(kind);
-    let answer = tables.fill(text.len(), |tables, lengths| {
+    let lines = text.iter().filter(|byte| **byte == b'\n').count() + 1;
+    let answer = tables.fill(lines, text.len(), |tables, lengths| {
         library::fields(kind as u8, text, tables, lengths)
     });
     let error = match answered_of(answer, (kind, text), (kind, text)) {

@@ -37,7 +37,7 @@ pub struct Reader<Source> {
 #[derive(Debug)]
 #[non_exhaustive]
 pub enum ReadError {
-    /// The file isn't accepted. The field of the refusal isn't known.
+    /// The file is refused, without the field, since its text isn't kept; or out of memory.
     File(Error),
     /// Reading failed.
     Read(io::Error),
@@ -87,10 +87,9 @@ impl<Source: Read> Reader<Source> {
         }
     }
 
-    /// Returns the next paragraph, or `None` after the last one of a file that is accepted. It must
-    /// be dropped before the next call. A file that is refused has an error after the paragraphs
-    /// that pass, which each later call returns too. After [`ReadError::Read`] the next call reads
-    /// on.
+    /// Returns the next paragraph, which borrows the reader, or `None` after the last one of a file
+    /// that is accepted. After the paragraphs that pass, a file that is refused has an error, which
+    /// each later call returns too. After [`ReadError::Read`] the next call reads on.
     pub fn next_paragraph(&mut self) -> Result<Option<Paragraph<'_>>, ReadError> {
         while self.next == self.tables.spans.len() {
             if let Some(error) = &self.error {
@@ -118,8 +117,9 @@ impl<Source: Read> Reader<Source> {
         let answer = self.memory.feed(&self.piece[..length], self.is_ended);
         self.error = answered(answer).err();
         let memory = &self.memory;
-        self.tables
-            .fill(length, |tables, lengths| memory.fields(tables, lengths));
+        self.tables.fill(PIECE / 24, length, |tables, lengths| {
+            memory.fields(tables, lengths)
+        });
         self.next = 0;
         Ok(())
     }

@@ -105,7 +105,7 @@ pub struct Refusal {
     /// The line.
     pub line: u64,
     /// The name of the field, as the line spells it, or of the field that is missing. `None` if the
-    /// refusal isn't about a field.
+    /// refusal isn't about a field, and from a [`crate::Reader`].
     pub field: Option<String>,
 }
 

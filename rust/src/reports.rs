@@ -159,7 +159,7 @@ fn add_to_group(group: &mut Group, row: &Row) {
 /// Returns the report on a file that a call wrote.
 pub(crate) fn unmet_report((answer, text): (Answer, Vec<u8>)) -> UnmetReport {
     let text = string(text);
-    let group = |row: &Row| UnmetGroup {
+    let group = |row: Row| UnmetGroup {
         verdict: match row.kind {
             texts::UNSURE_GROUP => Verdict::Unsure,
             _ => Verdict::Unmet,
@@ -173,7 +173,7 @@ pub(crate) fn unmet_report((answer, text): (Answer, Vec<u8>)) -> UnmetReport {
     };
     UnmetReport {
         met: answer.status == library::YES,
-        groups: rows(Form::UnmetLines, &text).iter().map(group).collect(),
+        groups: rows(Form::UnmetLines, &text).map(group).collect(),
         text,
     }
 }

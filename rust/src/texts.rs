@@ -95,15 +95,31 @@ pub(crate) fn number(digits: &str) -> u64 {
     digits.parse().expect("the library writes a number")
 }
 
+/// How many lines are read at once.
+const LINES: usize = 1024;
+
 /// Returns the rows of the lines of a text that the library wrote.
-pub(crate) fn rows(form: Form, text: &str) -> Vec<Row<'_>> {
-    let lines = text.split_inclusive('\n');
+pub(crate) fn rows(form: Form, text: &str) -> impl Iterator<Item = Row<'_>> {
+    let mut start = 0;
+    let next = move || {
+        let lines = text[start..].split_inclusive('\n').take(LINES);
+        let length: usize = lines.map(str::len).sum();
+        let rows = rows_in(form, &text[start..start + length], start);
+        start += length;
+        Some(rows).filter(|_| length > 0)
+    };
+    std::iter::from_fn(next).flatten()
+}
+
+/// Returns the rows of some lines, which start at an offset in their text.
+fn rows_in(form: Form, text: &str, start: usize) -> Vec<Row<'_>> {
     let call = |table: &mut [library::Row], count: &mut usize| {
         library::rows(form as u8, text.as_bytes(), table, count)
     };
+    let lines = text.split_inclusive('\n');
     let (answer, table) = filled(lines.clone().count(), call);
     assert_eq!(answer.status, library::YES, "the library wrote these lines");
-    let mut end = 0;
+    let mut end = start;
     let row = |(line, row): (&str, &library::Row)| {
         end += line.len();
         let cells = row.cells.map(|cell| &text[cell.start..][..cell.length]);
