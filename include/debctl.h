@@ -16,7 +16,8 @@
  * Order. If several things are wrong, the status is the first of these that applies: DEB_NO_KIND,
  * DEB_NO_INDEX, DEB_REFUSED, DEB_SECOND_REFUSED, DEB_NO_ROOM. A call that also writes something of a
  * refused text (deb_check_all, deb_fields, and the explanations) needs room for that: it returns
- * DEB_NO_ROOM before DEB_REFUSED. DEB_NO_MEMORY may come in place of any status but DEB_NO_KIND.
+ * DEB_NO_ROOM before DEB_REFUSED. DEB_NO_MEMORY may come in place of any status but
+ * DEB_NO_KIND and DEB_NO_INDEX.
  *
  * Lengths are in bytes, and lines are counted from 1. Several threads may call at once. Memory is
  * taken with malloc and realloc, and freed before the call returns: only a loaded index keeps some,
@@ -34,6 +35,10 @@
 #ifdef __cplusplus
 extern "C" {
 #endif
+
+/* The version that this header belongs to; deb_library_version returns that of the library. */
+#define DEB_VERSION "0.1.0"
+#define DEB_VERSION_NUMBER 100
 
 /* The status of a call. */
 enum deb_status {
@@ -132,11 +137,48 @@ struct deb_field {
     uint32_t value_length;
 };
 
+/* The parts of a version as they are spelled: offsets and lengths in its text. A part that isn't
+ * there has the offset 0 and the length 0. */
+struct deb_version_parts {
+    uint8_t status;       /* DEB_YES or DEB_REFUSED */
+    uint8_t code;         /* DEB_BAD_VERSION, if the text isn't a version */
+    uint8_t has_epoch;    /* 1 or 0 */
+    uint8_t has_revision; /* 1 or 0 */
+    size_t epoch_length;  /* the epoch starts at the offset 0, and a colon follows it */
+    size_t upstream;      /* the offset of the upstream version */
+    size_t upstream_length;
+    size_t revision;      /* the offset of the revision, which follows a hyphen */
+    size_t revision_length;
+};
+
 /* One refusal of a file, in the table that deb_check_all writes. */
 struct deb_refusal {
     uint64_t line; /* its line in the file, from 1 */
     uint8_t code;  /* one of deb_code */
 };
+
+/* Where the parts of an alternative are in the text of its relation, in the table that
+ * deb_relation_parts writes: offsets and lengths. A part that is absent has the offset 0 and the
+ * length 0. */
+struct deb_alternative {
+    size_t group;         /* the number of its group in the text, from 1; empty pieces between commas
+                           * aren't counted */
+    size_t name;          /* the name of the package */
+    size_t name_length;
+    size_t qualifier;     /* the qualifier, without the colon */
+    size_t qualifier_length;
+    size_t op;            /* the operator of the bound */
+    size_t op_length;
+    size_t version;       /* the version of the bound */
+    size_t version_length;
+    size_t architectures; /* what is between the brackets of the architecture list */
+    size_t architectures_length;
+    size_t formula;       /* the restriction formula, from its first `<` to its last `>` */
+    size_t formula_length;
+};
+
+/* Returns the version of the library, as 10000 * major + 100 * minor + patch: 0.1.0 is 100. */
+uint32_t deb_library_version(void);
 
 /* Compares two versions in Debian's order. Takes no memory.
  * DEB_YES; DEB_REFUSED: the first isn't a version; DEB_SECOND_REFUSED. */
@@ -155,12 +197,26 @@ struct deb_answer deb_version_canonical(const uint8_t *text, size_t text_length,
 struct deb_answer deb_version_key(const uint8_t *text, size_t text_length,
                                   uint8_t *out, size_t out_size, size_t *length);
 
+/* Cuts a version into its parts as they are spelled: the epoch ends before the first colon, and the
+ * revision follows the last hyphen after that. Takes no memory.
+ * DEB_YES; DEB_REFUSED: it isn't a version, and all parts are 0. */
+struct deb_version_parts deb_version_parts(const uint8_t *text, size_t text_length);
+
 /* Writes the canonical text of a relation: its groups, in the order of their texts and with `, `
  * between them, each with its alternatives and ` | ` between these. Two relations mean the same
  * exactly if theirs are the same.
  * DEB_YES; DEB_REFUSED: it isn't a relation; DEB_NO_ROOM; DEB_NO_MEMORY. */
 struct deb_answer deb_relation_canonical(const uint8_t *text, size_t text_length,
                                          uint8_t *out, size_t out_size, size_t *length);
+
+/* Writes where the parts of each alternative of a relation are in its text, in the order of the text
+ * and with repeats: the relation as it is spelled, where deb_relation_canonical writes what it means.
+ * `alternatives` has room for `alternatives_size` alternatives; `alternative_count` is how many there
+ * are, also if there is no room for them.
+ * DEB_YES; DEB_REFUSED: it isn't a relation; DEB_NO_ROOM; DEB_NO_MEMORY. */
+struct deb_answer deb_relation_parts(const uint8_t *text, size_t text_length,
+                                     struct deb_alternative *alternatives,
+                                     size_t alternatives_size, size_t *alternative_count);
 
 /* Checks whether a file is accepted as a document of a kind.
  * DEB_YES, with the number of its paragraphs; DEB_REFUSED; DEB_NO_MEMORY; DEB_NO_KIND. */
@@ -218,6 +274,21 @@ struct deb_answer deb_explain(uint8_t kind, const uint8_t *text, size_t text_len
 struct deb_answer deb_explain_all(uint8_t kind, const uint8_t *text, size_t text_length,
                                   uint8_t *out, size_t out_size, size_t *length);
 
+/* Writes why a text isn't a relation, in lines `key: value`: those that the program
+ * `debctl explain --relation` writes. The keys are, in this order: code, name, place (the offset of the
+ * error in the text), reason, value, rule and usually. Bytes that aren't printable ASCII are escaped,
+ * and a long text is cut after 200 bytes. For a relation the line `ok` is written. Each line ends with
+ * a newline.
+ * DEB_REFUSED, with DEB_BAD_RELATION; DEB_YES: it is a relation; DEB_NO_ROOM; DEB_NO_MEMORY. */
+struct deb_answer deb_explain_relation(const uint8_t *text, size_t text_length,
+                                       uint8_t *out, size_t out_size, size_t *length);
+
+/* Writes why a text isn't a version, likewise: the lines of `debctl explain --version-text`. The place
+ * is 0 if the fault has no offset of its own.
+ * DEB_REFUSED, with DEB_BAD_VERSION; DEB_YES: it is a version; DEB_NO_ROOM; DEB_NO_MEMORY. */
+struct deb_answer deb_explain_version(const uint8_t *text, size_t text_length,
+                                      uint8_t *out, size_t out_size, size_t *length);
+
 /* Compares two files by meaning, as documents of a kind.
  * DEB_YES; DEB_NO; DEB_REFUSED: the first is refused; DEB_SECOND_REFUSED; DEB_NO_MEMORY;
  * DEB_NO_KIND. */
@@ -253,6 +324,16 @@ struct deb_answer deb_query(const uint8_t *target, size_t target_length,
                             const uint8_t *relation, size_t relation_length,
                             const uint8_t *index, size_t index_length,
                             uint8_t *out, size_t out_size, size_t *length);
+
+/* Writes what deb_query writes, and below the line of each group that is unmet or ignored the lines
+ * that say why it is, in the order of its alternatives: the report that the program
+ * `debctl query --why` writes.
+ * The statuses of deb_query. */
+struct deb_answer deb_query_why(const uint8_t *target, size_t target_length,
+                                const struct deb_text *profiles, size_t profile_count,
+                                const uint8_t *relation, size_t relation_length,
+                                const uint8_t *index, size_t index_length,
+                                uint8_t *out, size_t out_size, size_t *length);
 
 /* Writes which relations of a file no package of an index meets, for a target architecture and with
  * these build profiles active: a line for each group that is unmet, or may be. They are the lines
@@ -327,8 +408,16 @@ struct deb_answer deb_index_query(const struct deb_index *index,
                                   const uint8_t *relation, size_t relation_length,
                                   uint8_t *out, size_t out_size, size_t *length);
 
+/* Writes the report that deb_query_why writes for this index, without reading it again.
+ * The statuses of deb_query; DEB_NO_INDEX. */
+struct deb_answer deb_index_query_why(const struct deb_index *index,
+                                      const uint8_t *target, size_t target_length,
+                                      const struct deb_text *profiles, size_t profile_count,
+                                      const uint8_t *relation, size_t relation_length,
+                                      uint8_t *out, size_t out_size, size_t *length);
+
 /* Writes the lines that deb_unmet writes for this index, without reading it again.
- * The statuses of deb_unmet; DEB_NO_INDEX. */
+ * The statuses of deb_unmet; DEB_NO_INDEX. DEB_NO_KIND comes before DEB_NO_INDEX. */
 struct deb_answer deb_index_unmet(const struct deb_index *index, uint8_t kind, uint8_t recommends,
                                   const uint8_t *target, size_t target_length,
                                   const struct deb_text *profiles, size_t profile_count,
@@ -354,6 +443,110 @@ struct deb_answer deb_index_providers(const struct deb_index *index,
  * DEB_YES; DEB_NO: the index has no such package; DEB_NO_ROOM; DEB_NO_MEMORY; DEB_NO_INDEX. */
 struct deb_answer deb_index_package(const struct deb_index *index, uint64_t number,
                                     uint8_t *out, size_t out_size, size_t *length);
+
+/* A part of a text: the offset of its first byte, and the number of its bytes. */
+struct deb_span {
+    size_t start;
+    size_t length;
+};
+
+/* What wrote a text. */
+enum deb_form {
+    DEB_REPORT = 0,      /* deb_query, deb_index_query, and both with _why */
+    DEB_UNMET_LINES = 1, /* deb_unmet, deb_index_unmet */
+    DEB_DIFF_LINES = 2,  /* deb_diff */
+    DEB_EXPLANATION = 3  /* deb_explain, deb_explain_all, deb_explain_relation, deb_explain_version */
+};
+
+/* What a line of a text says, and its cells. */
+enum deb_row_kind {
+    DEB_ROW_MET = 0,            /* group */
+    DEB_ROW_UNMET = 1,          /* group */
+    DEB_ROW_IGNORED = 2,        /* group */
+    DEB_ROW_PACKAGE = 3,        /* number, name, version, architecture */
+    DEB_ROW_REASON = 4,         /* alternative, reason */
+    DEB_ROW_PACKAGE_REASON = 5, /* alternative, number, name, version, architecture, reason */
+    DEB_ROW_UNMET_GROUP = 6,    /* number, package, version, architecture, field, group */
+    DEB_ROW_UNSURE_GROUP = 7,   /* the same */
+    DEB_ROW_REMOVED = 8,        /* number, package, version, architecture */
+    DEB_ROW_CHANGED = 9,        /* number, package, version, architecture, fields */
+    DEB_ROW_UPGRADED = 10,      /* number, package, old version, new version, architecture, fields */
+    DEB_ROW_ADDED = 11,         /* number, package, version, architecture */
+    DEB_ROW_OLD_LINE = 12,      /* a line of the old canonical text */
+    DEB_ROW_NEW_LINE = 13,      /* a line of the new one */
+    DEB_ROW_KEY = 14,           /* key, value */
+    DEB_ROW_END = 15,           /* no cell: the empty line after an explanation of deb_explain_all */
+    DEB_ROW_OK = 16,            /* the number in `ok N` */
+    DEB_ROW_SUMMARY = 17,       /* the numbers in `ok N, M refused` */
+    DEB_ROW_VALID = 18          /* no cell: the line `ok` of deb_explain_relation or _version */
+};
+
+/* A line of a text. `fields` is one cell, with a space between two names. */
+struct deb_row {
+    uint8_t kind;              /* one of deb_row_kind */
+    uint8_t cell_count;        /* how many cells the kind has */
+    struct deb_span cells[6];  /* where they are in the text; after them only zeros */
+};
+
+/* Writes what the lines of a text say to the start of `rows`: a row for each line, in their order.
+ * `form` is one of deb_form. `row_count` is how many rows there are, also if there is no room for
+ * them. Takes no memory.
+ * DEB_YES; DEB_NO: the text isn't one of this form, `row_count` is 0; DEB_NO_ROOM; DEB_NO_KIND: no
+ * such form. */
+struct deb_answer deb_rows(uint8_t form, const uint8_t *text, size_t text_length,
+                           struct deb_row *rows, size_t rows_size, size_t *row_count);
+
+/* Writes what the index keeps of the package with a number, as a paragraph of canonical text: the
+ * fields Architecture, Multi-Arch if the package has it, Package, Provides if the index keeps an
+ * entry of it, and Version. It keeps the entries of Provides that provide a name: those without a
+ * qualifier, an architecture list and a formula. `line` of the answer is the line at which the
+ * package's paragraph starts in the file, counted from 1; it is 0 if the status isn't DEB_YES.
+ * DEB_YES; DEB_NO: the index has no such package; DEB_NO_ROOM; DEB_NO_MEMORY; DEB_NO_INDEX. */
+struct deb_answer deb_index_details(const struct deb_index *index, uint64_t number,
+                                    uint8_t *out, size_t out_size, size_t *length);
+
+/* A reader that is fed a file in pieces. It lies in memory of the caller, which may not move it:
+ *
+ *     struct deb_reader *reader = malloc(deb_reader_size());
+ *     struct deb_answer answer;
+ *     deb_reader_start(reader, DEB_PACKAGES, &answer);
+ *     deb_reader_feed(reader, piece, piece_length, 0, &answer);
+ *     deb_reader_fields(reader, ..);
+ *     deb_reader_free(reader);
+ *     free(reader);
+ *
+ * It holds the bytes after the last paragraph that has ended, the fields that the last call read, and
+ * one paragraph that is checked. */
+struct deb_reader;
+
+/* How many bytes the memory of a reader has. It is aligned as by malloc. */
+size_t deb_reader_size(void);
+
+/* Starts a reader of a file of this kind. Afterwards the reader has to be freed, whatever the answer.
+ * DEB_YES; DEB_NO_KIND. */
+void deb_reader_start(struct deb_reader *reader, uint8_t kind, struct deb_answer *answer);
+
+/* Takes the next piece of the file, and reads each paragraph that ends in it. With is_last != 0 the
+ * file ends with the piece, which may be empty. A paragraph ends with the newline of the blank line
+ * after it, and is read once a byte follows or the file has ended. After an error, and after the last
+ * piece, each later call takes nothing and returns the same answer.
+ * DEB_YES: `count` is the number of paragraphs so far; with the last piece, the file is accepted.
+ * DEB_REFUSED: the file is refused; DEB_NO_MEMORY; DEB_NO_KIND: the reader was started so. */
+void deb_reader_feed(struct deb_reader *reader, const uint8_t *text, size_t text_length,
+                     uint8_t is_last, struct deb_answer *answer);
+
+/* Writes the fields of the paragraphs that the last deb_reader_feed read, as deb_fields does: of those
+ * before the one that is refused, if it refused the file. Paragraphs and lines are counted in the
+ * whole file. It may be called again, and by several threads at once. Takes no memory.
+ * DEB_YES; DEB_NO_ROOM. */
+struct deb_answer deb_reader_fields(const struct deb_reader *reader,
+                                    struct deb_field *fields, size_t fields_size,
+                                    size_t *field_count,
+                                    uint8_t *names, size_t names_size, size_t *names_length,
+                                    uint8_t *values, size_t values_size, size_t *values_length);
+
+/* Frees what the reader holds. Its memory is the caller's again. */
+void deb_reader_free(struct deb_reader *reader);
 
 #ifdef __cplusplus
 }

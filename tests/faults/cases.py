@@ -186,7 +186,7 @@ def read_cases(folder):
     if not cases:
         raise Malformed(f"{folder}: there is no file of cases")
     long = [*many_fields(), *long_paragraph(), *many_groups(), *several_writes()]
-    return [*cases, *long, *several_refusals(), *lengths()]
+    return [*cases, *long, *several_refusals(), *many_paragraphs(), *lengths()]
 
 
 P3 = b"Package: aa\nVersion: 1\nArchitecture: all\n"
@@ -251,6 +251,50 @@ def several_refusals():
         Case("500 refusals", ["check", "--all"], files, "it", b"".join(lines) + last[0], b"", 2),
         Case("40 refusals", explain, files, name, explained, b"", 2, open_ended=("out",)),
         Case("40 refusals", ["audit", "--all", name], files, None, audited, b"", 2),
+    ]
+
+
+def many_paragraphs():
+    """Files of 400 paragraphs, for each command that reads paragraphs."""
+    numbers = range(1, 401)
+    text = b"Architecture: all\nDepends: zz\nPackage: p%03d\nProvides: vv\nVersion: %d\n"
+    old, new = (b"\n".join(text % (at, version) for at in numbers) for version in (1, 2))
+    lines = {
+        "refused": b"".join(b"line %d: 15 BadNumber\n" % (7 * at - 1) for at in numbers),
+        "met": b"".join(b" %d p%03d 1 all\n" % (at, at) for at in numbers),
+        "unmet": b"".join(b"unmet %d p%03d 1 all Depends zz\n" % (at, at) for at in numbers),
+        "changed": b"".join(b"upgraded %d p%03d 1 2 all Version\n" % (at, at) for at in numbers),
+    }
+    bad = b"\n".join(text % (at, 1) + b"Size: x\n" for at in numbers)
+    files = {"old": old, "new": new, "bad": bad, "versions": b"2\n" * 400}
+    last = b"ok 0, 400 refused\n"
+    arch = ["--arch", "amd64"]
+    said = b"file: -\nline: 6\ncode: 15\nname: BadNumber\nfield: Size\nvalue: x\nrule: "
+    cases = [
+        (["check", "old"], b"ok 400\n", 0), (["explain", "old"], b"ok 400\n", 0),
+        (["normalise", "old"], old, 0), (["same", "old", "new"], b"different\n", 1),
+        (["same", "old", "old"], b"same\n", 0), (["diff", "old", "old"], b"", 0),
+        (["diff", "old", "new"], lines["changed"], 1),
+        (["query", *arch, "vv", "old"], b"met vv\n" + lines["met"], 0),
+        (["unmet", *arch, "old"], lines["unmet"], 1),
+        (["unmet", *arch, "old", "new"], lines["unmet"].replace(b" 1 all", b" 2 all"), 1),
+        (["sort", "versions"], files["versions"], 0), (["audit", "old", "new"], b"old: ok 400\nnew: ok 400\n", 0),
+        (["check", "--all", "bad"], lines["refused"] + last, 2),
+        (["audit", "--all", "bad"], b"".join(
+            b"bad: " + line for line in (lines["refused"] + last).splitlines(keepends=True)
+        ), 2),
+    ]
+    explained = Case(
+        "400 paragraphs", ["explain", "--all"], files, "bad", said, b"", 2, open_ended=("out",)
+    )
+    whys = ["query", *arch, "--why", "vv (>= 1)", "old"]
+    why = b"".join(
+        b" vv (>= 1): %d p%03d 1 all is provided without a version\n" % (at, at) for at in numbers
+    )
+    cases.append((whys, b"unmet vv (>= 1)\n" + why, 1))
+    return [
+        explained,
+        *(Case("400 paragraphs", words, files, None, out, b"", status) for words, out, status in cases),
     ]
 
 

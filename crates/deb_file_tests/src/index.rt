@@ -3,6 +3,7 @@
 
 use crate::devices::{Pieces, SIZES, Slow, Then};
 use deb_base::{Code, Fault, Input, Output, Refusal};
+use deb_field::MultiArch;
 use deb_index::Verdict::{Ignored, Met, Unmet};
 use deb_index::{DetailedReport, Index, Question, Report};
 use deb_relation::{Env, Relation};
@@ -105,6 +106,34 @@ fn is_told_why(report: &DetailedReport<'_>) -> Option<bool> {
             && met.reasons().is_empty()
             && answers.next().is_none(),
     )
+}
+
+/// Two packages: the first with entries of Provides that provide nothing, one of them in the middle.
+const DETAILED: &[u8] = b"\n\nVersion: 0:1.00-0\nPackage: hello\nArchitecture: amd64\n\
+    Multi-Arch: foreign\nProvides: xx (= 02.0), vv, ww:any, vv (= 1), uu [amd64]\n\n\n\
+    Package: world\nVersion: 2\nArchitecture: all\nProvides: ww:any\n";
+
+const DETAILS: &[u8] = b"Architecture: amd64\nMulti-Arch: foreign\nPackage: hello\n\
+    Provides: vv, vv (= 1), xx (= 2.0)\nVersion: 1.0\n";
+
+#[test]
+fn what_is_kept(rt: HostRuntime) -> Result<(), Fail> {
+    let index = Index::read(rt.alloc(), &mut Input::new(DETAILED))?;
+    let (hello, world) = (index.package(1), index.package(2));
+    let (Some(hello), Some(world)) = (hello, world) else {
+        return Err("no package".into());
+    };
+    assert!(rt; hello.line() == 3 && world.line() == 10);
+    assert!(rt; hello.multi_arch() == Some(MultiArch::Foreign) && world.multi_arch().is_none());
+    let mut details = Vec::new(rt.alloc());
+    hello.details_into(rt.alloc(), &mut details)?;
+    assert!(rt; details.as_slice() == DETAILS);
+    details.clear();
+    world.details_into(rt.alloc(), &mut details)?;
+    assert!(rt;
+        details.as_slice() == b"Architecture: all\nPackage: world\nVersion: 2\n".as_slice()
+    );
+    Ok(())
 }
 
 /// A package that provides its own name in two versions, and vv.

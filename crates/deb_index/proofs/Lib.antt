@@ -5,6 +5,7 @@ pub mod PackageBuilder
 pub mod ShownValues
 pub mod ListedValues
 pub mod Indexed
+pub mod ReadLines
 pub mod ListedOnce
 pub mod WrittenParts
 pub mod Lookups
@@ -21,5 +22,6 @@ pub mod Cutting
 pub mod SomeMeets
 pub mod Reasoned
 pub mod Stored
+pub mod KeptProvides
 pub mod Answered
 pub mod Details

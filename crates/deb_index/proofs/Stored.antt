@@ -75,8 +75,8 @@ all-listed bytes more entries others records all = go records (recursion_from_Al
 abbrev pub bytes_with : List ℕ → PackageBuilder → List ℕ
 bytes_with bytes kept = (((bytes ++ kept.name.items) ++ kept.version.items) ++ kept.architecture.items) ++ kept.provides.items
 
-abbrev pub record_with : List ℕ → PackageBuilder → ℕ → ℕ → Record
-record_with bytes kept first entries_end =
+abbrev pub record_with : List ℕ → PackageBuilder → ℕ → ℕ → ℕ → Record
+record_with bytes kept first entries_end line =
     record {
       start = length bytes;
       name_end = length (bytes ++ kept.name.items);
@@ -85,13 +85,14 @@ record_with bytes kept first entries_end =
       end = length (bytes_with bytes kept);
       first = first;
       entries_end = entries_end;
+      line = line;
       multi_arch = kept.multi_arch;
     }
 
 long-append : {A : Type 0} (xs ys : List A) → length xs ≤ length (xs ++ ys)
 long-append xs ys = omega (arith, length-append xs ys)
 
-module _ (bytes : List ℕ) (entries new : List Places) (kept : PackageBuilder) (p : Listed) (keeps : KeepsPackage kept p) (cut : AppendsEntries kept.provides.items entries new (provisions_of keeps.relation)) where
+module _ (bytes : List ℕ) (entries new : List Places) (kept : PackageBuilder) (line : ℕ) (p : Listed) (keeps : KeepsPackage kept p) (cut : AppendsEntries kept.provides.items entries new (provisions_of keeps.relation)) where
   abbrev one : List ℕ
   one = bytes ++ kept.name.items
 
@@ -105,7 +106,7 @@ module _ (bytes : List ℕ) (entries new : List Places) (kept : PackageBuilder) 
   four = three ++ kept.provides.items
 
   abbrev r : Record
-  r = record_with bytes kept (length entries) (length new)
+  r = record_with bytes kept (length entries) (length new) line
 
   name_is : name_by four r ≡ kept.name.items
   name_is =

@@ -1,5 +1,5 @@
 -- The meaning of the packages that an index lends.
-use Rattle.std.specs.Prelude.{map}
+use Rattle.std.specs.Prelude.{ℕ, map}
 use Rattle.deb_version.specs.Places.{version_in}
 use Rattle.deb_index.specs.Entries.{provision_at}
 use Rattle.deb_index.specs.Listed.{Listed}
@@ -14,3 +14,7 @@ listed_of p =
       multi_arch = p.multi_arch;
       provisions = map (provision_at p.provisions.text.now) p.provisions.entries.now;
     }
+
+-- the line at which its paragraph starts
+abbrev pub line_of : Package → ℕ
+line_of p = p.line

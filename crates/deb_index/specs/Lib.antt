@@ -6,7 +6,10 @@ pub mod ReportText
 pub mod Reasons
 pub mod Why
 pub mod Spans
+pub mod FirstLines
+pub mod KeptTexts
 pub mod Entries
+pub mod KeptEntries
 pub mod ProvidedNames
 pub mod Kept
 pub mod PackageBuilder

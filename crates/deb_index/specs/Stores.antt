@@ -42,6 +42,13 @@ listed_by bytes entries r =
 abbrev pub listed_in : Store → List Listed
 listed_in store = map (listed_by store.bytes.items store.entries.items) store.records.items
 
+-- the lines at which their paragraphs start
+abbrev pub line_by : Record → ℕ
+line_by r = r.line
+
+abbrev pub lines_in : Store → List ℕ
+lines_in store = map line_by store.records.items
+
 -- A version's text is one, and canonical.
 pub record IsVersionKept (version : List ℕ) : Type 0 where
   pub faultless : first_fault version ≡ None

@@ -16,15 +16,15 @@ use Rattle.deb_version.specs.Places.{version_in}
 use Rattle.deb_field.specs.declared.flag.MultiArch.TheVariants.{Foreign}
 use Rattle.deb_index.specs.AnswerStores.{answers_in, numbered, span_of}
 use Rattle.deb_index.specs.Entries.{IsFaultless, Places, entry_name}
-use Rattle.deb_index.specs.Indexes.{packages_of}
-use Rattle.deb_index.specs.Kept.{listed_of}
+use Rattle.deb_index.specs.Indexes.{lines_of, packages_of}
+use Rattle.deb_index.specs.Kept.{line_of, listed_of}
 use Rattle.deb_index.specs.Listed.{Listed, Provision}
 use Rattle.deb_index.specs.Named.{AreNumbers}
 use Rattle.deb_index.specs.PackageBuilder.{itself}
 use Rattle.deb_index.specs.ProvidedNames.{IsNotAfter}
 use Rattle.deb_index.specs.Maps.{list_under, numbers_under, numbers_with}
 use Rattle.deb_index.specs.Reported.{answer_of, answers_left, found_of, report_of}
-use Rattle.deb_index.specs.Stores.{listed_by}
+use Rattle.deb_index.specs.Stores.{line_by, listed_by}
 use Rattle.deb_index.specs.declared.answer.Found.{Found}
 use Rattle.deb_index.specs.declared.answer.FoundPackages.{FoundPackages}
 use Rattle.deb_index.specs.declared.answer_store.AnswerStore.{AnswerStore}
@@ -66,6 +66,7 @@ listed provisions faultless canonical =
       name = lent (codes "aa");
       version = lent (codes "1.0");
       architecture = lent (codes "all");
+      line = 7;
       multi_arch = Some Foreign;
       provisions = provisions;
       faultless = faultless;
@@ -106,8 +107,9 @@ two = record { name = codes "vv"; version = None }
 worked-package : (ascend : AllPairs IsNotAfter (map (entry_name provides) provided))
     (faultless : All (IsFaultless provides) provided) (own : first_fault (codes "1.0") ≡ None)
     (canonical : version_text (version_in (codes "1.0")) ≡ codes "1.0")
-    → listed_of (listed (lent_provisions ascend faultless) own canonical) ≡ foreign two
-worked-package ascend faultless own canonical = refl
+    → (listed_of (listed (lent_provisions ascend faultless) own canonical) ≡ foreign two)
+    × (line_of (listed (lent_provisions ascend faultless) own canonical) ≡ 7)
+worked-package ascend faultless own canonical = (refl, refl)
 
 -- the same package after another one in a store
 abbrev second : Record
@@ -120,11 +122,13 @@ second =
       end = 22;
       first = 0;
       entries_end = 2;
+      line = 5;
       multi_arch = Some Foreign;
     }
 
-worked-second : listed_by (codes "xxaa1.0allvv, ww (= 2)yy") provided second ≡ foreign two
-worked-second = refl
+worked-second : (listed_by (codes "xxaa1.0allvv, ww (= 2)yy") provided second ≡ foreign two)
+    × (line_by second ≡ 5)
+worked-second = (refl, refl)
 
 worked-packages : (index : Index) (p q : Record) → index.store.records.items ≡ p ∷ q ∷ p ∷ []
     → packages_of index
@@ -133,6 +137,10 @@ worked-packages : (index : Index) (p q : Record) → index.store.records.items �
     ∷ listed_by index.store.bytes.items index.store.entries.items p ∷ []
 worked-packages index p q are =
     ap (map (listed_by index.store.bytes.items index.store.entries.items)) are
+
+worked-line_numbers : (index : Index) (p q : Record) → index.store.records.items ≡ p ∷ q ∷ []
+    → lines_of index ≡ p.line ∷ q.line ∷ []
+worked-line_numbers index p q are = ap (map line_by) are
 
 -- aa under 1 and 3, and vv under 2: names that are there, a prefix of one, and another one
 worked-numbers : (alloc : Global) (names : Names)

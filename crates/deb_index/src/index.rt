@@ -10,11 +10,12 @@ ghost use Rattle.deb_syntax.specs.Lines.{file_limit};
 ghost use Rattle.deb_control.specs.Calls.{IfRefused};
 ghost use Rattle.deb_control.specs.Checking.{IsRefusalOfDocument};
 ghost use Rattle.deb_control.specs.Documents.{refusal_of};
-ghost use Rattle.deb_index.specs.Kept.{listed_of};
+ghost use Rattle.deb_index.specs.FirstLines.{first_lines, line_at};
+ghost use Rattle.deb_index.specs.Kept.{line_of, listed_of};
 ghost use Rattle.deb_index.specs.Listing.{ListsAll};
 ghost use Rattle.deb_index.specs.Maps.{numbers_under};
 ghost use Rattle.deb_index.specs.Named.{has_name, numbers_of, package_at, provides};
-ghost use Rattle.deb_index.specs.Stores.{IsStore, listed_in};
+ghost use Rattle.deb_index.specs.Stores.{IsStore, lines_in, listed_in};
 
 use crate::names::Names;
 use crate::package::Package;
@@ -27,9 +28,9 @@ use std::alloc::{AllocError, Global};
 
 /// The packages that a file lists, in file order.
 ///
-/// It owns what it keeps of each package: the name, the version, the architecture, Multi-Arch and
-/// what it provides. It also keeps which packages have or provide a name, so that they are found
-/// without going over the list.
+/// It owns what it keeps of each package: the name, the version, the architecture, Multi-Arch, what
+/// it provides, and the line at which its paragraph starts. It also keeps which packages have or
+/// provide a name, so that they are found without going over the list.
 #[derive(Debug, Drop)]
 pub struct Index {
     store: Store,
@@ -43,7 +44,7 @@ pub struct Index {
 }
 
 impl Index {
-    ghost use Rattle.deb_index.specs.Indexes.{packages_of};
+    ghost use Rattle.deb_index.specs.Indexes.{lines_of, packages_of};
 
     /// Reads a file as an index of packages (Debian Policy 5.1, 5.3 and 5.6).
     ///
@@ -60,6 +61,8 @@ impl Index {
     pub fn read<R: Source>(alloc: Global, reader: &mut R) -> Result<Index, Fault>
         ensures ok { (text : List ℕ) → R.left reader.old ≡ Some text
             → IfOk result (λ index. ListsAll text (packages_of index)) }
+        ensures lines { (text : List ℕ) → R.left reader.old ≡ Some text
+            → IfOk result (λ index. lines_of index ≡ first_lines text) }
         ensures refused { (text : List ℕ) → R.left reader.old ≡ Some text
             → IfRefused result (λ refusal. refusal_of Doc.Packages text ≡ Some refusal) }
         ensures reads_at_most { (text : List ℕ) → R.left reader.old ≡ Some text
@@ -82,7 +85,10 @@ impl Index {
                 drop(builder);
                 return Ok(Index::of(alloc, store)?);
             }
-            store.push(&builder)?;
+            let Some(paragraph) = checked.current() else {
+                unreachable!()
+            };
+            store.push(&builder, paragraph.first_line())?;
         }
         // No file has so many paragraphs.
         unreachable!()
@@ -91,7 +97,8 @@ impl Index {
     /// The index of packages.
     fn of(alloc: Global, store: Store) -> Result<Index, AllocError>
         requires { IsStore store }
-        ensures { IfOk result (λ index. packages_of index ≡ listed_in store) }
+        ensures packages { IfOk result (λ index. packages_of index ≡ listed_in store) }
+        ensures lines { IfOk result (λ index. lines_of index ≡ lines_in store) }
     {
         let named = Names::own(alloc, &store)?;
         let provided = Names::provided(alloc, &store)?;
@@ -126,7 +133,8 @@ impl Index {
     /// Returns what the index keeps of the package with a number, which is counted from 1, or
     /// `None` if there is no such package.
     pub fn package(&self, number: u64) -> Option<Package<'_>>
-        ensures { option_map listed_of result ≡ package_at number (packages_of self.now) }
+        ensures listed { option_map listed_of result ≡ package_at number (packages_of self.now) }
+        ensures line { option_map line_of result ≡ line_at number (lines_of self.now) }
     {
         if number == 0 || number as usize > self.len() {
             return None;
@@ -138,7 +146,8 @@ impl Index {
     pub(crate) fn numbered(&self, number: u64) -> Package<'_>
         requires from_one { 1 ≤ number }
         requires within { number ≤ length (packages_of self.now) }
-        ensures { slice_get (packages_of self.now) (number - 1) ≡ Some (listed_of result) }
+        ensures listed { slice_get (packages_of self.now) (number - 1) ≡ Some (listed_of result) }
+        ensures line { slice_get (lines_of self.now) (number - 1) ≡ Some (line_of result) }
     {
         self.store.package(number as usize - 1)
     }

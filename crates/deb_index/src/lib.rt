@@ -21,6 +21,7 @@ mod entry;
 mod fault;
 mod index;
 mod judging;
+mod kept_text;
 pub mod laws;
 mod names;
 mod package;

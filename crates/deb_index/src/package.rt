@@ -21,6 +21,7 @@ pub struct Package<'a> {
     pub(crate) name: &'a [u8],
     pub(crate) version: &'a [u8],
     pub(crate) architecture: &'a [u8],
+    pub(crate) line: u32,
     pub(crate) multi_arch: Option<MultiArch>,
     pub(crate) provisions: Provisions<'a>,
     ghost faultless: { first_fault version.now ≡ None },
@@ -28,7 +29,7 @@ pub struct Package<'a> {
 }
 
 impl<'a> Package<'a> {
-    ghost use Rattle.deb_index.specs.Kept.{listed_of};
+    ghost use Rattle.deb_index.specs.Kept.{line_of, listed_of};
 
     /// Returns the name.
     pub fn name(&self) -> &'a [u8]
@@ -49,6 +50,20 @@ impl<'a> Package<'a> {
         ensures { result.now ≡ (listed_of self.now).architecture }
     {
         self.architecture
+    }
+
+    /// Returns the value of Multi-Arch, or `None` if the paragraph hasn't this field.
+    pub fn multi_arch(&self) -> Option<MultiArch>
+        ensures { result ≡ (listed_of self.now).multi_arch }
+    {
+        self.multi_arch
+    }
+
+    /// Returns the line at which its paragraph starts in the file, counted from 1.
+    pub fn line(&self) -> u64
+        ensures { result ≡ line_of self.now }
+    {
+        u64::from(self.line)
     }
 
     /// Whether this meets an alternative, by name and by qualifier (Debian Policy 7.1).

@@ -2,11 +2,11 @@
 
 ghost use Rattle.std.specs.Prelude.{◌≡◌, ◌-◌, ◌<◌, ◌++◌, ◌∷◌, [], length, Some, IfOk, OnOk};
 ghost use Rattle.std.specs.List.{slice_get};
-ghost use Rattle.deb_index.specs.Kept.{listed_of};
+ghost use Rattle.deb_index.specs.Kept.{line_of, listed_of};
 ghost use Rattle.deb_index.specs.Listed.{Listed};
 ghost use Rattle.deb_index.specs.PackageBuilder.{KeepsPackage};
 ghost use Rattle.deb_index.specs.Spans.{part};
-ghost use Rattle.deb_index.specs.Stores.{IsStore, KeepsOneMore, listed_in};
+ghost use Rattle.deb_index.specs.Stores.{IsStore, KeepsOneMore, lines_in, listed_in};
 
 use crate::cut::append_entries;
 use crate::entry::Entry;
@@ -18,7 +18,7 @@ use deb_field::MultiArch;
 use std::alloc::{AllocError, Global};
 
 /// A package: the offsets at which its texts and the entries of its Provides are in the lists of
-/// the store, which are shorter than 2^32.
+/// the store, which are shorter than 2^32, and the line at which its paragraph starts.
 #[derive(Clone, Copy, Debug)]
 pub(crate) struct Record {
     pub(crate) start: u32,
@@ -28,6 +28,7 @@ pub(crate) struct Record {
     pub(crate) end: u32,
     pub(crate) first: u32,
     pub(crate) entries_end: u32,
+    pub(crate) line: u32,
     pub(crate) multi_arch: Option<MultiArch>,
 }
 
@@ -52,10 +53,11 @@ impl Store {
         }
     }
 
-    /// Appends a package.
-    pub(crate) fn push(&mut self, kept: &PackageBuilder) -> Result<(), AllocError>
-        ensures { (p : Listed) → KeepsPackage kept.now p → IsStore self.old
+    /// Appends a package, whose paragraph starts at a line of the file.
+    pub(crate) fn push(&mut self, kept: &PackageBuilder, line: u64) -> Result<(), AllocError>
+        ensures kept { (p : Listed) → KeepsPackage kept.now p → IsStore self.old
             → OnOk result (KeepsOneMore self.old self.new p) }
+        ensures line { OnOk result (lines_in self.new ≡ lines_in self.old ++ line ∷ []) }
     {
         let start = offset(self.bytes.len())?;
         self.bytes.extend_from_slice(&kept.name)?;
@@ -76,6 +78,7 @@ impl Store {
             end,
             first,
             entries_end: offset(self.entries.len())?,
+            line: offset(line as usize)?,
             multi_arch: kept.multi_arch,
         })?;
         Ok(())
@@ -107,7 +110,8 @@ impl Store {
     pub(crate) fn package(&self, index: usize) -> Package<'_>
         requires kept { IsStore self.now }
         requires within { index < length self.now.records.items }
-        ensures { slice_get (listed_in self.now) index ≡ Some (listed_of result) }
+        ensures listed { slice_get (listed_in self.now) index ≡ Some (listed_of result) }
+        ensures line { slice_get (lines_in self.now) index ≡ Some (line_of result) }
     {
         let record = &self.records[index];
         let bytes = self.bytes.as_slice();
@@ -119,6 +123,7 @@ impl Store {
                 record.version_end as usize,
                 record.architecture_end as usize,
             ),
+            line: record.line,
             multi_arch: record.multi_arch,
             provisions: Provisions {
                 text: self.provides(record),

@@ -7,4 +7,8 @@ mod RefusalsSoFar
 mod ShownFields
 mod Loading
 mod Written
+mod VersionParts
+mod ReadTexts
+mod Reports
+mod AskedNumbers
 pub mod HandsOn

@@ -1,6 +1,7 @@
 pub mod Answers
 pub mod Buffers
 pub mod Versions
+pub mod VersionParts
 pub mod Documents
 pub mod Explaining
 pub mod AllRefusals
@@ -9,7 +10,11 @@ pub mod Unmet
 pub mod Askers
 pub mod Fields
 pub mod Tables
+pub mod RelationParts
 pub mod Relations
+pub mod RowTables
+pub mod ExplainedTexts
 pub mod FieldLaws
 pub mod Loads
+pub mod Details
 pub mod Diffs

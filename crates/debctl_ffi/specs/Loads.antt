@@ -10,7 +10,8 @@ use Rattle.deb_base.specs.declared.refusal.Refusal.{Refusal}
 use Rattle.deb_control.specs.Documents.{refusal_of}
 use Rattle.deb_version.specs.Canonical.{version_text}
 use Rattle.deb_version.specs.Places.{version_in}
-use Rattle.deb_index.specs.Indexes.{packages_of}
+use Rattle.deb_index.specs.FirstLines.{first_lines}
+use Rattle.deb_index.specs.Indexes.{lines_of, packages_of}
 use Rattle.deb_index.specs.Listed.{Listed}
 use Rattle.deb_index.specs.Named.{package_at}
 use Rattle.deb_index.specs.Listing.{ListsAll}
@@ -56,12 +57,20 @@ pub record HasPackages (loaded : Loaded) (packages : List Listed) : Type 0 where
   pub is : loaded.index ≡ Some index
   pub packages_are : packages ≡ packages_of index
 
+-- The paragraphs of its packages start at these lines.
+pub record HasLines (loaded : Loaded) (lines : List ℕ) : Type 0 where
+  pub index : Index
+  pub is : loaded.index ≡ Some index
+  pub lines_are : lines ≡ lines_of index
+
 -- ---- reading it
 
--- The file is accepted as an index, whose packages are counted and loaded.
+-- The file is accepted as an index, whose packages are counted and loaded with the lines at which
+-- their paragraphs start.
 pub record LoadsIndex (text : List ℕ) (answer : Answer) (loaded : Loaded) : Type 0 where
   pub holds : HoldsIndex text loaded
   pub is : answer ≡ counting 0 (length (packages_of holds.index))
+  pub lines : lines_of holds.index ≡ first_lines text
 
 -- It is refused, and nothing is loaded.
 pub record LoadsNone (text : List ℕ) (answer : Answer) (loaded : Loaded) : Type 0 where

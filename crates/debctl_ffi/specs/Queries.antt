@@ -1,14 +1,21 @@
 -- What is answered of a relation and an index to a program in C: Debian Policy 7.1 and 7.5. The
 -- order of refusals and the report's form are this project's own.
-use Rattle.std.specs.Prelude.{◌≡◌, ℕ, Bool, List, refl}
+use Rattle.std.specs.Prelude.{◌≡◌, ℕ, Bool, IsFalse, IsTrue, List, refl}
 use Rattle.deb_base.specs.declared.refusal.Refusal.{Refusal}
+use Rattle.deb_relation.specs.Applying.{Environment}
+use Rattle.deb_relation.specs.Meaning.{Relation}
+use Rattle.deb_relation.specs.Tests.{some_wildcard}
+use Rattle.deb_index.specs.Listed.{Listed}
 use Rattle.deb_index.specs.Questions.{IsReported, Question, RefusesQuery, bad_environment}
-use Rattle.deb_index.specs.Questions.{bad_relation, wildcard}
-use Rattle.deb_index.specs.Reports.{Answer as GroupAnswer, all_met}
+use Rattle.deb_index.specs.Questions.{bad_relation, environment_in, wildcard}
+use Rattle.deb_index.specs.Reports.{Answer as GroupAnswer, all_met, report}
 use Rattle.deb_index.specs.ReportText.{report_text}
+use Rattle.deb_index.specs.Why.{detailed_report, detailed_text}
 use Rattle.debctl_ffi.specs.Answers.{refusing}
 use Rattle.debctl_ffi.specs.Buffers.{Gives, LacksRoom}
 use Rattle.debctl_ffi.specs.declared.answer.Answer.{Answer}
+use Rattle.debctl_ffi.specs.declared.report.Detail.{Detail}
+use Rattle.debctl_ffi.specs.declared.report.Detail.TheVariants.{Reasons, Verdicts}
 
 -- their codes are 19, 23 and 22, and they have no line
 refusals : (refusing 2 bad_relation ≡ record { status = 2; code = 19; line = 0; count = 0 })
@@ -18,12 +25,44 @@ refusals = (refl, refl, refl)
 
 -- ---- the report
 
+-- what is written of a relation over packages: the report, or the report with reasons
+abbrev pub detail_text : Detail → List Listed → Relation → Environment → List ℕ
+detail_text Verdicts packages relation environment =
+    report_text (report packages relation environment)
+detail_text Reasons packages relation environment =
+    detailed_text (detailed_report packages relation environment)
+
 -- The question has these answers, this is the text of their report, and whether no group is unmet.
-pub record ReportsOn (q : Question) (text : List ℕ) (met : Bool) (bytes : List ℕ) : Type 0 where
+pub record ReportsOn (detail : Detail) (q : Question) (text : List ℕ) (met : Bool)
+    (bytes : List ℕ) : Type 0 where
   pub answers : List GroupAnswer
   pub reported : IsReported q text answers
   pub met_is : met ≡ all_met answers
-  pub text_is : bytes ≡ report_text answers
+  pub text_is : bytes
+      ≡ detail_text detail reported.packages reported.good.relation (environment_in q)
+
+-- A list of the relation has a wildcard, and this is the refusal.
+abbrev pub RefusesAsked : Relation → Refusal → Type 0
+RefusesAsked relation refusal = IsTrue (some_wildcard relation) × (refusal ≡ wildcard)
+
+-- No list of the relation has a wildcard, and this is the text of the report over these packages,
+-- and whether no group is unmet.
+pub record ReportsOver (detail : Detail) (packages : List Listed) (relation : Relation)
+    (environment : Environment) (met : Bool) (bytes : List ℕ) : Type 0 where
+  pub plain : IsFalse (some_wildcard relation)
+  pub met_is : met ≡ all_met (report packages relation environment)
+  pub text_is : bytes ≡ detail_text detail packages relation environment
+
+worked-refusal : (relation : Relation) (refusal : Refusal) → RefusesAsked relation refusal
+    ≡ (IsTrue (some_wildcard relation) × (refusal ≡ wildcard))
+worked-refusal relation refusal = refl
+
+worked-texts : (packages : List Listed) (relation : Relation) (environment : Environment)
+    → (detail_text Verdicts packages relation environment
+    ≡ report_text (report packages relation environment))
+    × (detail_text Reasons packages relation environment
+    ≡ detailed_text (detailed_report packages relation environment))
+worked-texts packages relation environment = (refl, refl)
 
 -- ---- answers
 
@@ -34,15 +73,15 @@ pub record IsRefusedQuery (q : Question) (text : List ℕ) (answer : Answer) : T
   pub is : answer ≡ refusing 2 refusal
 
 -- The report is given; or there is no room for it.
-pub record GivesReport (q : Question) (text : List ℕ) (met : Bool) (before after : List ℕ)
-    (len : ℕ) : Type 0 where
+pub record GivesReport (detail : Detail) (q : Question) (text : List ℕ) (met : Bool)
+    (before after : List ℕ) (len : ℕ) : Type 0 where
   pub bytes : List ℕ
-  pub reports : ReportsOn q text met bytes
+  pub reports : ReportsOn detail q text met bytes
   pub gives : Gives bytes before after len
 
-pub record LacksRoomForReport (q : Question) (text before after : List ℕ) (len : ℕ)
-    : Type 0 where
+pub record LacksRoomForReport (detail : Detail) (q : Question) (text before after : List ℕ)
+    (len : ℕ) : Type 0 where
   pub met : Bool
   pub bytes : List ℕ
-  pub reports : ReportsOn q text met bytes
+  pub reports : ReportsOn detail q text met bytes
   pub lacks : LacksRoom bytes before after len

@@ -49,6 +49,7 @@ pub extern "C" fn deb_diff(
         × GivesNothing out.old out.new len.new }
     ensures no_kind { result.status ≡ 6 → (result ≡ plain 6) × ComparesNothing kind detail
         × GivesNothing out.old out.new len.new }
+    ensures unknown_kind { ComparesNothing kind detail → result.status ≡ 6 }
     ensures status { HasStatus result.status (0 ∷ 1 ∷ 2 ∷ 3 ∷ 4 ∷ 5 ∷ 6 ∷ []) }
 {
     *len = 0;

@@ -48,6 +48,15 @@ impl Tables {
         }
     }
 
+    /// Removes all fields, and keeps the memory.
+    pub(crate) fn clear(&mut self)
+        ensures { HasTables self.new [] }
+    {
+        self.spans.clear();
+        self.names.clear();
+        self.values.clear();
+    }
+
     /// Appends the fields of a paragraph of this number.
     pub(crate) fn push(
         &mut self,

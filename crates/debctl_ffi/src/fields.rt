@@ -79,7 +79,7 @@ pub extern "C" fn deb_fields(
 }
 
 /// Copies tables to the start of buffers, if each has room, and returns whether all have.
-fn give_tables(
+pub(crate) fn give_tables(
     tables: &Tables,
     spans: &mut [FieldSpan],
     names: &mut [u8],

@@ -8,14 +8,16 @@ ghost use Rattle.deb_index.specs.Listed.{Listed};
 ghost use Rattle.deb_index.specs.Named.{has_name, numbers_of, package_at, provides};
 ghost use Rattle.deb_index.specs.Questions.{question};
 ghost use Rattle.deb_relation.specs.Views.{names_of};
+ghost use Rattle.deb_unmet.specs.declared.asked.Asked.{Asked};
 ghost use Rattle.debctl_ffi.specs.Answers.{HasStatus, counting, plain};
 ghost use Rattle.debctl_ffi.specs.Buffers.{Gives, GivesNothing, LacksRoom};
 ghost use Rattle.debctl_ffi.specs.Loads.{GivesPackage, HasPackages, HoldsIndex, HoldsNone, IsLoading, LacksRoomForPackage, Loan, lies_lent, loaded_of, share_of};
 ghost use Rattle.debctl_ffi.specs.Queries.{GivesReport, IsRefusedQuery, LacksRoomForReport};
-ghost use Rattle.debctl_ffi.specs.Unmet.{AsksNothing, GivesLines, LacksRoomForUnmet, asker, is_set};
+ghost use Rattle.debctl_ffi.specs.Unmet.{AsksNothing, GivesLines, IsAsked, LacksRoomForUnmet, asker, is_set};
 ghost use Rattle.debctl_ffi.specs.Unmet.{RefusesFile, RefusesFirst};
 ghost use Rattle.debctl_ffi.specs.contracts.loaded.Loaded.{the_row};
 ghost use Rattle.debctl_ffi.specs.declared.loaded.Loaded.{Loaded as LoadedData};
+ghost use Rattle.debctl_ffi.specs.declared.report.Detail.TheVariants.{Verdicts};
 
 use crate::answer::Answer;
 use crate::loaded::{Loaded, discard};
@@ -73,23 +75,24 @@ pub unsafe extern "C" fn deb_index_query(
     ensures* share { sem 𝓛 (share_of loan) }
     ensures met { (text : List ℕ) → HoldsIndex text (loaded_of loan) → result.status ≡ 0
         → (result ≡ plain 0)
-        × GivesReport (question target.now (names_of profiles.now) relation.now) text true
-        out.old out.new len.new }
+        × GivesReport Verdicts (question target.now (names_of profiles.now) relation.now)
+        text true out.old out.new len.new }
     ensures unmet { (text : List ℕ) → HoldsIndex text (loaded_of loan) → result.status ≡ 1
         → (result ≡ plain 1)
-        × GivesReport (question target.now (names_of profiles.now) relation.now) text false
-        out.old out.new len.new }
+        × GivesReport Verdicts (question target.now (names_of profiles.now) relation.now)
+        text false out.old out.new len.new }
     ensures refused { (text : List ℕ) → HoldsIndex text (loaded_of loan) → result.status ≡ 2
         → IsRefusedQuery (question target.now (names_of profiles.now) relation.now) text result
         × GivesNothing out.old out.new len.new }
     ensures no_room { (text : List ℕ) → HoldsIndex text (loaded_of loan) → result.status ≡ 4
         → (result ≡ plain 4)
-        × LacksRoomForReport (question target.now (names_of profiles.now) relation.now) text
-        out.old out.new len.new }
+        × LacksRoomForReport Verdicts (question target.now (names_of profiles.now) relation.now)
+        text out.old out.new len.new }
     ensures no_memory { result.status ≡ 5 → (result ≡ plain 5)
         × GivesNothing out.old out.new len.new }
     ensures no_index { result.status ≡ 7 → (result ≡ plain 7) × HoldsNone (loaded_of loan)
         × GivesNothing out.old out.new len.new }
+    ensures none_held { HoldsNone (loaded_of loan) → result.status ≡ 7 }
     ensures status { HasStatus result.status (0 ∷ 1 ∷ 2 ∷ 4 ∷ 5 ∷ 7 ∷ []) }
 {
     Loaded::query(
@@ -146,6 +149,9 @@ pub unsafe extern "C" fn deb_index_unmet(
         × AsksNothing kind (is_set recommends) × GivesNothing out.old out.new len.new }
     ensures no_index { result.status ≡ 7 → (result ≡ plain 7) × HoldsNone (loaded_of loan)
         × GivesNothing out.old out.new len.new }
+    ensures none_held { (asks : Asked) → IsAsked kind (is_set recommends) asks
+        → HoldsNone (loaded_of loan) → result.status ≡ 7 }
+    ensures unknown_kind { AsksNothing kind (is_set recommends) → result.status ≡ 6 }
     ensures status { HasStatus result.status (0 ∷ 1 ∷ 2 ∷ 3 ∷ 4 ∷ 5 ∷ 6 ∷ 7 ∷ []) }
 {
     Loaded::unmet(
@@ -181,6 +187,7 @@ pub unsafe extern "C" fn deb_index_packages(
         × LacksRoom (numbers_of (has_name name.now) packages) numbers.old numbers.new count.new }
     ensures no_index { result.status ≡ 7 → (result ≡ plain 7) × HoldsNone (loaded_of loan)
         × GivesNothing numbers.old numbers.new count.new }
+    ensures none_held { HoldsNone (loaded_of loan) → result.status ≡ 7 }
     ensures status { HasStatus result.status (0 ∷ 4 ∷ 7 ∷ []) }
 {
     Loaded::packages(unsafe { &*(index as *const Loaded) }, name, numbers, count)
@@ -207,6 +214,7 @@ pub unsafe extern "C" fn deb_index_providers(
         × LacksRoom (numbers_of (provides name.now) packages) numbers.old numbers.new count.new }
     ensures no_index { result.status ≡ 7 → (result ≡ plain 7) × HoldsNone (loaded_of loan)
         × GivesNothing numbers.old numbers.new count.new }
+    ensures none_held { HoldsNone (loaded_of loan) → result.status ≡ 7 }
     ensures status { HasStatus result.status (0 ∷ 4 ∷ 7 ∷ []) }
 {
     Loaded::providers(unsafe { &*(index as *const Loaded) }, name, numbers, count)
@@ -238,6 +246,7 @@ pub unsafe extern "C" fn deb_index_package(
         × GivesNothing out.old out.new len.new }
     ensures no_index { result.status ≡ 7 → (result ≡ plain 7) × HoldsNone (loaded_of loan)
         × GivesNothing out.old out.new len.new }
+    ensures none_held { HoldsNone (loaded_of loan) → result.status ≡ 7 }
     ensures status { HasStatus result.status (0 ∷ 1 ∷ 4 ∷ 5 ∷ 7 ∷ []) }
 {
     Loaded::package_at(unsafe { &*(index as *const Loaded) }, number, out, len)

@@ -6,11 +6,12 @@ ghost use Rattle.deb_index.specs.Listed.{Listed};
 ghost use Rattle.deb_index.specs.Named.{has_name, numbers_of, package_at, provides};
 ghost use Rattle.deb_index.specs.Kept.{listed_of};
 ghost use Rattle.deb_relation.specs.Views.{names_of};
+ghost use Rattle.deb_unmet.specs.declared.asked.Asked.{Asked};
 ghost use Rattle.debctl_ffi.specs.Answers.{HasStatus, counting, plain};
 ghost use Rattle.debctl_ffi.specs.Buffers.{Gives, GivesNothing, LacksRoom};
 ghost use Rattle.debctl_ffi.specs.Loads.{GivesPackage, LacksRoomForPackage, package_words};
 ghost use Rattle.debctl_ffi.specs.Queries.{GivesReport, IsRefusedQuery, LacksRoomForReport};
-ghost use Rattle.debctl_ffi.specs.Unmet.{AsksNothing, GivesLines, LacksRoomForUnmet, asker, is_set};
+ghost use Rattle.debctl_ffi.specs.Unmet.{AsksNothing, GivesLines, IsAsked, LacksRoomForUnmet, asker, is_set};
 ghost use Rattle.debctl_ffi.specs.Unmet.{RefusesFile, RefusesFirst};
 
 use crate::answer::{
@@ -18,7 +19,7 @@ use crate::answer::{
 };
 use crate::asker::{asked_of, lines_in, make_environment};
 use crate::buffer::give;
-use crate::report::{read_index, report_in};
+use crate::report::{Detail, read_index, report_in};
 use deb_base::Fault;
 use deb_index::{Index, Package};
 use std::alloc::{AllocError, Global};
@@ -67,30 +68,109 @@ impl Loaded {
     ) -> Answer
         ensures met { (text : List ℕ) → HoldsIndex text self.now → result.status ≡ 0
             → (result ≡ plain 0)
-            × GivesReport (question target.now (names_of profiles.now) relation.now) text true
+            × GivesReport Detail.Verdicts
+            (question target.now (names_of profiles.now) relation.now) text true
             out.old out.new len.new }
         ensures unmet { (text : List ℕ) → HoldsIndex text self.now → result.status ≡ 1
             → (result ≡ plain 1)
-            × GivesReport (question target.now (names_of profiles.now) relation.now) text false
+            × GivesReport Detail.Verdicts
+            (question target.now (names_of profiles.now) relation.now) text false
             out.old out.new len.new }
         ensures refused { (text : List ℕ) → HoldsIndex text self.now → result.status ≡ 2
             → IsRefusedQuery (question target.now (names_of profiles.now) relation.now) text result
             × GivesNothing out.old out.new len.new }
         ensures no_room { (text : List ℕ) → HoldsIndex text self.now → result.status ≡ 4
             → (result ≡ plain 4)
-            × LacksRoomForReport (question target.now (names_of profiles.now) relation.now) text
+            × LacksRoomForReport Detail.Verdicts
+            (question target.now (names_of profiles.now) relation.now) text
             out.old out.new len.new }
         ensures no_memory { result.status ≡ 5 → (result ≡ plain 5)
             × GivesNothing out.old out.new len.new }
         ensures no_index { result.status ≡ 7 → (result ≡ plain 7) × HoldsNone self.now
             × GivesNothing out.old out.new len.new }
+        ensures none_held { HoldsNone self.now → result.status ≡ 7 }
+        ensures status { HasStatus result.status (0 ∷ 1 ∷ 2 ∷ 4 ∷ 5 ∷ 7 ∷ []) }
+    {
+        self.report(Detail::Verdicts, target, profiles, relation, out, len)
+    }
+
+    /// The answer of [`crate::query_why::deb_index_query_why`].
+    pub(crate) fn query_why(
+        &self,
+        target: &[u8],
+        profiles: &[&[u8]],
+        relation: &[u8],
+        out: &mut [u8],
+        len: &mut usize,
+    ) -> Answer
+        ensures met { (text : List ℕ) → HoldsIndex text self.now → result.status ≡ 0
+            → (result ≡ plain 0)
+            × GivesReport Detail.Reasons
+            (question target.now (names_of profiles.now) relation.now) text true
+            out.old out.new len.new }
+        ensures unmet { (text : List ℕ) → HoldsIndex text self.now → result.status ≡ 1
+            → (result ≡ plain 1)
+            × GivesReport Detail.Reasons
+            (question target.now (names_of profiles.now) relation.now) text false
+            out.old out.new len.new }
+        ensures refused { (text : List ℕ) → HoldsIndex text self.now → result.status ≡ 2
+            → IsRefusedQuery (question target.now (names_of profiles.now) relation.now) text result
+            × GivesNothing out.old out.new len.new }
+        ensures no_room { (text : List ℕ) → HoldsIndex text self.now → result.status ≡ 4
+            → (result ≡ plain 4)
+            × LacksRoomForReport Detail.Reasons
+            (question target.now (names_of profiles.now) relation.now) text
+            out.old out.new len.new }
+        ensures no_memory { result.status ≡ 5 → (result ≡ plain 5)
+            × GivesNothing out.old out.new len.new }
+        ensures no_index { result.status ≡ 7 → (result ≡ plain 7) × HoldsNone self.now
+            × GivesNothing out.old out.new len.new }
+        ensures none_held { HoldsNone self.now → result.status ≡ 7 }
+        ensures status { HasStatus result.status (0 ∷ 1 ∷ 2 ∷ 4 ∷ 5 ∷ 7 ∷ []) }
+    {
+        self.report(Detail::Reasons, target, profiles, relation, out, len)
+    }
+
+    /// The answer of a query, with or without reasons.
+    fn report(
+        &self,
+        detail: Detail,
+        target: &[u8],
+        profiles: &[&[u8]],
+        relation: &[u8],
+        out: &mut [u8],
+        len: &mut usize,
+    ) -> Answer
+        ensures met { (text : List ℕ) → HoldsIndex text self.now → result.status ≡ 0
+            → (result ≡ plain 0)
+            × GivesReport detail
+            (question target.now (names_of profiles.now) relation.now) text true
+            out.old out.new len.new }
+        ensures unmet { (text : List ℕ) → HoldsIndex text self.now → result.status ≡ 1
+            → (result ≡ plain 1)
+            × GivesReport detail
+            (question target.now (names_of profiles.now) relation.now) text false
+            out.old out.new len.new }
+        ensures refused { (text : List ℕ) → HoldsIndex text self.now → result.status ≡ 2
+            → IsRefusedQuery (question target.now (names_of profiles.now) relation.now) text result
+            × GivesNothing out.old out.new len.new }
+        ensures no_room { (text : List ℕ) → HoldsIndex text self.now → result.status ≡ 4
+            → (result ≡ plain 4)
+            × LacksRoomForReport detail
+            (question target.now (names_of profiles.now) relation.now) text
+            out.old out.new len.new }
+        ensures no_memory { result.status ≡ 5 → (result ≡ plain 5)
+            × GivesNothing out.old out.new len.new }
+        ensures no_index { result.status ≡ 7 → (result ≡ plain 7) × HoldsNone self.now
+            × GivesNothing out.old out.new len.new }
+        ensures none_held { HoldsNone self.now → result.status ≡ 7 }
         ensures status { HasStatus result.status (0 ∷ 1 ∷ 2 ∷ 4 ∷ 5 ∷ 7 ∷ []) }
     {
         *len = 0;
         let Some(index) = &self.index else {
             return no_index();
         };
-        match report_in(self.alloc, target, profiles, relation, index) {
+        match report_in(self.alloc, detail, target, profiles, relation, index) {
             Ok((met, report)) => {
                 if !give(&report, out, len) {
                     return no_room();
@@ -141,6 +221,9 @@ impl Loaded {
             × AsksNothing kind (is_set recommends) × GivesNothing out.old out.new len.new }
         ensures no_index { result.status ≡ 7 → (result ≡ plain 7) × HoldsNone self.now
             × GivesNothing out.old out.new len.new }
+        ensures none_held { (asks : Asked) → IsAsked kind (is_set recommends) asks
+            → HoldsNone self.now → result.status ≡ 7 }
+        ensures unknown_kind { AsksNothing kind (is_set recommends) → result.status ≡ 6 }
         ensures status { HasStatus result.status (0 ∷ 1 ∷ 2 ∷ 3 ∷ 4 ∷ 5 ∷ 6 ∷ 7 ∷ []) }
     {
         *len = 0;
@@ -182,6 +265,7 @@ impl Loaded {
             count.new }
         ensures no_index { result.status ≡ 7 → (result ≡ plain 7) × HoldsNone self.now
             × GivesNothing numbers.old numbers.new count.new }
+        ensures none_held { HoldsNone self.now → result.status ≡ 7 }
         ensures status { HasStatus result.status (0 ∷ 4 ∷ 7 ∷ []) }
     {
         *count = 0;
@@ -206,6 +290,7 @@ impl Loaded {
             count.new }
         ensures no_index { result.status ≡ 7 → (result ≡ plain 7) × HoldsNone self.now
             × GivesNothing numbers.old numbers.new count.new }
+        ensures none_held { HoldsNone self.now → result.status ≡ 7 }
         ensures status { HasStatus result.status (0 ∷ 4 ∷ 7 ∷ []) }
     {
         *count = 0;
@@ -234,6 +319,7 @@ impl Loaded {
             × GivesNothing out.old out.new len.new }
         ensures no_index { result.status ≡ 7 → (result ≡ plain 7) × HoldsNone self.now
             × GivesNothing out.old out.new len.new }
+        ensures none_held { HoldsNone self.now → result.status ≡ 7 }
         ensures status { HasStatus result.status (0 ∷ 1 ∷ 4 ∷ 5 ∷ 7 ∷ []) }
     {
         *len = 0;

@@ -9,7 +9,7 @@ ghost use Rattle.debctl_ffi.specs.Queries.{GivesReport, IsRefusedQuery, LacksRoo
 
 use crate::answer::{Answer, no, no_memory, no_room, refused, yes};
 use crate::buffer::give;
-use crate::report::report_on;
+use crate::report::{Detail, report_on};
 use deb_base::Fault;
 use std::alloc::Global;
 
@@ -34,23 +34,26 @@ pub extern "C" fn deb_query(
     len: &mut usize,
 ) -> Answer
     ensures met { result.status ≡ 0 → (result ≡ plain 0)
-        × GivesReport (question target.now (names_of profiles.now) relation.now) index.now true
+        × GivesReport Detail.Verdicts
+        (question target.now (names_of profiles.now) relation.now) index.now true
         out.old out.new len.new }
     ensures unmet { result.status ≡ 1 → (result ≡ plain 1)
-        × GivesReport (question target.now (names_of profiles.now) relation.now) index.now false
+        × GivesReport Detail.Verdicts
+        (question target.now (names_of profiles.now) relation.now) index.now false
         out.old out.new len.new }
     ensures refused { result.status ≡ 2
         → IsRefusedQuery (question target.now (names_of profiles.now) relation.now) index.now result
         × GivesNothing out.old out.new len.new }
     ensures no_room { result.status ≡ 4 → (result ≡ plain 4)
-        × LacksRoomForReport (question target.now (names_of profiles.now) relation.now) index.now
+        × LacksRoomForReport Detail.Verdicts
+        (question target.now (names_of profiles.now) relation.now) index.now
         out.old out.new len.new }
     ensures no_memory { result.status ≡ 5 → (result ≡ plain 5)
         × GivesNothing out.old out.new len.new }
     ensures status { HasStatus result.status (0 ∷ 1 ∷ 2 ∷ 4 ∷ 5 ∷ []) }
 {
     *len = 0;
-    match report_on(alloc, target, profiles, relation, index) {
+    match report_on(alloc, Detail::Verdicts, target, profiles, relation, index) {
         Ok((met, report)) => {
             if !give(&report, out, len) {
                 return no_room();

@@ -58,6 +58,7 @@ pub extern "C" fn deb_unmet(
         × GivesNothing out.old out.new len.new }
     ensures no_kind { result.status ≡ 6 → (result ≡ plain 6) × AsksNothing kind (is_set recommends)
         × GivesNothing out.old out.new len.new }
+    ensures unknown_kind { AsksNothing kind (is_set recommends) → result.status ≡ 6 }
     ensures status { HasStatus result.status (0 ∷ 1 ∷ 2 ∷ 3 ∷ 4 ∷ 5 ∷ 6 ∷ []) }
 {
     *len = 0;

@@ -1,14 +1,18 @@
-use Rattle.std.proofs.Common.{[], map, Ok, refl, sym, ap, subst, ◌∙◌, arith}
+use Rattle.std.proofs.Common.{◌≡◌, [], ◌∷◌, ◌++◌, map, Ok, Some, refl, sym, ap, subst, ◌∙◌, arith}
 use Rattle.std.specs.List.{All}
 use Rattle.std.proofs.lemmas.List.Elements.{All-from_recursion}
 use Rattle.std.proofs.lemmas.Result.{err_from_is_err_and}
 use Rattle.deb_base.specs.declared.doc.Doc.TheVariants.{Packages}
+use Rattle.deb_syntax.specs.Answers.{next_answer}
+use Rattle.deb_control.specs.CheckedStates.{passing_judged}
 use Rattle.deb_control.specs.Checking.{passing_seen}
+use Rattle.deb_control.specs.Documents.{rules_of}
 use Rattle.deb_control.proofs.CheckedSoFar.{goes_on, sound_on, refusal_behind, counted_on}
-use Rattle.deb_index.specs.Stores.{IsKept, listed_by, listed_in}
+use Rattle.deb_index.specs.Stores.{IsKept, lines_in, listed_by, listed_in}
 use Rattle.deb_index.specs.declared.index.Index.{Index}
 use Rattle.deb_index.proofs.Indexed.{HasListed, none_listed, one_listed, lists_all}
 use Rattle.deb_index.proofs.ListedValues.{lists-kept}
+use Rattle.deb_index.proofs.ReadLines.{HasLines, all_read, none_read, one_read}
 use Rattle.deb_index.proofs.index.Index.read.Goals as goal
 
 pub loop-count-init : goal.loop-count-init
@@ -19,6 +23,7 @@ loop-count-init g c =
       fault = c.new-checked.ensures.sound;
       reads = refl;
       count = c.new-checked.ensures.none;
+      lines = λ text left. rw (c.new-checked.ensures.none, c.new-store.ensures) (none_read text);
       kept = subst (λ rs. All (IsKept s.bytes.items s.entries.items) rs) (sym c.new-store.ensures) (All-from_recursion (IsKept s.bytes.items s.entries.items) [] tt);
       text = λ text left. subst (HasListed text _ _) (sym (ap (map (listed_by s.bytes.items s.entries.items)) c.new-store.ensures)) (none_listed text _ _ (rw left (c.new-checked.ensures.fits text)));
     }
@@ -52,7 +57,15 @@ returns-then-not-branch-clause-ok g c = λ text left.
     let passes = rw (c.if-not-branch.true, c.loop-count.invariant.doc) at c.in_ok-advance.ensures.passes.checks in
     let so_far = c.loop-count.invariant.text text left in
     let checks = goes_on _ _ _ _ c.loop-count.invariant.fault passes in
-    rw c.in_ok-of.ensures (lists_all text _ _ _ _ (listed_in c.loop-count.store) so_far (checks.answers text so_far.checked.before so_far.checked.fits))
+    rw c.in_ok-of.ensures.packages (lists_all text _ _ _ _ (listed_in c.loop-count.store) so_far (checks.answers text so_far.checked.before so_far.checked.fits))
+
+pub returns-then-not-branch-clause-lines : goal.returns-then-not-branch-clause-lines
+returns-then-not-branch-clause-lines g c = λ text left.
+    let passes = rw (c.if-not-branch.true, c.loop-count.invariant.doc) at c.in_ok-advance.ensures.passes.checks in
+    let so_far = (c.loop-count.invariant.text text left).checked in
+    let checks = goes_on _ _ _ _ c.loop-count.invariant.fault passes in
+    let end = checks.answers text so_far.before so_far.fits in
+    c.in_ok-of.ensures.lines ∙ all_read (rules_of Packages) text so_far.before (lines_in c.loop-count.store) (subst (λ n. HasLines text n (lines_in c.loop-count.store)) so_far.fits.counted (c.loop-count.invariant.lines text left)) end.answer
 
 pub returns-then-not-branch-clause-counts_read_failure : goal.returns-then-not-branch-clause-counts_read_failure
 returns-then-not-branch-clause-counts_read_failure g c =
@@ -84,13 +97,23 @@ loop-count-preserved g c =
     let keeps = rw c.loop-count.invariant.doc at c.in_ok-advance.ensures.passes.visits (ap Ok c.if-not-branch.false) in
     let checks = goes_on _ _ _ _ c.loop-count.invariant.fault passes in
     let listed = lists-kept _ given keeps in
-    let one = c.in_ok-push.ensures listed.listed listed.keeps c.loop-count.invariant.kept in
+    let one = c.in_ok-push.ensures.kept listed.listed listed.keeps c.loop-count.invariant.kept in
+    let current = rw c.if-not-branch.false at c.in_ok-advance.ensures.passes.current in
+    let seen : Some (passing_judged c.in-Some.paragraph).seen ≡ Some given = c.in-Some.ensures.seen ∙ current in
+    let same : (passing_judged c.in-Some.paragraph).seen ≡ given = cc in
+    let line = c.in_ok-push.ensures.line ∙ ap (λ n. lines_in c.loop-count.store ++ n ∷ []) (c.first_line.ensures ∙ ap (λ s. s.first) same) in
     record {
       doc = c.in_ok-advance.ensures.doc ∙ c.loop-count.invariant.doc;
       fault = sound_on _ _ _ _ c.loop-count.invariant.fault passes;
       reads = checks.counted ∙ c.loop-count.invariant.reads;
       count = omega (arith, checks.count, c.loop-count.invariant.count);
       kept = one.kept;
+      lines = λ text left.
+          let so_far = (c.loop-count.invariant.text text left).checked in
+          let counted = so_far.fits.counted in
+          let next = subst (λ n. next_answer text n ≡ Ok (Some given)) (sym counted) (checks.answers text so_far.before so_far.fits).seen in
+          let more = one_read text _ (lines_in c.loop-count.store) given (c.loop-count.invariant.lines text left) next in
+          rw (checks.count, line) more;
       text = λ text left.
           let so_far = c.loop-count.invariant.text text left in
           one_listed text _ _ _ _ (listed_in c.loop-count.store) _ listed.listed (passing_seen Packages given) so_far

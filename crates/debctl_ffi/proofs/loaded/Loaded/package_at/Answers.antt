@@ -11,7 +11,7 @@ returns-then-give-clause-found c packages has e = (
   record {
     listed = listed_of c.in-Some-package.found;
     is = ap (λ ps. package_at c.args.number ps) (packages_held c.args.self.now c.in-Some.index packages c.in-Some.is has)
-        ∙ sym c.in-Some-package.ensures;
+        ∙ sym c.in-Some-package.ensures.listed;
     gives = subst (λ bs. Gives bs c.args.out.now c.give.new.out c.give.new.len)
         (c.deref.ensures.value ∙ c.in-Ok.ensures) (c.give.ensures.room c.if-give.true);
   },
@@ -23,7 +23,7 @@ returns-in-Ok-clause-no_room c packages has e = (
   record {
     listed = listed_of c.in-Some-package.found;
     is = ap (λ ps. package_at c.args.number ps) (packages_held c.args.self.now c.in-Some.index packages c.in-Some.is has)
-        ∙ sym c.in-Some-package.ensures;
+        ∙ sym c.in-Some-package.ensures.listed;
     lacks = subst (λ bs. LacksRoom bs c.args.out.now c.give.new.out c.give.new.len)
         (c.deref.ensures.value ∙ c.in-Ok.ensures) (c.give.ensures.no_room c.if-give.false);
   },

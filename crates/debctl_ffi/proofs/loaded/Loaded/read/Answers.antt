@@ -7,6 +7,7 @@ returns-in-Ok c =
       accepted = λ e. record {
         holds = record { index = c.in-Ok.index; is = refl; lists = c.in-Ok.ensures.ok };
         is = refl;
+        lines = c.in-Ok.ensures.lines;
       };
       refused = search rules;
       no_memory = search rules;

@@ -3,7 +3,7 @@ use Rattle.deb_base.specs.Faults.{RefusedOrMemory}
 use Rattle.deb_index.specs.Questions.{question, RefusesQuery}
 use Rattle.deb_relation.specs.Views.{names_of}
 use Rattle.debctl_ffi.proofs.Loading.{lists_held}
-use Rattle.debctl_ffi.proofs.loaded.Loaded.query.Goals as goal
+use Rattle.debctl_ffi.proofs.loaded.Loaded.report.Goals as goal
 
 pub returns-in-Err-Refused-clause-refused : goal.returns-in-Err-Refused-clause-refused
 returns-in-Err-Refused-clause-refused c text holds e =

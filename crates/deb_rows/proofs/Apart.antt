@@ -1,0 +1,296 @@
+-- The line of a row says which kind it is: the kinds of a form are told apart by their lines.
+use Rattle.std.proofs.Common.{◌≡◌, ℕ, Bool, true, false, cond, not, List, [], ◌∷◌, ◌++◌, length, drop, get_or, refl, sym, ap, ◌∙◌, inl, inr, append_assoc}
+use Rattle.std.specs.Prelude.{◌==◌, ◌&&◌, ◌||◌, codes}
+use Rattle.std.specs.Char.{is_ascii_digit}
+use Rattle.std.proofs.lemmas.Bool.{cases_Bool, and_parts, or_parts, or_from, and_right, and_left, false≢true, eqb-true, not-true, false_from_ne_true}
+use Rattle.std.proofs.lemmas.List.{drop_at}
+use Rattle.deb_rows.specs.Cells.{begins_with_number, begins_with_space, cell_of, ends_with_colon, fits, is_cell, is_unstopped, number_goes_on, stops}
+use Rattle.deb_rows.specs.Kinds.{Piece, any_text, form_of, front_of, package_and, package_last, pieces_of}
+use Rattle.deb_rows.specs.Rows.{are_cells, cells_text}
+use Rattle.deb_rows.specs.declared.cell.Class.{Class}
+use Rattle.deb_rows.specs.declared.cell.Class.TheVariants.{Number, Word, Key, Alternative, Reason}
+use Rattle.deb_rows.specs.declared.form.Form.{Form}
+use Rattle.deb_rows.specs.declared.form.Form.TheVariants as form
+use Rattle.deb_rows.specs.declared.kind.RowKind.{RowKind}
+use Rattle.deb_rows.specs.declared.kind.RowKind.TheVariants as kind
+use Rattle.deb_rows.proofs.Ends.{Closes, cell_of-closed}
+use Rattle.deb_rows.proofs.KindFacts.{alternative_colon, key_colon, number_comma, number_line}
+
+-- ---- the kind of the line that a text begins with
+
+-- from the end of an alternative on
+abbrev pub past : List ℕ → List ℕ
+past [] = []
+past (b ∷ bs) = cond (stops Alternative b bs) (b ∷ bs) (past bs)
+
+abbrev pub rest_of : List ℕ → List ℕ
+rest_of [] = []
+rest_of (b ∷ bs) = bs
+
+-- of what follows an alternative, or a package: a colon and a space, or a newline
+abbrev pub past_kind : List ℕ → RowKind
+past_kind [] = kind.Package
+past_kind (b ∷ bs) = cond (b == 10) kind.Package (cond (begins_with_number (rest_of bs)) kind.PackageReason kind.Reason)
+
+abbrev pub report_kind : List ℕ → RowKind
+report_kind [] = kind.Package
+report_kind (b ∷ bs) = cond (b == 109) kind.Met (cond (b == 117) kind.Unmet (cond (b == 105) kind.Ignored (past_kind (past bs))))
+
+abbrev pub unmet_kind : List ℕ → RowKind
+unmet_kind text = cond (get_or text 2 0 == 109) kind.UnmetGroup kind.UnsureGroup
+
+abbrev pub diff_kind : List ℕ → RowKind
+diff_kind text =
+    cond (get_or text 0 0 == 114) kind.Removed
+    (cond (get_or text 0 0 == 99) kind.Changed
+    (cond (get_or text 0 0 == 117) kind.Upgraded
+    (cond (get_or text 0 0 == 97) kind.Added (cond (get_or text 1 0 == 45) kind.OldLine kind.NewLine))))
+
+abbrev pub number_kind : List ℕ → RowKind
+number_kind text = cond (get_or (drop (length (cell_of Number text)) text) 0 0 == 10) kind.Count kind.Summary
+
+-- of a text, and of what follows a key
+abbrev pub key_kind : List ℕ → List ℕ → RowKind
+key_kind text tail =
+    cond (get_or tail 0 0 == 58) kind.Key
+    (cond (get_or tail 0 0 == 10) (cond (get_or text 0 0 == 10) kind.End kind.Valid) (number_kind (drop 1 tail)))
+
+abbrev pub explanation_kind : List ℕ → RowKind
+explanation_kind text = key_kind text (drop (length (cell_of Key text)) text)
+
+abbrev pub text_kind : Form → List ℕ → RowKind
+text_kind form.Report text = report_kind text
+text_kind form.UnmetLines text = unmet_kind text
+text_kind form.DiffLines text = diff_kind text
+text_kind form.Explanation text = explanation_kind text
+
+-- ---- cells, one by one
+
+pub record Split (piece : Piece) (pieces : List Piece) (cells : List (List ℕ)) : Type 0 where
+  pub first : List ℕ
+  pub rest : List (List ℕ)
+  pub same : cells ≡ first ∷ rest
+  pub is : is_cell piece.0 first ≡ true
+  pub are : are_cells pieces rest ≡ true
+
+pub split : (piece : Piece) (pieces : List Piece) (cells : List (List ℕ)) → are_cells (piece ∷ pieces) cells ≡ true → Split piece pieces cells
+split piece pieces [] e = absurd (false≢true e)
+split piece pieces (cell ∷ cells) e =
+    let parts = and_parts (is_cell piece.0 cell) (are_cells pieces cells) e in
+    record { first = cell; rest = cells; same = refl; is = parts.0; are = parts.1 }
+
+none_left : (cells : List (List ℕ)) → are_cells [] cells ≡ true → cells ≡ []
+none_left [] e = refl
+none_left (cell ∷ cells) e = absurd (false≢true e)
+
+pub free : (class : Class) (cell : List ℕ) → is_cell class cell ≡ true → is_unstopped class cell ≡ true
+free class cell e = (and_parts (is_unstopped class cell) (fits class cell) e).0
+
+pub fitting : (class : Class) (cell : List ℕ) → is_cell class cell ≡ true → fits class cell ≡ true
+fitting class cell e = (and_parts (is_unstopped class cell) (fits class cell) e).1
+
+-- what follows a cell
+past_cell : (class : Class) (cell next : List ℕ) → Closes class next → is_cell class cell ≡ true
+    → drop (length (cell_of class (cell ++ next))) (cell ++ next) ≡ next
+past_cell class cell next closes is =
+    ap (λ c. drop (length c) (cell ++ next)) (cell_of-closed class cell next closes (free class cell is)) ∙ drop_at cell next (length cell) refl
+
+-- ---- a package
+
+past-drop : (text : List ℕ) → past text ≡ drop (length (cell_of Alternative text)) text
+past-drop [] = refl
+past-drop (b ∷ bs) = elim (cases_Bool (stops Alternative b bs)) [
+  | inl e ↦ rw e refl
+  | inr e ↦ rw e (past-drop bs)
+]
+
+-- a byte of a number or of a word isn't the end of an alternative
+number_byte : (b : ℕ) → is_ascii_digit b ≡ true → ((b == 10) ≡ false) × ((b == 58) ≡ false)
+number_byte b e = (
+  false_from_ne_true (b == 10) (λ h. false≢true (ap is_ascii_digit (sym (eqb-true b 10 h)) ∙ e)),
+  false_from_ne_true (b == 58) (λ h. false≢true (ap is_ascii_digit (sym (eqb-true b 58 h)) ∙ e)),
+)
+
+first_digit : (b : ℕ) (bs : List ℕ) → is_unstopped Number (b ∷ bs) ≡ true → (is_ascii_digit b ≡ true) × (is_unstopped Number bs ≡ true)
+first_digit b bs e = elim (cases_Bool (is_ascii_digit b)) [
+  | inl h ↦ (h, ap (λ t. cond (not t) false (is_unstopped Number bs)) (sym h) ∙ e)
+  | inr h ↦ absurd (false≢true (ap (λ t. cond (not t) false (is_unstopped Number bs)) (sym h) ∙ e))
+]
+
+past_number : (number rest : List ℕ) → is_unstopped Number number ≡ true → past (number ++ rest) ≡ past rest
+past_number [] rest e = refl
+past_number (b ∷ bs) rest e =
+    let first = first_digit b bs e in
+    let other = number_byte b first.0 in
+    ap (λ t. cond t (b ∷ (bs ++ rest)) (past (bs ++ rest)))
+    (or_from (b == 10) (b == 58 && begins_with_space (bs ++ rest)) other.0 (and_left (b == 58) (begins_with_space (bs ++ rest)) other.1))
+    ∙ past_number bs rest first.1
+
+first_of_word : (b : ℕ) (bs : List ℕ) → is_unstopped Word (b ∷ bs) ≡ true
+    → ((b == 32) ≡ false) × ((b == 10) ≡ false) × (is_unstopped Word bs ≡ true)
+first_of_word b bs e = elim (cases_Bool ((b == 32) || (b == 10))) [
+  | inl h ↦ absurd (false≢true (ap (λ t. cond t false (is_unstopped Word bs)) (sym h) ∙ e))
+  | inr h ↦
+      let parts = or_parts (b == 32) (b == 10) h in
+      (parts.0, parts.1, ap (λ t. cond t false (is_unstopped Word bs)) (sym h) ∙ e)
+]
+
+past_word : (word rest : List ℕ) → is_unstopped Word word ≡ true → ends_with_colon word ≡ false → past (word ++ rest) ≡ past rest
+past_word [] rest e colon = refl
+past_word (b ∷ []) rest e colon =
+    let first = first_of_word b [] e in
+    ap (λ t. cond t (b ∷ rest) (past rest)) (or_from (b == 10) (b == 58 && begins_with_space rest) first.1 (and_left (b == 58) (begins_with_space rest) colon))
+past_word (b ∷ c ∷ cs) rest e colon =
+    let first = first_of_word b (c ∷ cs) e in
+    let second = first_of_word c cs first.2 in
+    ap (λ t. cond t (b ∷ c ∷ (cs ++ rest)) (past (c ∷ (cs ++ rest)))) (or_from (b == 10) (b == 58 && (c == 32)) first.1 (and_right (b == 58) (c == 32) second.0))
+    ∙ past_word (c ∷ cs) rest first.2 colon
+
+past_number_cell : (number rest more : List ℕ) → is_cell Number number ≡ true → past ((number ++ rest) ++ more) ≡ past (rest ++ more)
+past_number_cell number rest more is = ap past (append_assoc number rest more) ∙ past_number number (rest ++ more) (free Number number is)
+
+past_word_cell : (word rest more : List ℕ) → is_cell Word word ≡ true → past ((word ++ rest) ++ more) ≡ past (rest ++ more)
+past_word_cell word rest more is =
+    ap past (append_assoc word rest more) ∙ past_word word (rest ++ more) (free Word word is) (not-true (ends_with_colon word) (fitting Word word is))
+
+abbrev pub word : Piece
+word = (Word, codes " ")
+
+abbrev pub last_word : Piece
+last_word = (Word, codes "\n")
+
+package_kind : (cells : List (List ℕ)) (more : List ℕ) → are_cells package_last cells ≡ true → past_kind (past (cells_text package_last cells ++ more)) ≡ kind.Package
+package_kind cells more e =
+    let number = split (Number, codes " ") (word ∷ word ∷ last_word ∷ []) cells e in
+    let name = split word (word ∷ last_word ∷ []) number.rest number.are in
+    let version = split word (last_word ∷ []) name.rest name.are in
+    let architecture = split last_word [] version.rest version.are in
+    let n = number.first in
+    let a = name.first in
+    let b = version.first in
+    let c = architecture.first in
+    let same : cells ≡ n ∷ a ∷ b ∷ c ∷ [] =
+    number.same ∙ ap (λ l. n ∷ l) (name.same ∙ ap (λ l. a ∷ l) (version.same ∙ ap (λ l. b ∷ l) (architecture.same ∙ ap (λ l. c ∷ l) (none_left architecture.rest architecture.are)))) in
+    let line3 = c ++ codes "\n" in
+    let line2 = b ++ (codes " " ++ line3) in
+    let line1 = a ++ (codes " " ++ line2) in
+    let at_end : past ((n ++ (codes " " ++ line1)) ++ more) ≡ codes "\n" ++ more =
+    past_number_cell n (codes " " ++ line1) more number.is ∙ past_word_cell a (codes " " ++ line2) more name.is ∙ past_word_cell b (codes " " ++ line3) more version.is
+    ∙ past_word_cell c (codes "\n") more architecture.is in
+    ap (λ l. past_kind (past (cells_text package_last l ++ more))) same ∙ ap past_kind at_end
+
+-- ---- a reason
+
+past_alternative : (alternative rest more : List ℕ) → is_cell Alternative alternative ≡ true
+    → past ((alternative ++ (codes ": " ++ rest)) ++ more) ≡ codes ": " ++ (rest ++ more)
+past_alternative alternative rest more is =
+    ap past (append_assoc alternative (codes ": " ++ rest) more) ∙ past-drop (alternative ++ (codes ": " ++ (rest ++ more)))
+    ∙ past_cell Alternative alternative (codes ": " ++ (rest ++ more)) (alternative_colon (rest ++ more)) is
+
+number_ends : (some : Bool) (text more : List ℕ) → number_goes_on some (text ++ (codes "\n" ++ more)) ≡ number_goes_on some text
+number_ends true [] more = refl
+number_ends false [] more = refl
+number_ends some (b ∷ bs) more = ap (λ t. cond (is_ascii_digit b) t (cond some (b == 32) false)) (number_ends true bs more)
+
+digits_end : (number more : List ℕ) → is_unstopped Number number ≡ true → number_goes_on true (number ++ (codes " " ++ more)) ≡ true
+digits_end [] more e = refl
+digits_end (b ∷ bs) more e =
+    let first = first_digit b bs e in
+    ap (λ t. cond t (number_goes_on true (bs ++ (codes " " ++ more))) (b == 32)) first.0 ∙ digits_end bs more first.1
+
+number_begins : (number more : List ℕ) → is_cell Number number ≡ true → begins_with_number (number ++ (codes " " ++ more)) ≡ true
+number_begins [] more is = absurd (false≢true is)
+number_begins (b ∷ bs) more is =
+    let first = first_digit b bs (free Number (b ∷ bs) is) in
+    ap (λ t. cond t (number_goes_on true (bs ++ (codes " " ++ more))) false) first.0 ∙ digits_end bs more first.1
+
+reason_kind : (cells : List (List ℕ)) (more : List ℕ) → are_cells (pieces_of kind.Reason) cells ≡ true
+    → past_kind (past (cells_text (pieces_of kind.Reason) cells ++ more)) ≡ kind.Reason
+reason_kind cells more e =
+    let alternative = split (Alternative, codes ": ") ((Reason, codes "\n") ∷ []) cells e in
+    let reason = split (Reason, codes "\n") [] alternative.rest alternative.are in
+    let a = alternative.first in
+    let r = reason.first in
+    let same : cells ≡ a ∷ r ∷ [] = alternative.same ∙ ap (λ l. a ∷ l) (reason.same ∙ ap (λ l. r ∷ l) (none_left reason.rest reason.are)) in
+    let plain : begins_with_number ((r ++ codes "\n") ++ more) ≡ false =
+    ap begins_with_number (append_assoc r (codes "\n") more) ∙ number_ends false r more ∙ not-true (begins_with_number r) (fitting Reason r reason.is) in
+    ap (λ l. past_kind (past (cells_text (pieces_of kind.Reason) l ++ more))) same
+    ∙ ap past_kind (past_alternative a (r ++ codes "\n") more alternative.is)
+    ∙ ap (λ t. cond t kind.PackageReason kind.Reason) plain
+
+package_reason_kind : (cells : List (List ℕ)) (more : List ℕ) → are_cells (pieces_of kind.PackageReason) cells ≡ true
+    → past_kind (past (cells_text (pieces_of kind.PackageReason) cells ++ more)) ≡ kind.PackageReason
+package_reason_kind cells more e =
+    let pieces = word ∷ word ∷ word ∷ any_text in
+    let alternative = split (Alternative, codes ": ") (package_and any_text) cells e in
+    let number = split (Number, codes " ") pieces alternative.rest alternative.are in
+    let a = alternative.first in
+    let n = number.first in
+    let line = cells_text pieces number.rest in
+    let same : cells ≡ a ∷ n ∷ number.rest = alternative.same ∙ ap (λ l. a ∷ l) number.same in
+    let counted : begins_with_number ((n ++ (codes " " ++ line)) ++ more) ≡ true =
+    ap begins_with_number (append_assoc n (codes " " ++ line) more) ∙ number_begins n (line ++ more) number.is in
+    ap (λ l. past_kind (past (cells_text (pieces_of kind.PackageReason) l ++ more))) same
+    ∙ ap past_kind (past_alternative a (n ++ (codes " " ++ line)) more alternative.is)
+    ∙ ap (λ t. cond t kind.PackageReason kind.Reason) counted
+
+-- ---- an explanation
+
+key_line_kind : (cells : List (List ℕ)) (more : List ℕ) → are_cells (pieces_of kind.Key) cells ≡ true
+    → explanation_kind (cells_text (pieces_of kind.Key) cells ++ more) ≡ kind.Key
+key_line_kind cells more e =
+    let key = split (Key, codes ": ") any_text cells e in
+    let k = key.first in
+    let line = cells_text any_text key.rest in
+    let text = k ++ (codes ": " ++ (line ++ more)) in
+    let tail : drop (length (cell_of Key text)) text ≡ codes ": " ++ (line ++ more) = past_cell Key k (codes ": " ++ (line ++ more)) (key_colon (line ++ more)) key.is in
+    ap (λ l. explanation_kind (cells_text (pieces_of kind.Key) l ++ more)) key.same
+    ∙ ap explanation_kind (append_assoc k (codes ": " ++ line) more)
+    ∙ ap (key_kind text) tail
+
+count_line_kind : (cells : List (List ℕ)) (more : List ℕ) → are_cells (pieces_of kind.Count) cells ≡ true
+    → number_kind (cells_text (pieces_of kind.Count) cells ++ more) ≡ kind.Count
+count_line_kind cells more e =
+    let number = split (Number, codes "\n") [] cells e in
+    let n = number.first in
+    let line = cells_text [] number.rest in
+    let tail = past_cell Number n (codes "\n" ++ more) (number_line more) number.is in
+    ap (λ l. number_kind (cells_text (pieces_of kind.Count) l ++ more)) number.same
+    ∙ ap number_kind (append_assoc n (codes "\n") more)
+    ∙ ap (λ t. cond (get_or t 0 0 == 10) kind.Count kind.Summary) tail
+
+summary_line_kind : (cells : List (List ℕ)) (more : List ℕ) → are_cells (pieces_of kind.Summary) cells ≡ true
+    → number_kind (cells_text (pieces_of kind.Summary) cells ++ more) ≡ kind.Summary
+summary_line_kind cells more e =
+    let last = (Number, codes " refused\n") ∷ [] in
+    let number = split (Number, codes ", ") last cells e in
+    let n = number.first in
+    let line = cells_text last number.rest in
+    let tail = past_cell Number n (codes ", " ++ (line ++ more)) (number_comma (line ++ more)) number.is in
+    ap (λ l. number_kind (cells_text (pieces_of kind.Summary) l ++ more)) number.same
+    ∙ ap number_kind (append_assoc n (codes ", " ++ line) more)
+    ∙ ap (λ t. cond (get_or t 0 0 == 10) kind.Count kind.Summary) tail
+
+-- ---- every kind
+
+pub line_kind : (of : RowKind) (cells : List (List ℕ)) (more : List ℕ) → are_cells (pieces_of of) cells ≡ true
+    → text_kind (form_of of) ((front_of of ++ cells_text (pieces_of of) cells) ++ more) ≡ of
+line_kind kind.Met cells more e = refl
+line_kind kind.Unmet cells more e = refl
+line_kind kind.Ignored cells more e = refl
+line_kind kind.Package cells more e = package_kind cells more e
+line_kind kind.Reason cells more e = reason_kind cells more e
+line_kind kind.PackageReason cells more e = package_reason_kind cells more e
+line_kind kind.UnmetGroup cells more e = refl
+line_kind kind.UnsureGroup cells more e = refl
+line_kind kind.Removed cells more e = refl
+line_kind kind.Changed cells more e = refl
+line_kind kind.Upgraded cells more e = refl
+line_kind kind.Added cells more e = refl
+line_kind kind.OldLine cells more e = refl
+line_kind kind.NewLine cells more e = refl
+line_kind kind.Key cells more e = key_line_kind cells more e
+line_kind kind.End cells more e = refl
+line_kind kind.Count cells more e = count_line_kind cells more e
+line_kind kind.Summary cells more e = summary_line_kind cells more e
+line_kind kind.Valid cells more e = refl

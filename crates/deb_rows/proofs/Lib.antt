@@ -1,0 +1,10 @@
+pub mod Apart
+pub mod Cells
+pub mod Ends
+pub mod Found
+pub mod KindFacts
+pub mod Named
+pub mod RowsFound
+pub mod Same
+pub mod Scanned
+pub mod Steps

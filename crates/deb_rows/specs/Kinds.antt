@@ -1,0 +1,157 @@
+-- How the line of each kind of row is spelled, and which kinds a text of a form has. The forms are
+-- this project's own.
+use Rattle.std.specs.Prelude.{◌≡◌, ℕ, List, [], ◌∷◌, codes, map, replicate, refl}
+use Rattle.std.specs.Borrow.{Bor}
+use Rattle.deb_rows.specs.declared.cell.Class.{Class}
+use Rattle.deb_rows.specs.declared.cell.Class.TheVariants.{Number, Word, Key, Alternative, Reason, Line}
+use Rattle.deb_rows.specs.declared.form.Form.{Form}
+use Rattle.deb_rows.specs.declared.form.Form.TheVariants as form
+use Rattle.deb_rows.specs.declared.kind.RowKind.{RowKind}
+use Rattle.deb_rows.specs.declared.kind.RowKind.TheVariants as kind
+
+-- a cell of a line: its class, and the text after it
+abbrev pub Piece : Type 0
+Piece = Class × List ℕ
+
+-- a piece as the definitions have it
+abbrev pub piece_in : Class × Bor (List ℕ) → Piece
+piece_in piece = (piece.0, piece.1.now)
+
+-- the text before the first cell; the whole line, if there is no cell
+abbrev pub front_of : RowKind → List ℕ
+front_of kind.Met = codes "met "
+front_of kind.Unmet = codes "unmet "
+front_of kind.Ignored = codes "ignored "
+front_of kind.Package = codes " "
+front_of kind.Reason = codes " "
+front_of kind.PackageReason = codes " "
+front_of kind.UnmetGroup = codes "unmet "
+front_of kind.UnsureGroup = codes "unsure "
+front_of kind.Removed = codes "removed "
+front_of kind.Changed = codes "changed "
+front_of kind.Upgraded = codes "upgraded "
+front_of kind.Added = codes "added "
+front_of kind.OldLine = codes " -"
+front_of kind.NewLine = codes " +"
+front_of kind.Key = []
+front_of kind.End = codes "\n"
+front_of kind.Count = codes "ok "
+front_of kind.Summary = codes "ok "
+front_of kind.Valid = codes "ok\n"
+
+-- a number, name, version and architecture, each with a space after it, and more
+abbrev pub package_and : List Piece → List Piece
+package_and more =
+    (Number, codes " ") ∷ (Word, codes " ") ∷ (Word, codes " ") ∷ (Word, codes " ") ∷ more
+
+abbrev pub package_last : List Piece
+package_last = (Number, codes " ") ∷ (Word, codes " ") ∷ (Word, codes " ") ∷ (Word, codes "\n") ∷ []
+
+-- the last cell: any text
+abbrev pub any_text : List Piece
+any_text = (Line, codes "\n") ∷ []
+
+-- a word, and after it any text
+abbrev pub word_and_text : List Piece
+word_and_text = (Word, codes " ") ∷ any_text
+
+-- the cells of a line
+abbrev pub pieces_of : RowKind → List Piece
+pieces_of kind.Met = any_text
+pieces_of kind.Unmet = any_text
+pieces_of kind.Ignored = any_text
+pieces_of kind.Package = package_last
+pieces_of kind.Reason = (Alternative, codes ": ") ∷ (Reason, codes "\n") ∷ []
+pieces_of kind.PackageReason = (Alternative, codes ": ") ∷ package_and any_text
+pieces_of kind.UnmetGroup = package_and word_and_text
+pieces_of kind.UnsureGroup = package_and word_and_text
+pieces_of kind.Removed = package_last
+pieces_of kind.Changed = package_and any_text
+pieces_of kind.Upgraded = package_and word_and_text
+pieces_of kind.Added = package_last
+pieces_of kind.OldLine = any_text
+pieces_of kind.NewLine = any_text
+pieces_of kind.Key = (Key, codes ": ") ∷ any_text
+pieces_of kind.End = []
+pieces_of kind.Count = (Number, codes "\n") ∷ []
+pieces_of kind.Summary = (Number, codes ", ") ∷ (Number, codes " refused\n") ∷ []
+pieces_of kind.Valid = []
+
+-- the number of a kind in a table
+abbrev pub number_of : RowKind → ℕ
+number_of kind.Met = 0
+number_of kind.Unmet = 1
+number_of kind.Ignored = 2
+number_of kind.Package = 3
+number_of kind.Reason = 4
+number_of kind.PackageReason = 5
+number_of kind.UnmetGroup = 6
+number_of kind.UnsureGroup = 7
+number_of kind.Removed = 8
+number_of kind.Changed = 9
+number_of kind.Upgraded = 10
+number_of kind.Added = 11
+number_of kind.OldLine = 12
+number_of kind.NewLine = 13
+number_of kind.Key = 14
+number_of kind.End = 15
+number_of kind.Count = 16
+number_of kind.Summary = 17
+number_of kind.Valid = 18
+
+-- the form of the texts that have a kind
+abbrev pub form_of : RowKind → Form
+form_of kind.Met = form.Report
+form_of kind.Unmet = form.Report
+form_of kind.Ignored = form.Report
+form_of kind.Package = form.Report
+form_of kind.Reason = form.Report
+form_of kind.PackageReason = form.Report
+form_of kind.UnmetGroup = form.UnmetLines
+form_of kind.UnsureGroup = form.UnmetLines
+form_of kind.Removed = form.DiffLines
+form_of kind.Changed = form.DiffLines
+form_of kind.Upgraded = form.DiffLines
+form_of kind.Added = form.DiffLines
+form_of kind.OldLine = form.DiffLines
+form_of kind.NewLine = form.DiffLines
+form_of kind.Key = form.Explanation
+form_of kind.End = form.Explanation
+form_of kind.Count = form.Explanation
+form_of kind.Summary = form.Explanation
+form_of kind.Valid = form.Explanation
+
+-- the kinds of a form
+abbrev pub kinds_of : Form → List RowKind
+kinds_of form.Report =
+    kind.Met ∷ kind.Unmet ∷ kind.Ignored ∷ kind.Package ∷ kind.Reason ∷ kind.PackageReason ∷ []
+kinds_of form.UnmetLines = kind.UnmetGroup ∷ kind.UnsureGroup ∷ []
+kinds_of form.DiffLines =
+    kind.Removed ∷ kind.Changed ∷ kind.Upgraded ∷ kind.Added ∷ kind.OldLine ∷ kind.NewLine ∷ []
+kinds_of form.Explanation = kind.Key ∷ kind.End ∷ kind.Count ∷ kind.Summary ∷ kind.Valid ∷ []
+
+-- Worked cases.
+
+pieces : (piece_in (Word, record { ref_ptr = (0, 0); now = codes " " }) ≡ (Word, codes " "))
+    × (pieces_of kind.Upgraded ≡ (Number, codes " ") ∷ (Word, codes " ") ∷ (Word, codes " ")
+    ∷ (Word, codes " ") ∷ (Word, codes " ") ∷ (Line, codes "\n") ∷ [])
+    × (pieces_of kind.Changed ≡ (Number, codes " ") ∷ (Word, codes " ") ∷ (Word, codes " ")
+    ∷ (Word, codes " ") ∷ (Line, codes "\n") ∷ [])
+    × (pieces_of kind.Added
+    ≡ (Number, codes " ") ∷ (Word, codes " ") ∷ (Word, codes " ") ∷ (Word, codes "\n") ∷ [])
+pieces = (refl, refl, refl, refl)
+
+-- the kinds have the numbers of `deb_row_kind` in `include/debctl.h`
+numbers : map (map number_of)
+    (kinds_of form.Report ∷ kinds_of form.UnmetLines ∷ kinds_of form.DiffLines
+    ∷ kinds_of form.Explanation ∷ [])
+    ≡ (0 ∷ 1 ∷ 2 ∷ 3 ∷ 4 ∷ 5 ∷ []) ∷ (6 ∷ 7 ∷ []) ∷ (8 ∷ 9 ∷ 10 ∷ 11 ∷ 12 ∷ 13 ∷ [])
+    ∷ (14 ∷ 15 ∷ 16 ∷ 17 ∷ 18 ∷ []) ∷ []
+numbers = refl
+
+forms : map (map form_of)
+    (kinds_of form.Report ∷ kinds_of form.UnmetLines ∷ kinds_of form.DiffLines
+    ∷ kinds_of form.Explanation ∷ [])
+    ≡ replicate 6 form.Report ∷ replicate 2 form.UnmetLines ∷ replicate 6 form.DiffLines
+    ∷ replicate 5 form.Explanation ∷ []
+forms = refl

@@ -1,0 +1,119 @@
+//! The kinds of rows, and how the line of each is spelled.
+
+ghost use Rattle.std.specs.Prelude.{◌≡◌, ◌≤◌, length, map};
+ghost use Rattle.deb_rows.specs.Kinds.{front_of, piece_in, pieces_of};
+
+use crate::cell::Class;
+
+/// What a line says.
+#[derive(Clone, Copy, Debug, PartialEq, Eq)]
+pub enum RowKind {
+    /// A group that is met.
+    Met = 0,
+    /// A group that is unmet.
+    Unmet = 1,
+    /// A group that is ignored.
+    Ignored = 2,
+    /// A package that meets the group above it: number, name, version, architecture.
+    Package = 3,
+    /// Why an alternative isn't met: the alternative, the reason.
+    Reason = 4,
+    /// Why a package doesn't meet an alternative: the alternative, number, name, version and
+    /// architecture of the package, the reason.
+    PackageReason = 5,
+    /// A group of a paragraph that is unmet: number, package, version, architecture, field, group.
+    UnmetGroup = 6,
+    /// A group of which that is unsure, likewise.
+    UnsureGroup = 7,
+    /// A paragraph that was removed: number, package, version, architecture.
+    Removed = 8,
+    /// One that was changed: number, package, version, architecture, fields.
+    Changed = 9,
+    /// One that was upgraded: number, package, old version, new version, architecture, fields.
+    Upgraded = 10,
+    /// One that was added: number, package, version, architecture.
+    Added = 11,
+    /// A line of the old canonical text.
+    OldLine = 12,
+    /// A line of the new canonical text.
+    NewLine = 13,
+    /// A line `key: value`.
+    Key = 14,
+    /// The empty line after an explanation.
+    End = 15,
+    /// A file is accepted: the number of its paragraphs.
+    Count = 16,
+    /// All errors were explained: the numbers of paragraphs that pass and of errors.
+    Summary = 17,
+    /// A relation or a version is accepted.
+    Valid = 18,
+}
+
+/// The text before the first cell of a line of this kind.
+pub(crate) fn front_of(kind: RowKind) -> &'static [u8]
+    ensures { result.now ≡ front_of kind }
+{
+    match kind {
+        RowKind::Met => b"met ",
+        RowKind::Unmet | RowKind::UnmetGroup => b"unmet ",
+        RowKind::Ignored => b"ignored ",
+        RowKind::Package | RowKind::Reason | RowKind::PackageReason => b" ",
+        RowKind::UnsureGroup => b"unsure ",
+        RowKind::Removed => b"removed ",
+        RowKind::Changed => b"changed ",
+        RowKind::Upgraded => b"upgraded ",
+        RowKind::Added => b"added ",
+        RowKind::OldLine => b" -",
+        RowKind::NewLine => b" +",
+        RowKind::Key => b"",
+        RowKind::End => b"\n",
+        RowKind::Count | RowKind::Summary => b"ok ",
+        RowKind::Valid => b"ok\n",
+    }
+}
+
+/// The cells of a line of this kind, each with the text after it.
+pub(crate) fn pieces_of(kind: RowKind) -> &'static [(Class, &'static [u8])]
+    ensures pieces { map piece_in result.now ≡ pieces_of kind }
+    ensures few { length result.now ≤ 6 }
+{
+    match kind {
+        RowKind::Met | RowKind::Unmet | RowKind::Ignored | RowKind::OldLine | RowKind::NewLine => &[
+            (Class::Line, b"\n"),
+        ],
+        RowKind::Package | RowKind::Removed | RowKind::Added => &[
+            (Class::Number, b" "),
+            (Class::Word, b" "),
+            (Class::Word, b" "),
+            (Class::Word, b"\n"),
+        ],
+        RowKind::Reason => &[(Class::Alternative, b": "), (Class::Reason, b"\n")],
+        RowKind::PackageReason => &[
+            (Class::Alternative, b": "),
+            (Class::Number, b" "),
+            (Class::Word, b" "),
+            (Class::Word, b" "),
+            (Class::Word, b" "),
+            (Class::Line, b"\n"),
+        ],
+        RowKind::UnmetGroup | RowKind::UnsureGroup | RowKind::Upgraded => &[
+            (Class::Number, b" "),
+            (Class::Word, b" "),
+            (Class::Word, b" "),
+            (Class::Word, b" "),
+            (Class::Word, b" "),
+            (Class::Line, b"\n"),
+        ],
+        RowKind::Changed => &[
+            (Class::Number, b" "),
+            (Class::Word, b" "),
+            (Class::Word, b" "),
+            (Class::Word, b" "),
+            (Class::Line, b"\n"),
+        ],
+        RowKind::Key => &[(Class::Key, b": "), (Class::Line, b"\n")],
+        RowKind::Count => &[(Class::Number, b"\n")],
+        RowKind::Summary => &[(Class::Number, b", "), (Class::Number, b" refused\n")],
+        RowKind::End | RowKind::Valid => &[],
+    }
+}

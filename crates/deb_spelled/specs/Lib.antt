@@ -1,0 +1,4 @@
+pub mod Alternatives
+pub mod Parts
+pub mod Relations
+pub mod Shown

@@ -1,0 +1,56 @@
+-- Numbers that ask something don't ask nothing.
+use Rattle.std.proofs.Common.{◌≡◌, ◌≤◌, ◌<◌, ℕ, Bool, inl, inr, arith, subst}
+use Rattle.std.specs.Prelude.{IsTrue}
+use Rattle.deb_unmet.specs.Asked.{doc_of}
+use Rattle.deb_unmet.specs.declared.asked.Asked.{Asked}
+use Rattle.deb_unmet.specs.declared.asked.Asked.TheVariants.{Binary, Packages, Source, Sources}
+use Rattle.deb_diff.specs.Kinds.{doc_of as doc_compared}
+use Rattle.deb_diff.specs.declared.detail.Detail.{Detail}
+use Rattle.deb_diff.specs.declared.detail.Detail.TheVariants.{Fields, Values}
+use Rattle.deb_diff.specs.declared.kind.Kind.{Kind}
+use Rattle.deb_diff.specs.declared.kind.Kind.TheVariants as kinds
+use Rattle.debctl_ffi.specs.Diffs.{ComparesNothing, detail_number}
+use Rattle.debctl_ffi.specs.Documents.{kind_number}
+use Rattle.debctl_ffi.specs.Unmet.{AsksNothing, IsAsked, asks_recommends}
+
+-- a number below 2, and one below 4
+below_two : (number kind : ℕ) → number ≡ kind → kind < 2 → 2 ≤ number → ⊥
+below_two number kind is less most = omega arith
+
+below_four : (number kind : ℕ) → number ≡ kind → kind < 4 → 4 ≤ number → ⊥
+below_four number kind is less most = omega arith
+
+kinds_asked : (asks : Asked) → kind_number (doc_of asks) < 4
+kinds_asked (Binary strength) = omega arith
+kinds_asked (Packages strength) = omega arith
+kinds_asked Source = omega arith
+kinds_asked Sources = omega arith
+
+-- of sources Recommends isn't asked
+of_sources : (kind : ℕ) (recommends : Bool) (asks : Asked) → kind ≡ kind_number (doc_of asks)
+    → recommends ≡ asks_recommends asks → 2 ≤ kind → IsTrue recommends → ⊥
+of_sources kind recommends (Binary strength) is says most set = below_two kind 0 is (omega arith) most
+of_sources kind recommends (Packages strength) is says most set = below_two kind 1 is (omega arith) most
+of_sources kind recommends Source is says most set = cc
+of_sources kind recommends Sources is says most set = cc
+
+pub asks_something : (kind : ℕ) (recommends : Bool) (asks : Asked) → IsAsked kind recommends asks
+    → AsksNothing kind recommends → ⊥
+asks_something kind recommends asks is (inl most) = below_four kind _ is.kind_is (kinds_asked asks) most
+asks_something kind recommends asks is (inr both) =
+    of_sources kind recommends asks is.kind_is is.recommends_is both.0 both.1
+
+kinds_compared : (of : Kind) → kind_number (doc_compared of) < 4
+kinds_compared kinds.Binary = omega arith
+kinds_compared kinds.Packages = omega arith
+kinds_compared kinds.Source = omega arith
+kinds_compared kinds.Sources = omega arith
+
+details : (how : Detail) → detail_number how < 2
+details Fields = omega arith
+details Values = omega arith
+
+pub compares_something : (kind detail : ℕ) (of : Kind) (how : Detail) → kind ≡ kind_number (doc_compared of)
+    → detail ≡ detail_number how → ComparesNothing kind detail → ⊥
+compares_something kind detail of how is how_is (inl most) = below_four kind _ is (kinds_compared of) most
+compares_something kind detail of how is how_is (inr most) = below_two detail _ how_is (details how) most

@@ -1,0 +1,102 @@
+//! What a loaded index keeps of a package, for programs in C.
+
+ghost use Rattle.std.specs.Prelude.{◌≡◌, [], ◌∷◌, ◌++◌, ℕ, List, None, IfOk};
+ghost use types.Logic.{sem};
+ghost use Rattle.deb_index.specs.Kept.{listed_of};
+ghost use Rattle.deb_index.specs.KeptTexts.{kept_text};
+ghost use Rattle.deb_index.specs.Listed.{Listed};
+ghost use Rattle.deb_index.specs.Named.{package_at};
+ghost use Rattle.debctl_ffi.specs.Answers.{HasStatus, plain};
+ghost use Rattle.debctl_ffi.specs.Buffers.{GivesNothing};
+ghost use Rattle.debctl_ffi.specs.Details.{GivesDetails, LacksRoomForDetails, at_line};
+ghost use Rattle.debctl_ffi.specs.Loads.{HasLines, HasPackages, HoldsNone, Loan, lies_lent, loaded_of, share_of};
+
+use crate::answer::{Answer, no, no_index, no_memory, no_room, yes};
+use crate::buffer::give;
+use crate::loaded::Loaded;
+use deb_index::Package;
+use std::alloc::{AllocError, Global};
+
+/// Writes what a loaded index keeps of the package with a number, counted from 1, as a paragraph in
+/// canonical text; the line of the answer is that at which its paragraph starts in the file. Status
+/// 0; 1: there is no such package; 4: `out` is too small; 5: out of memory; 7: nothing is loaded.
+#[unsafe(no_mangle)]
+pub unsafe extern "C" fn deb_index_details(
+    index: *const u8,
+    number: u64,
+    out: &mut [u8],
+    len: &mut usize,
+) -> Answer
+    ghost loan: { Loan }
+    requires* lent { sem 𝓛 (share_of loan) ∗ sem 𝓛 (lies_lent index loan) }
+    ensures* share { sem 𝓛 (share_of loan) }
+    ensures found { (packages : List Listed) (lines : List ℕ)
+        → HasPackages (loaded_of loan) packages → HasLines (loaded_of loan) lines
+        → result.status ≡ 0
+        → GivesDetails number packages lines out.old out.new len.new result }
+    ensures none { (packages : List Listed) → HasPackages (loaded_of loan) packages
+        → result.status ≡ 1 → (result ≡ plain 1) × (package_at number packages ≡ None)
+        × GivesNothing out.old out.new len.new }
+    ensures no_room { (packages : List Listed) → HasPackages (loaded_of loan) packages
+        → result.status ≡ 4 → (result ≡ plain 4)
+        × LacksRoomForDetails number packages out.old out.new len.new }
+    ensures no_memory { result.status ≡ 5 → (result ≡ plain 5)
+        × GivesNothing out.old out.new len.new }
+    ensures no_index { result.status ≡ 7 → (result ≡ plain 7) × HoldsNone (loaded_of loan)
+        × GivesNothing out.old out.new len.new }
+    ensures status { HasStatus result.status (0 ∷ 1 ∷ 4 ∷ 5 ∷ 7 ∷ []) }
+{
+    details_at(unsafe { &*(index as *const Loaded) }, number, out, len)
+}
+
+/// The answer of [`deb_index_details`].
+fn details_at(loaded: &Loaded, number: u64, out: &mut [u8], len: &mut usize) -> Answer
+    ensures found { (packages : List Listed) (lines : List ℕ) → HasPackages loaded.now packages
+        → HasLines loaded.now lines → result.status ≡ 0
+        → GivesDetails number packages lines out.old out.new len.new result }
+    ensures none { (packages : List Listed) → HasPackages loaded.now packages
+        → result.status ≡ 1 → (result ≡ plain 1) × (package_at number packages ≡ None)
+        × GivesNothing out.old out.new len.new }
+    ensures no_room { (packages : List Listed) → HasPackages loaded.now packages
+        → result.status ≡ 4 → (result ≡ plain 4)
+        × LacksRoomForDetails number packages out.old out.new len.new }
+    ensures no_memory { result.status ≡ 5 → (result ≡ plain 5)
+        × GivesNothing out.old out.new len.new }
+    ensures no_index { result.status ≡ 7 → (result ≡ plain 7) × HoldsNone loaded.now
+        × GivesNothing out.old out.new len.new }
+    ensures status { HasStatus result.status (0 ∷ 1 ∷ 4 ∷ 5 ∷ 7 ∷ []) }
+{
+    *len = 0;
+    let Some(index) = &loaded.index else {
+        return no_index();
+    };
+    let Some(found) = index.package(number) else {
+        return no();
+    };
+    match details_of(loaded.alloc, &found) {
+        Ok(details) => {
+            if give(&details, out, len) {
+                at_line(found.line())
+            } else {
+                no_room()
+            }
+        }
+        Err(AllocError) => no_memory(),
+    }
+}
+
+/// What the index keeps of a package, in canonical text.
+fn details_of(alloc: Global, found: &Package<'_>) -> Result<Vec<u8>, AllocError>
+    ensures { IfOk result (λ details. details.items ≡ kept_text (listed_of found.now)) }
+{
+    let mut details = Vec::new(alloc);
+    found.details_into(alloc, &mut details)?;
+    Ok(details)
+}
+
+/// The answer 0 with a line of the file.
+fn at_line(line: u64) -> Answer
+    ensures { result ≡ at_line line }
+{
+    Answer { line, ..yes(0) }
+}
