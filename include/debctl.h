@@ -21,8 +21,8 @@
  *
  * Lengths are in bytes, and lines are counted from 1. Several threads may call at once. Memory is
  * taken with malloc and realloc, and freed before the call returns: only an index and a reader keep
- * some, until they are freed. Don't call a function from a signal handler, or between fork and exec in the
- * child of a process with several threads.
+ * some, until they are freed. Don't call a function from a signal handler, or between fork and exec
+ * in the child of a process with several threads.
  *
  * docs/FORMAT.md has the rules and the meaning of each error code, docs/LIBRARIES.md examples. */
 #ifndef DEBCTL_H
