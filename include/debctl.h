@@ -20,9 +20,9 @@
  * DEB_NO_KIND and DEB_NO_INDEX.
  *
  * Lengths are in bytes, and lines are counted from 1. Several threads may call at once. Memory is
- * taken with malloc and realloc, and freed before the call returns: only a loaded index keeps some,
- * until deb_index_free. Don't call a function from a signal handler, or between fork and exec in the
- * child of a process with several threads.
+ * taken with malloc and realloc, and freed before the call returns: only an index and a reader keep
+ * some, until they are freed. Don't call a function from a signal handler, or between fork and exec
+ * in the child of a process with several threads.
  *
  * docs/FORMAT.md has the rules and the meaning of each error code, docs/LIBRARIES.md examples. */
 #ifndef DEBCTL_H

@@ -165,7 +165,7 @@ static char *append(char *to, const char *before, const struct file *from, size_
     return to + length + sprintf(to + length, "%s", after);
 }
 
-/* Puts the alternatives of a relation together again; each takes at most 13 bytes more than its
+/* Puts the alternatives of a relation together again; each takes at most 16 bytes more than its
  * parts. */
 static size_t rebuild(const struct file *from, const struct deb_alternative *all, size_t count,
                       char *text) {
@@ -197,15 +197,15 @@ static struct file canonical_of(const uint8_t *text, size_t length) {
 
 /* Whether the parts of a relation, put together again, mean what the relation does. */
 static int relation_agrees(const struct file *file) {
-    struct deb_alternative *all = malloc((file->length + 1) * sizeof *all);
-    char *text = malloc(file->length * 14 + 1);
     size_t count, none;
     struct deb_answer first = deb_relation_canonical(file->bytes, file->length, NULL, 0, &none);
-    struct deb_answer answer =
-        deb_relation_parts(file->bytes, file->length, all, file->length + 1, &count);
+    struct deb_answer answer = deb_relation_parts(file->bytes, file->length, NULL, 0, &count);
+    struct deb_alternative *all = malloc((count + 1) * sizeof *all);
+    char *text = malloc(file->length + 16 * count + 1);
     int agree = answer.status == first.status && answer.code == first.code;
     if (first.status != DEB_REFUSED) {
         struct file one = canonical_of(file->bytes, file->length), two;
+        answer = deb_relation_parts(file->bytes, file->length, all, count, &count);
         two = canonical_of((uint8_t *)text, rebuild(file, all, count, text));
         agree = answer.status == DEB_YES && one.length == two.length &&
                 (one.length == 0 || memcmp(one.bytes, two.bytes, one.length) == 0);

@@ -14,6 +14,7 @@ static const char *hello = "Package: hello\nVersion: 1.0-0\nArchitecture: amd64\
 static const char *bad = "Package: hello\nVersion: 1-\n";
 
 static int turns = 2000;
+static struct deb_reader *shared; /* all threads ask it for its fields */
 
 /* How many of these calls return something else than they should. */
 static int ask_more(const uint8_t *text, size_t size) {
@@ -21,8 +22,9 @@ static int ask_more(const uint8_t *text, size_t size) {
     struct deb_alternative alternative;
     struct deb_row rows[2];
     struct deb_answer answer;
-    uint8_t out[512];
-    size_t length;
+    struct deb_field fields[4];
+    uint8_t out[512], names[64], values[64];
+    size_t length, names_length, values_length;
     int wrong = 0;
     wrong += deb_query_why(bytes("amd64"), 5, NULL, 0, bytes("zz"), 2, text, size, out, sizeof out,
                            &length)
@@ -41,6 +43,10 @@ static int ask_more(const uint8_t *text, size_t size) {
     wrong += answer.status != DEB_YES || answer.count != 1;
     deb_reader_free(reader);
     free(reader);
+    answer = deb_reader_fields(shared, fields, 4, &length, names, sizeof names, &names_length, values,
+                               sizeof values, &values_length);
+    wrong += answer.status != DEB_YES || length != 3 || values_length != 18 ||
+             memcmp(values + fields[2].value, "amd64", 6) != 0;
     return wrong;
 }
 
@@ -86,9 +92,13 @@ static void *run(void *wrong) {
 
 int main(int count, char **words) {
     pthread_t threads[4];
+    struct deb_answer answer;
     int wrong[4] = {0}, sum = 0, at;
     if (count > 1)
         turns = atoi(words[1]);
+    shared = malloc(deb_reader_size());
+    deb_reader_start(shared, DEB_PACKAGES, &answer);
+    deb_reader_feed(shared, bytes(hello), strlen(hello), 1, &answer);
     for (at = 0; at < 4; at++)
         if (pthread_create(&threads[at], NULL, run, &wrong[at]) != 0)
             return 1;
@@ -96,6 +106,8 @@ int main(int count, char **words) {
         pthread_join(threads[at], NULL);
         sum += wrong[at] != 0;
     }
+    deb_reader_free(shared);
+    free(shared);
     printf("threads: %d passed, %d failed\n", 4 - sum, sum);
     return sum != 0;
 }
