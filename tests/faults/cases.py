@@ -255,45 +255,37 @@ def several_refusals():
 
 
 def many_paragraphs():
-    """Files of 400 paragraphs, for each command that reads paragraphs."""
+    """Files of 400 paragraphs, for each command that reads paragraphs. The last one has what the
+    commands that take memory for each paragraph find, so that their growths are few."""
     numbers = range(1, 401)
-    text = b"Architecture: all\nDepends: zz\nPackage: p%03d\nProvides: vv\nVersion: %d\n"
-    old, new = (b"\n".join(text % (at, version) for at in numbers) for version in (1, 2))
-    lines = {
-        "refused": b"".join(b"line %d: 15 BadNumber\n" % (7 * at - 1) for at in numbers),
-        "met": b"".join(b" %d p%03d 1 all\n" % (at, at) for at in numbers),
-        "unmet": b"".join(b"unmet %d p%03d 1 all Depends zz\n" % (at, at) for at in numbers),
-        "changed": b"".join(b"upgraded %d p%03d 1 2 all Version\n" % (at, at) for at in numbers),
-    }
-    bad = b"\n".join(text % (at, 1) + b"Size: x\n" for at in numbers)
+    text = b"Architecture: all\nPackage: p%03d\nProvides: vv\nVersion: 1\n"
+    last = b"Architecture: all\nDepends: zz\nPackage: p400\nProvides: vv\nVersion: %d\n"
+    front = b"".join(text % at + b"\n" for at in numbers[:-1])
+    old, new = front + last % 1, front + last % 2
+    bad = b"\n".join(text % at + b"Size: x\n" for at in numbers)
     files = {"old": old, "new": new, "bad": bad, "versions": b"2\n" * 400}
-    last = b"ok 0, 400 refused\n"
-    arch = ["--arch", "amd64"]
-    said = b"file: -\nline: 6\ncode: 15\nname: BadNumber\nfield: Size\nvalue: x\nrule: "
-    cases = [
-        (["check", "old"], b"ok 400\n", 0), (["explain", "old"], b"ok 400\n", 0),
-        (["normalise", "old"], old, 0), (["same", "old", "new"], b"different\n", 1),
-        (["same", "old", "old"], b"same\n", 0), (["diff", "old", "old"], b"", 0),
-        (["diff", "old", "new"], lines["changed"], 1),
-        (["query", *arch, "vv", "old"], b"met vv\n" + lines["met"], 0),
-        (["unmet", *arch, "old"], lines["unmet"], 1),
-        (["unmet", *arch, "old", "new"], lines["unmet"].replace(b" 1 all", b" 2 all"), 1),
-        (["sort", "versions"], files["versions"], 0), (["audit", "old", "new"], b"old: ok 400\nnew: ok 400\n", 0),
-        (["check", "--all", "bad"], lines["refused"] + last, 2),
-        (["audit", "--all", "bad"], b"".join(
-            b"bad: " + line for line in (lines["refused"] + last).splitlines(keepends=True)
-        ), 2),
-    ]
-    explained = Case(
-        "400 paragraphs", ["explain", "--all"], files, "bad", said, b"", 2, open_ended=("out",)
-    )
-    whys = ["query", *arch, "--why", "vv (>= 1)", "old"]
+    refused = [b"line %d: 15 BadNumber\n" % (6 * at - 1) for at in numbers] + [b"ok 0, 400 refused\n"]
+    met = b"".join(b" %d p%03d 1 all\n" % (at, at) for at in numbers)
     why = b"".join(
         b" vv (>= 1): %d p%03d 1 all is provided without a version\n" % (at, at) for at in numbers
     )
-    cases.append((whys, b"unmet vv (>= 1)\n" + why, 1))
+    explained = b"file: -\nline: 5\ncode: 15\nname: BadNumber\nfield: Size\nvalue: x\nrule: "
+    arch = ["--arch", "amd64"]
+    audited = b"old: ok 400\nnew: ok 400\n"
+    cases = [
+        (["check", "old"], b"ok 400\n", 0), (["explain", "old"], b"ok 400\n", 0),
+        (["normalise", "old"], old, 0), (["same", "old", "new"], b"different\n", 1),
+        (["diff", "old", "new"], b"upgraded 400 p400 1 2 all Version\n", 1),
+        (["query", *arch, "vv", "old"], b"met vv\n" + met, 0),
+        (["query", *arch, "--why", "vv (>= 1)", "old"], b"unmet vv (>= 1)\n" + why, 1),
+        (["unmet", *arch, "old", "new"], b"unmet 400 p400 2 all Depends zz\n", 1),
+        (["sort", "versions"], files["versions"], 0), (["audit", "old", "new"], audited, 0),
+        (["check", "--all", "bad"], b"".join(refused), 2),
+        (["audit", "--all", "bad"], b"".join(b"bad: " + line for line in refused), 2),
+    ]
+    explain = ["explain", "--all"]
     return [
-        explained,
+        Case("400 paragraphs", explain, files, "bad", explained, b"", 2, open_ended=("out",)),
         *(Case("400 paragraphs", words, files, None, out, b"", status) for words, out, status in cases),
     ]
 
