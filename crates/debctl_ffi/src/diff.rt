@@ -26,6 +26,7 @@ use std::alloc::Global;
 ///
 /// Except for status 0 and 1, `out` is unchanged.
 #[unsafe(no_mangle)]
+#[tactic(auto, using(crate::proofs::AskedNumbers::compares_something))]
 pub extern "C" fn deb_diff(
     alloc: Global,
     kind: u8,

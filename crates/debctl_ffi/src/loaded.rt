@@ -183,6 +183,7 @@ impl Loaded {
     }
 
     /// The answer of [`crate::index::deb_index_unmet`].
+    #[tactic(auto, using(crate::proofs::AskedNumbers::asks_something))]
     pub(crate) fn unmet(
         &self,
         kind: u8,

@@ -24,6 +24,7 @@ use std::alloc::Global;
 /// with its first refusal. 3: these are accepted and the file is refused, with its first refusal.
 /// Except for status 0 and 1, `out` is unchanged.
 #[unsafe(no_mangle)]
+#[tactic(auto, using(crate::proofs::AskedNumbers::asks_something))]
 pub extern "C" fn deb_unmet(
     alloc: Global,
     kind: u8,
