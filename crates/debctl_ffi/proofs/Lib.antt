@@ -7,4 +7,6 @@ mod RefusalsSoFar
 mod ShownFields
 mod Loading
 mod Written
+mod Feeding
+mod Readings
 pub mod HandsOn

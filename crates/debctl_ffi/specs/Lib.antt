@@ -13,3 +13,4 @@ pub mod Relations
 pub mod FieldLaws
 pub mod Loads
 pub mod Diffs
+pub mod Feeds

@@ -33,6 +33,7 @@ mod query;
 mod read_fields;
 mod read_refusals;
 mod reader;
+mod reading;
 mod refusal_row;
 mod relations;
 mod report;
