@@ -216,11 +216,14 @@ fed-cleared doc text given reader tables is = record {
 module _ (doc : Doc) (text : List ℕ) (given : List Seen) (piece : List ℕ) (is_last : Bool) (new : Reader) where
   pub answers-taken : (is_last ≡ false → TakesPiece doc text given piece new) → (is_last ≡ true → TakesLast doc text given piece new) → Feeds doc text given piece is_last (counting 0 new.count) (record new { answer = counting 0 new.count })
   answers-taken taken last = record {
-    taken = λ status on. (refl, let takes = taken on in record {
-      fresh = takes.fresh;
-      fed = fed-answered doc (text ++ piece) (given ++ takes.fresh) new (counting 0 new.count) refl takes.fed;
-      shows = takes.shows;
-    });
+    taken = λ status on. (
+      refl,
+      let takes = taken on in record {
+        fresh = takes.fresh;
+        fed = fed-answered doc (text ++ piece) (given ++ takes.fresh) new (counting 0 new.count) refl takes.fed;
+        shows = takes.shows;
+      },
+    );
     last = λ status on. (refl, record { reads = (last on).reads; ended = (last on).ended });
     refused = λ status. absurd (omega (arith, status));
     no_memory = λ status. absurd (omega (arith, status));

@@ -30,7 +30,10 @@ returns-clause-reads g c = λ text given fresh reading.
     let same : (passing_judged c.in-Some.paragraph).seen ≡ given_now = cc in
     let number : c.saturating_add-number.result ≡ c.args.count.now + 1 = c.saturating_add-number.ensures ∙ count_more _ _ _ _ _ _ _ _ reading checks in
     record {
-      next = λ e. (given_now, rw number (reads-one _ text given fresh _ _ _ _ _ _ reading _ _ (sound_on _ _ _ _ reading.sound passes) (checks.answers text reading.read.checked.before reading.read.checked.fits)
-      (λ shown has. rw (← same, ← number) (c.in_ok-push.ensures shown has))));
+      next = λ e. (
+        given_now,
+        rw number (reads-one _ text given fresh _ _ _ _ _ _ reading _ _ (sound_on _ _ _ _ reading.sound passes) (checks.answers text reading.read.checked.before reading.read.checked.fits)
+            (λ shown has. rw (← same, ← number) (c.in_ok-push.ensures shown has))),
+      );
       none = λ e. absurd (cc);
     }
