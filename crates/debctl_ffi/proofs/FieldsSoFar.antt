@@ -31,11 +31,11 @@ none_shown doc text state left tables fits has = record {
   has = has;
 }
 
-next-push : (text : List ℕ) (n : ℕ) (paragraphs : List Seen) (seen : Seen) → AreNext text n paragraphs → next_answer text (n + length paragraphs) ≡ Ok (Some seen) → AreNext text n (paragraphs ++ seen ∷ [])
+pub next-push : (text : List ℕ) (n : ℕ) (paragraphs : List Seen) (seen : Seen) → AreNext text n paragraphs → next_answer text (n + length paragraphs) ≡ Ok (Some seen) → AreNext text n (paragraphs ++ seen ∷ [])
 next-push text n [] seen all one = (subst (λ k. next_answer text k ≡ Ok (Some seen)) (omega arith) one, tt)
 next-push text n (first ∷ more) seen all one = (all.0, next-push text (n + 1) more seen all.1 (subst (λ k. next_answer text k ≡ Ok (Some seen)) (omega arith) one))
 
-numbered_from-push : (n : ℕ) (paragraphs : List Seen) (seen : Seen) → numbered_from n (paragraphs ++ seen ∷ []) ≡ numbered_from n paragraphs ++ numbered (n + length paragraphs) seen.fields
+pub numbered_from-push : (n : ℕ) (paragraphs : List Seen) (seen : Seen) → numbered_from n (paragraphs ++ seen ∷ []) ≡ numbered_from n paragraphs ++ numbered (n + length paragraphs) seen.fields
 numbered_from-push n [] seen = append-nil (numbered n seen.fields) ∙ ap (λ k. numbered k seen.fields) (omega arith)
 numbered_from-push n (first ∷ more) seen =
     ap (λ l. numbered n first.fields ++ l) (numbered_from-push (n + 1) more seen)

@@ -11,4 +11,6 @@ mod VersionParts
 mod ReadTexts
 mod Reports
 mod AskedNumbers
+mod Feeding
+mod Readings
 pub mod HandsOn

@@ -18,3 +18,4 @@ pub mod FieldLaws
 pub mod Loads
 pub mod Details
 pub mod Diffs
+pub mod Feeds

@@ -1,5 +1,17 @@
 //! A reader that is fed a file in pieces, for programs in C.
 
+ghost use Rattle.std.specs.Prelude.{◌≡◌, [], ◌∷◌, List};
+ghost use Rattle.std.specs.Borrow.{full_share};
+ghost use Rattle.std.specs.Ptr.{lies_at, room_at};
+ghost use types.Logic.{sem};
+ghost use Rattle.debctl_ffi.specs.Answers.{HasStatus, plain};
+ghost use Rattle.debctl_ffi.specs.Feeds.{FeedsOn, Loan, Starts, lies_lent, reader_of, share_of};
+ghost use Rattle.debctl_ffi.specs.Fields.{GivesTables, LacksTables, Numbered, buffer, room};
+ghost use Rattle.debctl_ffi.specs.Tables.{HasTables};
+ghost use Rattle.debctl_ffi.specs.Unmet.{is_set};
+ghost use Rattle.debctl_ffi.specs.contracts.reader.Reader.{the_row};
+ghost use Rattle.debctl_ffi.specs.declared.reader.Reader.{Reader as ReaderData};
+
 use crate::answer::Answer;
 use crate::field::FieldSpan;
 use crate::reader::{Reader, discard};
@@ -12,36 +24,53 @@ pub extern "C" fn deb_reader_size() -> usize {
 }
 
 /// Starts a reader of a file of a kind in memory of the caller, of [`deb_reader_size`] bytes, which
-/// is freed by [`deb_reader_free`]. Status 0; 6: no such kind.
+/// is fed from then on and is freed by [`deb_reader_free`]. Status 0; 6: no such kind.
 #[unsafe(no_mangle)]
 pub unsafe extern "C" fn deb_reader_start(
     reader: *mut u8,
     alloc: Global,
     kind: u8,
     answer: &mut Answer,
-) {
+)
+    requires* room { sem 𝓛 (room_at the_row reader) }
+    ensures* starts { ∃ₛ (λ (started : ReaderData).
+        sem 𝓛 (lies_at the_row full_share reader started)
+        ∗ ⌜ Starts kind answer.new started ⌝) }
+{
     let started = Reader::start(alloc, kind, answer);
     unsafe { (reader as *mut Reader).write(started) }
 }
 
-/// Takes the next piece of the file, and reads each paragraph that ends in it.
+/// Takes the next piece of the file, and reads each paragraph that ends in it; the file ends with
+/// the piece if `is_last` isn't 0. Status 0: with the number of paragraphs so far. 2: the file is
+/// refused, with its first refusal. 5: out of memory. 6: it was started for no kind.
+///
+/// After an error, and after the last piece, nothing is taken, and the answer is the same again.
 #[unsafe(no_mangle)]
 pub unsafe extern "C" fn deb_reader_feed(
     reader: *mut u8,
     text: &[u8],
     is_last: u8,
     answer: &mut Answer,
-) {
-    let fed = Reader::feed(
+)
+    ghost fed: { ReaderData }
+    requires* started { sem 𝓛 (lies_at the_row full_share reader fed) }
+    ensures* feeds { ∃ₛ (λ (new : ReaderData).
+        sem 𝓛 (lies_at the_row full_share reader new)
+        ∗ ⌜ FeedsOn fed text.now (is_set is_last) answer.new new ⌝) }
+{
+    let new = Reader::feed(
         unsafe { (reader as *mut Reader).read() },
         text,
-        is_last != 0,
+        is_last,
         answer,
     );
-    unsafe { (reader as *mut Reader).write(fed) }
+    unsafe { (reader as *mut Reader).write(new) }
 }
 
-/// Writes the fields of the paragraphs that the last [`deb_reader_feed`] read.
+/// Writes the tables of [`crate::fields::deb_fields`] for the paragraphs that the last
+/// [`deb_reader_feed`] read. Status 0; 4: one of the three is too small; the numbers are what they
+/// need, and the three are unchanged.
 #[unsafe(no_mangle)]
 pub unsafe extern "C" fn deb_reader_fields(
     reader: *const u8,
@@ -51,7 +80,22 @@ pub unsafe extern "C" fn deb_reader_fields(
     names_length: &mut usize,
     values: &mut [u8],
     values_length: &mut usize,
-) -> Answer {
+) -> Answer
+    ghost loan: { Loan }
+    requires* lent { sem 𝓛 (share_of loan) ∗ sem 𝓛 (lies_lent reader loan) }
+    ensures* share { sem 𝓛 (share_of loan) }
+    ensures given { (shown : List Numbered) → HasTables (reader_of loan).tables shown
+        → result.status ≡ 0 → (result ≡ plain 0) × GivesTables shown
+        (room (buffer spans.old spans.new span_count.new)
+        (buffer names.old names.new names_length.new)
+        (buffer values.old values.new values_length.new)) }
+    ensures no_room { (shown : List Numbered) → HasTables (reader_of loan).tables shown
+        → result.status ≡ 4 → (result ≡ plain 4) × LacksTables shown
+        (room (buffer spans.old spans.new span_count.new)
+        (buffer names.old names.new names_length.new)
+        (buffer values.old values.new values_length.new)) }
+    ensures status { HasStatus result.status (0 ∷ 4 ∷ []) }
+{
     Reader::fields(
         unsafe { &*(reader as *const Reader) },
         spans,
@@ -65,6 +109,10 @@ pub unsafe extern "C" fn deb_reader_fields(
 
 /// Frees a reader. The memory is the caller's again.
 #[unsafe(no_mangle)]
-pub unsafe extern "C" fn deb_reader_free(reader: *mut u8) {
+pub unsafe extern "C" fn deb_reader_free(reader: *mut u8)
+    ghost fed: { ReaderData }
+    requires* started { sem 𝓛 (lies_at the_row full_share reader fed) }
+    ensures* room { sem 𝓛 (room_at the_row reader) }
+{
     discard(unsafe { (reader as *mut Reader).read() })
 }

@@ -36,6 +36,7 @@ mod query_why;
 mod read_fields;
 mod read_refusals;
 mod reader;
+mod reading;
 mod refusal_row;
 mod relation_parts;
 mod relations;

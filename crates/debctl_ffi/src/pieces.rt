@@ -1,10 +1,11 @@
 //! Sources of the bytes that a reader was fed: those that were kept, and then those of a piece.
 
-ghost use Rattle.std.specs.Prelude.{◌≡◌, ◌≤◌, ◌<◌, ◌++◌, Some, length};
+ghost use Rattle.std.specs.Prelude.{◌≡◌, ◌≤◌, ◌<◌, ◌++◌, IfOk, Some, length};
 ghost use Rattle.deb_base.specs.Devices.{last_count};
 ghost use Rattle.deb_base.specs.Memory.{none_counts_to_last};
 
 use deb_base::{Failed, Source};
+use std::alloc::{AllocError, Global};
 
 /// The bytes at the end of a file. No read of them fails.
 #[derive(Clone, Copy)]
@@ -47,8 +48,8 @@ impl Source for LastPiece<'_> {
 /// no read is at the end of the file.
 #[derive(Clone, Copy)]
 pub(crate) struct Piece<'a> {
-    pub(crate) kept: &'a [u8],
-    pub(crate) piece: &'a [u8],
+    kept: &'a [u8],
+    piece: &'a [u8],
     failures: u64,
     ghost some: { 0 < length piece.now },
     ghost counts_to_last: { failures ≤ last_count },
@@ -65,6 +66,18 @@ impl<'a> Piece<'a> {
             piece,
             failures: 0,
         }
+    }
+
+    /// The bytes that weren't read.
+    pub(crate) fn rest(&self, alloc: Global) -> Result<Vec<u8>, AllocError>
+        ensures left { IfOk result
+            (λ rest. ⟦<Piece<'a> as Source>⟧.left self.now ≡ Some rest.items) }
+        ensures some { IfOk result (λ rest. 0 < length rest.items) }
+    {
+        let mut rest = Vec::new(alloc);
+        rest.extend_from_slice(self.kept)?;
+        rest.extend_from_slice(self.piece)?;
+        Ok(rest)
     }
 }
 

@@ -1,13 +1,22 @@
 //! A reader that is fed a file in pieces: what its memory holds, and what it returns.
 
+ghost use Rattle.std.specs.Prelude.{◌≡◌, ◌++◌, [], ◌∷◌, ℕ, List, IfOk, false, length, true};
+ghost use Rattle.deb_base.specs.declared.doc.Doc.{Doc as DocData};
+ghost use Rattle.deb_control.specs.Calls.{IfRefused};
+ghost use Rattle.deb_syntax.specs.Answers.{Seen};
+ghost use Rattle.debctl_ffi.specs.Answers.{HasStatus, plain};
+ghost use Rattle.debctl_ffi.specs.Fields.{GivesTables, LacksTables, Numbered, buffer, room};
+ghost use Rattle.debctl_ffi.specs.Tables.{HasTables};
+
 use crate::answer::{Answer, no_kind, no_memory, no_room, refused, yes};
 use crate::field::{FieldSpan, Tables};
 use crate::fields::give_tables;
 use crate::kind::kind_of;
 use crate::pieces::{LastPiece, Piece};
-use crate::run_scan::RunScan;
-use deb_base::{Fault, Source};
-use deb_control::{Checked, NoVisitor};
+use crate::reading::{read_all, read_some};
+use crate::run_scan::{RunScan, ended_runs};
+use deb_base::Fault;
+use deb_control::Checked;
 use deb_field::Doc;
 use deb_syntax::FILE_LIMIT;
 use std::alloc::Global;
@@ -34,13 +43,32 @@ pub struct Reader {
 }
 
 impl Reader {
+    ghost use Rattle.debctl_ffi.specs.Feeds.{Feeds, FeedsOn, IsFed, RefusesOn, ShowNext, Starts};
+    ghost use Rattle.debctl_ffi.specs.Feeds.{TakesLast, TakesPiece};
+    ghost use Rattle.debctl_ffi.specs.Unmet.{is_set};
+
     /// A reader that was fed nothing. The answer is 0, or 6 if no kind has the number.
-    pub(crate) fn start(alloc: Global, kind: u8, answer: &mut Answer) -> Reader {
-        let (doc, first) = match kind_of(kind) {
-            Some(doc) => (doc, yes(0)),
-            None => (Doc::Any, no_kind()),
-        };
-        *answer = first;
+    pub(crate) fn start(alloc: Global, kind: u8, answer: &mut Answer) -> Reader
+        ensures { Starts kind answer.new result }
+    {
+        match kind_of(kind) {
+            Some(doc) => {
+                *answer = yes(0);
+                Reader::new(alloc, doc, yes(0))
+            }
+            None => {
+                *answer = no_kind();
+                Reader::new(alloc, Doc::Any, no_kind())
+            }
+        }
+    }
+
+    /// A reader that was fed nothing.
+    fn new(alloc: Global, doc: Doc, answer: Answer) -> Reader
+        ensures fed { answer.status ≡ 0 → IsFed doc [] [] result }
+        ensures kept { result.answer ≡ answer }
+        ensures shows { ShowNext 0 [] result.tables }
+    {
         Reader {
             alloc,
             checked: Checked::new(alloc, doc),
@@ -50,59 +78,99 @@ impl Reader {
             fed: 0,
             scan: RunScan::new(),
             ended: false,
-            answer: first,
+            answer,
         }
     }
 
     /// Takes the next piece of the file, and reads the paragraphs that end in it. After an error,
     /// and after the last piece, it takes none, and the answer is the same again.
-    pub(crate) fn feed(self, text: &[u8], is_last: bool, answer: &mut Answer) -> Reader {
+    pub(crate) fn feed(self, text: &[u8], is_last: u8, answer: &mut Answer) -> Reader
+        ensures { FeedsOn self text.now (is_set is_last) answer.new result }
+    {
         let mut reader = self;
         reader.tables.clear();
-        if reader.answer.status == 0 && !reader.ended {
-            reader.answer = match reader.take(text, is_last) {
-                Ok(()) => yes(reader.count),
-                Err(Fault::Refused(refusal)) => refused(&refusal),
-                Err(_) => no_memory(),
-            };
+        if reader.answer.status != 0 || reader.ended {
+            *answer = reader.answer;
+            return reader;
         }
-        *answer = reader.answer;
+        let next = reader.take(text, is_last);
+        reader.answer = next;
+        *answer = next;
         reader
     }
 
-    /// The answer of [`crate::feed::deb_reader_fields`].
-    pub(crate) fn fields(
-        &self,
-        spans: &mut [FieldSpan],
-        span_count: &mut usize,
-        names: &mut [u8],
-        names_length: &mut usize,
-        values: &mut [u8],
-        values_length: &mut usize,
-    ) -> Answer {
-        *span_count = self.tables.spans.len();
-        *names_length = self.tables.names.len();
-        *values_length = self.tables.values.len();
-        if give_tables(&self.tables, spans, names, values) {
-            yes(self.count)
-        } else {
-            no_room()
+    /// Takes the next piece, and returns the answer, which is to be kept.
+    fn take(&mut self, text: &[u8], is_last: u8) -> Answer
+        ensures { (doc : DocData) (fed : List ℕ) (given : List Seen)
+            → IsFed doc fed given self.old → ShowNext (length given) [] self.old.tables
+            → Feeds doc fed given text.now (is_set is_last) result
+            (record self.new { answer = result }) }
+    {
+        match self.read(text, is_last) {
+            Ok(()) => yes(self.count),
+            Err(Fault::Refused(refusal)) => refused(&refusal),
+            Err(_) => {
+                self.tables.clear();
+                no_memory()
+            }
         }
     }
 
-    /// Takes a piece of the file.
-    fn take(&mut self, text: &[u8], is_last: bool) -> Result<(), Fault> {
-        let fed = self.fed + text.len() as u64;
-        self.fed = fed;
-        if is_last || fed > FILE_LIMIT {
-            self.ended = true;
-            return read_all(
-                &mut self.checked,
-                &mut LastPiece::new(&self.kept, text),
-                &mut self.count,
-                &mut self.tables,
-            );
+    /// Takes the next piece, and reads the paragraphs that end in it.
+    fn read(&mut self, text: &[u8], is_last: u8) -> Result<(), Fault>
+        ensures piece { (doc : DocData) (fed : List ℕ) (given : List Seen)
+            → IsFed doc fed given self.old → ShowNext (length given) [] self.old.tables
+            → is_set is_last ≡ false
+            → IfOk result (λ _. TakesPiece doc fed given text.now self.new) }
+        ensures last { (doc : DocData) (fed : List ℕ) (given : List Seen)
+            → IsFed doc fed given self.old → ShowNext (length given) [] self.old.tables
+            → is_set is_last ≡ true
+            → IfOk result (λ _. TakesLast doc fed given text.now self.new) }
+        ensures refused { (doc : DocData) (fed : List ℕ) (given : List Seen)
+            → IsFed doc fed given self.old → ShowNext (length given) [] self.old.tables
+            → IfRefused result
+            (λ refusal. RefusesOn doc (fed ++ text.now) given refusal self.new.tables) }
+    {
+        if is_last == 0 {
+            self.take_piece(text)
+        } else {
+            self.take_last(text)
         }
+    }
+
+    /// Takes a piece that ends the file, and reads what is left.
+    fn take_last(&mut self, text: &[u8]) -> Result<(), Fault>
+        ensures ok { (doc : DocData) (fed : List ℕ) (given : List Seen)
+            → IsFed doc fed given self.old → ShowNext (length given) [] self.old.tables
+            → IfOk result (λ _. TakesLast doc fed given text.now self.new) }
+        ensures refused { (doc : DocData) (fed : List ℕ) (given : List Seen)
+            → IsFed doc fed given self.old → ShowNext (length given) [] self.old.tables
+            → IfRefused result (λ refusal. RefusesOn doc (fed ++ text.now) given refusal self.new.tables) }
+    {
+        self.ended = true;
+        read_all(
+            &mut self.checked,
+            &mut LastPiece::new(&self.kept, text),
+            &mut self.count,
+            &mut self.tables,
+        )
+    }
+
+    /// Takes a piece that doesn't end the file, and reads the paragraphs that end in it. A file that
+    /// is too long is read to the end of the piece, and refused.
+    fn take_piece(&mut self, text: &[u8]) -> Result<(), Fault>
+        ensures ok { (doc : DocData) (fed : List ℕ) (given : List Seen)
+            → IsFed doc fed given self.old → ShowNext (length given) [] self.old.tables
+            → IfOk result (λ _. TakesPiece doc fed given text.now self.new) }
+        ensures refused { (doc : DocData) (fed : List ℕ) (given : List Seen)
+            → IsFed doc fed given self.old → ShowNext (length given) [] self.old.tables
+            → IfRefused result (λ refusal. RefusesOn doc (fed ++ text.now) given refusal self.new.tables) }
+    {
+        let fed = self.fed.saturating_add(text.len() as u64);
+        if fed > FILE_LIMIT {
+            return self.take_last(text);
+        }
+        self.fed = fed;
         if text.is_empty() {
             return Ok(());
         }
@@ -119,70 +187,42 @@ impl Reader {
             &mut self.count,
             &mut self.tables,
         )?;
-        let mut kept = Vec::new(self.alloc);
-        kept.extend_from_slice(source.kept)?;
-        kept.extend_from_slice(source.piece)?;
+        let kept = source.rest(self.alloc)?;
         self.kept = kept;
         Ok(())
     }
-}
 
-/// How many paragraphs end in a piece without its last byte, and in the last byte before it.
-fn ended_runs(scan: &mut RunScan, kept: &[u8], text: &[u8]) -> u64
-{
-    let before = scan.count(&kept[kept.len().saturating_sub(1)..]);
-    let within = scan.count(&text[..text.len().saturating_sub(1)]);
-    before.saturating_add(within)
-}
-
-/// Reads so many paragraphs, or all if there are fewer.
-fn read_some<R: Source>(
-    checked: &mut Checked,
-    reader: &mut R,
-    most: u64,
-    count: &mut u64,
-    tables: &mut Tables,
-) -> Result<(), Fault> {
-    for _ in 0..most {
-        if !read_next(checked, reader, count, tables)? {
-            break;
+    /// The answer of [`crate::feed::deb_reader_fields`].
+    pub(crate) fn fields(
+        &self,
+        spans: &mut [FieldSpan],
+        span_count: &mut usize,
+        names: &mut [u8],
+        names_length: &mut usize,
+        values: &mut [u8],
+        values_length: &mut usize,
+    ) -> Answer
+        ensures given { (shown : List Numbered) → HasTables self.now.tables shown
+            → result.status ≡ 0 → (result ≡ plain 0) × GivesTables shown
+            (room (buffer spans.old spans.new span_count.new)
+            (buffer names.old names.new names_length.new)
+            (buffer values.old values.new values_length.new)) }
+        ensures no_room { (shown : List Numbered) → HasTables self.now.tables shown
+            → result.status ≡ 4 → (result ≡ plain 4) × LacksTables shown
+            (room (buffer spans.old spans.new span_count.new)
+            (buffer names.old names.new names_length.new)
+            (buffer values.old values.new values_length.new)) }
+        ensures status { HasStatus result.status (0 ∷ 4 ∷ []) }
+    {
+        *span_count = self.tables.spans.len();
+        *names_length = self.tables.names.len();
+        *values_length = self.tables.values.len();
+        if give_tables(&self.tables, spans, names, values) {
+            yes(0)
+        } else {
+            no_room()
         }
     }
-    Ok(())
-}
-
-/// Reads all paragraphs.
-fn read_all<R: Source>(
-    checked: &mut Checked,
-    reader: &mut R,
-    count: &mut u64,
-    tables: &mut Tables,
-) -> Result<(), Fault> {
-    for _ in 0..u64::MAX {
-        if !read_next(checked, reader, count, tables)? {
-            return Ok(());
-        }
-    }
-    Err(Fault::Memory)
-}
-
-/// Reads the next paragraph, and appends its fields. Returns whether there is one.
-fn read_next<R: Source>(
-    checked: &mut Checked,
-    reader: &mut R,
-    count: &mut u64,
-    tables: &mut Tables,
-) -> Result<bool, Fault> {
-    if !checked.advance(&mut NoVisitor, reader)? {
-        return Ok(false);
-    }
-    let Some(paragraph) = checked.current() else {
-        return Err(Fault::Memory);
-    };
-    let number = count.saturating_add(1);
-    tables.push(number, &paragraph)?;
-    *count = number;
-    Ok(true)
 }
 
 /// Frees what a reader holds.

@@ -34,7 +34,7 @@ impl RunScan {
             if self.end_line() {
                 runs = runs.saturating_add(1);
             }
-            rest = &rest[length + 1..];
+            rest = &rest[length..][1..];
         }
         self.extend(rest);
         runs
@@ -60,4 +60,12 @@ impl RunScan {
         self.run = longer;
         longer > PARAGRAPH_LIMIT
     }
+}
+
+/// How many paragraphs end in the last of the bytes that were kept, and in a piece without its last
+/// byte.
+pub(crate) fn ended_runs(scan: &mut RunScan, kept: &[u8], text: &[u8]) -> u64 {
+    let before = scan.count(&kept[kept.len().saturating_sub(1)..]);
+    let within = scan.count(&text[..text.len().saturating_sub(1)]);
+    before.saturating_add(within)
 }

@@ -1,0 +1,249 @@
+-- What is known of the paragraphs that were read behind others, and of the tables of their fields.
+use Rattle.std.proofs.Common.{◌≡◌, ℕ, ◌+◌, ◌-◌, ◌^◌, ◌<◌, ◌≤◌, ◌==◌, min, Bool, true, false, List, [], ◌∷◌, ◌++◌, length, Option, None, Some, IfOk, Result, Ok, Err, refl, sym, ap, ◌∙◌, subst, append_assoc, append-nil, arith}
+use Rattle.std.proofs.lemmas.List.{length-append, length_push}
+use Rattle.deb_base.specs.declared.doc.Doc.{Doc}
+use Rattle.deb_base.specs.declared.fault.Fault.{Fault}
+use Rattle.deb_base.specs.declared.refusal.Refusal.{Refusal}
+use Rattle.deb_syntax.specs.Answers.{Seen, next_answer}
+use Rattle.deb_syntax.specs.Lines.{file_limit}
+use Rattle.deb_control.specs.Calls.{IfRefused}
+use Rattle.deb_control.specs.Checking.{AnswersChecked, CheckedMoment, CheckedState, Checks, GivesEnd, GivesPassing, Passing}
+use Rattle.deb_control.specs.Documents.{rules_of}
+use Rattle.deb_control.specs.Refusals.{outcome}
+use Rattle.deb_control.proofs.CheckedSoFar.{all_checked, refused_behind, refused_then}
+use Rattle.deb_control.proofs.FollowedParagraphs.{outcome-from_end}
+use Rattle.debctl_ffi.proofs.FieldsSoFar.{next-push, numbered_from-push}
+use Rattle.debctl_ffi.specs.Feeds.{Feeds, HasRead, IsFed, Reading, ReadsAll, ReadsOn, Refuses, RefusesOn, ShowNext, TakesLast, TakesPiece}
+use Rattle.debctl_ffi.specs.Answers.{counting, plain, refusing}
+use Rattle.debctl_ffi.specs.declared.answer.Answer.{Answer}
+use Rattle.debctl_ffi.proofs.Feeding.{has_read-more}
+use Rattle.debctl_ffi.specs.declared.reader.Reader.{Reader}
+use Rattle.deb_control.specs.CheckedStates.{checked_state, doc_read}
+use Rattle.debctl_ffi.specs.Fields.{AreNext, Numbered, numbered, numbered_from}
+use Rattle.debctl_ffi.specs.Tables.{HasTables}
+use Rattle.debctl_ffi.specs.declared.field.Tables.{Tables}
+
+module _ (doc : Doc) (text : List ℕ) (given fresh : List Seen) (state new : CheckedState) (left after : Option (List ℕ)) (tables : Tables) (count : ℕ) (reading : Reading doc text given fresh state left tables count) where
+  -- one paragraph more
+  pub reads-one : (pushed : Tables) (passing : Passing) → new.fault ≡ None → GivesPassing doc text reading.read.checked.before passing new after
+      → ((shown : List Numbered) → HasTables tables shown → HasTables pushed (shown ++ numbered (count + 1) passing.seen.fields))
+      → Reading doc text given (fresh ++ passing.seen ∷ []) new after pushed (count + 1)
+  reads-one pushed passing sound gives push =
+      let before = reading.read.checked.before in
+      let seen = passing.seen in
+      let so_far : List Seen = given ++ fresh in
+      let all : so_far ++ seen ∷ [] ≡ given ++ (fresh ++ seen ∷ []) = append_assoc given fresh (seen ∷ []) in
+      let at : length given + 1 + length fresh ≡ count + 1 = omega (arith, reading.counted, length-append given fresh) in
+      record {
+        sound = sound;
+        read = record {
+          checked = record { before = before ++ gives.entries ∷ []; fits = gives.again };
+          next = subst (AreNext text 0) all (next-push text 0 so_far seen reading.read.next (subst (λ k. next_answer text k ≡ Ok (Some seen)) (omega (arith, reading.read.counted)) gives.seen));
+          counted = ap length (sym all) ∙ length_push so_far seen ∙ ap (λ n. n + 1) reading.read.counted ∙ sym (length_push before gives.entries);
+        };
+        shows = subst (HasTables pushed) (ap (λ k. numbered_from (length given + 1) fresh ++ numbered k seen.fields) (sym at) ∙ sym (numbered_from-push (length given + 1) fresh seen)) (push (numbered_from (length given + 1) fresh) reading.shows);
+        counted = ap (λ n. n + 1) reading.counted ∙ sym (length_push so_far seen) ∙ ap length all;
+      }
+
+  -- there is no further one
+  pub reads-all : GivesEnd doc text reading.read.checked.before new after → ReadsAll doc text given fresh tables count
+  reads-all end =
+      let checked = reading.read.checked in
+      record {
+        has = all_checked doc text state new left after count checked (checked.fits.counted ∙ sym (reading.counted ∙ reading.read.counted)) end;
+        all = record {
+          next = reading.read.next;
+          passed = reading.read.counted ∙ ap (λ o. length o.passed) (sym (outcome-from_end (rules_of doc) text checked.before checked.fits.given end.answer));
+        };
+        shows = reading.shows;
+      }
+
+  pub reads-end : new.fault ≡ None → GivesEnd doc text reading.read.checked.before new after → Reading doc text given fresh new after tables count
+  reads-end sound end = record {
+    sound = sound;
+    read = record {
+      checked = record { before = reading.read.checked.before; fits = end.again };
+      next = reading.read.next;
+      counted = reading.read.counted;
+    };
+    shows = reading.shows;
+    counted = reading.counted;
+  }
+
+  -- the file is refused behind these
+  pub refuses : (fault : Fault) → AnswersChecked doc text reading.read.checked.before (Err fault) new after → IfRefused {T = Bool} (Err fault) (λ refusal. Refuses doc text given fresh refusal tables)
+  refuses fault answer =
+      refused_then Bool (λ refusal. outcome (rules_of doc) text ≡ record { passed = reading.read.checked.before; refusal = Some refusal }) (λ refusal. Refuses doc text given fresh refusal tables) fault
+      (λ refusal is. record {
+        refused = ap (λ o. o.refusal) is;
+        all = record { next = reading.read.next; passed = reading.read.counted ∙ ap (λ o. length o.passed) (sym is) };
+        shows = reading.shows;
+      })
+      (refused_behind Bool doc text state new left after fault reading.read.checked answer)
+
+-- the number of the next one is within its bits
+pub count_more : (doc : Doc) (text : List ℕ) (given fresh : List Seen) (before after : CheckedMoment) (tables : Tables) (count : ℕ) → Reading doc text given fresh before.state before.source.bytes tables count
+    → {passing : Passing} → Checks doc before (Ok (Some passing)) after → min (count + 1) (2 ^ 64 - 1) ≡ count + 1
+unfolding file_limit
+count_more doc text given fresh before after tables count reading checks =
+    omega (arith, checks.count, checks.few, reading.counted, reading.read.counted, reading.read.checked.fits.counted)
+
+-- behind some
+pub refuses-on : (doc : Doc) (text : List ℕ) (given fresh : List Seen) (tables : Tables) (fault : Fault) → IfRefused {T = Bool} (Err fault) (λ refusal. Refuses doc text given fresh refusal tables) → IfRefused {T = Bool} (Err fault) (λ refusal. RefusesOn doc text given refusal tables)
+refuses-on doc text given fresh tables fault refused =
+    refused_then Bool (λ refusal. Refuses doc text given fresh refusal tables) (λ refusal. RefusesOn doc text given refusal tables) fault (λ refusal is. record { fresh = fresh; refuses = is }) refused
+
+-- What a reader was fed, and a piece: nothing of it was read.
+pub starts-reading : (doc : Doc) (text piece : List ℕ) (given : List Seen) (reader : Reader) → IsFed doc text given reader → ShowNext (length given) [] reader.tables → Reading (doc_read reader.checked) (text ++ piece) given [] (checked_state reader.checked) (Some (reader.kept.items ++ piece)) reader.tables reader.count
+starts-reading doc text piece given reader fed shows =
+    let same : given ≡ given ++ [] = sym (append-nil given) in
+    record {
+      sound = fed.sound;
+      read = subst (λ d. HasRead d (text ++ piece) (given ++ []) (checked_state reader.checked) (Some (reader.kept.items ++ piece))) (sym fed.is_doc)
+          (subst (λ all. HasRead doc (text ++ piece) all (checked_state reader.checked) (Some (reader.kept.items ++ piece))) same (fed.reads piece));
+      shows = shows;
+      counted = fed.count ∙ ap length same;
+    }
+
+pub ok-then : (r : Result (Unit {0}) Fault) (P Q : Type 0) → (P → Q) → IfOk r (λ _. P) → IfOk r (λ _. Q)
+ok-then (Ok x) P Q then p = then p
+ok-then (Err fault) P Q then p = tt
+
+-- an accepted file isn't too long
+pub never-long : (doc : Doc) (text piece : List ℕ) (given : List Seen) (n : ℕ) (new : Reader) → file_limit < min (n + length piece) (2 ^ 64 - 1) → n ≡ length text → TakesLast doc text given piece new → ⊥
+never-long doc text piece given n new long fed takes =
+    absurd (omega (arith, long, fed, takes.reads.reads.has.accepted.short, length-append text piece))
+
+long-then : (r : Result (Unit {0}) Fault) (P Q : Type 0) → (P → ⊥) → IfOk r (λ _. P) → IfOk r (λ _. Q)
+long-then (Ok x) P Q never p = absurd (never p)
+long-then (Err fault) P Q never p = tt
+
+-- so the answer to a longer one isn't that it was taken
+pub long-refused : (r : Result (Unit {0}) Fault) (doc : Doc) (text piece : List ℕ) (given : List Seen) (n : ℕ) (new : Reader) → file_limit < min (n + length piece) (2 ^ 64 - 1) → n ≡ length text → IfOk r (λ _. TakesLast doc text given piece new) → IfOk r (λ _. TakesPiece doc text given piece new)
+long-refused r doc text piece given n new long fed = long-then r (TakesLast doc text given piece new) (TakesPiece doc text given piece new) (never-long doc text piece given n new long fed)
+
+-- how many bytes were fed
+fed-more : (text piece : List ℕ) (n : ℕ) → n ≡ length text → min (n + length piece) (2 ^ 64 - 1) ≤ file_limit → (min (n + length piece) (2 ^ 64 - 1) ≡ length (text ++ piece)) × (length (text ++ piece) ≤ file_limit)
+unfolding file_limit
+fed-more text piece n fed short = (omega (arith, fed, short, length-append text piece), omega (arith, fed, short, length-append text piece))
+
+pub zero-of : (n : ℕ) → (n == 0) ≡ true → n ≡ 0
+zero-of n h = grind (arith, h, Rattle.std.proofs.lemmas.Bool.Decides.nat_tests)
+
+pub empty-of : (bytes : List ℕ) → (length bytes == 0) ≡ true → bytes ≡ []
+empty-of [] h = refl
+empty-of (byte ∷ bytes) h = absurd (omega (arith, zero-of (length (byte ∷ bytes)) h))
+
+none-fresh : (given : List Seen) → given ≡ given ++ []
+none-fresh given = sym (append-nil given)
+
+-- A piece in which no paragraph ends is kept.
+pub keeps-piece : (doc : Doc) (text piece : List ℕ) (given : List Seen) (old new : Reader) → IsFed doc text given old → ShowNext (length given) [] new.tables
+    → min (old.fed + length piece) (2 ^ 64 - 1) ≤ file_limit → new.fed ≡ min (old.fed + length piece) (2 ^ 64 - 1) → new.answer ≡ old.answer → new.ended ≡ old.ended → new.checked ≡ old.checked → new.count ≡ old.count → new.kept.items ≡ old.kept.items ++ piece
+    → TakesPiece doc text given piece new
+keeps-piece doc text piece given old new is shows short fed answer ended checked count kept =
+    let more = fed-more text piece old.fed is.fed short in
+    record {
+      fresh = [];
+      fed = record {
+        status = ap (λ a. a.status) answer ∙ is.status;
+        goes_on = ended ∙ is.goes_on;
+        is_doc = ap doc_read checked ∙ is.is_doc;
+        sound = ap (λ c. (checked_state c).fault) checked ∙ is.sound;
+        count = count ∙ is.count ∙ ap length (none-fresh given);
+        fed = fed ∙ more.0;
+        short = more.1;
+        reads = λ bytes.
+            let whole : text ++ (piece ++ bytes) ≡ (text ++ piece) ++ bytes = sym (append_assoc text piece bytes) in
+            let left : old.kept.items ++ (piece ++ bytes) ≡ new.kept.items ++ bytes = sym (append_assoc old.kept.items piece bytes) ∙ ap (λ k. k ++ bytes) (sym kept) in
+            subst (λ t. HasRead doc t (given ++ []) (checked_state new.checked) (Some (new.kept.items ++ bytes))) whole
+            (subst (λ l. HasRead doc (text ++ (piece ++ bytes)) (given ++ []) (checked_state new.checked) (Some l)) left
+            (subst (λ c. HasRead doc (text ++ (piece ++ bytes)) (given ++ []) (checked_state c) (Some (old.kept.items ++ (piece ++ bytes)))) (sym checked)
+            (subst (λ g. HasRead doc (text ++ (piece ++ bytes)) g (checked_state old.checked) (Some (old.kept.items ++ (piece ++ bytes)))) (none-fresh given) (is.reads (piece ++ bytes)))));
+      };
+      shows = shows;
+    }
+
+-- Paragraphs of it were read, and some bytes are kept.
+pub reads-piece : (doc : Doc) (text piece : List ℕ) (given : List Seen) (old new : Reader) → IsFed doc text given old
+    → min (old.fed + length piece) (2 ^ 64 - 1) ≤ file_limit → new.fed ≡ min (old.fed + length piece) (2 ^ 64 - 1) → new.answer ≡ old.answer → new.ended ≡ old.ended → doc_read new.checked ≡ doc
+    → 0 < length new.kept.items → ReadsOn doc (text ++ piece) given (checked_state new.checked) (Some new.kept.items) new.tables new.count
+    → TakesPiece doc text given piece new
+reads-piece doc text piece given old new is short fed answer ended is_doc some reads =
+    let more = fed-more text piece old.fed is.fed short in
+    let reading = reads.reading in
+    record {
+      fresh = reads.fresh;
+      fed = record {
+        status = ap (λ a. a.status) answer ∙ is.status;
+        goes_on = ended ∙ is.goes_on;
+        is_doc = is_doc;
+        sound = reading.sound;
+        count = reading.counted;
+        fed = fed ∙ more.0;
+        short = more.1;
+        reads = λ bytes. has_read-more doc (text ++ piece) bytes (given ++ reads.fresh) (checked_state new.checked) new.kept.items some more.1 reading.read;
+      };
+      shows = reading.shows;
+    }
+
+-- The answer doesn't matter to what was read.
+pub fed-answered : (doc : Doc) (text : List ℕ) (given : List Seen) (reader : Reader) (answer : Answer) → answer.status ≡ 0 → IsFed doc text given reader → IsFed doc text given (record reader { answer = answer })
+fed-answered doc text given reader answer status is = record {
+  status = status;
+  goes_on = is.goes_on;
+  is_doc = is.is_doc;
+  sound = is.sound;
+  count = is.count;
+  fed = is.fed;
+  short = is.short;
+  reads = is.reads;
+}
+
+pub fed-cleared : (doc : Doc) (text : List ℕ) (given : List Seen) (reader : Reader) (tables : Tables) → IsFed doc text given reader → IsFed doc text given (record reader { tables = tables })
+fed-cleared doc text given reader tables is = record {
+  status = is.status;
+  goes_on = is.goes_on;
+  is_doc = is.is_doc;
+  sound = is.sound;
+  count = is.count;
+  fed = is.fed;
+  short = is.short;
+  reads = is.reads;
+}
+
+-- What is answered of a piece.
+module _ (doc : Doc) (text : List ℕ) (given : List Seen) (piece : List ℕ) (is_last : Bool) (new : Reader) where
+  pub answers-taken : (is_last ≡ false → TakesPiece doc text given piece new) → (is_last ≡ true → TakesLast doc text given piece new) → Feeds doc text given piece is_last (counting 0 new.count) (record new { answer = counting 0 new.count })
+  answers-taken taken last = record {
+    taken = λ status on. (
+      refl,
+      let takes = taken on in record {
+        fresh = takes.fresh;
+        fed = fed-answered doc (text ++ piece) (given ++ takes.fresh) new (counting 0 new.count) refl takes.fed;
+        shows = takes.shows;
+      },
+    );
+    last = λ status on. (refl, record { reads = (last on).reads; ended = (last on).ended });
+    refused = λ status. absurd (omega (arith, status));
+    no_memory = λ status. absurd (omega (arith, status));
+    status = refl;
+  }
+
+  pub answers-refused : (refusal : Refusal) → RefusesOn doc (text ++ piece) given refusal new.tables → Feeds doc text given piece is_last (refusing 2 refusal) (record new { answer = refusing 2 refusal })
+  answers-refused refusal refused = record {
+    taken = λ status on. absurd (omega (arith, status));
+    last = λ status on. absurd (omega (arith, status));
+    refused = λ status. (refusal, refl, refused);
+    no_memory = λ status. absurd (omega (arith, status));
+    status = refl;
+  }
+
+  pub answers-no_memory : ShowNext (length given) [] new.tables → Feeds doc text given piece is_last (plain 5) (record new { answer = plain 5 })
+  answers-no_memory shows = record {
+    taken = λ status on. absurd (omega (arith, status));
+    last = λ status on. absurd (omega (arith, status));
+    refused = λ status. absurd (omega (arith, status));
+    no_memory = λ status. (refl, shows);
+    status = refl;
+  }
