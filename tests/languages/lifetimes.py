@@ -313,7 +313,7 @@ def passes(code, wanted, count):
     """Whether a scenario ends well, and writes as many lines as it should, each of them right."""
     run = subprocess.run(
         [sys.executable, "-c", HEAD + code], stdout=subprocess.PIPE, stderr=subprocess.PIPE, check=False,
-        text=True, timeout=120,
+        text=True, timeout=900,
     )
     lines = run.stdout.splitlines()
     passed = run.returncode == 0 and set(lines) <= wanted and len(lines) == count and not run.stderr

@@ -252,7 +252,7 @@ def read(*words):
 
 def pieces():
     """Whether a file is read in pieces of any length as it is at once, with the same refusal."""
-    many = "".join(f"\n\n{HELLO}X{at}: a\n\tb\u00e9\n .\n" for at in range(300))
+    many = "".join(f"\n\n{HELLO}X{at}: a\n\tb\u00e9\n .\n" for at in range(40))
     files = [
         "", "\n", "a: b", INDEX, many, "\n \t\n" * 20 + HELLO + "\n\t \n" * 9 + "x: 1\n", HELLO + "\nx",
         HELLO + "\n" * 99 + HELLO + "Size:\nY: 1", many + "\n" + HELLO.replace("1", "1-"), "x: \0\ny\\Z",
