@@ -65,6 +65,26 @@ impl Printed for UnmetReport {
     }
 }
 
+/// The lines of a field, which are taken from the start of these if they are there.
+fn lines_of(field: &str, before: &str, lines: &mut &[String]) -> String {
+    let starts = |line: &String| {
+        line.strip_prefix(field)
+            .map_or(false, |it| it.starts_with(':'))
+    };
+    if !lines.first().map_or(false, starts) {
+        return String::new();
+    }
+    let more = lines[1..]
+        .iter()
+        .take_while(|line| line.starts_with([' ', '\t']));
+    let (taken, rest) = lines.split_at(1 + more.count());
+    *lines = rest;
+    taken
+        .iter()
+        .map(|line| format!("{before}{line}\n"))
+        .collect()
+}
+
 impl Printed for Vec<Change> {
     fn printed(&self) -> String {
         let mut text = String::new();
@@ -88,12 +108,13 @@ impl Printed for Vec<Change> {
                 text += &format!(" {field}");
             }
             text += "\n";
-            for line in &it.old {
-                text += &format!(" -{line}\n");
+            let (mut old, mut new) = (&it.old[..], &it.new[..]);
+            for field in &it.fields {
+                text += &lines_of(field, " -", &mut old);
+                text += &lines_of(field, " +", &mut new);
             }
-            for line in &it.new {
-                text += &format!(" +{line}\n");
-            }
+            text.extend(old.iter().map(|line| format!(" -{line}\n")));
+            text.extend(new.iter().map(|line| format!(" +{line}\n")));
         }
         text
     }
