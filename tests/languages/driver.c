@@ -9,19 +9,19 @@
 
 #include <stdio.h>
 
-enum { FILES = 8, SMALL = 1 << 20 };
+enum { FILES = 3, SMALL = 1 << 20 };
 
 struct file {
     uint8_t *bytes;
     size_t length;
 };
 
-/* What is asked: the number, the files, and the files from the fourth on as profiles. */
+/* What is asked: the number, three files, and all further files as profiles. */
 struct question {
     const char *call;
     int number;
     struct file files[FILES];
-    struct deb_text profiles[FILES];
+    struct deb_text *profiles;
     size_t profile_count;
 };
 
@@ -347,12 +347,14 @@ int main(int count, char **words) {
     int at;
     q.call = count > 1 ? words[1] : "";
     q.number = count > 2 ? atoi(words[2]) : 0;
-    for (at = 3; at < count && at < 3 + FILES; at++)
-        q.files[at - 3] = read_file(words[at]);
-    for (at = 3; at + 3 < count && at < FILES; at++) {
-        q.profiles[at - 3].bytes = q.files[at].bytes;
-        q.profiles[at - 3].length = q.files[at].length;
-        q.profile_count = (size_t)at - 2;
+    q.profile_count = count > 3 + FILES ? (size_t)count - 3 - FILES : 0;
+    q.profiles = malloc((q.profile_count + 1) * sizeof *q.profiles);
+    for (at = 3; at < count; at++) {
+        struct file it = read_file(words[at]);
+        if (at < 3 + FILES)
+            q.files[at - 3] = it;
+        else
+            q.profiles[at - 3 - FILES] = (struct deb_text){it.bytes, it.length};
     }
     if (calls(&q, "compare")) {
         struct deb_comparison order = deb_version_compare(q.files[0].bytes, q.files[0].length,
@@ -367,5 +369,8 @@ int main(int count, char **words) {
         printf("parts differ\n");
     for (at = 0; at < FILES; at++)
         free(q.files[at].bytes);
+    for (at = 0; at < (int)q.profile_count; at++)
+        free((void *)q.profiles[at].bytes);
+    free(q.profiles);
     return 0;
 }
