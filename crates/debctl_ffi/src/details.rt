@@ -44,6 +44,7 @@ pub unsafe extern "C" fn deb_index_details(
         × GivesNothing out.old out.new len.new }
     ensures no_index { result.status ≡ 7 → (result ≡ plain 7) × HoldsNone (loaded_of loan)
         × GivesNothing out.old out.new len.new }
+    ensures none_held { HoldsNone (loaded_of loan) → result.status ≡ 7 }
     ensures status { HasStatus result.status (0 ∷ 1 ∷ 4 ∷ 5 ∷ 7 ∷ []) }
 {
     details_at(unsafe { &*(index as *const Loaded) }, number, out, len)
@@ -64,6 +65,7 @@ fn details_at(loaded: &Loaded, number: u64, out: &mut [u8], len: &mut usize) -> 
         × GivesNothing out.old out.new len.new }
     ensures no_index { result.status ≡ 7 → (result ≡ plain 7) × HoldsNone loaded.now
         × GivesNothing out.old out.new len.new }
+    ensures none_held { HoldsNone loaded.now → result.status ≡ 7 }
     ensures status { HasStatus result.status (0 ∷ 1 ∷ 4 ∷ 5 ∷ 7 ∷ []) }
 {
     *len = 0;
