@@ -3,6 +3,8 @@
 ghost use Rattle.std.specs.Prelude.{◌≡◌, true, false, [], ◌∷◌, ℕ, List, None};
 ghost use Rattle.std.specs.Borrow.{full_share};
 ghost use Rattle.std.specs.Ptr.{lies_at, room_at};
+ghost use denote.Param.{layout};
+ghost use prog.Memory.{capped, size};
 ghost use types.Logic.{sem};
 ghost use Rattle.deb_index.specs.Listed.{Listed};
 ghost use Rattle.deb_index.specs.Named.{has_name, numbers_of, package_at, provides};
@@ -25,7 +27,9 @@ use std::alloc::Global;
 
 /// Returns how many bytes the memory of a loaded index has.
 #[unsafe(no_mangle)]
-pub extern "C" fn deb_index_size() -> usize {
+pub extern "C" fn deb_index_size() -> usize
+    ensures size { result ≡ capped (size (layout the_row)) }
+{
     size_of::<Loaded>()
 }
 
