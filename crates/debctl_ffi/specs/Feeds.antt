@@ -1,6 +1,6 @@
 -- What a reader that is fed a file in pieces has read, and what it answers of each piece: Debian
 -- Policy 5.1. That a file comes in pieces is this project's own.
-use Rattle.std.specs.Prelude.{◌≡◌, ◌≢◌, ◌⊎◌, ℕ, ◌+◌, ◌≤◌, Bool, true, false, List, [], ◌∷◌, ◌++◌, length, Option, Some, None, refl}
+use Rattle.std.specs.Prelude.{◌≡◌, ◌≢◌, ◌⊎◌, ℕ, ◌+◌, ◌≤◌, Bool, true, false, List, [], ◌∷◌, ◌++◌, length, Option, Some, None}
 use base.Fml.{Fml, Lft, Share, flft}
 use denote.RawPtr.{Ptr}
 use denote.Struct.Lending.{lent_at}

@@ -1,5 +1,5 @@
 -- A walk: the value is read from where the pointer points to, handed to the call, and what the call gives is written there.
-use Rattle.debctl_ffi.proofs.HandsOn.{◌≡◌, List, [], ◌∷◌, ◌++◌, refl, proved, leaves, SProp, id⊢, named, Val, vptr, tables, sem, ‵, raw, ◌⊛◌, some, later, prop, at_ret, ◌$◌, ◌∵◌, !, qed, by, move, drop, use1, use2, split, join, fsplit, fjoin, feq_i, pick, await, regoal, enter, of_opd, addr, stop, no_more, and_then, first, blocks, exec, returns, alloc_all, pass_all, free_all, look_at, get, through, sets, sets_last, lands_as, env, u8, Is, shows, owns, Ptr, block_ptr, in_a_block, rawptr_vals, rawptr_Tells, mut_vals, mut_Tells, types_at, shr_slice_vals, shr_slice_Tells, uint_vals, uint_Tells, w8, nothing, peeks, calls_at, Lasts, lasts, at_exit, alive, triple_of, framed, Stays, walk_of, handed_on}
+use Rattle.debctl_ffi.proofs.HandsOn.{List, [], ◌∷◌, ◌++◌, refl, proved, leaves, SProp, id⊢, named, Val, tables, sem, ‵, raw, ◌⊛◌, some, later, prop, at_ret, ◌$◌, ◌∵◌, !, qed, by, move, drop, use1, use2, split, join, fsplit, fjoin, feq_i, pick, await, regoal, enter, of_opd, addr, stop, no_more, and_then, first, blocks, exec, returns, alloc_all, pass_all, free_all, look_at, get, through, sets, sets_last, lands_as, env, u8, Is, shows, owns, Ptr, block_ptr, in_a_block, rawptr_vals, rawptr_Tells, mut_vals, mut_Tells, types_at, shr_slice_vals, shr_slice_Tells, uint_vals, uint_Tells, w8, nothing, peeks, calls_at, Lasts, lasts, at_exit, alive, triple_of, framed, Stays, walk_of, handed_on}
 use base.Fraction.{full_share}
 use base.Fml.{fat}
 use base.Logic.{ex_i, sep, ex}

@@ -1,5 +1,5 @@
 -- A walk: the pointer becomes the reference that the call has, and the other parameters go on.
-use Rattle.debctl_ffi.proofs.HandsOn.{ℕ, List, [], ◌∷◌, ◌++◌, refl, proved, leaves, id⊢, fst∗, never, Lft, Share, flft, named, Val, vptr, tables, sem, ‵, raw, ◌⊛◌, some, later, prop, at_ret, ◌$◌, ◌∵◌, !, qed, by, move, keep, drop, use1, use2, split, join, fsplit, fjoin, feq_i, pick, await, regoal, enter, of_opd, addr, stop, fld, hop, from, no_more, and_then, first, blocks, exec, returns, alloc_all, pass_all, free_all, look_at, look_in_at, get, get_in, through, sets, sets_last, lands_as, env, agg, sub, whole, u8, usize, Is, shows, hide, owns, Ptr, block_ptr, null_ptr, block_of, count_of, shared_of, in_a_block, rawptr_vals, rawptr_Tells, mut_vals, mut_Tells, types_at, mut_slice_vals, mut_slice_Tells, uint_vals, uint_Tells, w64, nothing, peeks, lent_at, calls_at, Lasts, lasts, at_exit, alive, triple_of, framed, Stays, walk_of, handed_on}
+use Rattle.debctl_ffi.proofs.HandsOn.{ℕ, List, [], ◌∷◌, ◌++◌, refl, proved, leaves, id⊢, fst∗, never, Lft, Share, flft, named, Val, vptr, tables, sem, ‵, raw, ◌⊛◌, some, later, prop, at_ret, ◌$◌, ◌∵◌, !, qed, by, move, keep, drop, use1, use2, split, join, fsplit, fjoin, feq_i, pick, await, regoal, enter, of_opd, addr, stop, fld, hop, from, no_more, and_then, first, blocks, exec, returns, alloc_all, pass_all, free_all, look_at, look_in_at, get, get_in, through, sets, sets_last, lands_as, env, agg, sub, whole, u8, usize, Is, shows, hide, owns, Ptr, block_ptr, null_ptr, block_of, count_of, shared_of, in_a_block, rawptr_vals, rawptr_Tells, mut_vals, mut_Tells, types_at, mut_slice_vals, mut_slice_Tells, nothing, peeks, lent_at, calls_at, Lasts, lasts, at_exit, alive, triple_of, framed, Stays, walk_of, handed_on}
 use prog.Wp.{WpFn}
 use Rattle.debctl_ffi.specs.contracts.reader.Reader.{the_row as Row}
 use Rattle.debctl_ffi.specs.contracts.answer.Answer.{the_row as Result}

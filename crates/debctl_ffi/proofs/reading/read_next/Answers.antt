@@ -1,6 +1,5 @@
-use Rattle.std.proofs.Common.{◌≡◌, ◌∙◌, ◌+◌, ℕ, Some, arith, refl}
+use Rattle.std.proofs.Common.{◌≡◌, ◌∙◌, ◌+◌, Some}
 use Rattle.std.proofs.lemmas.Result.{err_from_is_err_and}
-use Rattle.deb_syntax.specs.Lines.{file_limit}
 use Rattle.deb_control.specs.CheckedStates.{passing_judged}
 use Rattle.deb_control.proofs.CheckedSoFar.{answers_on, goes_on, sound_on}
 use Rattle.debctl_ffi.proofs.Readings.{reads-all, reads-end, reads-one, refuses, count_more}

@@ -1,4 +1,4 @@
-use Rattle.std.proofs.Common.{◌≡◌, ◌∙◌, refl}
+use Rattle.std.proofs.Common.{◌∙◌, refl}
 use Rattle.std.proofs.lemmas.Result.{err_from_is_err_and}
 use Rattle.debctl_ffi.proofs.Readings.{refuses-on}
 use Rattle.debctl_ffi.proofs.reading.read_some.Goals as goal

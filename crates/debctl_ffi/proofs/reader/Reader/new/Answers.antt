@@ -1,4 +1,4 @@
-use Rattle.std.proofs.Common.{◌≡◌, [], ◌++◌, Some, arith, ap, refl, sym, subst}
+use Rattle.std.proofs.Common.{[], ◌++◌, Some, arith, refl, sym, subst}
 use Rattle.deb_control.specs.Checking.{FitsChecked}
 use Rattle.deb_control.specs.CheckedStates.{checked_state}
 use Rattle.debctl_ffi.proofs.reader.Reader.new.Goals as goal

@@ -1,4 +1,4 @@
-use Rattle.std.proofs.Common.{◌≡◌, ◌∙◌, ◌++◌, [], Some, ap, refl, subst, sym}
+use Rattle.std.proofs.Common.{◌∙◌, ◌++◌, [], Some, ap, refl, subst, sym}
 use Rattle.deb_control.specs.CheckedStates.{checked_state, doc_read}
 use Rattle.debctl_ffi.specs.Feeds.{Reading, ReadsToEnd}
 use Rattle.debctl_ffi.proofs.Readings.{ok-then, starts-reading}

@@ -1,4 +1,4 @@
-use Rattle.std.proofs.Common.{◌≡◌, ◌∙◌, ◌<◌, ◌≤◌, ◌++◌, [], Some, ap, append-nil, length, refl, subst, sym}
+use Rattle.std.proofs.Common.{◌≡◌, ◌∙◌, ◌<◌, ◌≤◌, ◌++◌, [], Some, ap, append-nil, refl, subst, sym}
 use Rattle.deb_syntax.specs.Lines.{file_limit}
 use Rattle.deb_control.specs.CheckedStates.{checked_state, doc_read}
 use Rattle.debctl_ffi.specs.Feeds.{Reading, ReadsOn}
