@@ -85,7 +85,8 @@ alternatives : (cell_of Alternative (codes "a:any (>= 1:2): b: c") ≡ codes "a:
 alternatives = (refl, refl)
 
 reasons : (cell_of Reason (codes "1 a: b\nc") ≡ codes "1 a: b")
-    × (map (is_cell Reason) (codes "a 1 b" ∷ codes "1a b" ∷ codes "12" ∷ codes "12 a" ∷ codes "1 " ∷ [])
+    × (map (is_cell Reason)
+    (codes "a 1 b" ∷ codes "1a b" ∷ codes "12" ∷ codes "12 a" ∷ codes "1 " ∷ [])
     ≡ true ∷ true ∷ true ∷ false ∷ false ∷ [])
 reasons = (refl, refl)
 

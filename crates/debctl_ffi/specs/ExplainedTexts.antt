@@ -38,8 +38,8 @@ refusals : (refusing 2 (refusal_as words.Relation)
     ≡ record { status = 2; code = 18; line = 0; count = 0 })
 refusals = (refl, refl)
 
--- The text is one, and these are the answer and the line; or it isn't, for this cause, and these are
--- the answer and the lines.
+-- The text is one, and these are the answer and the line; or it isn't, for this cause, and these
+-- are the answer and the lines.
 pub record AcceptedAs (word : Word) (text : List ℕ) (answer : Answer) (bytes : List ℕ)
     : Type 0 where
   pub read : IsRead word text

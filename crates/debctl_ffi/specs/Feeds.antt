@@ -24,8 +24,8 @@ use Rattle.debctl_ffi.specs.contracts.reader.Reader.{the_row}
 
 -- ---- memory
 
--- What a call that asks for the tables is lent: a lifetime, a share of the right to its being alive,
--- and the reader at the pointer.
+-- What a call that asks for the tables is lent: a lifetime, a share of the right to its being
+-- alive, and the reader at the pointer.
 abbrev pub Loan : Type 0
 Loan = Lft × (Share × Reader)
 
@@ -58,8 +58,9 @@ pub record ArePassing (doc : Doc) (text : List ℕ) (paragraphs : List Seen) : T
 abbrev pub ShowNext : ℕ → List Seen → Tables → Type 0
 ShowNext n fresh tables = HasTables tables (numbered_from (n + 1) fresh)
 
--- The reader was fed these bytes, which aren't the end of the file, and has read these paragraphs of
--- it: whichever bytes follow, they are the first of the whole file, and it is read on behind them.
+-- The reader was fed these bytes, which aren't the end of the file, and has read these paragraphs
+-- of it: whichever bytes follow, they are the first of the whole file, and it is read on after
+-- them.
 pub record IsFed (doc : Doc) (text : List ℕ) (given : List Seen) (reader : Reader) : Type 0 where
   pub status : reader.answer.status ≡ 0
   pub goes_on : reader.ended ≡ false

@@ -61,7 +61,8 @@ pub extern "C" fn deb_query_why(
     }
 }
 
-/// Writes the report of [`deb_query_why`] on a loaded index. Its statuses, and 7: nothing is loaded.
+/// Writes the report of [`deb_query_why`] on a loaded index. Its statuses, and 7: nothing is
+/// loaded.
 #[unsafe(no_mangle)]
 pub unsafe extern "C" fn deb_index_query_why(
     index: *const u8,

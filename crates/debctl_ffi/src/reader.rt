@@ -145,7 +145,8 @@ impl Reader {
             → IfOk result (λ _. TakesLast doc fed given text.now self.new) }
         ensures refused { (doc : DocData) (fed : List ℕ) (given : List Seen)
             → IsFed doc fed given self.old → ShowNext (length given) [] self.old.tables
-            → IfRefused result (λ refusal. RefusesOn doc (fed ++ text.now) given refusal self.new.tables) }
+            → IfRefused result
+            (λ refusal. RefusesOn doc (fed ++ text.now) given refusal self.new.tables) }
     {
         self.ended = true;
         read_all(
@@ -156,15 +157,16 @@ impl Reader {
         )
     }
 
-    /// Takes a piece that doesn't end the file, and reads the paragraphs that end in it. A file that
-    /// is too long is read to the end of the piece, and refused.
+    /// Takes a piece that doesn't end the file, and reads the paragraphs that end in it. A file
+    /// that is too long is read to the end of the piece, and refused.
     fn take_piece(&mut self, text: &[u8]) -> Result<(), Fault>
         ensures ok { (doc : DocData) (fed : List ℕ) (given : List Seen)
             → IsFed doc fed given self.old → ShowNext (length given) [] self.old.tables
             → IfOk result (λ _. TakesPiece doc fed given text.now self.new) }
         ensures refused { (doc : DocData) (fed : List ℕ) (given : List Seen)
             → IsFed doc fed given self.old → ShowNext (length given) [] self.old.tables
-            → IfRefused result (λ refusal. RefusesOn doc (fed ++ text.now) given refusal self.new.tables) }
+            → IfRefused result
+            (λ refusal. RefusesOn doc (fed ++ text.now) given refusal self.new.tables) }
     {
         let fed = self.fed.saturating_add(text.len() as u64);
         if fed > FILE_LIMIT {
