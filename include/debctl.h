@@ -1,7 +1,7 @@
 /* Debian control data for programs in C and C++: versions, files of control data and their fields,
  * why they are refused, which packages of an index meet a relation, and which relations of a file
- * nothing meets. The functions return what the program debctl prints, and are proved to return
- * exactly that.
+ * nothing meets. The functions of the library return what the program debctl prints, and are proved
+ * to return exactly that; those with a body in this header are only tested.
  *
  * Texts. A text is a pointer to bytes and their number; no NUL is needed after them. The bytes are
  * only read, and only during the call. A pointer may be NULL only if its length is 0. No function
@@ -444,6 +444,15 @@ struct deb_answer deb_index_providers(const struct deb_index *index,
 struct deb_answer deb_index_package(const struct deb_index *index, uint64_t number,
                                     uint8_t *out, size_t out_size, size_t *length);
 
+/* Writes what the index keeps of the package with a number, as a paragraph of canonical text: the
+ * fields Architecture, Multi-Arch if the package has it, Package, Provides if the index keeps an
+ * entry of it, and Version. It keeps the entries of Provides that provide a name: those without a
+ * qualifier, an architecture list and a formula. `line` of the answer is the line at which the
+ * package's paragraph starts in the file, counted from 1; it is 0 if the status isn't DEB_YES.
+ * DEB_YES; DEB_NO: the index has no such package; DEB_NO_ROOM; DEB_NO_MEMORY; DEB_NO_INDEX. */
+struct deb_answer deb_index_details(const struct deb_index *index, uint64_t number,
+                                    uint8_t *out, size_t out_size, size_t *length);
+
 /* A part of a text: the offset of its first byte, and the number of its bytes. */
 struct deb_span {
     size_t start;
@@ -496,15 +505,6 @@ struct deb_row {
 struct deb_answer deb_rows(uint8_t form, const uint8_t *text, size_t text_length,
                            struct deb_row *rows, size_t rows_size, size_t *row_count);
 
-/* Writes what the index keeps of the package with a number, as a paragraph of canonical text: the
- * fields Architecture, Multi-Arch if the package has it, Package, Provides if the index keeps an
- * entry of it, and Version. It keeps the entries of Provides that provide a name: those without a
- * qualifier, an architecture list and a formula. `line` of the answer is the line at which the
- * package's paragraph starts in the file, counted from 1; it is 0 if the status isn't DEB_YES.
- * DEB_YES; DEB_NO: the index has no such package; DEB_NO_ROOM; DEB_NO_MEMORY; DEB_NO_INDEX. */
-struct deb_answer deb_index_details(const struct deb_index *index, uint64_t number,
-                                    uint8_t *out, size_t out_size, size_t *length);
-
 /* A reader that is fed a file in pieces. It lies in memory of the caller, which may not move it:
  *
  *     struct deb_reader *reader = malloc(deb_reader_size());
@@ -516,7 +516,8 @@ struct deb_answer deb_index_details(const struct deb_index *index, uint64_t numb
  *     free(reader);
  *
  * It holds the bytes after the last paragraph that has ended, the fields that the last call read, and
- * one paragraph that is checked. */
+ * one paragraph that is checked: so a line that never ends is held whole, and so are blank lines
+ * before a paragraph. */
 struct deb_reader;
 
 /* How many bytes the memory of a reader has. It is aligned as by malloc. */
