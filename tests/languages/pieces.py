@@ -2,13 +2,12 @@
 it reads are those of `deb_fields` on the whole text."""
 
 import ctypes
-import os
 import random
 import sys
 
-from debctl._library import Answer
+from debctl._library import Answer, lib
 
-LIBRARY = ctypes.CDLL(os.environ["DEBCTL_LIBRARY"])
+LIBRARY = ctypes.CDLL(lib._name)  # the same library, without the declarations of the package
 TEXTS = 3000
 FRAGMENTS = [
     b"A: b\n", b"Package: aa\n", b"Version: 1\n", b"\n", b"\n", b" \n", b"\t \n", b" x\n", b"\n\n",

@@ -13,10 +13,8 @@ VERSIONS = [f"{at % 7}:{at * 7919 % 1000}.{at}~rc{at % 5}-{at % 11}" for at in r
 KEYS = {version: debctl.key(version) for version in VERSIONS}
 SORTED = sorted(VERSIONS, key=KEYS.__getitem__)
 LONG = ["1" * 300 + str(at) for at in range(20)]
+DEEPEST = 3  # handlers within one another: on a slow machine signals come faster than they are handled
 handled = itertools.cycle(VERSIONS + LONG)
-
-
-
 
 FIXED = {
     "canonical": lambda: debctl.canonical("1.0-0"),
@@ -33,11 +31,20 @@ FIXED = {
     "Version": lambda: debctl.Version("1:2-3") < debctl.Version("1:2-4"),
 }
 ANSWERS = {name: call() for name, call in FIXED.items()}
-wrong_inside, turns = [], 0
+wrong_inside, turns, depth = [], 0, 0
 
 
 def handler(*_):
-    """Makes a key, and asks something else."""
+    """Makes a key, and asks something else, also within another handler."""
+    global depth
+    if depth < DEEPEST:
+        depth += 1
+        ask_inside()
+        depth -= 1
+
+
+def ask_inside():
+    """What a handler does."""
     global turns
     turns += 1
     version = next(handled)
