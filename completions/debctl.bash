@@ -18,7 +18,7 @@ _debctl() {
         fi
         case ${words[i]} in
             --) ended=yes ;;
-            -k | --kind | --files0-from | --arch | --profiles) ((i++)) ;;
+            -k | --kind | --files0-from | --arch | --profiles | --least) ((i++)) ;;
             # The value is in place of a word, as it is if it is a word of its own.
             --code=* | --relation=* | --version-text=* | --relation-from=*) ((given++)) ;;
         esac
@@ -38,26 +38,27 @@ _debctl() {
             _debctl_files
             return
             ;;
-        --code | --relation | --version-text | --profiles) return ;;
+        --code | --relation | --version-text | --profiles | --least) return ;;
     esac
     ! $split || return
     case $command in
         '') options='--help --version' ;;
-        check) options='--kind --all --help' ;;
+        check) options='--kind --all --complete --least --help' ;;
         normalise | same) options='--kind --help' ;;
-        diff) options='--kind --values --help' ;;
+        diff) options='--kind --values --spelled --help' ;;
         explain) options='--kind --all --code --relation --version-text --help' ;;
-        audit) options='--kind --all --files0-from --null --help' ;;
+        audit) options='--kind --all --complete --least --files0-from --null --help' ;;
         sort) options='--reverse --help' ;;
-        query) options='--arch --profiles --why --relation-from --help' ;;
-        unmet) options='--arch --profiles --kind --recommends --help' ;;
+        query) options='--arch --profiles --why --spelled --relation-from --help' ;;
+        unmet) options='--arch --profiles --kind --recommends --spelled --help' ;;
     esac
     if [[ -z $ended && $cur == -* ]]; then
         mapfile -t COMPREPLY < <(compgen -W "$options" -- "$cur")
         return
     fi
     case $command:$given in
-        :0 | help:0) mapfile -t COMPREPLY < <(compgen -W "$commands" -- "$cur") ;;
+        :0) mapfile -t COMPREPLY < <(compgen -W "$commands" -- "$cur") ;;
+        help:0) mapfile -t COMPREPLY < <(compgen -W "$commands kinds" -- "$cur") ;;
         check:0 | explain:0 | audit:* | normalise:0 | same:[01] | diff:[01] | sort:0 | query:1 | \
             unmet:[01])
             _debctl_files

@@ -14,7 +14,7 @@ function __debctl_arguments
             switch $word
                 case --
                     set is_ended true
-                case -k --kind --files0-from --arch --profiles
+                case -k --kind --files0-from --arch --profiles --least
                     set is_value true
                 case - '--code=*' '--relation=*' '--version-text=*' '--relation-from=*'
                     printf '%s\n' $word
@@ -44,7 +44,7 @@ end
 
 complete -c debctl -f
 complete -c debctl -n __debctl_command -a check -d 'Check whether a file is well formed'
-complete -c debctl -n __debctl_command -a explain -d 'Explain why a file is rejected'
+complete -c debctl -n __debctl_command -a explain -d 'Explain why a file is refused'
 complete -c debctl -n __debctl_command -a audit -d 'Check many files and print one line for each'
 complete -c debctl -n __debctl_command -a normalise -d 'Write the canonical text of a file'
 complete -c debctl -n __debctl_command -a same -d 'Check whether two files mean the same'
@@ -58,11 +58,13 @@ complete -c debctl -n __debctl_command -a unmet -d 'Find dependencies that an in
 complete -c debctl -n __debctl_command -a help -d 'Print the help'
 complete -c debctl -n __debctl_command -s V -l version -d 'Print the version'
 complete -c debctl -s h -l help -d 'Print the help'
-complete -c debctl -n '__debctl_at 0 help' -a 'check explain audit normalise same diff compare canon-version version-key sort query unmet help'
+complete -c debctl -n '__debctl_at 0 help' -a 'check explain audit normalise same diff compare canon-version version-key sort query unmet help kinds'
 complete -c debctl -n '__debctl_command check explain audit normalise same' -s k -l kind -x -a 'packages binary source sources any' -d 'Kind of file'
 complete -c debctl -n '__debctl_command diff' -s k -l kind -x -a 'packages binary source sources' -d 'Kind of both files'
 complete -c debctl -n '__debctl_command unmet' -s k -l kind -x -a 'packages binary source sources' -d 'Kind of the second file'
-complete -c debctl -n '__debctl_command check explain audit' -l all -d 'Report every error, not only the first one'
+complete -c debctl -n '__debctl_command check explain audit' -s a -l all -d 'Report every error, not only the first one'
+complete -c debctl -n '__debctl_command check audit' -l complete -d 'Refuse a file that does not end with a newline'
+complete -c debctl -n '__debctl_command check audit' -l least -x -d 'Fewest paragraphs of a file'
 complete -c debctl -n '__debctl_at 0 check explain normalise same diff sort unmet' -F
 complete -c debctl -n '__debctl_at 1 same diff query unmet' -F
 complete -c debctl -n '__debctl_command audit' -F
@@ -72,10 +74,11 @@ complete -c debctl -n '__debctl_command explain' -l version-text -x -d 'Version'
 complete -c debctl -n '__debctl_command audit' -l files0-from -r -F -d 'File that lists the paths'
 complete -c debctl -n '__debctl_command audit' -s 0 -l null -d 'End each line with a byte 0'
 complete -c debctl -n '__debctl_command diff' -l values -d 'Print the lines of the fields that differ'
-complete -c debctl -n '__debctl_command sort' -l reverse -d 'Sort the latest version first'
+complete -c debctl -n '__debctl_command sort' -s r -l reverse -d 'Sort the latest version first'
 complete -c debctl -n '__debctl_at 1 compare' -a 'lt le eq ne ge gt'
 complete -c debctl -n '__debctl_command query unmet' -l arch -x -a '(dpkg-architecture -L 2>/dev/null)' -d 'Target architecture'
 complete -c debctl -n '__debctl_command query unmet' -l profiles -x -d 'Active build profiles'
 complete -c debctl -n '__debctl_command query' -l why -d 'Say why groups are unmet or ignored'
+complete -c debctl -n '__debctl_command query unmet diff' -l spelled -d 'Print versions as files spell them'
 complete -c debctl -n '__debctl_command query' -l relation-from -r -F -d 'File that contains the relation'
 complete -c debctl -n '__debctl_command unmet' -l recommends -d 'Try the groups of Recommends too'

@@ -1,7 +1,8 @@
 /* Debian control data for programs in C and C++: versions, files of control data and their fields,
  * why they are refused, which packages of an index meet a relation, and which relations of a file
- * nothing meets. The functions of the library return what the program debctl prints, and are proved
- * to return exactly that; those with a body in this header are only tested.
+ * nothing meets. The functions of the library return what the program debctl prints; that, and the
+ * sizes that two of them return, is proved. Only tested are the functions with a body in this header,
+ * and that deb_index_free and deb_reader_free free all that was held.
  *
  * Texts. A text is a pointer to bytes and their number; no NUL is needed after them. The bytes are
  * only read, and only during the call. A pointer may be NULL only if its length is 0. No function
@@ -185,13 +186,13 @@ uint32_t deb_library_version(void);
 struct deb_comparison deb_version_compare(const uint8_t *left, size_t left_length,
                                           const uint8_t *right, size_t right_length);
 
-/* Writes the canonical text of a version: two versions are equal exactly if theirs are the same.
+/* Writes the canonical text of a version: two versions are equal if and only if theirs are the same.
  * DEB_YES; DEB_REFUSED: it isn't a version; DEB_NO_ROOM; DEB_NO_MEMORY. */
 struct deb_answer deb_version_canonical(const uint8_t *text, size_t text_length,
                                         uint8_t *out, size_t out_size, size_t *length);
 
 /* Writes the key of a version: bytes whose order, as memcmp and databases have it, is Debian's order
- * of versions; two versions are equal exactly if their keys are the same. A key has at most 8 bytes
+ * of versions; two versions are equal if and only if their keys are the same. A key has at most 8 bytes
  * more than two for each byte of the text. The encoding doesn't change; docs/FORMAT.md has it.
  * DEB_YES; DEB_REFUSED: it isn't a version; DEB_NO_ROOM; DEB_NO_MEMORY. */
 struct deb_answer deb_version_key(const uint8_t *text, size_t text_length,
@@ -204,7 +205,7 @@ struct deb_version_parts deb_version_parts(const uint8_t *text, size_t text_leng
 
 /* Writes the canonical text of a relation: its groups, in the order of their texts and with `, `
  * between them, each with its alternatives and ` | ` between these. Two relations mean the same
- * exactly if theirs are the same.
+ * if and only if theirs are the same.
  * DEB_YES; DEB_REFUSED: it isn't a relation; DEB_NO_ROOM; DEB_NO_MEMORY. */
 struct deb_answer deb_relation_canonical(const uint8_t *text, size_t text_length,
                                          uint8_t *out, size_t out_size, size_t *length);
@@ -236,7 +237,7 @@ struct deb_answer deb_check_all(uint8_t kind, const uint8_t *text, size_t text_l
                                 size_t *refusal_count);
 
 /* Writes the canonical text of a file: two files that are accepted as one kind of document mean the
- * same exactly if theirs are the same. Nothing is written for a file that is refused.
+ * same if and only if theirs are the same. Nothing is written for a file that is refused.
  * DEB_YES, with the number of its paragraphs; DEB_REFUSED; DEB_NO_ROOM; DEB_NO_MEMORY;
  * DEB_NO_KIND. */
 struct deb_answer deb_normalise(uint8_t kind, const uint8_t *text, size_t text_length,
@@ -304,7 +305,7 @@ enum deb_detail {
 
 /* Writes what changed in meaning between two files of a kind, an old one and a new one: the lines
  * that the program `debctl diff` writes. There is a line for each paragraph that was removed, added,
- * changed or upgraded to another version. `kind` is DEB_PACKAGES, DEB_BINARY, DEB_SOURCES or
+ * changed, or upgraded or downgraded to another version. `kind` is DEB_PACKAGES, DEB_BINARY, DEB_SOURCES or
  * DEB_SOURCE, and `detail` one of deb_detail.
  * DEB_YES: there is no line, the files have the same paragraphs in some order; DEB_NO: there is one.
  * DEB_REFUSED: the old file is refused; DEB_SECOND_REFUSED: the old one is accepted and the new one
@@ -487,7 +488,8 @@ enum deb_row_kind {
     DEB_ROW_END = 15,           /* no cell: the empty line after an explanation of deb_explain_all */
     DEB_ROW_OK = 16,            /* the number in `ok N` */
     DEB_ROW_SUMMARY = 17,       /* the numbers in `ok N, M refused` */
-    DEB_ROW_VALID = 18          /* no cell: the line `ok` of deb_explain_relation or _version */
+    DEB_ROW_VALID = 18,         /* no cell: the line `ok` of deb_explain_relation or _version */
+    DEB_ROW_DOWNGRADED = 19     /* as DEB_ROW_UPGRADED, with an earlier new version */
 };
 
 /* A line of a text. `fields` is one cell, with a space between two names. */
@@ -516,8 +518,8 @@ struct deb_answer deb_rows(uint8_t form, const uint8_t *text, size_t text_length
  *     free(reader);
  *
  * It holds the bytes after the last paragraph that has ended, the fields that the last call read, and
- * one paragraph that is checked: so a line that never ends is held whole, and so are blank lines
- * before a paragraph. */
+ * one paragraph that is checked. Of blank lines between paragraphs it holds the first two, and how many
+ * the others are; of a line of 16 MiB and more, once it has a MiB more, only how many bytes it has. */
 struct deb_reader;
 
 /* How many bytes the memory of a reader has. It is aligned as by malloc. */

@@ -4,8 +4,8 @@ import functools
 from typing import Dict, List, NamedTuple, Optional, Tuple
 
 from ._library import (
-    REFUSED, SECOND_REFUSED, Answer, Kind, Text, answered, kind_of, lib, refusal_of, text_of,
-    written,
+    REFUSED, SECOND_REFUSED, Answer, Kind, Text, answered, kind_of, lib, lines_room, refusal_of,
+    text_of, written,
 )
 from ._refusals import Code, Refused
 from ._rows import END, EXPLANATION, KEY, OK, SUMMARY, Row, rows_of
@@ -163,7 +163,7 @@ def explain_all(text: Text, kind: Kind = "packages") -> AllExplained:
     """
     number, (data, length) = kind_of(kind), text_of(text)
     call = functools.partial(lib.deb_explain_all, number, data, length)
-    answer, lines = written(1 << 20, call)
+    answer, lines = written(lines_room(8 * length), call)
     refusal_of(answer)
     return _all_explained(lines.decode(), _Fields(data))
 

@@ -1,19 +1,17 @@
 """Files of control data, and questions to an index of packages."""
 
 import functools
-import struct
 from typing import Iterable, List, NamedTuple, Tuple
 
 from ._explanations import answered_file, explain_all
 from ._library import (
-    NO_KIND, REFUSED, YES, Answer, Kind, Text, kind_of, lib, refusal_of, tables, text_of, texts_of,
-    written,
+    NO_KIND, REFUSED, YES, Answer, Kind, Text, canonical_room, kind_of, lib, lines_room, text_of,
+    texts_of, written,
 )
 from ._refusals import Refused
 from ._rows import Change, Group, UnmetGroup, changes_of, groups_of, unmet_groups_of
 
 _PACKAGES = 1
-_REFUSAL = struct.Struct("@QB7x")  # its line and its code
 _REPORT_ROOM = 1 << 18
 
 
@@ -79,16 +77,8 @@ def check_all(text: Text, kind: Kind = "packages") -> AllChecked:
 
     What follows lines that are refused is checked as if these lines were blank.
     """
-    number, (data, length) = kind_of(kind), text_of(text)
-    call = functools.partial(lib.deb_check_all, number, data, length)
-    answer, (rows,) = tables([_REFUSAL.size], [4096], call)
-    if refusal_of(answer) is None:
-        return AllChecked(answer.count, [])
-    explained = explain_all(data, kind).refused
-    return AllChecked(answer.count, [
-        Refused(code, line, field=why.refusal.field if why.refusal else None)
-        for (line, code), why in zip(_REFUSAL.iter_unpack(rows), explained)
-    ])
+    found = explain_all(text, kind)
+    return AllChecked(found.passed, [why.refusal for why in found.refused if why.refusal])
 
 
 def normalise(text: Text, kind: Kind = "packages") -> bytes:
@@ -99,7 +89,7 @@ def normalise(text: Text, kind: Kind = "packages") -> bytes:
     """
     number, (data, length) = kind_of(kind), text_of(text)
     call = functools.partial(lib.deb_normalise, number, data, length)
-    answer, canonical = written(length + length // 8 + 64, call)
+    answer, canonical = written(canonical_room(length), call)
     answered_file(answer, number, data)
     return canonical
 
@@ -116,8 +106,8 @@ def same(text: Text, other: Text, kind: Kind = "packages") -> bool:
 
 def diff(old: Text, new: Text, kind: Kind = "packages", values: bool = False) -> List[Change]:
     """Returns what changed in meaning between two files of this kind: each paragraph that was
-    removed, added, changed or upgraded, in the order of the lines that the program `debctl diff`
-    writes. With `values` a change has the lines of the fields that differ.
+    removed, added, changed, upgraded or downgraded, in the order of the lines that the program
+    `debctl diff` writes. With `values` a change has the lines of the fields that differ.
 
         >>> import debctl
         >>> old = "Package: hello\\nVersion: 1\\nArchitecture: all\\n"
@@ -134,7 +124,7 @@ def diff(old: Text, new: Text, kind: Kind = "packages", values: bool = False) ->
     """
     number, (data, length), (second, size) = kind_of(kind), text_of(old), text_of(new)
     call = functools.partial(lib.deb_diff, number, bool(values), data, length, second, size)
-    answer, lines = written(length + size + _REPORT_ROOM, call)
+    answer, lines = written(lines_room(2 * (length + size)), call)
     if answer.status == NO_KIND:
         raise ValueError(f"files of {kind!r} aren't compared")
     answered_file(answer, number, data, second)

@@ -1,6 +1,5 @@
 """An index that is read once and asked often."""
 
-import ctypes
 import functools
 from array import array
 from types import TracebackType
@@ -62,9 +61,8 @@ class Index:
 
     def __init__(self, text: Text) -> None:
         data, length = text_of(text)
-        answer = Answer()
-        memory = IndexMemory(lambda at: lib.deb_index_read(at, data, length, ctypes.byref(answer)))
-        self._loaded = memory, answered_file(answer, _PACKAGES, data).count
+        memory = IndexMemory(lambda at, answer: lib.deb_index_read(at, data, length, answer))
+        self._loaded = memory, answered_file(memory.answer, _PACKAGES, data).count
 
     def _open(self) -> Tuple[Memory, int]:
         """Returns the memory and the number of packages, also if another thread closes the index.

@@ -5,8 +5,8 @@ import mmap
 import os
 from pathlib import Path
 from typing import (
-    Any, Callable, ClassVar, Iterable, List, Literal, Optional, Sequence, Tuple, TypeVar,
-    Union,
+    Any, Callable, ClassVar, Iterable, List, Literal, Optional, Sequence, Set, Tuple,
+    TypeVar, Union,
 )
 
 from ._refusals import Refused
@@ -15,6 +15,7 @@ Text = Union[str, bytes, bytearray, memoryview]
 Kind = Literal["packages", "binary", "sources", "source", "any"]
 
 YES, NO, REFUSED, SECOND_REFUSED, NO_ROOM, NO_MEMORY, NO_KIND, NO_INDEX = range(8)
+_UNFILLED = 255  # the status of an answer that no call has written
 _LONG = 1 << 18  # the length from which a buffer's pages are taken as they are written
 _KINDS = {"binary": 0, "packages": 1, "source": 2, "sources": 3, "any": 4}
 _TEXT: List[Any] = [ctypes.c_char_p, ctypes.c_size_t]
@@ -87,7 +88,6 @@ _FUNCTIONS: List[Tuple[str, Any, List[Any]]] = [
     ("deb_version_key", Answer, _TEXT + _BUFFER),
     ("deb_relation_canonical", Answer, _TEXT + _BUFFER),
     ("deb_check", Answer, _KIND + _TEXT),
-    ("deb_check_all", Answer, _KIND + _TEXT + _TABLE),
     ("deb_normalise", Answer, _KIND + _TEXT + _BUFFER),
     ("deb_explain", Answer, _KIND + _TEXT + _BUFFER),
     ("deb_explain_all", Answer, _KIND + _TEXT + _BUFFER),
@@ -197,6 +197,18 @@ def _room(size: int) -> Tuple[Any, Any]:
     return room, ctypes.byref(ctypes.c_char.from_buffer(room))
 
 
+def canonical_room(length: int) -> int:
+    """Returns room for the canonical text of a file or of a relation with so many bytes: spaces at
+    most double it."""
+    return 2 * length + 64
+
+
+def lines_room(length: int) -> int:
+    """Returns room for lines of that length. What has many more lines than usual is written twice.
+    """
+    return min(length, 1 << 28) + 4096
+
+
 def written(room: int, call: Callable[..., Answer]) -> Tuple[Answer, bytes]:
     """Returns the answer of a call that writes to a buffer, and what it wrote. If there isn't
     enough room, it is called again with as much as it needs."""
@@ -246,41 +258,45 @@ class Memory:
     before the last question: one of `__del__` in the same cycle, or of a thread that this starts.
     A question after that raises ValueError, and as long as one is being answered, nothing is
     freed. No lock is taken, since a signal handler may ask too: each step below is a single one of
-    the interpreter's.
+    the interpreter's. A handler may also raise at any step: the answer, which the call writes, says
+    whether the memory is filled.
     """
 
-    __slots__ = ("_memory", "_filled", "_asking", "_ended")
     size: ClassVar[int]
     free: ClassVar[Any]
+    _ended = False
+    _filled: List[int] = []  # nothing is freed before this is set
 
-    def __init__(self, fill: Callable[[int], object]) -> None:
-        self._asking: List[None] = []  # an item for each question that is being answered
-        self._filled: List[int] = []  # the address, until it is freed
-        self._ended = False
+    def __init__(self, fill: Callable[[int, Any], object]) -> None:
+        self._asking: Set[object] = set()  # an item for each question that is being answered
         self._memory = (ctypes.c_uint64 * -(-self.size // 8))()
+        self.answer = Answer(_UNFILLED)
         address = ctypes.addressof(self._memory)
-        fill(address)
-        self._filled.append(address)
+        self._filled = [address]  # the address, until it is freed
+        fill(address, ctypes.byref(self.answer))
 
     def ask(self, call: Callable[[int], Asked]) -> Asked:
         """Returns what a call returns that takes the address."""
-        self._asking.append(None)
+        question = object()
         try:
+            self._asking.add(question)
             if self._ended:
                 raise ValueError("the memory is closed")
-            return call(self._filled[0])
+            found = call(self._filled[0])
         finally:
-            self._asking.pop()
+            self._asking.discard(question)
             if self._ended:
                 self._free()
+        return found
 
     def _free(self) -> None:
-        if not self._asking:
+        if self._filled and not self._asking:
             try:
                 address = self._filled.pop()
             except IndexError:
                 return
-            self.free(address)
+            if self.answer.status != _UNFILLED:
+                self.free(address)
 
     def __del__(self) -> None:
         self._ended = True
@@ -290,12 +306,10 @@ class Memory:
 class IndexMemory(Memory):
     """Memory of a loaded index."""
 
-    __slots__ = ()
     size, free = lib.deb_index_size(), lib.deb_index_free
 
 
 class ReaderMemory(Memory):
     """Memory of a reader that is fed a file in pieces."""
 
-    __slots__ = ()
     size, free = lib.deb_reader_size(), lib.deb_reader_free

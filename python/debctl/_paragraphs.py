@@ -5,20 +5,18 @@ import functools
 import itertools
 from array import array
 from bisect import bisect_left, bisect_right
-from collections import deque
-from typing import (
-    IO, Any, Deque, Dict, Iterator, List, Mapping, Optional, Sequence, Tuple, Union,
-)
+from typing import IO, Any, Dict, Iterator, List, Mapping, Optional, Sequence, Tuple, Union
 
 from ._explanations import refused_in
 from ._library import (
-    YES, Answer, Kind, ReaderMemory, Text, bytes_of, given, kind_of, lib, tables,
+    YES, Answer, Kind, ReaderMemory, Text, bytes_of, canonical_room, given, kind_of, lib, tables,
 )
 from ._relations import Alternative, relations, text_of_fields
 
 _SPAN = 6  # numbers of a field: its paragraph, line, name, name's length, value, value's length
 _SIZES = [4 * _SPAN, 1, 1]
 _PIECE = 1 << 16
+_RECENT = 3 << 24  # more than two paragraphs have
 _KNOWN = 4096  # lists of names that are known at most
 
 
@@ -42,7 +40,7 @@ class _Tables:
     __slots__ = ("kind", "answer", "count", "numbers", "names", "values")
 
     def __init__(self, kind: int, length: int, reader: int) -> None:
-        rooms = [length // 24 + 16, length // 2 + 64, length + length // 8 + 64]
+        rooms = [length // 24 + 16, length // 2 + 64, length + 64]
         call = functools.partial(lib.deb_reader_fields, reader)
         self.answer, (numbers, self.names, self.values) = tables(_SIZES, rooms, call)
         self.kind = kind
@@ -117,7 +115,7 @@ class Paragraph(Mapping[str, str]):
             text = text_of_fields(self)
             kind, length = self._tables.kind, len(text)
             call = functools.partial(lib.deb_normalise, kind, text, length)
-            canonical = given(length + length // 8 + 64, call)[1]
+            canonical = given(canonical_room(length), call)[1]
             self._canonical = next(_read(kind, iter([canonical])))
         return self._canonical[name]
 
@@ -158,30 +156,32 @@ def _paragraphs(tables: _Tables, known: Dict[bytes, _Names]) -> Iterator[Paragra
 
 class _Recent:
     """The text of a file from the last paragraph on that passes, which the explanation of a refusal
-    needs: in pieces, each with the number of the line at which it starts."""
+    needs."""
 
     def __init__(self) -> None:
-        self._pieces: Deque[Tuple[int, bytes]] = deque()
-        self._first = self.next_line = 1
+        self._pieces: List[bytes] = []
+        self._length = 0
+        self._line = self._first = self.next_line = 1  # where the text and that paragraph start
 
     def add(self, piece: bytes) -> None:
-        """Adds the next piece."""
-        self._pieces.append((self.next_line, piece))
+        """Adds the next piece, unless a paragraph has begun that is too long to be explained."""
+        self._last = self.next_line, piece
+        if self._length <= _RECENT:
+            self._pieces.append(piece)
+            self._length += len(piece)
         self.next_line += piece.count(b"\n")
 
     def passed(self, line: int) -> None:
-        """Drops the lines before this one, at which a paragraph may start."""
+        """Drops the pieces before the last one if a paragraph starts in that, at this line."""
         self._first = line
-        while len(self._pieces) > 1 and self._pieces[1][0] < line:
-            self._pieces.popleft()
+        if line > self._last[0]:
+            self._line, piece = self._last
+            self._pieces, self._length = [piece], len(piece)
 
     def refused(self, answer: Answer, kind: int) -> None:
         """Raises the exception of an answer, if it has one."""
-        text = b"".join(piece for _, piece in self._pieces)
-        at, start = self._pieces[0][0], 0
-        for _ in range(at, self._first):
-            start = text.index(b"\n", start) + 1
-        refusal = refused_in(answer, kind, text[start:], self._first)
+        text = b"".join(self._pieces).split(b"\n", self._first - self._line)[-1]
+        refusal = refused_in(answer, kind, text, self._first)
         if refusal is not None:
             raise refusal
 
@@ -192,22 +192,25 @@ def _feed(words: Tuple[Any, ...], reader: int) -> None:
 
 def _read(kind: int, pieces: Iterator[bytes]) -> Iterator[Paragraph]:
     """Yields the paragraphs of a file that passes, which is read in pieces."""
-    answer, recent = Answer(), _Recent()
+    recent = _Recent()
     known: Dict[bytes, _Names] = {}
-    pointer = ctypes.byref(answer)
-    reader = ReaderMemory(lambda at: lib.deb_reader_start(at, kind, pointer))
+    reader = ReaderMemory(lambda at, answer: lib.deb_reader_start(at, kind, answer))
+    answer, pointer = reader.answer, ctypes.byref(reader.answer)
+    held = 0  # how many bytes there are from the piece on in which the last paragraph ended
     for piece in itertools.chain(pieces, [b""]):
         recent.add(piece)
+        held += len(piece)
         words = piece, len(piece), not piece, pointer
         reader.ask(functools.partial(_feed, words))
-        found = reader.ask(functools.partial(_Tables, kind, len(piece)))
+        found = reader.ask(functools.partial(_Tables, kind, held))
         yield from _paragraphs(found, known)
         if found.count:
+            held = len(piece)
             recent.passed(found.last_line())
-        elif not piece.strip(b" \t\n") and piece.count(b"\n") > 2:
-            recent.passed(recent.next_line)  # nothing is read, since all these lines are blank
         if answer.status != YES:
             recent.refused(answer, kind)
+        if not found.count and not piece.strip(b" \t\n") and piece.count(b"\n") > 2:
+            recent.passed(recent.next_line)  # no paragraph is open, since these lines are blank
 
 
 def _pieces(file: Union[Text, IO[bytes], IO[str]]) -> Iterator[bytes]:

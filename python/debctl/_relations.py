@@ -5,7 +5,7 @@ import struct
 from typing import Iterable, List, Mapping, NamedTuple, Optional, Tuple, Union
 
 from ._files import query
-from ._library import Text, answered, given, lib, tables, text_of
+from ._library import Text, answered, canonical_room, given, lib, tables, text_of
 
 # The number of its group, and the offset and the length of its name, qualifier, operator, version,
 # architectures and formula.
@@ -74,7 +74,7 @@ def relations(relation: Text, spelled: bool = False) -> List[List[Alternative]]:
     data, length = text_of(relation)
     if not spelled:
         call = functools.partial(lib.deb_relation_canonical, data, length)
-        data = given(length + length // 2 + 64, call)[1]
+        data = given(canonical_room(length), call)[1]
     call = functools.partial(lib.deb_relation_parts, data, len(data))
     room = data.count(b",") + data.count(b"|") + 1
     answer, (rows,) = tables([_PARTS.size], [room], call)

@@ -10,12 +10,16 @@ REPORT, UNMET_LINES, DIFF_LINES, EXPLANATION = range(4)
 (
     MET, UNMET, IGNORED, PACKAGE, REASON, PACKAGE_REASON, UNMET_GROUP, UNSURE_GROUP, REMOVED,
     CHANGED, UPGRADED, ADDED, OLD_LINE, NEW_LINE, KEY, END, OK, SUMMARY, VALID,
-) = range(19)
+    DOWNGRADED,
+) = range(20)
 _ROW = struct.Struct("@BB6x12N")  # its kind, how many cells it has, and where they are
 
 Row = Tuple[int, List[str]]
 Verdict = Literal["met", "unmet", "ignored"]
 _VERDICTS: Dict[int, Verdict] = {MET: "met", UNMET: "unmet", IGNORED: "ignored"}
+_WORDS: Dict[int, Literal["changed", "upgraded", "downgraded"]] = {
+    CHANGED: "changed", UPGRADED: "upgraded", DOWNGRADED: "downgraded"
+}
 
 
 def rows_of(form: int, text: str) -> Iterator[Row]:
@@ -78,7 +82,7 @@ class Change(NamedTuple):
     program prints.
     """
 
-    kind: Literal["removed", "changed", "upgraded", "added"]
+    kind: Literal["removed", "changed", "upgraded", "downgraded", "added"]
     number: int
     package: str
     old_version: Optional[str]
@@ -138,8 +142,7 @@ def _change(head: Row, below: List[Row], text: str) -> Change:
     if kind == ADDED:
         return Change("added", number, package, None, cells[2], cells[3], (), old, new, text)
     versions, fields = (cells[2], cells[-3]), tuple(cells[-1].split(" "))
-    what: Literal["changed", "upgraded"] = "changed" if kind == CHANGED else "upgraded"
-    return Change(what, number, package, *versions, cells[-2], fields, old, new, text)
+    return Change(_WORDS[kind], number, package, *versions, cells[-2], fields, old, new, text)
 
 
 def changes_of(text: str) -> List[Change]:

@@ -2,7 +2,7 @@
 
 use crate::library;
 use crate::refusals::answered_of;
-use crate::texts::{self, rows, string, written, Form, Row};
+use crate::texts::{self, lines_room, rows, string, written, Form, Row};
 use crate::{Compared, Error};
 use std::fmt;
 
@@ -40,8 +40,10 @@ pub enum ChangeKind {
     Removed,
     /// Both files have it, and fields differ.
     Changed,
-    /// Both files have it, and the new one has another version.
+    /// Both files have it, and the new one has a later version.
     Upgraded,
+    /// Both files have it, and the new one has an earlier version.
+    Downgraded,
     /// Only the new file has it.
     Added,
 }
@@ -59,6 +61,7 @@ fn change(row: &Row) -> Option<Change> {
         texts::REMOVED => (ChangeKind::Removed, Some(2), None, 3),
         texts::CHANGED => (ChangeKind::Changed, Some(2), Some(2), 3),
         texts::UPGRADED => (ChangeKind::Upgraded, Some(2), Some(3), 4),
+        texts::DOWNGRADED => (ChangeKind::Downgraded, Some(2), Some(3), 4),
         texts::ADDED => (ChangeKind::Added, None, Some(2), 3),
         _ => return None,
     };
@@ -81,7 +84,7 @@ fn change(row: &Row) -> Option<Change> {
 }
 
 /// Returns what changed in meaning between two files: each paragraph that was removed, added,
-/// changed or upgraded. With `values` the values that differ are returned too. If the new file is
+/// changed, upgraded or downgraded. With `values` the values that differ are returned too. If the new file is
 /// refused, the error is [`Error::SecondRefused`].
 ///
 /// ```
@@ -104,8 +107,7 @@ pub fn diff(
     let compared = (kind as u8, u8::from(values));
     let call =
         |out: &mut [u8], length: &mut usize| library::diff(compared, (old, new), out, length);
-    let room = old.len() + new.len();
-    let (answer, text) = written(room + room / 8 + 4096, call);
+    let (answer, text) = written(lines_room(2 * (old.len() + new.len())), call);
     answered_of(answer, (kind, old), (kind, new))?;
     Ok(changes(&string(text)))
 }

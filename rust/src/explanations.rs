@@ -2,7 +2,7 @@
 
 use crate::library::{self, Answer};
 use crate::refusals::{answered, Lines};
-use crate::texts::{self, number, rows, string, written, Form, Row};
+use crate::texts::{self, lines_room, number, rows, string, written, Form, Row};
 use crate::{Code, Error, Kind, Refusal};
 use std::fmt;
 
@@ -144,7 +144,7 @@ pub fn explain_all(kind: Kind, text: impl AsRef<[u8]>) -> Result<AllExplained, E
     let file = text.as_ref();
     let call =
         |out: &mut [u8], length: &mut usize| library::explain_all(kind as u8, file, out, length);
-    let (answer, text) = written(file.len() + 4096, call);
+    let (answer, text) = written(lines_room(8 * file.len()), call);
     if let Err(Error::Memory) = answered(answer) {
         return Err(Error::Memory);
     }

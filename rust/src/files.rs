@@ -1,8 +1,8 @@
 //! Files: whether they are accepted, their canonical text, and whether two mean the same.
 
-use crate::library::{self, RefusalAt};
-use crate::refusals::{answered, answered_of};
-use crate::texts::{filled, written};
+use crate::library;
+use crate::refusals::answered_of;
+use crate::texts::{canonical_room, written};
 use crate::{explain_all, Error, Kind, Refusal};
 
 /// What a whole file has.
@@ -37,25 +37,14 @@ pub fn check(kind: Kind, text: impl AsRef<[u8]>) -> Result<u64, Error> {
 /// # Ok::<(), debctl::Error>(())
 /// ```
 pub fn check_all(kind: Kind, text: impl AsRef<[u8]>) -> Result<AllChecked, Error> {
-    let text = text.as_ref();
-    let call = |table: &mut [RefusalAt], count: &mut usize| {
-        library::check_all(kind as u8, text, table, count)
-    };
-    let (answer, table) = filled(4096, call);
-    let passed = answer.count;
-    if let Err(Error::Memory) = answered(answer) {
-        return Err(Error::Memory);
-    }
-    let explained = match table.is_empty() {
-        true => Vec::new(),
-        false => explain_all(kind, text)?.refused,
-    };
-    let fields = explained.into_iter().map(|it| it.refusal?.field);
-    let refused = table.iter().zip(fields);
-    let refused = refused.map(|(at, field)| Refusal::new(at.code, at.line, field));
+    let all = explain_all(kind, text)?;
     Ok(AllChecked {
-        passed,
-        refused: refused.collect(),
+        passed: all.passed,
+        refused: all
+            .refused
+            .into_iter()
+            .filter_map(|it| it.refusal)
+            .collect(),
     })
 }
 
@@ -65,7 +54,7 @@ pub fn normalise(kind: Kind, text: impl AsRef<[u8]>) -> Result<Vec<u8>, Error> {
     let text = text.as_ref();
     let call =
         |out: &mut [u8], length: &mut usize| library::normalise(kind as u8, text, out, length);
-    let (answer, canonical) = written(text.len() + text.len() / 8 + 64, call);
+    let (answer, canonical) = written(canonical_room(text), call);
     answered_of(answer, (kind, text), (kind, text))?;
     Ok(canonical)
 }

@@ -54,3 +54,13 @@ pub use reports::{
     query, query_why, unmet, Group, Reason, Report, UnmetGroup, UnmetReport, Verdict,
 };
 pub use versions::{canonical, compare, key, Version};
+
+/// Returns the version of the library `libdebctl` that is linked.
+///
+/// ```
+/// assert_eq!(debctl::library_version(), env!("CARGO_PKG_VERSION"));
+/// ```
+pub fn library_version() -> String {
+    let number = library::version();
+    format!("{}.{}.{}", number / 10000, number / 100 % 100, number % 100)
+}

@@ -12,7 +12,7 @@ mod declared;
 mod held;
 
 pub use calls::*;
-pub use declared::{AlternativeAt, Answer, RefusalAt, Row, Span, Text};
+pub use declared::{AlternativeAt, Answer, Row, Span, Text};
 pub use held::{Index, Reader};
 
 pub const YES: u8 = 0;

@@ -59,6 +59,13 @@ impl Tables {
         })
     }
 
+    /// Returns the line at which the last paragraph starts, or `None` if there is no paragraph.
+    pub(crate) fn last_line(&self) -> Option<u64> {
+        let last = self.spans.last()?.paragraph;
+        let first = self.spans.partition_point(|span| span.paragraph < last);
+        Some(u64::from(self.spans[first].line))
+    }
+
     /// Returns the field in a span.
     fn field<'a>(&'a self, span: &Span) -> Field<'a> {
         let part = |from: &'a [u8], at: u32, length: u32| &from[at as usize..][..length as usize];
@@ -240,7 +247,7 @@ impl<'a> Paragraph<'a> {
     }
 
     /// Returns the groups of the relation that the value of the field with a name is, or `None` if
-    /// there is no such field. An error if the value isn't a relation. See [`crate::relations`].
+    /// there is no such field. An error if the value isn't a relation. See [`crate::relations()`].
     pub fn relations(&self, name: &str) -> Result<Option<Vec<Vec<Alternative>>>, Error> {
         self.get(name).map(relations).transpose()
     }

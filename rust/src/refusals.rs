@@ -105,7 +105,7 @@ pub struct Refusal {
     /// The line.
     pub line: u64,
     /// The name of the field, as the line spells it, or of the field that is missing. `None` if the
-    /// refusal isn't about a field, and from a [`crate::Reader`].
+    /// refusal isn't about a field.
     pub field: Option<String>,
 }
 
@@ -174,16 +174,24 @@ pub(crate) fn answered(answer: Answer) -> Result<Answer, Error> {
 /// Returns an answer about one or two files, or its error, with the field of a refusal.
 pub(crate) fn answered_of(answer: Answer, first: File, second: File) -> Result<Answer, Error> {
     Err(match answered(answer) {
-        Err(Error::Refused(refusal)) => Error::Refused(with_field(refusal, first)?),
-        Err(Error::SecondRefused(refusal)) => Error::SecondRefused(with_field(refusal, second)?),
+        Err(Error::Refused(refusal)) => Error::Refused(with_field(refusal, first, 1)?),
+        Err(Error::SecondRefused(refusal)) => Error::SecondRefused(with_field(refusal, second, 1)?),
         other => return other,
     })
 }
 
-/// Adds the field to the refusal of a file.
-fn with_field(mut refusal: Refusal, (kind, text): File) -> Result<Refusal, Error> {
+/// Adds the field to the refusal of a file, whose text is there from a line on at which a paragraph
+/// starts.
+pub(crate) fn with_field(
+    mut refusal: Refusal,
+    (kind, text): File,
+    first: u64,
+) -> Result<Refusal, Error> {
     if refusal.line > 0 {
-        refusal.field = explain(kind, text)?.refusal.and_then(|it| it.field);
+        let found = explain(kind, text)?.refusal;
+        let found =
+            found.filter(|it| (it.code, it.line + first - 1) == (refusal.code, refusal.line));
+        refusal.field = found.and_then(|it| it.field);
     }
     Ok(refusal)
 }

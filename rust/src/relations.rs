@@ -2,7 +2,7 @@
 
 use crate::library::{self, AlternativeAt};
 use crate::refusals::answered;
-use crate::texts::{filled, given, string};
+use crate::texts::{canonical_room, filled, given, string};
 use crate::{query, Error, Paragraph, Verdict};
 use std::fmt;
 
@@ -55,7 +55,7 @@ impl fmt::Display for Alternative {
 pub fn relations(text: impl AsRef<[u8]>) -> Result<Vec<Vec<Alternative>>, Error> {
     let text = text.as_ref();
     let call = |out: &mut [u8], length: &mut usize| library::relation_canonical(text, out, length);
-    spelled_relations(given(2 * text.len() + 64, call)?.1)
+    spelled_relations(given(canonical_room(text), call)?.1)
 }
 
 /// Returns the groups of a relation in the order of its text, with repeats, each with its

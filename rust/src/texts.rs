@@ -39,7 +39,19 @@ pub(crate) fn filled<Entry: Clone + Default>(
             out.truncate(length);
             return (answer, out);
         }
+        #[cfg(test)]
+        tests::REPEATED.with(|it| it.set(it.get() + 1));
     }
+}
+
+/// Returns room for the canonical text of a file or of a relation: spaces at most double it.
+pub(crate) fn canonical_room(text: &[u8]) -> usize {
+    2 * text.len() + 64
+}
+
+/// Returns room for lines of that length. What has many more lines than usual is written twice.
+pub(crate) fn lines_room(length: usize) -> usize {
+    length.min(1 << 28) + 4096
 }
 
 /// Returns a text of the library, which is UTF-8.
@@ -77,6 +89,7 @@ pub(crate) const OLD_LINE: u8 = 12;
 pub(crate) const KEY: u8 = 14;
 pub(crate) const END: u8 = 15;
 pub(crate) const OK: u8 = 16;
+pub(crate) const DOWNGRADED: u8 = 19;
 
 impl Row<'_> {
     /// Returns the number in a cell.
@@ -127,4 +140,70 @@ fn rows_in(form: Form, text: &str, start: usize) -> Vec<Row<'_>> {
         Row { kind, cells, end }
     };
     lines.zip(&table).map(row).collect()
+}
+
+/// The first room for what a call writes is enough, so that no work is done twice.
+#[cfg(test)]
+mod tests {
+    use crate::*;
+    use std::cell::Cell;
+
+    thread_local! {
+        /// How many calls were repeated.
+        pub(super) static REPEATED: Cell<u32> = Cell::default();
+    }
+
+    const COUNT: usize = 3000;
+
+    /// An index of packages, with their versions.
+    fn index(version: &str) -> String {
+        let package = |at| {
+            format!(
+                "Package: p{at}\nVersion: {version}.{at}\nArchitecture: all\n\
+                 Depends:p{at}(>=1),pp|qq\n\n"
+            )
+        };
+        (0..COUNT).map(package).collect()
+    }
+
+    fn answer(asked: usize, old: &str, new: &str, loaded: &Index) -> Result<(), Error> {
+        let wrong = old.replace("Version: ", "Version: _");
+        let relation: String = (0..COUNT).map(|at| format!("aa{at}|bb(<{at}),")).collect();
+        let package = format!("Package: aa\nVersion: 1\nArchitecture: all\nDepends:{relation}");
+        let asks = Asked::Packages { recommends: true };
+        match asked {
+            0 => drop(normalise(Kind::Packages, old)?),
+            1 => drop(normalise(Kind::Any, "a:\n\n".repeat(COUNT))?),
+            2 => drop(normalise(Kind::Packages, package)?),
+            3 => drop(diff(Compared::Packages, true, old, new)?),
+            4 => drop(diff(Compared::Packages, true, "", new)?),
+            5 => drop(check_all(Kind::Packages, wrong)?),
+            6 => drop(explain(Kind::Packages, wrong)?),
+            7 => drop((
+                explain_relation("aa (")?,
+                explain_version("1_".repeat(COUNT))?,
+            )),
+            8 => drop(query_why("amd64", &[], "p1 (>= 9), p2, qq", old)?),
+            9 => drop(unmet(asks, "amd64", &[], old, old)?),
+            10 => drop(loaded.query_why("amd64", &[], "p1 (>= 9), p2, qq")?),
+            11 => drop(loaded.unmet(asks, "amd64", &[], old)?),
+            12 => drop((loaded.packages("p1"), loaded.providers("p1"))),
+            13 => drop((loaded.package(1)?, loaded.details(1)?)),
+            14 => drop((key("1:2.0~rc1-3")?, canonical("1:2.0~rc1-3")?)),
+            _ => drop(relations(relation)?),
+        }
+        Ok(())
+    }
+
+    #[test]
+    fn the_first_room_is_enough() -> Result<(), Error> {
+        let (old, new) = (index("1"), index("2"));
+        let loaded = Index::read(&old)?;
+        for asked in 0..=15 {
+            let before = REPEATED.with(Cell::get);
+            answer(asked, &old, &new, &loaded)?;
+            assert_eq!(REPEATED.with(Cell::get), before, "call {asked}");
+        }
+        Ok(())
+    }
 }

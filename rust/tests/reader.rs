@@ -38,8 +38,10 @@ impl Read for Pieces<'_> {
 
 type Fields = Vec<(u64, String, Vec<u8>)>;
 
-/// All fields of a file by the reader, and the code and the line of its refusal.
-fn by_reader(kind: Kind, source: impl Read) -> (Vec<Fields>, Option<(Code, u64)>) {
+type Refused = Option<(Code, u64, Option<String>)>;
+
+/// All fields of a file by the reader, and the code, the line and the field of its refusal.
+fn by_reader(kind: Kind, source: impl Read) -> (Vec<Fields>, Refused) {
     let (mut all, mut reader) = (Vec::new(), Reader::new(kind, source));
     loop {
         match reader.next_paragraph() {
@@ -55,7 +57,7 @@ fn by_reader(kind: Kind, source: impl Read) -> (Vec<Fields>, Option<(Code, u64)>
             }
             Err(ReadError::File(Error::Refused(refusal))) => {
                 assert!(reader.next_paragraph().is_err());
-                return (all, Some((refusal.code, refusal.line)));
+                return (all, Some((refusal.code, refusal.line, refusal.field)));
             }
             Err(error) => panic!("{error}"),
         }
@@ -63,7 +65,7 @@ fn by_reader(kind: Kind, source: impl Read) -> (Vec<Fields>, Option<(Code, u64)>
 }
 
 /// The same in memory.
-fn by_paragraphs(kind: Kind, text: &[u8]) -> (Vec<Fields>, Option<(Code, u64)>) {
+fn by_paragraphs(kind: Kind, text: &[u8]) -> (Vec<Fields>, Refused) {
     let (mut all, mut refused) = (Vec::new(), None);
     for paragraph in &paragraphs(kind, text).expect("memory") {
         match paragraph {
@@ -73,7 +75,11 @@ fn by_paragraphs(kind: Kind, text: &[u8]) -> (Vec<Fields>, Option<(Code, u64)>) 
                     .map(|it| (it.line, it.name.to_owned(), it.value.to_owned()))
                     .collect(),
             ),
-            Err(error) => refused = error.refusal().map(|it| (it.code, it.line)),
+            Err(error) => {
+                refused = error
+                    .refusal()
+                    .map(|it| (it.code, it.line, it.field.clone()));
+            }
         }
     }
     (all, refused)
@@ -115,6 +121,37 @@ fn pieces_have_long_and_short_paragraphs() {
         by_reader(Kind::Any, Pieces::of(text.as_bytes(), &[5000])),
         wanted
     );
+}
+
+/// The field of a refusal is known, however far the refused paragraph is from the start of the file,
+/// and in however many pieces it is.
+#[test]
+fn a_refusal_has_its_field() {
+    let refused = format!("B:\n{}b: 1\n", " x\n".repeat(25_000));
+    let befores = [
+        "a:\n\n".repeat(20_000),
+        "a:\n".into(),
+        "\n".repeat(70_000),
+        String::new(),
+    ];
+    for before in befores {
+        let text = format!("{before}\n{refused}");
+        let wanted = by_paragraphs(Kind::Any, text.as_bytes());
+        let (code, line, field) = wanted.1.clone().expect("a refusal");
+        assert_eq!((code, field.as_deref()), (Code::DuplicateField, Some("b")));
+        assert_eq!(line, before.matches('\n').count() as u64 + 25_003);
+        for length in [7, 1000, 100_000] {
+            assert!(by_reader(Kind::Any, Pieces::of(text.as_bytes(), &[length])) == wanted);
+        }
+    }
+}
+
+/// The field is known also if the refusal comes with a piece of blank lines.
+#[test]
+fn a_refusal_has_its_field_before_blank_lines() {
+    let text = b"a: 1\nA: 2\n\n\n\n\n\n\n";
+    let (_, refused) = by_reader(Kind::Any, Pieces::of(text, &[5, 10]));
+    assert_eq!(refused, Some((Code::DuplicateField, 2, Some("A".to_owned()))));
 }
 
 /// A source that fails once between two pieces.

@@ -274,6 +274,8 @@ def many_paragraphs():
     audited = b"old: ok 400\nnew: ok 400\n"
     cases = [
         (["check", "old"], b"ok 400\n", 0), (["explain", "old"], b"ok 400\n", 0),
+        (["check", "--complete", "old"], b"ok 400\n", 0),
+        (["audit", "--complete", "old", "new"], audited, 0),
         (["normalise", "old"], old, 0), (["same", "old", "new"], b"different\n", 1),
         (["diff", "old", "new"], b"upgraded 400 p400 1 2 all Version\n", 1),
         (["query", *arch, "vv", "old"], b"met vv\n" + met, 0),

@@ -18,6 +18,8 @@ FAULT_LINES = {
     "stat": b"fault: read\n",
     "write": b"fault: write\n",
 }
+# The errors of wrong arguments that a hint may follow.
+HINTED = b"usage: unknown kind", b"usage: unknown command"
 
 
 @dataclass(frozen=True)
@@ -201,7 +203,15 @@ def is_asked_again(case: Case, fault: Fault, record):
     return fault.calls == "open" or (fault.calls == "write" and is_again)
 
 
-def is_asked_for_less(case: Case, fault: Fault, record):
+def asks_for_hint(case: Case, status):
+    """Whether the program looks for DEBCTL_HINTS, which takes memory, once it has an answer with this
+    status: after an error of a job, and after wrong arguments for which there is a hint."""
+    if case.is_job and case.words[0] not in ("audit", "explain"):
+        return status is not None and status > 1
+    return case.err.startswith(HINTED)
+
+
+def is_asked_for_less(case: Case, fault: Fault, answer: Answer):
     """Whether std asked once more for memory, for less of it. It does so in `collect`, by which
     `sort` gathers its lines, `audit` the paths of a list, and clap the letters of a word that may be
     similar to a wrong one: where the room for all that may come is refused, it asks for that of one.
@@ -209,7 +219,8 @@ def is_asked_for_less(case: Case, fault: Fault, record):
     has_collect = case.words[0] in ("sort", "audit") or b"\n  tip: a similar " in case.err
     if fault.calls != "growth" or fault.is_lasting or not has_collect:
         return False
-    return record.get("growths", 0) > case.growths.get(fault.pace, 0)
+    growths = answer.record.get("growths", 0) - asks_for_hint(case, answer.status)
+    return growths > case.growths.get(fault.pace, 0) - asks_for_hint(case, case.status)
 
 
 def is_gone_without(fault: Fault, record):
@@ -217,12 +228,21 @@ def is_gone_without(fault: Fault, record):
     return fault.calls == "open" and record.get("opens_at_met", 0) <= STAND_INS
 
 
-def wanted_of(case: Case, fault: Fault, record):
-    """The answer that is wanted of a run of which this is the record."""
+def is_hint_left_out(case: Case, fault: Fault, k):
+    """Whether the growth was the last one, with which the program looks for DEBCTL_HINTS. If it is
+    refused, there is no hint."""
+    is_last = fault.calls == "growth" and k == case.growths.get(fault.pace)
+    return is_last and asks_for_hint(case, case.status)
+
+
+def wanted_of(case: Case, fault: Fault, k, answer: Answer):
+    """The answer that is wanted of a run with a fault at the k-th call, by what it did."""
+    record = answer.record
     is_made_up_for = (
         is_asked_again(case, fault, record)
-        or is_asked_for_less(case, fault, record)
+        or is_asked_for_less(case, fault, answer)
         or is_gone_without(fault, record)
+        or is_hint_left_out(case, fault, k)
     )
     if fault.error is None or not record.get("met") or is_made_up_for:
         rules = ["begins" if name in case.open_ended else "all" for name in ("out", "err")]
@@ -392,7 +412,7 @@ def wrong_texts(answer: Answer, wanted: Wanted):
 
 def complaint(case: Case, fault: Fault, k, is_met, answer: Answer):
     """Says in some lines what is wrong with a run, or None. It is to meet its fault, or not to."""
-    wanted = wanted_of(case, fault, answer.record)
+    wanted = wanted_of(case, fault, k, answer)
     why = (
         wrong_end(answer, case, fault)
         or wrong_texts(answer, wanted)

@@ -183,7 +183,7 @@ TESTS = {
     "explain refused kind": explained("", "binary")[0] == (Code.NoParagraph, 1, False),
     "explain unknown kind": error(debctl.explain, HELLO, "foo") is ValueError,
     "explain a long value": explained("Size: " + "\0" * 5000)[1][4]
-    == "value: " + "\\x00" * 200 + "...",
+    == "value: " + "\\x00" * 200 + "\\...",
     "check all": all_refused(HELLO) == (1, []),
     "check all of nothing": debctl.check_all("") == debctl.AllChecked(0, []),
     "check all, refused": all_refused(FOUR) == (2, FOUR_REFUSED),

@@ -293,9 +293,11 @@ except debctl.Refused:
         r"""
 index, said = debctl.Index(TEXT), []
 def handler(*_):
+    signal.signal(signal.SIGALRM, signal.SIG_IGN)  # on a slow machine they would nest without end
     said.append(asked(index))
     index.close()
     index.__init__(TEXT)
+    signal.signal(signal.SIGALRM, handler)
 signal.signal(signal.SIGALRM, handler)
 signal.setitimer(signal.ITIMER_REAL, 0.001, 0.001)
 until = time.monotonic() + 1
@@ -305,6 +307,81 @@ signal.setitimer(signal.ITIMER_REAL, 0)
 say(sorted(set(said) - {"closed"}))
 """,
         {"['right']"}, 1,
+    ),
+    "a signal handler that raises": (
+        r"""
+import dis
+import debctl._library as library
+FOLDER = os.path.dirname(debctl.__file__)
+counts = {}
+
+class Stop(Exception):
+    pass
+
+def count(name):
+    function = getattr(library.lib, name)
+    def counted(*words):
+        counts[name] = counts.get(name, 0) + 1
+        return function(*words)
+    return counted
+
+def is_after_call(frame):
+    # whether signals are handled there: the interpreter does so when a call has returned
+    at, codes = frame.f_lasti - 2, frame.f_code.co_code
+    while at > 0 and codes[at] == 0:  # an entry of a cache, not an instruction
+        at -= 2
+    return at >= 0 and dis.opname[codes[at]].startswith("CALL")
+
+def raises_at(step, call):
+    # whether the call came to this step of the package, at which an exception was raised
+    def trace(frame, event, _):
+        nonlocal step
+        code = frame.f_code
+        if not code.co_filename.startswith(FOLDER) or code.co_name in ("__del__", "_free"):
+            return None
+        frame.f_trace_opcodes = True
+        if event == "opcode" and is_after_call(frame):
+            step -= 1
+            if step == 0:
+                sys.settrace(None)
+                raise Stop
+        return trace
+    sys.settrace(trace)
+    try:
+        call()
+    except Stop:
+        return True
+    finally:
+        sys.settrace(None)
+    return False
+
+for name in ("deb_index_read", "deb_index_free", "deb_reader_start", "deb_reader_free"):
+    setattr(library.lib, name, count(name))
+library.IndexMemory.free = staticmethod(library.lib.deb_index_free)
+library.ReaderMemory.free = staticmethod(library.lib.deb_reader_free)
+index, kept = debctl.Index(TEXT), []
+def read():
+    # what ends here isn't traced: an exception in it is printed
+    kept.append(debctl.paragraphs(TEXT[:60]))
+    next(kept[-1])
+for name, call in (
+    ("index", lambda: kept.append(debctl.Index(""))), ("reader", read),
+    ("question", lambda: index.packages("p7")),
+):
+    steps = 1
+    while raises_at(steps, call):
+        steps += 1
+        kept.clear()
+    is_tried = steps > 9 or sys.version_info[:2] == (3, 12)  # some of these don't trace instructions
+    say("right" if is_tried and asked(index) == "right" else f"wrong: {name}, {steps} steps")
+del index
+kept.clear()
+gc.collect()
+made = counts["deb_index_read"], counts["deb_reader_start"]
+freed = counts["deb_index_free"], counts["deb_reader_free"]
+say("right" if made == freed else f"wrong: {made} are made, {freed} freed")
+""",
+        {"right"}, 4,
     ),
 }
 

@@ -13,6 +13,7 @@ static const char *const rules[] = {
     "unmet | | | | | |", "unsure | | | | | |",
     "removed | | | |", "changed | | | | |", "upgraded | | | | | |", "added | | | |",
     " -|", " +|", "|: |", "", "ok |", "ok |, | refused", "ok",
+    "downgraded | | | | | |",
 };
 
 /* Appends a row to `to`, with the newline, and returns its end; NULL if the row isn't one of its

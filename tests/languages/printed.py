@@ -31,6 +31,7 @@ def of_change(change):
     versions = {
         "removed": [change.old_version], "added": [change.new_version], "changed": [change.old_version],
         "upgraded": [change.old_version, change.new_version],
+        "downgraded": [change.old_version, change.new_version],
     }[change.kind]
     words = [change.kind, str(change.number), change.package, *versions, change.architecture]
     return " ".join([*words, *change.fields])

@@ -148,11 +148,80 @@ static void try_long(void) {
     free(text);
 }
 
+/* A paragraph of as many bytes as one may have is read, and one of a byte more is refused. */
+static void try_longest(size_t more) {
+    enum { LONGEST = 1 << 24, PIECE = 1 << 20 };
+    struct deb_reader *reader = malloc(deb_reader_size());
+    uint8_t *text = malloc(LONGEST + more);
+    struct deb_answer answer;
+    size_t at;
+    memset(text, 'x', LONGEST + more);
+    memcpy(text, "a: ", 3);
+    text[LONGEST + more - 1] = '\n';
+    deb_reader_start(reader, DEB_ANY, &answer);
+    for (at = 0; at < LONGEST; at += PIECE)
+        deb_reader_feed(reader, text + at, PIECE, 0, &answer);
+    deb_reader_feed(reader, text + at, more, 0, &answer);
+    answer = feed_text(reader, "\nb: 2\n\nc", 0);
+    IS(more ? is(answer, DEB_REFUSED, DEB_PARAGRAPH_TOO_LONG, 1, 0) : is(answer, DEB_YES, 0, 0, 2));
+    answer = feed_text(reader, ": 3\n", 1);
+    IS(more ? is(answer, DEB_REFUSED, DEB_PARAGRAPH_TOO_LONG, 1, 0) : is(answer, DEB_YES, 0, 0, 3));
+    deb_reader_free(reader);
+    free(reader);
+    free(text);
+}
+
+/* The answer of deb_check on all of a text, and that of a reader that is fed it in pieces. */
+static int answers_alike(uint8_t kind, const uint8_t *text, size_t length, size_t size) {
+    struct deb_reader *reader = malloc(deb_reader_size());
+    struct deb_answer fed, checked = deb_check(kind, text, length);
+    size_t at;
+    deb_reader_start(reader, kind, &fed);
+    for (at = 0; at < length; at += size)
+        deb_reader_feed(reader, text + at, length - at < size ? length - at : size, 0, &fed);
+    deb_reader_feed(reader, NULL, 0, 1, &fed);
+    deb_reader_free(reader);
+    free(reader);
+    return fed.status == checked.status && fed.code == checked.code && fed.line == checked.line &&
+           fed.count == checked.count;
+}
+
+/* A line of about as many bytes as a paragraph may have, after some text and before another. */
+static void try_long_line(uint8_t kind, const char *front, char byte, size_t length,
+                          const char *rest, size_t size) {
+    size_t before = strlen(front), after = strlen(rest), whole = before + length + after;
+    uint8_t *text = malloc(whole);
+    memcpy(text, front, before);
+    memset(text + before, byte, length);
+    memcpy(text + before + length, rest, after);
+    IS(answers_alike(kind, text, whole, size));
+    free(text);
+}
+
+/* Each text with each length; kinds, bytes of the line and pieces in turn. */
+static void try_long_lines(void) {
+    enum { LONGEST = 1 << 24, PIECE = 1 << 20 };
+    static const char *fronts[] = {"", "a: 1\n", "a: 1\n\n", "x\n", "x\n\n"};
+    static const char *rests[] = {"", "\n", "\n\nx\n"};
+    static const size_t sizes[] = {PIECE, PIECE + 1, 3 * PIECE - 1, LONGEST - 1};
+    size_t front, more, rest, turn = 0;
+    for (front = 0; front < sizeof fronts / sizeof *fronts; front++)
+        for (more = 0; more < 4; more++)
+            for (rest = 0; rest < sizeof rests / sizeof *rests; rest++, turn++)
+                try_long_line((uint8_t)(turn % 2 ? DEB_ANY : DEB_BINARY + turn / 2 % 4),
+                              fronts[front], "a #"[turn / 3 % 3],
+                              (more < 3 ? LONGEST - 1 : LONGEST + LONGEST / 4) + more, rests[rest],
+                              sizes[turn % 4]);
+}
+
 int main(void) {
     try_pieces();
     try_steps();
     try_errors();
     try_room();
     try_long();
+    try_longest(0);
+    try_longest(1);
+    try_long_lines();
     return counted("reader");
 }

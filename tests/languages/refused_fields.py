@@ -6,6 +6,7 @@ import debctl
 
 LIMIT = 16777216
 LONG = "X" * 300
+REFUSED = "a: 1\n\n" * 3 + "\n" * 9 + "B: 1\nb: 2\n"
 HEAD = "Package: hello\nVersion: 1\nArchitecture: all\n"
 
 
@@ -28,6 +29,14 @@ def field_of(text, kind="packages"):
     fields = {it.field for it in refusals}
     assert len(fields) == 1 and len({it.line for it in refusals}) == 1, (fields, refusals)
     return fields.pop()
+
+
+def in_pieces(text, length):
+    """The line and the field of the refusal of a file that is read in pieces of this length."""
+    pieces = iter([text[at : at + length] for at in range(0, len(text), length)] + [""])
+    reader = type("Reader", (), {"read": lambda self, size: next(pieces)})()
+    refused = error(lambda: list(debctl.paragraphs(reader)))
+    return refused.line, refused.field
 
 
 def duplicate(name, before=""):
@@ -62,6 +71,10 @@ TESTS = {
     "none": field_of("bad\n") is field_of(" x: 1\n") is field_of("#x: 1\n") is None,
     "a bad name": field_of("X Y: 1\n") == "X Y" and field_of("-x: 1\n") == "-x"
     and field_of("\u00e9\\: x:y\n") == "\u00e9\\" and field_of(f"{LONG} : 1\n") == LONG + " ",
+    "in pieces": all(in_pieces(REFUSED, length) == (17, "b") for length in range(1, 50)),
+    "in pieces, blank ones": in_pieces("a: 1\n" + " \n" * 2**17 + "B:\nb:\n", 2**10) == (2**17 + 3, "b"),
+    "in pieces, blank ones after it": in_pieces("a: 1\nA: 2\n" + "\n" * 20, 10) == (2, "A"),
+    "in pieces, of a long file": in_pieces(2**20 * "a:\n\n" + "B:\nb:\n", 2**16) == (2**21 + 2, "b"),
     "all refusals": [
         it.field for it in debctl.check_all(f"A\\B:\na\\b:\n\nx\n\nPackage: aa\n\n{LONG}: \n{LONG}:\n").refused
     ] == ["a\\b", None, "Version", LONG],

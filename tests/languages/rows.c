@@ -33,11 +33,12 @@ static const struct lined all[] = {
      "1/aa/1/amd64/Depends/bb | cc/2/ss/2/source/Build-Depends/x [y]/"},
     {DEB_DIFF_LINES,
      "removed 1 aa 1 all\n -Package: aa\n -x\nchanged 2 bb 1 all Depends Size\n +Size: 1\n"
-     "upgraded 3 cc 1 2 all Version\nadded 4 dd 1 all\n",
-     7,
+     "upgraded 3 cc 1 2 all Version\ndowngraded 5 ee 2 1~ all Version X\nadded 4 dd 1 all\n",
+     8,
      {DEB_ROW_REMOVED, DEB_ROW_OLD_LINE, DEB_ROW_OLD_LINE, DEB_ROW_CHANGED, DEB_ROW_NEW_LINE,
-      DEB_ROW_UPGRADED, DEB_ROW_ADDED},
-     "1/aa/1/all/Package: aa/x/2/bb/1/all/Depends Size/Size: 1/3/cc/1/2/all/Version/4/dd/1/all/"},
+      DEB_ROW_UPGRADED, DEB_ROW_DOWNGRADED, DEB_ROW_ADDED},
+     "1/aa/1/all/Package: aa/x/2/bb/1/all/Depends Size/Size: 1/3/cc/1/2/all/Version/"
+     "5/ee/2/1~/all/Version X/4/dd/1/all/"},
     {DEB_EXPLANATION,
      "line: 2\nvalue: a: b\n\nok 1, 2 refused\n",
      4,

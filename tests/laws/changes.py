@@ -4,9 +4,9 @@ from typing import List, NamedTuple, Optional
 
 from laws.documents import REQUIRED
 
-# Values that no document is made with.
+# Values that no document is made with: a field, and versions that are later and earlier than all.
 ADDED = b"X-Added: 1"
-VERSION = b"9:9.9-9"
+VERSIONS = {b"upgraded": b"99999:9.9-9", b"downgraded": b"~~~~~1"}
 
 
 class Change(NamedTuple):
@@ -42,7 +42,8 @@ def changed(random, kind: str, paragraphs: List[bytes]) -> Optional[Change]:
     old = fields_of(paragraphs[at])
     optional = [name for name in old if name not in REQUIRED[kind]]
     name = random.choice((b"Version", b"X-Added", *optional))
-    new = {**old, b"X-Added": ADDED, b"Version": b"Version: " + VERSION}[name]
+    word, newer = random.choice([*VERSIONS.items()])
+    new = {**old, b"X-Added": ADDED, b"Version": b"Version: " + newer}[name]
     new = {**old, name: new}
     if name in optional:
         del new[name]
@@ -53,7 +54,7 @@ def changed(random, kind: str, paragraphs: List[bytes]) -> Optional[Change]:
     package, version, architecture = called(kind, old)
     words = [b"changed", b"%d" % (at + 1), package, version, architecture, name]
     if name == b"Version":
-        words = [b"upgraded", *words[1:4], VERSION, *words[4:]]
+        words = [word, *words[1:4], newer, *words[4:]]
     values = marked(b" -", old.get(name)) + marked(b" +", new.get(name))
     return Change([*paragraphs[:at], paragraph, *paragraphs[at + 1 :]], b" ".join(words) + b"\n", values)
 

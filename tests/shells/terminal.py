@@ -2,7 +2,8 @@
 lines are typed there.
 
 The program and its completions are below a folder at the places at which `install` puts them below
-its prefix, and each shell finds the completions there by itself.
+its prefix, and each shell finds the completions there by itself. Or the folder is a home with what
+`install` put there, and zsh reads the lines that `install` printed.
 """
 
 import fcntl
@@ -36,9 +37,11 @@ reply() {{
 }}
 bind -x '"\C-t": reply'
 """
-ZSH = r"""
+ZSH_FPATH = r"""
 fpath=($ROOM/share/zsh/site-functions $fpath)
 autoload -Uz compinit && compinit -u -D
+"""
+ZSH = r"""
 setopt no_beep
 zle -C all-matches complete-word _generic
 zstyle ':completion:all-matches:*' completer _all_matches _complete
@@ -66,11 +69,12 @@ bind \ct reply
 
 
 class Shell:
-    """A shell on a terminal, below the folder `room`, in a folder that has the given files."""
+    """A shell on a terminal, below the folder `room`, in a folder that has the given files. With
+    `lines` nothing is put there, and zsh starts as it does for a user who has them in ~/.zshrc."""
 
-    def __init__(self, name, room, program, files=()):
-        self.room, work, self.shown = Path(room), Path(room) / "work", b""
-        for file, place in {program: "bin/debctl", **PLACES}.items():
+    def __init__(self, name, room, program, files=(), lines=None):
+        self.room, work, self.shown, self.lines = Path(room), Path(room) / "work", b"", lines
+        for file, place in {program: "bin/debctl", **PLACES}.items() if lines is None else ():
             (self.room / place).parent.mkdir(parents=True)
             (self.room / place).symlink_to(TOP / file)
         work.mkdir()
@@ -116,8 +120,8 @@ class Shell:
         if name == "bash":
             (self.room / "lines").write_text(BASH + ready)
             return ["bash", "--noprofile", "--rcfile", str(self.room / "lines"), "-i"]
-        (self.room / ".zshrc").write_text(ZSH + ready)
-        return ["zsh", "-d", "-i"]
+        (self.room / ".zshrc").write_text((self.lines or ZSH_FPATH) + ZSH + ready)
+        return ["zsh", "-d", "-i"] if self.lines is None else ["zsh", "-i"]
 
     def _environment(self):
         """The variables of a user for whom the program is below the folder."""

@@ -1,4 +1,4 @@
--- What holds of each element of a list: of two lists one behind the other, of a list's rest, and what is weaker.
+-- What holds of each element of a list: of two lists one after the other, of a list's rest, and what is weaker.
 use Rattle.std.proofs.Common.{ℕ, zero, suc, List, [], ◌∷◌, ◌++◌, drop}
 use Rattle.std.specs.List.{AllByRecursion}
 

@@ -34,17 +34,17 @@ name_is_ascii name h = each_from_list_all is_name_byte (λ b. b < 128) (λ b t. 
 pub blanks_are_ascii : (blanks : List ℕ) → IsTrue (is_all_blank blanks) → AllByRecursion (λ b. b < 128) blanks
 blanks_are_ascii blanks h = each_from_list_all is_blank_byte (λ b. b < 128) blank_byte_is blanks h
 
--- a text without the ASCII bytes in front of it
+-- a text without the ASCII bytes before it
 pub IsUtf8-after_all_ascii : (front text : List ℕ) → AllByRecursion (λ b. b < 128) front → IsUtf8 (front ++ text) → IsUtf8 text
 IsUtf8-after_all_ascii [] text h u = u
 IsUtf8-after_all_ascii (b ∷ front) text h u = IsUtf8-after_all_ascii front text h.1 (IsUtf8-after_ascii b (front ++ text) h.0 u)
 
--- a text without the ASCII bytes behind it
+-- a text without the ASCII bytes after it
 pub IsUtf8-before_all_ascii : (text back : List ℕ) → AllByRecursion (λ b. b < 128) back → IsUtf8 (text ++ back) → IsUtf8 text
 IsUtf8-before_all_ascii text [] h u = subst IsUtf8 (append-nil text) u
 IsUtf8-before_all_ascii text (b ∷ back) h u = IsUtf8-before_ascii text b back h.0 u
 
--- ASCII bytes in front of a text
+-- ASCII bytes before a text
 pub IsUtf8-with_all_ascii : (front text : List ℕ) → AllByRecursion (λ b. b < 128) front → IsUtf8 text → IsUtf8 (front ++ text)
 IsUtf8-with_all_ascii [] text h u = u
 IsUtf8-with_all_ascii (b ∷ front) text h u = IsUtf8-with_ascii b (front ++ text) h.0 (IsUtf8-with_all_ascii front text h.1 u)

@@ -1,4 +1,4 @@
--- The pieces of a text behind the first one, and which pieces aren't blank.
+-- The pieces of a text after the first one, and which pieces aren't blank.
 use Rattle.std.proofs.Common.{◌≡◌, ℕ, ◌==◌, ◌&&◌, true, false, not, IsTrue, List, [], ◌∷◌, ◌++◌, drop, leb, refl, ◌∙◌}
 use Rattle.std.proofs.lemmas.Bool.{and_parts, and_left, and_right, not-true}
 use Rattle.std.specs.List.{AllByRecursion, list_all}
@@ -17,7 +17,7 @@ drop-with_byte b (line ∷ lines) = refl
 pub later_pieces-cons : (b : ℕ) (text : List ℕ) → (b == newline) ≡ false → drop 1 (pieces_of (b ∷ text)) ≡ drop 1 (pieces_of text)
 later_pieces-cons b text h = rw h (drop-with_byte b (pieces_of text))
 
--- a front without a newline stands in the first piece
+-- a prefix without a newline is in the first piece
 pub later_pieces-append : (front text : List ℕ) → HasNoNewline front → drop 1 (pieces_of (front ++ text)) ≡ drop 1 (pieces_of text)
 later_pieces-append [] text h = refl
 later_pieces-append (b ∷ front) text h = later_pieces-cons b (front ++ text) h.0 ∙ later_pieces-append front text h.1

@@ -4,6 +4,8 @@ pub mod CanonicalNames
 mod DocLookups
 pub mod FieldBytes
 pub mod FieldLookups
+mod BegunRows
+mod FirstRows
 pub mod GraphicBodies
 pub mod GraphicNames
 pub mod LaterPieces

@@ -7,25 +7,25 @@ use Rattle.std.specs.List.{AllByRecursion}
 use Rattle.std.specs.Str.{IsUtf8}
 use Rattle.deb_base.specs.Bodies.{Line, newline, joined}
 
--- a text without the ASCII byte in front of it
+-- a text without the ASCII byte before it
 pub IsUtf8-after_ascii : (b : ℕ) (bs : List ℕ) → b < 128 → IsUtf8 (b ∷ bs) → IsUtf8 bs
 IsUtf8-after_ascii b bs h u = IsUtf8-drop (b ∷ bs) 1 u (IsCharBoundary-after_ascii (b ∷ bs) 0 u (omega arith) h)
 
--- what stands before an ASCII byte of a text
+-- what precedes an ASCII byte of a text
 pub IsUtf8-before_ascii : (bs : List ℕ) (b : ℕ) (rest : List ℕ) → b < 128 → IsUtf8 (bs ++ b ∷ rest) → IsUtf8 bs
 IsUtf8-before_ascii bs b rest h u =
     let short : length bs < length (bs ++ b ∷ rest) = omega (arith, length-append bs (b ∷ rest)) in
     let read : get_or (bs ++ b ∷ rest) (length bs) 0 < 128 = omega (arith, get_or_at bs b rest 0 (length bs) refl) in
     subst IsUtf8 (take_at bs (b ∷ rest) (length bs) refl) (IsUtf8-take (bs ++ b ∷ rest) (length bs) u (IsCharBoundary-before_ascii (bs ++ b ∷ rest) (length bs) short read))
 
--- what stands behind an ASCII byte of a text
+-- what follows an ASCII byte of a text
 pub IsUtf8-behind_ascii : (bs : List ℕ) (b : ℕ) (rest : List ℕ) → b < 128 → IsUtf8 (bs ++ b ∷ rest) → IsUtf8 (b ∷ rest)
 IsUtf8-behind_ascii bs b rest h u =
     let short : length bs < length (bs ++ b ∷ rest) = omega (arith, length-append bs (b ∷ rest)) in
     let read : get_or (bs ++ b ∷ rest) (length bs) 0 < 128 = omega (arith, get_or_at bs b rest 0 (length bs) refl) in
     subst IsUtf8 (drop_at bs (b ∷ rest) (length bs) refl) (IsUtf8-drop (bs ++ b ∷ rest) (length bs) u (IsCharBoundary-before_ascii (bs ++ b ∷ rest) (length bs) short read))
 
--- an ASCII byte in front of a text
+-- an ASCII byte before a text
 pub IsUtf8-with_ascii : (b : ℕ) (bs : List ℕ) → b < 128 → IsUtf8 bs → IsUtf8 (b ∷ bs)
 IsUtf8-with_ascii b bs h u = IsUtf8-append (b ∷ []) bs (IsUtf8-from_ascii (b ∷ []) (IsAscii-cons b [] h IsAscii-nil)) u
 

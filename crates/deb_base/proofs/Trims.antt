@@ -7,7 +7,7 @@ use Rattle.deb_base.specs.Bodies.{is_blank_byte, is_all_blank, begins_with_blank
 use Rattle.deb_base.specs.Trimming.{without_leading_blanks, with_kept, without_trailing_blanks, trimmed}
 use Rattle.deb_base.proofs.GraphicBodies.{IsGraphic, not_blank, ends}
 
--- what is cut off at the front
+-- what is cut off at the start
 pub record IsLeadingCut (text rest : List ℕ) : Type 0 where
   pub cut : List ℕ
   pub is : text ≡ cut ++ rest
@@ -41,7 +41,7 @@ trailing_cut (b ∷ bs) = go (without_trailing_blanks bs) (trailing_cut bs)
     go [] r = none (is_blank_byte b) refl r.cut r.is r.blank
     go (c ∷ cs) r = record { cut = r.cut; is = ap (λ l. b ∷ l) r.is; blank = r.blank; ends = r.ends }
 
--- to cut at the end leaves the front
+-- to cut at the end leaves a prefix
 pub begins-without_trailing : (text : List ℕ) → begins_with_blank text ≡ false → begins_with_blank (without_trailing_blanks text) ≡ false
 begins-without_trailing [] h = refl
 begins-without_trailing (b ∷ bs) h = go (without_trailing_blanks bs)
@@ -106,11 +106,11 @@ trimmed-between before (b ∷ body) after hb ha begins ends =
     stays : without_leading_blanks ((b ∷ body) ++ after) ≡ (b ∷ body) ++ after
     stays = rw begins
 
--- graphic bytes stay, and the blanks behind them don't
+-- graphic bytes stay, and the blanks after them don't
 pub trailing-graphic : (text after : List ℕ) → AllByRecursion IsGraphic text → is_all_blank after ≡ true → without_trailing_blanks (text ++ after) ≡ text
 trailing-graphic text after g h = trailing-append text after h ∙ trailing-none text (ends text g)
 
--- graphic bytes, of which there are some, with blanks around them
+-- some graphic bytes, with blanks around them
 pub trimmed-graphic : (before : List ℕ) (b : ℕ) (text after : List ℕ) → is_all_blank before ≡ true → is_all_blank after ≡ true → AllByRecursion IsGraphic (b ∷ text) → trimmed (before ++ (b ∷ text ++ after)) ≡ b ∷ text
 trimmed-graphic before b text after hb ha g = trimmed-between before (b ∷ text) after hb ha (not_blank b g.0) (ends (b ∷ text) g)
 

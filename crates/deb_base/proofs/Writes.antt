@@ -19,7 +19,7 @@ Appends-take a b c bytes n m p q =
 pub AppendsFront-take : (a b : Option (List ℕ)) (bytes : List ℕ) (n : ℕ) → Appends a b (take n bytes) → AppendsFront a b bytes
 AppendsFront-take a b bytes n p = record { front = take n bytes; rest = drop n bytes; whole = sym (take-append-drop n bytes); appended = p }
 
--- all of bs, and then a front of cs
+-- all of bs, and then a prefix of cs
 pub AppendsFront-then : (a b c : Option (List ℕ)) (bs cs : List ℕ) → Appends a b bs → AppendsFront b c cs → AppendsFront a c (bs ++ cs)
 AppendsFront-then a b c bs cs p q = record {
   front = bs ++ q.front;
@@ -28,7 +28,7 @@ AppendsFront-then a b c bs cs p q = record {
   appended = Appends-trans a b c bs q.front p q.appended;
 }
 
--- a front of bs, and nothing after it
+-- a prefix of bs, and nothing after it
 pub AppendsFront-more : (a b : Option (List ℕ)) (bs cs : List ℕ) → AppendsFront a b bs → AppendsFront a b (bs ++ cs)
 AppendsFront-more a b bs cs p = record {
   front = p.front;
@@ -50,13 +50,13 @@ Puts-stopped a b bs cs (Err e) is p = AppendsFront-more a b bs cs p
 -- for a function that calls one that puts, and then another: name it there in `#[tactic(auto, using(..))]`
 pub ruleset puts = (Puts-then, Puts-stopped)
 
--- the pieces before the one at i, that one, and those behind it
+-- the pieces before the one at i, that one, and those after it
 pub flat_map-split : {X A : Type 0} (f : X → List A) (xs : List X) (i : ℕ) (d : X) → i < length xs → flat_map f xs ≡ (flat_map f (take i xs) ++ f (get_or xs i d)) ++ flat_map f (drop (i + 1) xs)
 flat_map-split f xs i d below =
     ap (flat_map f) (sym (take-append-drop (i + 1) xs)) ∙ flat_map-append f (take (i + 1) xs) (drop (i + 1) xs)
     ∙ ap (λ l. l ++ flat_map f (drop (i + 1) xs)) (ap (flat_map f) (take_more xs i d below) ∙ flat_map-append f (take i xs) (get_or xs i d ∷ []) ∙ ap (λ l. flat_map f (take i xs) ++ l) (append-nil (f (get_or xs i d))))
 
--- the pieces before the one at i, and then a front of that one
+-- the pieces before the one at i, and then a prefix of that one
 pub AppendsFront-pieces : {X : Type 0} (f : X → List ℕ) (xs : List X) (i : ℕ) (d : X) (a b c : Option (List ℕ)) → i < length xs → Appends a b (flat_map f (take i xs)) → AppendsFront b c (f (get_or xs i d)) → AppendsFront a c (flat_map f xs)
 AppendsFront-pieces f xs i d a b c below p q =
     rw (flat_map-split f xs i d below) (AppendsFront-more a c _ (flat_map f (drop (i + 1) xs)) (AppendsFront-then a b c (flat_map f (take i xs)) (f (get_or xs i d)) p q))

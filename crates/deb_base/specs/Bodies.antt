@@ -1,5 +1,5 @@
--- The bodies of fields: what stands behind a field's colon, through its continuation lines, without
--- the spaces and tabs at its ends; and the blank lines that can't stand within one. Debian Policy
+-- The bodies of fields: what follows a field's colon, through its continuation lines, without
+-- the spaces and tabs at its ends; and the blank lines that can't be within one. Debian Policy
 -- 5.1; deb822(5), "Syntax".
 use Rattle.std.specs.Prelude.{◌≡◌, ℕ, ◌+◌, ◌==◌, ◌&&◌, ◌||◌, Bool, true, false, cond, not, IsTrue, List, [], ◌∷◌, length, drop, nat_le, codes, refl}
 use Rattle.std.specs.List.{list_all, filter, join_with_byte, range_with_len, AllByRecursion}
@@ -17,7 +17,7 @@ newline = 10
 abbrev pub is_blank_byte : ℕ → Bool
 is_blank_byte b = (b == 32) || (b == 9)
 
--- a byte in front of the first line
+-- a byte before the first line
 abbrev pub with_byte : ℕ → List Line → List Line
 with_byte b [] = (b ∷ []) ∷ []
 with_byte b (line ∷ lines) = (b ∷ line) ∷ lines
@@ -147,7 +147,7 @@ newline_at_end : is_body_shape (codes "a\n") ≡ false
 unfolding paragraph_limit
 newline_at_end = refl
 
--- a line of one space is blank, so it can't stand within a body
+-- a line of one space is blank, so it can't be within a body
 blank_within : (is_body_shape (codes "a\n \n b") ≡ false)
     × (is_body_shape (codes "a\n\n b") ≡ false)
 unfolding paragraph_limit

@@ -31,7 +31,7 @@ number_of ProvidesBound = 21
 number_of Wildcard = 22
 number_of BadEnvironment = 23
 
--- the name of a code, as it is told
+-- the name of a code, as it is reported
 abbrev pub name_of : Code → List ℕ
 name_of NotUtf8 = codes "NotUtf8"
 name_of Armour = codes "Armour"

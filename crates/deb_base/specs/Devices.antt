@@ -8,7 +8,7 @@ use Rattle.deb_base.specs.declared.code.Code.TheVariants.{NoColon}
 use Rattle.deb_base.specs.declared.fault.Fault.{Fault}
 use Rattle.deb_base.specs.declared.fault.Fault.TheVariants.{Refused, Memory, Read, Write}
 
--- what a device shows: the bytes that it has left, or holds, where it tells them, and the count of
+-- what a device shows: the bytes that it has left, or holds, if they are known, and the count of
 -- its failed calls
 pub record Shown : Type 0 where
   pub bytes : Option (List ℕ)
@@ -61,14 +61,14 @@ ReadFaultIffFailed old new r = old < last_count → (IsErrOf r Read ↔ (old < n
 abbrev pub WriteFaultIffFailed : {T : Type 0} → ℕ → ℕ → Result T Fault → Type 0
 WriteFaultIffFailed old new r = old < last_count → (IsErrOf r Write ↔ (old < new))
 
--- a front of the bytes was written: told bytes stay, and grow by that front
+-- a prefix of the bytes was written: known bytes stay, and grow by that prefix
 pub record AppendsFront (old new : Option (List ℕ)) (bytes : List ℕ) : Type 0 where
   pub front : List ℕ
   pub rest : List ℕ
   pub whole : bytes ≡ front ++ rest
   pub appended : Appends old new front
 
--- Ok: all of the bytes were written. An error: a front of them was
+-- Ok: all of the bytes were written. An error: a prefix of them was
 abbrev pub Puts : {T E : Type 0} → Option (List ℕ) → Option (List ℕ) → Result T E → List ℕ → Type 0
 Puts old new r bytes = MatchResult r (λ _. Appends old new bytes) (λ _. AppendsFront old new bytes)
 

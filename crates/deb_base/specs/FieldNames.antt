@@ -14,7 +14,7 @@ is_name_byte b = nat_le 33 b && nat_le b 126 && not (b == colon)
 abbrev pub may_begin_name : ℕ → Bool
 may_begin_name b = not (b == 35) && not (b == 45)
 
--- one or more bytes that a name may have, of which the first may begin one
+-- one or more bytes that a name may have, and the first one may begin a name
 abbrev pub is_name : List ℕ → Bool
 is_name [] = false
 is_name (b ∷ bs) = may_begin_name b && list_all is_name_byte (b ∷ bs)
@@ -29,7 +29,7 @@ name_of_ends = (refl, refl)
 no_name : (is_name [] ≡ false) × (is_name (codes "#x") ≡ false) × (is_name (codes "-x") ≡ false)
 no_name = (refl, refl, refl)
 
--- a space, a colon, the byte behind `~`, and a byte that isn't ASCII
+-- a space, a colon, the byte after `~`, and a byte that isn't ASCII
 other_byte_in_name : (is_name (codes "Package ") ≡ false) × (is_name (codes "a:b") ≡ false)
     × (is_name (97 ∷ 127 ∷ []) ≡ false) × (is_name (97 ∷ 195 ∷ 169 ∷ []) ≡ false)
 other_byte_in_name = (refl, refl, refl, refl)

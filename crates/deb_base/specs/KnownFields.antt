@@ -1,16 +1,18 @@
--- What the code's table of fields stands for, and what is found at the front of a line. Debian
--- Policy 5.1.
-use Rattle.std.specs.Prelude.{◌≡◌, ℕ, ◌<◌, List, length, take, slice_index, true, codes, refl}
+-- What the code's table of fields means, and which of its names a line begins with. Debian Policy
+-- 5.1.
+use Rattle.std.specs.Prelude.{◌≡◌, ℕ, ◌+◌, ◌<◌, Bool, List, [], ◌∷◌, ◌++◌, length, map, take, get_or, nat_lt, slice_index, true, false, codes, refl}
 use Rattle.std.specs.Borrow.{Bor}
+use Rattle.std.specs.List.{list_any, position_or_len, range_with_len}
+use Rattle.std.specs.Str.{bytes_eq}
 use Rattle.std.proofs.lemmas.Bool.{ltb-true}
 use Rattle.deb_base.specs.FieldNames.{colon, is_name}
-use Rattle.deb_base.specs.Kinds.{FieldRow, known_row}
+use Rattle.deb_base.specs.Kinds.{FieldRow, known_fields, known_row}
 use Rattle.deb_base.specs.declared.kind.Kind.{Kind}
 use Rattle.deb_base.specs.declared.kind.Kind.TheVariants.{Number}
 use Rattle.deb_base.specs.declared.known_fields.FieldId.{FieldId}
 use Rattle.deb_base.specs.declared.known_fields.NameAtFront.{NameAtFront}
 
--- the number of a field's row, or of a row behind the last
+-- the number of a field's row, or a number after that of the last row
 abbrev pub row_of : FieldId → ℕ
 row_of id = id.0
 
@@ -24,6 +26,25 @@ pub record IsAtFront (line : List ℕ) (front : NameAtFront) : Type 0 where
   pub colon : slice_index line front.len ≡ colon
   pub name : is_name (take front.len line) ≡ true
   pub id : row_of front.id ≡ known_row (take front.len line)
+
+-- whether the line begins with the row's name, as the table spells it, and a colon
+abbrev pub begins_with_row : List ℕ → FieldRow → Bool
+begins_with_row line row = bytes_eq (take (length row.0 + 1) line) (row.0 ++ codes ":")
+
+-- whether the line begins so with the name of any row
+unfoldable pub begins_with_known : List ℕ → Bool
+begins_with_known line = list_any (begins_with_row line) known_fields
+
+-- the first byte of a row's name
+abbrev pub first_byte : FieldRow → ℕ
+first_byte row = get_or row.0 0 0
+
+-- for each letter from A on: the first row whose name begins with it or a later one; at last, the
+-- number of rows
+unfoldable pub first_rows : List ℕ
+first_rows =
+    map (λ letter. position_or_len (λ row. nat_lt (64 + letter) (first_byte row)) known_fields)
+    (range_with_len 0 27)
 
 -- Worked cases.
 
@@ -39,3 +60,24 @@ name_at_front = record {
   name = refl;
   id = refl;
 }
+
+known_names : map begins_with_known
+    (codes "Architecture:" ∷ codes "Size: 1" ∷ codes "SHA1:a" ∷ codes "Build-Depends-Arch: a"
+    ∷ codes "Version:" ∷ []) ≡ true ∷ true ∷ true ∷ true ∷ true ∷ []
+unfolding begins_with_known
+known_names = refl
+
+-- spelled otherwise, without the colon, with a blank before it, not in the table, longer or shorter
+-- than a name of the table, after a blank, only a colon, empty
+other_lines : map begins_with_known
+    (codes "size: 1" ∷ codes "SIZE: 1" ∷ codes "Size" ∷ codes "Size : 1" ∷ codes "Status: 1"
+    ∷ codes "Sizes: 1" ∷ codes "Siz: 1" ∷ codes " Size: 1" ∷ codes ":" ∷ [] ∷ [])
+    ≡ false ∷ false ∷ false ∷ false ∷ false ∷ false ∷ false ∷ false ∷ false ∷ false ∷ []
+unfolding begins_with_known
+other_lines = refl
+
+first_rows_of_letters : first_rows
+    ≡ 0 ∷ 1 ∷ 12 ∷ 15 ∷ 20 ∷ 22 ∷ 25 ∷ 25 ∷ 26 ∷ 27 ∷ 27 ∷ 27 ∷ 27 ∷ 30 ∷ 30 ∷ 31 ∷ 37 ∷ 37 ∷ 40
+    ∷ 47 ∷ 50 ∷ 51 ∷ 54 ∷ 54 ∷ 54 ∷ 54 ∷ 54 ∷ []
+unfolding first_rows
+first_rows_of_letters = refl

@@ -1,4 +1,4 @@
--- The lines in which a refusal or a fault is told on standard error, each with its LF, byte by
+-- The lines in which a refusal or a fault is reported on standard error, each with its LF, byte by
 -- byte. Their form is this project's own: `line N: CODE NAME`, and `fault: ` and a word.
 use Rattle.std.specs.Prelude.{◌≡◌, List, [], ◌∷◌, ℕ, codes, refl}
 use Rattle.std.specs.Fmt.{decimal, digits}

@@ -7,11 +7,11 @@ use Rattle.deb_base.specs.declared.fault.Fault.{Fault}
 use Rattle.deb_base.specs.declared.fault.Fault.TheVariants.{Refused, Memory, Read, Write}
 use Rattle.deb_base.specs.declared.refusal.Refusal.{Refusal}
 
--- the most bytes that one read is lent
+-- the most bytes that one read has room for
 abbrev pub piece_limit : ℕ
 piece_limit = 65536
 
--- Of a text of which so many bytes may be looked at, at most one piece beyond these was taken.
+-- At most one piece was taken of a text after the bytes that may be looked at.
 pub record TakesNoMore (text : List ℕ) (room : ℕ) (left : Option (List ℕ)) : Type 0 where
   pub rest : List ℕ
   pub told : left ≡ Some rest

@@ -2,12 +2,12 @@
 use Rattle.std.specs.Prelude.{◌≡◌, ℕ, cond, List, [], ◌∷◌, codes, refl}
 use Rattle.deb_base.specs.Bodies.{is_blank_byte}
 
--- a text without the spaces and tabs at its front
+-- a text without the spaces and tabs at its start
 abbrev pub without_leading_blanks : List ℕ → List ℕ
 without_leading_blanks [] = []
 without_leading_blanks (b ∷ bs) = cond (is_blank_byte b) (without_leading_blanks bs) (b ∷ bs)
 
--- a byte in front of a text whose trailing spaces and tabs are cut
+-- a byte before a text whose trailing spaces and tabs are cut
 abbrev pub with_kept : ℕ → List ℕ → List ℕ
 with_kept b [] = cond (is_blank_byte b) [] (b ∷ [])
 with_kept b (c ∷ cs) = b ∷ c ∷ cs

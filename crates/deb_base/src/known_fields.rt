@@ -1,9 +1,9 @@
 //! The table of the fields that are known by name: the kind of each one's values, and which of them
 //! a kind of document requires.
 
-ghost use Rattle.std.specs.Prelude.{◌≡◌, ◌↔◌, ◌<◌, ℕ, List, map, length, nat_lt, IfSome, IsTrue};
+ghost use Rattle.std.specs.Prelude.{◌≡◌, ◌↔◌, ◌<◌, ◌≤◌, ℕ, List, [], map, length, get_or, is_some, nat_lt, IfSome, IsTrue};
 ghost use Rattle.deb_base.specs.Kinds.{in_source, kind_at, kind_of, known_fields, known_row, required};
-ghost use Rattle.deb_base.specs.KnownFields.{row_in, row_of, IsAtFront};
+ghost use Rattle.deb_base.specs.KnownFields.{begins_with_known, begins_with_row, first_byte, first_rows, row_in, row_of, IsAtFront};
 
 use crate::doc::Doc;
 use crate::kind::{Kind, Relationship};
@@ -95,7 +95,7 @@ pub const KNOWN_FIELDS: usize = 54;
 #[derive(Clone, Copy, Debug, PartialEq, Eq)]
 pub struct FieldId(u8);
 
-/// A name of the table at the front of a line.
+/// A name of the table at the start of a line.
 #[derive(Clone, Copy, Debug)]
 pub struct NameAtFront {
     /// The field of this name.
@@ -117,15 +117,21 @@ impl FieldId {
         FieldId(row)
     }
 
-    /// Returns the field of the table whose name, as it is usually spelled, begins a line and has a
-    /// colon after it. `None` says nothing: `of` then finds the field by the whole name.
+    /// Returns the field of the table whose name, as the table spells it, begins the line with a
+    /// colon after it.
+    ///
+    /// `None` means that no name of the table does. The line can still begin with such a name in
+    /// another case: `of` finds the field by the whole name.
     pub fn at_front(line: &[u8]) -> Option<NameAtFront>
-        ensures { IfSome result (IsAtFront line.now) }
+        ensures some { IfSome result (IsAtFront line.now) }
+        ensures some_iff_known { is_some result ≡ begins_with_known line.now }
     {
-        let letter = usize::from(line.first()?.wrapping_sub(b'A'));
-        let mut row = *FIRST_ROWS.get(letter)?;
-        let end = *FIRST_ROWS.get(letter + 1)?;
-        while row < end {
+        let Some(first) = line.first() else {
+            return None;
+        };
+        let rows = rows_of_letter(*first);
+        let mut row = rows.0;
+        while row < rows.1 {
             if let Some(front) = row_at_front(row, line) {
                 return Some(front);
             }
@@ -134,8 +140,8 @@ impl FieldId {
         None
     }
 
-    /// Returns the number of the field's row in the table, counted from 0, or of a row behind the
-    /// last.
+    /// Returns the number of the field's row in the table, counted from 0, or a number after the
+    /// last row's.
     pub fn row(self) -> usize
         ensures { result ≡ row_of self }
     {
@@ -175,16 +181,38 @@ impl FieldId {
     }
 }
 
-/// Lends the table.
+/// Returns a reference to the table.
 fn fields() -> &'static [(&'static [u8], Kind)]
     ensures { map row_in result.now ≡ known_fields }
 {
     &FIELDS
 }
 
-/// The name in a row, if it begins the line and has a colon after it.
+/// Returns a reference to `FIRST_ROWS`.
+fn first_rows() -> &'static [u8]
+    ensures { result.now ≡ first_rows }
+{
+    &FIRST_ROWS
+}
+
+/// Returns the first of the rows whose names begin with the byte, and the first row after them.
+fn rows_of_letter(first: u8) -> (u8, u8)
+    ensures { (row : ℕ) → row < 54 → first_byte (get_or known_fields row ([], Kind.Text)) ≡ first
+        → (result.0 ≤ row) × (row < result.1) }
+{
+    if first < b'A' || first > b'Z' {
+        return (0, 0);
+    }
+    let letter = usize::from(first - b'A');
+    (first_rows()[letter], first_rows()[letter + 1])
+}
+
+/// The name in a row, if the line begins with it and a colon.
 fn row_at_front(row: u8, line: &[u8]) -> Option<NameAtFront>
-    ensures { IfSome result (IsAtFront line.now) }
+    ensures some { IfSome result (IsAtFront line.now) }
+    ensures known { IsTrue (is_some result) → row < 54 }
+    ensures some_iff_begins { row < 54 →
+        is_some result ≡ begins_with_row line.now (get_or known_fields row ([], Kind.Text)) }
 {
     if usize::from(row) >= fields().len() {
         return None;

@@ -39,6 +39,7 @@ mod package_names;
 mod put;
 mod reading;
 mod refusal;
+mod version_text;
 
 pub use blank::{
     begins_with_blank, is_blank_byte, is_only_blanks, trimmed, without_trailing_blanks,
@@ -58,3 +59,4 @@ pub use package_names::{is_arch_name, is_package_name, is_profile_name, is_wildc
 pub use put::{put_all, put_pieces};
 pub use reading::{PIECE_LIMIT, read_text};
 pub use refusal::Refusal;
+pub use version_text::VersionText;

@@ -15,7 +15,8 @@ pub const PIECE_LIMIT: usize = 65_536;
 ///
 /// # Errors
 ///
-/// Out of memory, or a failed read. Nothing is read after either.
+/// Out of memory, or a failed read. After either, too, at most one piece was taken beyond the first
+/// `most` bytes.
 pub fn read_text<R: Source>(alloc: Global, source: &mut R, most: u64) -> Result<Vec<u8>, Fault>
     ensures ok { IfOk result (λ text. ReadsEnough most (R.left source.old) text.items) }
     ensures reads_at_most { (text : List ℕ) → R.left source.old ≡ Some text

@@ -7,7 +7,7 @@ use Rattle.deb_control.proofs.Passing.{AllPass, outcome-from_pass, pass-from_out
 use Rattle.deb_control.proofs.ValueBodies.{AreEntries-bodies_of}
 use Rattle.deb_control.proofs.ValueFiles.{text_means_one_thing, canonical_text_means_the_same, canonical_text_tells_meanings}
 
--- the canonical text of all is within the limit where the last front is
+-- the canonical text of all is within the limit where the last prefix is
 file_within : (rules : Rules) (beyond : Option ℕ) (before : List Entries) (left : List Paragraph) (passed : List Entries) → AllPass rules beyond before left passed → length (file_text before) ≤ file_limit → length (file_text (before ++ passed)) ≤ file_limit
 file_within rules beyond before [] passed all within = subst (λ m. length (file_text (before ++ m)) ≤ file_limit) (sym all) (subst (λ m. length (file_text m) ≤ file_limit) (sym (append-nil before)) within)
 file_within rules beyond before (p ∷ left) [] all within = absurd all
@@ -22,7 +22,7 @@ one_passes rules beyond (p ∷ []) (entries ∷ passed) single some all = ap (λ
 one_passes rules beyond (p ∷ q ∷ left) (entries ∷ []) single some all = absurd all.1
 one_passes rules beyond (p ∷ q ∷ left) (entries ∷ more ∷ passed) single some all = absurd (false≢true (sym (rw single at all.1.0.alone)))
 
--- a paragraph stands alone where at most one stands
+-- a paragraph is alone where at most one is
 alone_from : (single : Bool) (before : List Entries) (entries : Entries) (more : List Entries) → (single ≡ true → length (before ++ entries ∷ more) ≤ 1) → (single && has_some before) ≡ false
 alone_from false before entries more h = refl
 alone_from true [] entries more h = refl

@@ -27,7 +27,7 @@ file_text-starts (first ∷ next ∷ before) (entries ∷ more) =
     let rest = file_text-starts (next ∷ before) (entries ∷ more) in
     (rest.0, ap (λ text. paragraph_text first ++ newline ∷ text) rest.1 ∙ sym (append_assoc (paragraph_text first) (newline ∷ file_text (next ∷ before)) rest.0))
 
--- A file of which these paragraphs are all that comes is accepted with them.
+-- A file that has only these paragraphs is accepted with them.
 pub is_all_of : (doc : Doc) (text : List ℕ) (before : List Entries) → outcome (rules_of doc) text ≡ record { passed = before; refusal = None } → IsAllOf doc text before
 is_all_of doc text before is =
     let found = accepted-from_none ValueMeaning (SpellsValue doc) value_text (value_law doc) (rules_of doc) (document_rules doc) text (ap (λ o. o.refusal) is) in
@@ -63,7 +63,7 @@ has_taken checked doc text left has =
     let p = checked.paragraphs in
     taken_none text has.fits.passed (cursor_state p.cursor) p.overlong_len p.finished _ p.fault left has.fits.fits (reach_limit _ p.reach)
 
--- a refusal behind them is the file's, and they are all that passes
+-- a refusal after them is the file's, and they are all that passes
 pub refused_behind : (T : Type 0) (doc : Doc) (text : List ℕ) (state new : CheckedState) (left left_after : Option (List ℕ)) (fault : Fault) (checked : HasChecked doc text state left) → AnswersChecked doc text checked.before (Err fault) new left_after → IfRefused {T = T} (Err fault) (λ refusal. outcome (rules_of doc) text ≡ record { passed = checked.before; refusal = Some refusal })
 refused_behind T doc text state new left left_after (Refused refusal) checked answer = outcome-from_refusal (rules_of doc) text checked.before refusal checked.fits.given answer
 refused_behind T doc text state new left left_after Memory checked answer = tt
@@ -82,11 +82,11 @@ refusal_behind T doc text state new left left_after fault checked answer =
     refused_then T (λ refusal. outcome (rules_of doc) text ≡ record { passed = checked.before; refusal = Some refusal }) (λ refusal. refusal_of doc text ≡ Some refusal) fault
     (λ refusal is. ap (λ o. o.refusal) is) (refused_behind T doc text state new left left_after fault checked answer)
 
--- a call that answers an error has the count of the source that the error tells
+-- a call that answers an error has the count of the source that the error gives
 pub counted_on : (T : Type 0) (doc : Doc) (before : CheckedMoment) (fault : Fault) (after : CheckedMoment) (n : ℕ) → Checks doc before (Err fault) after → before.source.failures ≡ n → after.source.failures ≡ read_failures_after {T = T} n (Err fault)
 counted_on T doc before fault after n checks same = checks.counted ∙ ap (λ k. read_failures_after {T = Option Passing} k (Err fault)) same ∙ counted-err (Option Passing) T n fault
 
--- What is written of the first paragraphs, where an error of the reader comes behind them.
+-- What is written of the first paragraphs, where an error of the reader comes after them.
 pub writes_read : (doc : Doc) (text : List ℕ) (state : CheckedState) (left old new : Option (List ℕ)) (checked : HasChecked doc text state left) → Appends old new (file_text checked.before) → WritesRead doc text old new
 writes_read doc text state left old new checked written =
     let fits = checked.fits in
@@ -110,7 +110,7 @@ cut_off T Memory P h = h
 cut_off T Read P h = h
 cut_off T Write P h = tt
 
--- What is written of a file that is refused behind its first paragraphs.
+-- What is written of a file that is refused after its first paragraphs.
 pub writes_refused : (T : Type 0) (doc : Doc) (text : List ℕ) (state new : CheckedState) (left left_after old held : Option (List ℕ)) (fault : Fault) (checked : HasChecked doc text state left) → Appends old held (file_text checked.before) → AnswersChecked doc text checked.before (Err fault) new left_after → IfRefused {T = T} (Err fault) (λ refusal. WritesRefused doc text refusal old held)
 writes_refused T doc text state new left left_after old held fault checked written answer =
     refused_then T (λ refusal. outcome (rules_of doc) text ≡ record { passed = checked.before; refusal = Some refusal }) (λ refusal. WritesRefused doc text refusal old held) fault
@@ -126,7 +126,7 @@ writes_canonical doc text state new left left_after old held count checked count
     ap (λ o. file_text o.passed) (sym is) ∙ accepted_is_written ValueMeaning (SpellsValue doc) value_text (value_law doc) (rules_of doc) (document_rules doc) text has.meaning has.accepted in
     record { meaning = has.meaning; accepted = has.accepted; count = has.count; written = subst (Appends old held) text_is written }
 
--- one more paragraph is written behind them
+-- one more paragraph is written after them
 pub paragraph_written : (before : List Entries) (entries : Entries) (bytes : List ℕ) (n : ℕ) (a b c : Option (List ℕ)) → length before ≡ n → bytes ≡ paragraph_text entries → Appends a b (file_text before) → Appends b c (gap_behind n ++ (bytes ++ [])) → Appends a c (file_text (before ++ entries ∷ []))
 paragraph_written before entries bytes n a b c counted is written next =
     rw file_text-push (Appends-trans a b c (file_text before) (gap_behind (length before) ++ paragraph_text entries) written (rw (counted, ← is, ← append-nil bytes) next))

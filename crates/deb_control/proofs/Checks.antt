@@ -12,7 +12,7 @@ file_limit_is = refl
 pub few-totals : (given : Totals) → given.paragraphs ≤ file_limit + 1
 few-totals given = omega (arith, given.few, given.within, file_limit_is)
 
--- what was found tells the answer
+-- what was found gives the answer
 pub none_found : (state : State) (found : Bool) → state.current ≡ None → advance_answer state (Ok found) ≡ Ok None
 none_found state true none = ap Ok none
 none_found state false none = refl

@@ -1,4 +1,4 @@
--- The names of specifications and of lower crates that the proofs cite, passed on from one place. Declares nothing.
+-- Passes on the names of specifications and of lower crates that the proofs cite. Declares nothing.
 pub use Rattle.std.proofs.Common.{All, Bool, Bor, Equal, Err, Greater, IfErr, IfNone, IfOk, IfSome, IsFalse, IsPermutation, IsSome, IsTrue, Less, List, MatchResult, None, Ok, Option, Ordering, Result, Some, [], add-one, ap, append-nil, append_assoc, arith, cond, drop, eqb, false, flat_map, get_or, inl, inr, is_eq, is_ok, is_some, leb, length, length-append, map, min, nat_le, not, option_map, refl, rules, slice_get, subst, suc, sym, take, take-append-drop, tests, true, zero, ℕ, ◌&&◌, ◌++◌, ◌+◌, ◌-◌, ◌<◌, ◌==◌, ◌^◌, ◌||◌, ◌↔◌, ◌∙◌, ◌∷◌, ◌≡◌, ◌≤◌, ◌⊎◌}
 pub use Rattle.std.proofs.KnownBytes.{Appends-nil, Appends-trans}
 pub use Rattle.std.proofs.Math.Nat.{min-le_left, min-le_right}

@@ -20,7 +20,7 @@ start_agreed doc text other one two fits fits_too = record { first = record { be
 texts-push : (before others : List Entries) (entries next : Entries) → length before ≡ length others → file_text before ≡ file_text others → paragraph_text entries ≡ paragraph_text next → file_text (before ++ entries ∷ []) ≡ file_text (others ++ next ∷ [])
 texts-push before others entries next counts texts same = simp file_text-push (rw (texts, counts, same) refl)
 
--- paragraphs at one place of equal lists are equal
+-- paragraphs at one index of equal lists are equal
 same_place : {X : Type 0} (xs ys : List X) (x y : X) (more rest : List X) → length xs ≡ length ys → (xs ++ x ∷ []) ++ more ≡ (ys ++ y ∷ []) ++ rest → x ≡ y
 same_place [] [] x y more rest counts same = cc
 same_place [] (b ∷ ys) x y more rest counts same = absurd (omega (arith, counts))
@@ -33,7 +33,7 @@ same_place (a ∷ xs) (b ∷ ys) x y more rest counts same =
 no_more : {X : Type 0} (xs ys : List X) (y : X) (more : List X) → length xs ≡ length ys → xs ≡ (ys ++ y ∷ []) ++ more → ⊥
 no_more xs ys y more counts same = omega (arith, counts, ap length same, length-append (ys ++ y ∷ []) more, length-append ys (y ∷ []))
 
--- What the next answers tell of files whose paragraphs have agreed so far.
+-- What the next answers say of files whose paragraphs have agreed so far.
 abbrev pub Compared : Doc → List ℕ → List ℕ → CheckedMoment → CheckedMoment → Option Passing → Option Passing → Type 0
 Compared doc text other new new_too None given_too = Agrees doc text other (is_none given_too)
 Compared doc text other new new_too (Some given) None = Agrees doc text other false

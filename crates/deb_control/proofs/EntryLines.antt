@@ -9,7 +9,7 @@ entry_text entry = entry.0 ++ colon ∷ behind_colon entry.1
 abbrev pub entry_lines : List ℕ × List ℕ → List Line
 entry_lines entry = pieces_of (entry_text entry)
 
--- what stands between the colon and the body: one space or nothing
+-- what is between the colon and the body: one space or nothing
 record HasFront (body : List ℕ) : Type 0 where
   front : List ℕ
   blank : IsTrue (is_all_blank front)

@@ -24,7 +24,7 @@ none-from_each : (rules : Rules) (fields : List Field) → NoneRefused rules fie
 none-from_each rules [] h = refl
 none-from_each rules (field ∷ fields) h = rw h.0 (none-from_each rules fields h.1)
 
--- each field's body is the one that stands under its name
+-- each field's body is the one that is under its name
 own_body : (field : Field) (fields : List Field) → body_of field.name (field ∷ fields) ≡ Some field.body
 own_body field fields = rw ((bytes_eq-Decides (folded field.name) (folded field.name)).1 refl) refl
 
@@ -38,7 +38,7 @@ own_bodies : (fields : List Field) → AreDistinct fields → AllByRecursion (λ
 own_bodies [] d = tt
 own_bodies (field ∷ fields) d = (own_body field fields, behind_other field fields fields d.0 (own_bodies fields d.1))
 
--- a name stands among fields exactly where a body stands under it
+-- a name is among fields exactly where a body is under it
 has_name-body_of : (name : List ℕ) (fields : List Field) → is_some (body_of name fields) ≡ has_name name fields
 has_name-body_of name [] = refl
 has_name-body_of name (field ∷ fields) = go (bytes_eq (folded field.name) (folded name)) (has_name-body_of name fields)
@@ -64,7 +64,7 @@ module _ {V : Type 0} (spells : List ℕ → List ℕ → V → Type 0) where
       (choose (byte_order name entry.0) ((name, body) ∷ entry ∷ entries) ((entry.0, body) ∷ entries) (entry ∷ insert_entry byte_order entries name body) ((name, v) ∷ field ∷ fields) ((field.0, v) ∷ fields) (field ∷ insert_entry byte_order fields name v)
       ((refl, s), p) (λ e. ((p.0.0, subst (λ n. spells n body v) (same_from_equal name entry.0 e ∙ p.0.0) s), p.1)) (p.0, rest))
 
-  -- a value stands under a name exactly where a body does
+  -- a value is under a name exactly where a body is
   pub is_some-find : (name : List ℕ) (entries : Entries) (fields : ValueEntries V) → Pairwise (SpellsEntry spells) entries fields → is_some (find byte_order name fields) ≡ is_some (find byte_order name entries)
   is_some-find name [] [] p = refl
   is_some-find name [] (field ∷ fields) p = absurd p
@@ -89,7 +89,7 @@ map-insert {V} {W} of (field ∷ fields) name v = go (byte_order name field.0) r
     go Equal e rest = ap (λ n. (field.0, of n v) ∷ map new fields) (sym (same_from_equal name field.0 e))
     go Greater e rest = ap (λ m. new field ∷ m) rest
 
--- the names that are asked stand among the values of fields exactly where they stand among the fields
+-- the names that are asked are among the values of fields exactly where they are among the fields
 pub has_values-have_names : {V : Type 0} (spells : List ℕ → List ℕ → V → Type 0) (fields : List Field) (values : ValueEntries V) → AreDistinct fields → Pairwise (SpellsEntry spells) (entries_of fields) values → (names : List (List ℕ)) → has_values names values ≡ have_names fields names
 has_values-have_names spells fields values d s [] = refl
 has_values-have_names spells fields values d s (name ∷ names) =
@@ -117,7 +117,7 @@ module _ (V : Type 0) (spells : List ℕ → List ℕ → V → Type 0) (text_of
       })
       none.1
 
-  -- where no body is refused, the bodies spell values, of which the canonical bodies are the texts
+  -- where no body is refused, the bodies spell values, and the canonical bodies are their texts
   pub values-from_none : (fields : List Field) → value_refusal_of rules fields ≡ None → (values : ValueEntries V) × Pairwise (SpellsEntry spells) (entries_of fields) values × (canonical_entries rules fields ≡ map (body_under text_of) values)
   values-from_none fields none =
       let has = more_values fields [] [] (record { values = []; spelled = tt; texts = refl }) (each-from_none rules fields none) in

@@ -2,13 +2,13 @@
 use Rattle.deb_control.proofs.Common.{◌≡◌, ℕ, suc, ◌+◌, ◌<◌, ◌≤◌, inl, inr, None, Some, List, [], ◌∷◌, ◌++◌, length, map, drop, slice_get, option_map, add-one, append-nil, append_assoc, sym, ap, ◌∙◌, subst, arith, drop-cons, drop_all, map-append, slice_get_within, slice_get_cases, get_or_from_slice_get, AllByRecursion, Fault, Refused, Memory, Read, Write, Refusal, RefusedOrMemory, canonical_name, Field, field_of, RawField, Doc, value_refusal, rules_of, refusal_or, value_refusal_of, Visit, IsVisit}
 use Rattle.deb_control.proofs.DocumentRules.{document_rules}
 
--- those before an index, with their values, none of which is refused
+-- those before an index, with their values, where none is refused
 pub record HasRead {X : Type 0} (visit_in : X → Visit) (doc : Doc) (fields : List Field) (items : List X) (i : ℕ) : Type 0 where
   pub read : map (λ x. (visit_in x).0) items ++ drop i fields ≡ fields
   pub good : AllByRecursion (λ x. IsVisit doc (visit_in x)) items
   pub refusal : value_refusal_of (rules_of doc) fields ≡ value_refusal_of (rules_of doc) (drop i fields)
 
--- the field at an index, and those behind it
+-- the field at an index, and those after it
 pub drop-at : (fields : List Field) (i : ℕ) (field : Field) → slice_get fields i ≡ Some field → drop i fields ≡ field ∷ drop (i + 1) fields
 drop-at fields i field is =
     drop-cons fields i field (slice_get_within fields i field is)

@@ -33,7 +33,7 @@ HaveMeanings-first : (n : ℕ) (entries : Entries) (paragraphs : List Paragraph)
 HaveMeanings-first n entries paragraphs meaning are means =
     ((fields_from n entries, SpellsParagraph-paragraph_from n entries are, sym (entries_of-fields_from n entries are.each are.ascending)), means)
 
--- behind an empty line stands what stands there
+-- an empty line, and what follows it
 pub behind_empty : (n : ℕ) (text : List ℕ) → paragraphs_from n (lines_of (newline ∷ text)) ≡ paragraphs_from (n + 1) (lines_of text)
 behind_empty n text = rw is_blank-nil refl
 

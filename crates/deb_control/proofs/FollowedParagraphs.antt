@@ -1,4 +1,4 @@
--- What comes of a file behind its first paragraphs, which have passed.
+-- What comes of a file after its first paragraphs, which have passed.
 use Rattle.deb_control.proofs.Common.{◌≡◌, ℕ, zero, suc, ◌+◌, List, [], ◌∷◌, ◌++◌, ◌&&◌, not, Bool, true, false, cond, length, drop, Option, None, Some, Result, Ok, Err, refl, sym, ap, ◌∙◌, subst, arith, append-nil, length-append, NoParagraph, Refusal, line_beyond, answer_of_first, paragraphs_within, Paragraph, file_limit, Entries, push-append, Follow, has_some, answer_of_seen, answer_behind, next_checked, Outcome, stopped, followed, outcome_behind, outcome, line_behind, Rules}
 
 -- one paragraph more follows
@@ -16,7 +16,7 @@ drop_one (suc k) [] = sym (ap (λ m. drop m []) (suc_plus k))
 drop_one (suc k) (x ∷ xs) = drop_one k xs ∙ sym (ap (λ m. drop m (x ∷ xs)) (suc_plus k))
 
 module _ (rules : Rules) (beyond : Option ℕ) (n : ℕ) where
-  -- behind the last paragraph there is none
+  -- after the last paragraph there is none
   pub never_behind_all : (before : List Entries) (entries : Entries) → answer_behind rules beyond n before [] ≡ Ok (Some entries) → ⊥
   never_behind_all before entries h = go beyond h
     where
@@ -28,7 +28,7 @@ module _ (rules : Rules) (beyond : Option ℕ) (n : ℕ) where
       go None e = none (rules.single && not (has_some before)) e
       go (Some line) e = cc
 
-  -- what comes of it is told behind a paragraph that passes
+  -- what comes of it is reported after a paragraph that passes
   pub outcome-next : (before : List Entries) (left : List Paragraph) (entries : Entries) → answer_behind rules beyond n before left ≡ Ok (Some entries) → outcome_behind rules beyond n before left ≡ outcome_behind rules beyond n (before ++ entries ∷ []) (drop 1 left)
   outcome-next before [] entries h = absurd (never_behind_all before entries h)
   outcome-next before (p ∷ left) entries h = ap (λ a. followed before a (λ e. outcome_behind rules beyond n (before ++ e ∷ []) left)) h
@@ -41,7 +41,7 @@ module _ (rules : Rules) (beyond : Option ℕ) (n : ℕ) where
   outcome-ended before [] h = ap (stopped before) h
   outcome-ended before (p ∷ left) h = ap (λ a. followed before a (λ e. outcome_behind rules beyond n (before ++ e ∷ []) left)) h
 
-  -- more paragraphs may pass behind those that have
+  -- more paragraphs may pass after those that have
   pub outcome-passed : (before : List Entries) (left : List Paragraph) → (more : List Entries) × ((outcome_behind rules beyond n before left).passed ≡ before ++ more)
   outcome-passed before [] = ([], go (answer_behind rules beyond n before []))
     where
@@ -55,7 +55,7 @@ module _ (rules : Rules) (beyond : Option ℕ) (n : ℕ) where
       go (Ok None) rest = ([], sym (append-nil before))
       go (Ok (Some entries)) rest = let r = rest entries in (entries ∷ r.0, r.1 ∙ push-append before entries r.0)
 
--- what comes of a file behind these paragraphs
+-- what comes of a file after these paragraphs
 abbrev pub outcome_from : Rules → List ℕ → List Entries → Outcome
 outcome_from rules text before = outcome_behind rules (line_beyond 1 file_limit text) (line_behind text) before (drop (length before) (paragraphs_within text))
 
@@ -69,7 +69,7 @@ outcome-follow rules text front (entries ∷ more) follow =
     ∙ outcome-follow rules text (front ++ entries ∷ []) more follow.1
     ∙ ap (outcome_from rules text) (push-append front entries more)
 
--- The file is refused behind its first paragraphs.
+-- The file is refused after its first paragraphs.
 pub outcome-from_refusal : (rules : Rules) (text : List ℕ) (before : List Entries) (refusal : Refusal) → Follow rules text [] before → next_checked rules text before ≡ Err refusal → outcome rules text ≡ record { passed = before; refusal = Some refusal }
 outcome-from_refusal rules text before refusal follow next =
     outcome-follow rules text [] before follow

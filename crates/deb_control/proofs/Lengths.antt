@@ -7,7 +7,7 @@ use Rattle.deb_control.proofs.FieldValues.{same_from_equal}
 use Rattle.deb_control.proofs.SortedFields.{entry_of}
 use Rattle.deb_control.proofs.Visited.{distinct-visited}
 
--- nothing stands under the name
+-- nothing is under the name
 abbrev Lacks : Entries → List ℕ → Type 0
 Lacks entries name = AllByRecursion (λ entry. name ≡ entry.0 → ⊥) entries
 
@@ -37,7 +37,7 @@ lacks-each field entries (f ∷ fields) none lacks =
     let p = or_parts (bytes_eq (folded f.name) (folded field.name)) (has_name field.name fields) none in
     (each_insert (λ entry. canonical_name f.name ≡ entry.0 → ⊥) (canonical_name field.name) field.body (λ entry apart. apart) entries lacks.0 (names_apart field.name f.name p.0), lacks-each field entries fields p.1 lacks.1)
 
--- how long a field is with its body as it stands
+-- how long a field is with its body as it is
 abbrev own_length : Field → ℕ
 own_length field = length (field_text (entry_of field))
 

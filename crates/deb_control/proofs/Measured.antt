@@ -1,4 +1,4 @@
--- A paragraph of which the length of the canonical text is known.
+-- A paragraph whose length of canonical text is known.
 use Rattle.deb_control.proofs.Common.{◌≡◌, ℕ, ◌<◌, ◌≤◌, min, true, List, length, Ok, Err, is_ok, refl, subst, sym, ◌∙◌, ap, arith, min-le_left, ParagraphTooLong, Seen, are_fields, AreDistinct, Doc, paragraph_text, rules_of, text_built, Visit, VisitsFields, VisitsValues, texts_length, most, have_names, canonical_entries, built}
 use Rattle.deb_base.specs.Bodies.{paragraph_limit}
 use Rattle.deb_control.proofs.Building.{distinct-from}

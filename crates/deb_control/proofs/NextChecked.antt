@@ -1,7 +1,7 @@
 -- What is answered of a document's next paragraph, from what its reader of paragraphs answers.
 use Rattle.deb_control.proofs.Common.{◌≡◌, ℕ, ◌+◌, ◌<◌, ◌≤◌, ◌&&◌, true, false, List, [], ◌∷◌, ◌++◌, drop, length, Option, None, Some, Ok, Err, refl, sym, ap, ◌∙◌, arith, append_assoc, length-append, le-leb, lt-leb, ne_eqb, newline, FileTooLong, TooManyParagraphs, Refusal, Seen, line_beyond, paragraphs_within, answer_of_first, begin_of_first, next_answer, next_begin, Paragraph, file_limit, Entries, paragraph_text, file_text, built, within_file, has_some, answer_of_seen, answer_behind, line_behind, next_checked, Rules, bytes_with, gap_behind}
 
--- of a document of which no paragraph is one too many
+-- of a document where no paragraph is one too many
 pub next_checked-seen : (rules : Rules) (text : List ℕ) (before : List Entries) → (rules.single && has_some before) ≡ false → next_checked rules text before ≡ answer_of_seen rules (line_behind text) before (next_answer text (length before))
 next_checked-seen rules text before few = go (drop (length before) (paragraphs_within text))
   where
@@ -54,7 +54,7 @@ length-file_text (first ∷ before) entries =
 pub bytes-with : (before : List Entries) (entries : Entries) (count bytes : ℕ) → count ≡ length before → bytes ≡ length (file_text before) → bytes_with count bytes (length (paragraph_text entries)) ≡ length (file_text (before ++ entries ∷ []))
 bytes-with before entries count bytes counted is = ap (λ n. bytes_with n bytes (length (paragraph_text entries))) counted ∙ ap (λ n. bytes_with (length before) n (length (paragraph_text entries))) is ∙ sym (length-file_text before entries)
 
--- what is answered of a paragraph that was seen behind these
+-- what is answered of a paragraph that was seen after these
 module _ (rules : Rules) (text : List ℕ) (before : List Entries) (seen : Seen) (few : (rules.single && has_some before) ≡ false) (answer : next_answer text (length before) ≡ Ok (Some seen)) where
   next_checked-built : next_checked rules text before ≡ within_file before seen.first (built rules seen)
   next_checked-built = next_checked-seen rules text before few ∙ ap (answer_of_seen rules (line_behind text) before) answer

@@ -79,7 +79,7 @@ pub insert_last : (before : Entries) (name body : List ℕ) → AllByRecursion (
 insert_last [] name body h = refl
 insert_last (other ∷ before) name body h = rw h.0 (ap (λ entries. other ∷ entries) (insert_last before name body h.1))
 
--- the entries come above all that stand before them
+-- the entries come above all before them
 abbrev pub AllAbove : Entries → Entries → Type 0
 AllAbove before entries = AllByRecursion (λ entry. AllByRecursion (λ other. byte_order entry.0 other.0 ≡ Greater) before) entries
 

@@ -1,7 +1,7 @@
 -- Paragraphs that pass one after another, and what comes of a file whose paragraphs all pass.
 use Rattle.deb_control.proofs.Common.{◌≡◌, ℕ, ◌+◌, ◌≤◌, ◌&&◌, not, Bool, true, false, cond, List, [], ◌∷◌, ◌++◌, ◌⊎◌, inl, inr, ◌<◌, length, nat_le, Option, None, Some, Result, Ok, Err, refl, sym, ap, ◌∙◌, subst, append-nil, leb-true, le-leb, lt-leb, not-false, NoParagraph, FileTooLong, ParagraphTooLong, Refusal, paragraph_limit, Paragraph, file_limit, Field, judged, Entries, Seen, line_too_long, is_line, seen_from, paragraph_answer, answer_of_first, push-append, paragraph_text, file_text, Rules, value_refusal_of, have_names, canonical_entries, refused_or_built, built, within_file, has_some, answer_of_seen, answer_behind, stopped, followed, outcome_behind}
 
--- A paragraph passes every step behind others, and has these canonical bodies.
+-- A paragraph passes every step after others, and has these canonical bodies.
 pub record Passes (rules : Rules) (beyond : Option ℕ) (before : List Entries) (p : Paragraph) (entries : Entries) : Type 0 where
   pub alone : (rules.single && has_some before) ≡ false
   pub short : line_too_long p.first paragraph_limit p.lines ≡ None
@@ -164,7 +164,7 @@ answer-from_passes rules beyond n before p left entries passes =
     ∙ ap (within_file before p.first) values
     ∙ within-from_parts before p.first entries passes.short_file)
 
--- The paragraphs pass one after another behind others, and have these canonical bodies.
+-- The paragraphs pass one after another after others, and have these canonical bodies.
 abbrev pub AllPass : Rules → Option ℕ → List Entries → List Paragraph → List Entries → Type 0
 AllPass rules beyond before [] passed = passed ≡ []
 AllPass rules beyond before (p ∷ left) [] = ⊥
@@ -181,7 +181,7 @@ outcome-from_pass rules beyond n before (p ∷ left) (entries ∷ passed) all la
     ∙ outcome-from_pass rules beyond n (before ++ entries ∷ []) left passed all.1 (subst (λ m. answer_behind rules beyond n m [] ≡ Ok None) (sym (push-append before entries passed)) last)
     ∙ ap (λ m. record { passed = m; refusal = None }) (push-append before entries passed)
 
--- the answer behind the last paragraph of a file that isn't too long, by whether one is missing
+-- the answer after the last paragraph of a file that isn't too long, by whether one is missing
 abbrev last_answer : ℕ → Bool → Result (Option Entries) Refusal
 last_answer n missing = cond missing (Err (record { code = NoParagraph; line = n })) (Ok None)
 
@@ -193,7 +193,7 @@ none_left : (rules : Rules) (beyond : Option ℕ) (n : ℕ) (before : List Entri
 none_left rules (Some line) n before h = absurd (cc)
 none_left rules None n before h = ap (last_answer n) (last_none n before (rules.single && not (has_some before)) h)
 
--- behind the last paragraph of a file that passes: it isn't too long, and no paragraph is missing
+-- after the last paragraph of a file that passes: it isn't too long, and no paragraph is missing
 pub last-parts : (rules : Rules) (beyond : Option ℕ) (n : ℕ) (before : List Entries) → answer_behind rules beyond n before [] ≡ Ok None → (beyond ≡ None) × ((rules.single && not (has_some before)) ≡ false)
 last-parts rules (Some line) n before h = absurd (cc)
 last-parts rules None n before h = (refl, (not_refused (rules.single && not (has_some before)) _ (Ok None) None h).0)

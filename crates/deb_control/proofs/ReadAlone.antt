@@ -1,4 +1,4 @@
--- The front of a file that a reader of checked paragraphs has passed: judged as a file of its own, exactly the paragraphs
+-- The prefix of a file that a reader of checked paragraphs has passed: judged as a file of its own, exactly the paragraphs
 -- that were given pass.
 use Rattle.deb_control.proofs.Common.{◌≡◌, ℕ, zero, suc, ◌+◌, ◌<◌, ◌≤◌, ◌⊎◌, inl, inr, false, List, [], ◌∷◌, ◌++◌, length, take, drop, Option, None, Some, Result, Ok, Err, refl, sym, ap, ◌∙◌, subst, arith, append-nil, length-append, cases_lt, take-append-le, drop_all, Refusal, whole_lines, is_line, part_within, line_beyond, paragraphs_within, Paragraph, lines_of, IsClosed, paragraphs_of, file_limit, Entries, passed_count, left-paragraphs, part_within-some, line_beyond-some, Follow, answer_behind, next_checked, line_behind, stopped, followed, outcome_behind, outcome, Rules}
 use Rattle.deb_control.proofs.FollowedParagraphs.{never_behind_all, outcome-starts}
@@ -25,7 +25,7 @@ drop-split k [] ys few = absurd (omega (arith, few))
 drop-split zero (x ∷ xs) ys few = (x, xs, refl, refl)
 drop-split (suc k) (x ∷ xs) ys few = drop-split k xs ys (omega (arith, few))
 
--- What passes of a file also passes of another one with the same first paragraphs, of which no line is beyond, or the
+-- What passes of a file also passes of another one with the same first paragraphs, where no line is beyond, or the
 -- same one.
 module _ (rules : Rules) (text read : List ℕ) (others : List Paragraph) (first : paragraphs_within text ≡ paragraphs_within read ++ others) (beyond : (line_beyond 1 file_limit read ≡ None) ⊎ (line_beyond 1 file_limit read ≡ line_beyond 1 file_limit text)) where
   same-whole : (line : ℕ) → is_line line (line_beyond 1 file_limit text) ≡ false → is_line line (line_beyond 1 file_limit read) ≡ false

@@ -80,7 +80,7 @@ reads-fault reads = record {
   doc = tt;
 }
 
--- what it says of a file of which nothing was read before
+-- what it says of a file that wasn't read before
 pub reads-new : {T : Type 0} {doc : Doc} {result : Result T Fault} {before after : Checked} {source source_after : Shown} (text : List ℕ) → before.doc ≡ doc → FitsChecked doc text [] (checked_state before) source.bytes → ReadsOn before source result after source_after → ReadsFile doc text result (checked_state after) source_after.bytes
 reads-new text same fits reads = rw same at reads.files text (record { before = []; fits = fits })
 

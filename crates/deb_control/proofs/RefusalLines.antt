@@ -1,4 +1,4 @@
--- The refusal of a file: its code, and the line at which it is told.
+-- The refusal of a file: its code, and the line at which it is reported.
 use Rattle.deb_control.proofs.Common.{◌≡◌, ℕ, ◌+◌, ◌≤◌, ◌&&◌, inl, inr, not, nat_le, Bool, true, false, cond, List, [], ◌∷◌, ◌++◌, length, drop, Option, None, Some, Result, Ok, Err, refl, sym, ap, ◌∙◌, subst, arith, length-append, and_from, le-leb, AllByRecursion, list_all, All-drop, Line, paragraph_limit, colon, canonical_name, Code, FileTooLong, MissingField, NoParagraph, ParagraphTooLong, TooManyParagraphs, Refusal, Seen, part_within, line_beyond, line_too_long, answer_of_first, paragraphs_within, Field, SpellsField, SpellsFields, IsRun, StandsAmong, Paragraph, lines_of, paragraphs_of, file_limit, Entries, next_answer-refusal, judged-sound, paragraphs_of-IsRun, paragraphs_of-StandsAmong, Doc, paragraph_text, file_text, IsRefusalOfDocument, rules_of, IsRefusalOfFile, RefusalsAreOfTheFile, refusal_or, value_refusal_of, have_names, canonical_entries, refused_or_built, built, within_file, has_some, answer_of_seen, answer_behind, line_behind, next_checked, stopped, followed, outcome_behind, Rules}
 use Rattle.deb_control.proofs.FollowedParagraphs.{drop_one}
 use Rattle.deb_control.proofs.Limits.{total_length-within}
@@ -9,7 +9,7 @@ use Rattle.deb_control.proofs.RefusalCodes.{built-code}
 pub same_refusal : {A : Type 0} (r : Result A Refusal) (a b : Refusal) → r ≡ Err a → r ≡ Err b → a ≡ b
 same_refusal r a b e f = cc
 
--- a file that is refused is so behind some of its paragraphs
+-- a file that is refused is so after some of its paragraphs
 pub refused_behind : (rules : Rules) (text : List ℕ) (before : List Entries) (left : List Paragraph) (refusal : Refusal) → left ≡ drop (length before) (paragraphs_within text) → (outcome_behind rules (line_beyond 1 file_limit text) (line_behind text) before left).refusal ≡ Some refusal → (front : List Entries) × (next_checked rules text front ≡ Err refusal)
 refused_behind rules text before [] refusal is h = go (answer_behind rules (line_beyond 1 file_limit text) (line_behind text) before []) refl h
   where
@@ -100,7 +100,7 @@ module _ (doc : Doc) (text : List ℕ) (m : ℕ) (within : m ≤ length (lines_o
   at_line : IsRefusalOfDocument refusal → IsLine m refusal.line → IsRefusalOfFile text refusal
   at_line code line = record { least = code.least; most = code.most; first = line.0; last = inl (omega (arith, line.1, within)) }
 
-  -- behind other paragraphs
+  -- after other paragraphs
   within-line : (seen : Seen) → IsLine m seen.first → AllByRecursion (λ field. IsLine m field.line) seen.fields → within_file front seen.first (built (rules_of doc) seen) ≡ Err refusal → IsRefusalOfFile text refusal
   within-line seen at lines h = go (built (rules_of doc) seen) refl h
     where

@@ -1,4 +1,4 @@
--- The refusal of control data of which no value is judged: its code is one of a text.
+-- The refusal of control data whose values aren't judged: its code is one of a text.
 use Rattle.deb_control.proofs.Common.{◌≡◌, ℕ, ◌≤◌, not, nat_le, Bool, true, false, cond, List, [], ◌∷◌, ◌++◌, length, drop, Option, None, Some, Result, Ok, Err, refl, sym, ap, subst, ◌∙◌, arith, paragraph_limit, number_of, canonical_name, FileTooLong, ParagraphTooLong, Refusal, Seen, line_beyond, answer_of_first, paragraphs_within, Field, Paragraph, file_limit, Entries, next_answer-refusal, fields_of_any_are_texts, kind_refusal, value_refusal, Any, paragraph_text, file_text, rules_of, RefusalsOfAnyAreOfText, refusal_or, value_refusal_of, canonical_entries, refused_or_built, built, within_file, answer_of_seen, answer_behind, line_behind}
 use Rattle.deb_control.proofs.RefusalLines.{same_refusal, refused_behind}
 
@@ -24,7 +24,7 @@ built-of_text seen refusal h =
     short false e = subst IsOfText (same_refusal _ _ _ refl e) (omega arith)
     short true e = absurd (cc)
 
--- and behind other paragraphs that of the file's
+-- and after other paragraphs that of the file's
 within-of_text : (front : List Entries) (seen : Seen) (refusal : Refusal) → within_file front seen.first (built (rules_of Any) seen) ≡ Err refusal → IsOfText refusal
 within-of_text front seen refusal h = go (built (rules_of Any) seen) refl h
   where

@@ -84,7 +84,7 @@ pub unchanged_error : {T P Q : Type 0} (result : Result T Fault) → (Q → P) �
 unchanged_error (Ok value) f q = tt
 unchanged_error (Err fault) f q = f q
 
--- the errors of the reader of paragraphs behind a refusal
+-- the errors of the reader of paragraphs after a refusal
 pub is_inside-none : (fault : Fault) (inside : Option Fault) → inside ≡ None → IsTrue (is_inside (Some fault) inside)
 is_inside-none (Refused refusal) inside none = ap is_none_or_refusal none
 is_inside-none Memory inside none = refl

@@ -9,7 +9,7 @@ use Rattle.deb_control.proofs.ParagraphText.{insert_last, AllAbove, AllAbove-pus
 abbrev pub entry_of : Field → List ℕ × List ℕ
 entry_of field = (canonical_name field.name, field.body)
 
--- fields in ascending order are put behind one another
+-- fields in ascending order are put after one another
 entries_after-ascending : (before : Entries) (fields : List Field) → IsAscending (map entry_of fields) → AllAbove before (map entry_of fields) → entries_after before fields ≡ before ++ map entry_of fields
 entries_after-ascending before [] ascending above = sym (append-nil before)
 entries_after-ascending before (field ∷ fields) ascending above =
@@ -20,7 +20,7 @@ entries_after-ascending before (field ∷ fields) ascending above =
 entries_of-ascending : (fields : List Field) → IsAscending (map entry_of fields) → entries_of fields ≡ map entry_of fields
 entries_of-ascending fields ascending = entries_after-ascending [] fields ascending (AllAbove-nil (map entry_of fields))
 
--- neither before nor the same is behind
+-- neither before nor the same is after
 before_from_not : (a b : List ℕ) (o : Ordering) → byte_order a b ≡ o → is_lt (byte_order b a) ≡ false → (a ≡ b → ⊥) → byte_order a b ≡ Less
 before_from_not a b Less e not_below apart = e
 before_from_not a b Equal e not_below apart = absurd (apart ((bytes_eq-Decides a b).0 (sym (is_eq-slice_cmp a b) ∙ ap is_eq e)))

@@ -12,13 +12,13 @@ use Rattle.deb_control.specs.StreamLaws.{EndEndsTheStream, FirstIsTheRefusal, No
 first_in : CheckedStream → Option Refusal
 first_in stream = first_of (refusals_in stream.items stream.end)
 
--- behind the last paragraph
+-- after the last paragraph
 at_end : (before : List Entries) (answer : Result (Option Entries) Refusal) → first_in (end_of answer) ≡ (stopped before answer).refusal
 unfolding first_in
 at_end before (Ok entries) = refl
 at_end before (Err refusal) = refl
 
--- and behind a paragraph, by what is answered of it
+-- and after a paragraph, by what is answered of it
 behind_one : (is_end : Refusal → Bool) (p : Paragraph) (before : List Entries) (answer : Result (Option Entries) Refusal) (stream : List Entries → CheckedStream) (outcome : Entries → Outcome) → ((entries : Entries) → first_in (stream (before ++ entries ∷ [])) ≡ (outcome entries).refusal) → first_in (with_answer is_end p before answer stream) ≡ (followed before answer outcome).refusal
 unfolding first_in
 behind_one is_end p before (Ok (Some entries)) stream outcome same = same entries

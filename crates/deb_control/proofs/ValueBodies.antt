@@ -93,7 +93,7 @@ module _ (V : Type 0) (spells : List ℕ → List ℕ → V → Type 0) (text_of
   one_list (entries ∷ bodies) (fields ∷ meaning) (others ∷ other) s t =
       ap (λ first. first ∷ meaning) (one_paragraph entries fields others s.0 t.0) ∙ ap (λ rest. others ∷ rest) (one_list bodies meaning other s.1 t.1)
 
-  -- the value that stands under a name where a body does
+  -- the value that is under a name where a body is
   pub value_at : (name body : List ℕ) (entries : Entries) (fields : ValueEntries V) → Pairwise (SpellsEntry spells) entries fields → find byte_order name entries ≡ Some body → (v : V) × spells name body v × (find byte_order name fields ≡ Some v)
   value_at name body [] [] s at = absurd (cc)
   value_at name body [] (field ∷ fields) s at = absurd s

@@ -38,7 +38,7 @@ Pairwise-push related [] (z ∷ ys) x y each one = absurd each
 Pairwise-push related (w ∷ xs) [] x y each one = absurd each
 Pairwise-push related (w ∷ xs) (z ∷ ys) x y each one = (each.0, Pairwise-push related xs ys x y each.1 one)
 
--- one more, behind them
+-- one more, after them
 pub texts-next : (old named new : List ℕ) (spans spans_now : List CanonSpan) (visited : List Visit) (visit : Visit) (span : CanonSpan) → span.row ≡ known_row visit.0.name → named ≡ old ++ canonical_name visit.0.name → new ≡ named ++ colon ∷ (behind_colon (value_text visit.1) ++ newline ∷ []) → span.start ≡ length old → span.name_end ≡ length named → span.end ≡ length new → spans_now ≡ spans ++ span ∷ [] → Pairwise (HoldsText old) spans visited → Pairwise (HoldsText new) spans_now (visited ++ visit ∷ [])
 texts-next old named new spans spans_now visited visit span row is_named is_new start name_end end pushed holds =
     let name = canonical_name visit.0.name in
@@ -63,7 +63,7 @@ texts-next old named new spans spans_now visited visit span row is_named is_new 
     subst (λ m. Pairwise (HoldsText new) m (visited ++ visit ∷ [])) (sym pushed)
     (Pairwise-push (HoldsText new) spans visited span visit (subst (λ m. Pairwise (HoldsText m) spans visited) (sym whole) (texts-more old (visit_text visit) spans visited holds)) one)
 
--- a field with its whole text in place of its body, in a span and of a visit
+-- a field with its whole text instead of its body, in a span and of a visit
 abbrev pub span_field : List ℕ → CanonSpan → Field
 span_field buffer span = record { name = name_in buffer span; line = 0; body = text_in buffer span }
 
@@ -85,7 +85,7 @@ names-held buffer (span ∷ spans) (visit ∷ visited) holds =
 sorted-held : (buffer : List ℕ) (now : List CanonSpan) → All (λ span. canonical_name (name_in buffer span) ≡ name_in buffer span) now → IsSortedBy (names_ascend buffer) now → IsSortedBy (below (span_field buffer)) now
 sorted-held buffer now named sorted k d low within = rw (named (k + 1) d (omega (arith, within)), named k d (omega (arith, within))) (sorted k d low within)
 
--- an entry with the whole text of its field in place of its body
+-- an entry with the whole text of its field instead of its body
 abbrev whole : List ℕ × List ℕ → List ℕ × List ℕ
 whole entry = (entry.0, field_text entry)
 

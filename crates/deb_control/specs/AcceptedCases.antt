@@ -71,7 +71,7 @@ abbrev AreNumbered : ℕ → List Spelled → Type 0
 AreNumbered n [] = Unit {0}
 AreNumbered n (one ∷ more) = (one.field.line ≡ n) × AreNumbered (n + length one.own) more
 
--- fields that are numbered are spelled by their lines, one behind another
+-- fields that are numbered are spelled by their lines, one after another
 spelled_in_turn : (n : ℕ) (all : List Spelled) → AreNumbered n all
     → SpellsFields n (lines_of_all all) (fields_of_all all)
 spelled_in_turn n [] numbered = refl
@@ -104,7 +104,7 @@ version_with_hyphen =
       revision = no_revision;
     }
 
--- names in any case, one space or none behind a colon, versions that aren't canonical
+-- names in any case, one space or none after a colon, versions that aren't canonical
 abbrev index : List ℕ
 index =
     codes "vERSION: 01.0-0\npackage:hello\nArchitecture: amd64\n\n\n"

@@ -49,8 +49,8 @@ pub record WritesRefused (doc : Doc) (text : List ℕ) (refusal : Refusal)
   pub refused : refusal_of doc text ≡ Some refusal
   pub written : Appends old new (out_of doc text)
 
--- A front of the file was read that ends with a blank line and its newline, or is all of it: its
--- paragraphs are the first of those that pass, and so they are where that front is a file of its
+-- A prefix of the file was read that ends with a blank line and its newline, or is all of it: its
+-- paragraphs are the first of those that pass, and so they are where that prefix is a file of its
 -- own; exactly their canonical text was written.
 pub record WritesRead (doc : Doc) (text : List ℕ) (old new : Option (List ℕ)) : Type 0 where
   pub read : List ℕ

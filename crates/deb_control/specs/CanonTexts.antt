@@ -46,7 +46,7 @@ pub record HoldsText (buffer : List ℕ) (span : CanonSpan) (visit : Visit) : Ty
 abbrev pub HoldsTexts : CanonText → List Visit → Type 0
 HoldsTexts canon visited = Pairwise (HoldsText canon.buffer.items) canon.spans.items visited
 
--- `b: 1` behind 3 bytes
+-- `b: 1` after 3 bytes
 abbrev span_of_one : CanonSpan
 span_of_one = record { row = 1; start = 3; name_end = 4; end = 8 }
 
@@ -61,7 +61,7 @@ parts_in_spans = (refl, refl, refl, refl, refl)
 names_of_rows : (length known_names ≡ 54) × (get_or known_names 28 [] ≡ codes "Md5sum")
 names_of_rows = (refl, refl)
 
--- a later span takes the place of an earlier one, and a span of no row has none
+-- a later span replaces an earlier one, and a span of no row has none
 spans_in_rows : (old : CanonSpan) → (placed (old ∷ old ∷ []) (span_of_one ∷ [])
     ≡ old ∷ span_of_one ∷ []) × (placed (old ∷ []) (span_of_one ∷ []) ≡ old ∷ [])
     × (placed (old ∷ []) [] ≡ old ∷ [])

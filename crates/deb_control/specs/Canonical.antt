@@ -11,7 +11,7 @@ use Rattle.deb_base.specs.FieldNames.{colon}
 use Rattle.deb_syntax.specs.Judging.{judged}
 use Rattle.deb_syntax.specs.Meaning.{Entries, entries_of}
 
--- what stands behind the colon: nothing for an empty body, the body where it begins with a newline,
+-- what follows the colon: nothing for an empty body, the body where it begins with a newline,
 -- else a space and the body
 abbrev pub behind_colon : List ℕ → List ℕ
 behind_colon [] = []

@@ -44,8 +44,8 @@ pub record CheckedState : Type 0 where
 abbrev pub IsQuietChecked : CheckedState → Type 0
 IsQuietChecked state = IsQuiet state.reader ⊎ IsSome state.fault
 
--- Behind `front`, these are the canonical bodies of the next paragraphs of a file: each is the
--- answer behind those before it.
+-- After `front`, these are the canonical bodies of the next paragraphs of a file: each is the
+-- answer after those before it.
 abbrev pub Follow : Rules → List ℕ → List Entries → List Entries → Type 0
 Follow rules text front [] = Unit {0}
 Follow rules text front (entries ∷ more) =
@@ -69,7 +69,7 @@ pub record HasChecked (doc : Doc) (text : List ℕ) (state : CheckedState)
   pub before : List Entries
   pub fits : FitsChecked doc text before state left
 
--- The next paragraph of a file passes behind these, and was given: no further one has been.
+-- The next paragraph of a file passes after these, and was given: no further one has been.
 pub record GivesPassing (doc : Doc) (text : List ℕ) (before : List Entries) (given : Passing)
     (new : CheckedState) (left : Option (List ℕ)) : Type 0 where
   pub entries : Entries

@@ -105,7 +105,7 @@ values : (refusal_of Packages (codes "Package: aa\nVersion: 1-\nArchitecture: al
 unfolding file_limit paragraph_limit is_utf8 chars encode kind_of kind_at known_row first_fault
 values = (refl, refl, refl, refl, refl)
 
--- behind a first paragraph that has passed: a second one where one is asked, whatever it holds
+-- after a first paragraph that has passed: a second one where one is asked, whatever it holds
 second_paragraph : (next_checked (rules_of Binary)
     (codes "Package: aa\nVersion: 1\nArchitecture: all\n\n# x") ([] ∷ [])
     ≡ Err (record { code = TooManyParagraphs; line = 5 }))

@@ -36,13 +36,13 @@ moment_from shown fault paragraphs totals left failures = record {
   source = record { bytes = left; failures = failures };
 }
 
--- what is answered where no paragraph follows, behind so many lines
+-- what is answered where no paragraph follows, after so many lines
 abbrev pub end_answer : Doc → Totals → ℕ → Result Bool Fault
 end_answer doc totals lines =
     cond (is_single doc && (totals.paragraphs == 0))
     (Err (Refused (record { code = NoParagraph; line = lines + 1 }))) (Ok false)
 
--- The paragraph passes behind those that were given, and counts as given then.
+-- The paragraph passes after those that were given, and counts as given then.
 pub record AddsPassing (doc : Doc) (seen : Seen) (old new : Totals) : Type 0 where
   pub entries : Entries
   pub built : built (rules_of doc) seen ≡ Ok entries
@@ -58,7 +58,7 @@ pub record IsTooLong (doc : Doc) (seen : Seen) (totals : Totals) (refusal : Refu
       < bytes_with totals.paragraphs totals.bytes (length (paragraph_text entries))
   pub is : refusal ≡ record { code = FileTooLong; line = seen.first }
 
--- The paragraph is refused so, by itself or behind those that were given.
+-- The paragraph is refused so, by itself or after those that were given.
 abbrev pub RefusesSeen : Doc → Seen → Totals → Refusal → Type 0
 RefusesSeen doc seen totals refusal =
     (built (rules_of doc) seen ≡ Err refusal) ⊎ IsTooLong doc seen totals refusal

@@ -62,7 +62,7 @@ pub record IsNormal (doc : Doc) (text written : List ℕ) : Type 0 where
   pub again : Accepted doc written meaning
   pub itself : out_of doc written ≡ written
 
--- Where the canonical text of a file was written behind other bytes, which is what `normalise`
+-- Where the canonical text of a file was written after other bytes, which is what `normalise`
 -- answers Ok for, the bytes that came are these.
 abbrev pub WhatIsWrittenIsNormal : Type 0
 WhatIsWrittenIsNormal =
@@ -70,7 +70,7 @@ WhatIsWrittenIsNormal =
     → WritesCanonical doc text n (Some held) (Some (held ++ written)) → IsNormal doc text written
 
 -- A refusal of a file as a document: its code is from 1 to 21, and its line one of the file's; or a
--- paragraph is missing at the line behind the last one.
+-- paragraph is missing at the line after the last one.
 pub record IsRefusalOfFile (text : List ℕ) (refusal : Refusal) : Type 0 where
   pub least : 1 ≤ number_of refusal.code
   pub most : number_of refusal.code ≤ 21
@@ -91,7 +91,7 @@ RefusalsOfAnyAreOfText =
     (text : List ℕ) (refusal : Refusal) → refusal_of Any text ≡ Some refusal
     → number_of refusal.code ≤ 9
 
--- What is refused behind paragraphs of a file, each of which is the answer behind those before it,
+-- What is refused after paragraphs of a file, where each is the answer after those before it,
 -- is the refusal of the file, and they are all that is written of it.
 abbrev pub RefusalBehindIsOfTheFile : Type 0
 RefusalBehindIsOfTheFile =
@@ -106,7 +106,7 @@ pub record IsAllOf (doc : Doc) (text : List ℕ) (before : List Entries) : Type 
   pub accepted : Accepted doc text meaning
   pub bodies : bodies_of value_text meaning ≡ before
 
--- Where none follows behind them, the file is accepted with exactly these.
+-- Where none follows after them, the file is accepted with exactly these.
 abbrev pub EndBehindIsOfTheFile : Type 0
 EndBehindIsOfTheFile =
     (doc : Doc) (text : List ℕ) (before : List Entries) → Follow (rules_of doc) text [] before

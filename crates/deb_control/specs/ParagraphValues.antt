@@ -10,7 +10,7 @@ use Rattle.deb_control.specs.declared.paragraph.Paragraph.{Paragraph}
 abbrev pub values_of : Paragraph → ValueEntries ValueMeaning
 values_of paragraph = values_in paragraph.fields.items
 
--- and its fields as they stand in the file, in the same order
+-- and its fields as they are in the file, in the same order
 abbrev pub fields_shown : Paragraph → List Field
 fields_shown paragraph = map field_in paragraph.fields.items
 

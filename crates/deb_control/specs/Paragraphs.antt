@@ -19,7 +19,7 @@ use Rattle.deb_control.specs.Refusals.{built}
 use Rattle.deb_control.specs.ValueFiles.{ValueEntries, SpellsEntry, body_under}
 use Rattle.deb_control.specs.declared.typed_field.TypedField.{TypedField}
 
--- the field as it stands in the file
+-- the field as it is in the file
 abbrev pub field_in : TypedField → Field
 field_in field = field_of field.raw
 

@@ -1,4 +1,4 @@
--- What a call says that reads on in a file of which the first paragraphs were given (Debian Policy
+-- What a call says that reads on in a file whose first paragraphs were given (Debian Policy
 -- 5.1; the limits and the order of the refusals are this project's own).
 use Rattle.std.specs.Prelude.{refl, ◌≡◌, ℕ, List, Option, Some, None, IfOk, IfErr, Result}
 use Rattle.deb_base.specs.Devices.{Shown, read_failures_after}

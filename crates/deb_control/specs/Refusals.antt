@@ -29,11 +29,11 @@ value_refusal_of rules (field ∷ fields) =
     refusal_or (rules.refusal (canonical_name field.name) field.body) field.line
     (value_refusal_of rules fields)
 
--- each of the names stands among the fields, without ASCII case
+-- each of the names is among the fields, without ASCII case
 abbrev pub have_names : List Field → List (List ℕ) → Bool
 have_names fields names = list_all (λ name. has_name name fields) names
 
--- a field with the canonical text of its value in place of its body
+-- a field with the canonical text of its value instead of its body
 abbrev pub canonical_field : Rules → Field → Field
 canonical_field rules field =
     record {
@@ -51,7 +51,7 @@ canonical_entries rules fields = entries_of (map (canonical_field rules) fields)
 -- file, as far as it asks them; the word without `_under` is the same at the limits of this
 -- project.
 
--- a paragraph of which all values are good: no name is missing, and its canonical text isn't too
+-- a paragraph whose values are all good: no name is missing, and its canonical text isn't too
 -- long
 abbrev pub named_and_short_under : ℕ → Rules → Seen → Result Entries Refusal
 named_and_short_under limit rules seen =
@@ -71,7 +71,7 @@ refused_or_built_under limit rules seen None = named_and_short_under limit rules
 abbrev pub refused_or_built : Rules → Seen → Option Refusal → Result Entries Refusal
 refused_or_built rules seen first = refused_or_built_under paragraph_limit rules seen first
 
--- What is answered of one paragraph by itself, of which the fields were seen: the canonical bodies
+-- What is answered of one paragraph by itself, whose fields were seen: the canonical bodies
 -- of its values, or the first refusal of a body in the order of the file, else that a name is
 -- missing, else that its canonical text is too long.
 abbrev pub built_under : ℕ → Rules → Seen → Result Entries Refusal
@@ -81,7 +81,7 @@ built_under limit rules seen =
 abbrev pub built : Rules → Seen → Result Entries Refusal
 built rules seen = built_under paragraph_limit rules seen
 
--- a paragraph behind others, of which the canonical text of all has no more than so many bytes
+-- a paragraph after others, where the canonical text of all has no more than so many bytes
 abbrev pub within_bytes : ℕ → List Entries → ℕ → Result Entries Refusal
     → Result (Option Entries) Refusal
 within_bytes most before line (Err refusal) = Err refusal
@@ -99,8 +99,8 @@ abbrev pub has_some : List Entries → Bool
 has_some [] = false
 has_some (entries ∷ more) = true
 
--- What is answered behind paragraphs that have passed, where this was seen of the next one: n is
--- the number of the line behind the last one.
+-- What is answered after paragraphs that have passed, where this was seen of the next one: n is
+-- the number of the line after the last one.
 abbrev pub answer_of_seen_under : ℕ → ℕ → Rules → ℕ → List Entries → Result (Option Seen) Refusal
     → Result (Option Entries) Refusal
 answer_of_seen_under limit most rules n before (Err refusal) = Err refusal
@@ -115,7 +115,7 @@ abbrev pub answer_of_seen : Rules → ℕ → List Entries → Result (Option Se
 answer_of_seen rules n before seen =
     answer_of_seen_under paragraph_limit file_limit rules n before seen
 
--- What is answered behind paragraphs that have passed, where these are left: a second paragraph is
+-- What is answered after paragraphs that have passed, where these are left: a second paragraph is
 -- one too many where one is asked, whatever it holds.
 abbrev pub answer_behind_under : ℕ → ℕ → Rules → Option ℕ → ℕ → List Entries → List Paragraph
     → Result (Option Entries) Refusal
@@ -132,11 +132,11 @@ abbrev pub answer_behind : Rules → Option ℕ → ℕ → List Entries → Lis
 answer_behind rules beyond n before left =
     answer_behind_under paragraph_limit file_limit rules beyond n before left
 
--- the number of the line behind a text's last one
+-- the number of the line after a text's last one
 abbrev pub line_behind : List ℕ → ℕ
 line_behind text = length (lines_of text) + 1
 
--- What is answered of a file behind its first paragraphs, which have passed and have these
+-- What is answered of a file after its first paragraphs, which have passed and have these
 -- canonical bodies: those of the next one, none where there is no further one, or why the file is
 -- refused.
 abbrev pub next_checked_under : ℕ → ℕ → Rules → List ℕ → List Entries
@@ -160,7 +160,7 @@ abbrev pub stopped : List Entries → Result (Option Entries) Refusal → Outcom
 stopped before (Err refusal) = record { passed = before; refusal = Some refusal }
 stopped before (Ok next) = record { passed = before; refusal = None }
 
--- a paragraph that passes is followed by what comes behind it
+-- a paragraph that passes is followed by what comes after it
 abbrev pub followed : List Entries → Result (Option Entries) Refusal → (Entries → Outcome) → Outcome
 followed before (Err refusal) behind = record { passed = before; refusal = Some refusal }
 followed before (Ok None) behind = record { passed = before; refusal = None }
@@ -200,7 +200,7 @@ text_under limit most rules text = file_text (outcome_under limit most rules tex
 abbrev pub text_by : Rules → List ℕ → List ℕ
 text_by rules text = text_under paragraph_limit file_limit rules text
 
--- for the worked cases: numbers of one digit under Size, all other bodies as they stand, and
+-- for the worked cases: numbers of one digit under Size, all other bodies as they are, and
 -- Package is asked
 abbrev sample : Bool → Rules
 sample single = record {
@@ -259,7 +259,7 @@ unfolding is_utf8 chars encode
 long_canonical = (refl, refl, refl, refl, refl)
 
 -- of a paragraph by itself, of a file all that is written so far, with the newline between two
--- paragraphs; it is told at the paragraph's first line, and those before it are written
+-- paragraphs; it is reported at the paragraph's first line, and those before it are written
 long_second : (refusal_under 11 23 (sample false) (codes "package:a\n\n\npackage:b") ≡ None)
     × (refusal_under 11 22 (sample false) (codes "package:a\n\npackage:b")
     ≡ Some (record { code = FileTooLong; line = 3 }))

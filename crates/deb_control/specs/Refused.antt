@@ -19,13 +19,13 @@ abbrev pub seen_in : Result (Option Seen) Refusal → Option Seen
 seen_in (Ok seen) = seen
 seen_in (Err refusal) = None
 
--- What is seen of the paragraph behind those that pass. Nothing is of one that is one too many, and
+-- What is seen of the paragraph after those that pass. Nothing is of one that is one too many, and
 -- of one whose lines are refused.
 abbrev pub seen_behind : Rules → List ℕ → List Entries → Option Seen
 seen_behind rules text before =
     cond (rules.single && has_some before) None (seen_in (next_answer text (length before)))
 
--- The paragraph behind those that pass, where its lines are judged. None is of one that is one too
+-- The paragraph after those that pass, where its lines are judged. None is of one that is one too
 -- many.
 abbrev pub lines_behind : Rules → List ℕ → List Entries → Option Paragraph
 lines_behind rules text before =
@@ -65,7 +65,7 @@ nothing_behind : (seen_behind (sample false) (codes "a:1\n\n# b") ([] ∷ []) �
 unfolding file_limit paragraph_limit is_utf8 chars encode
 nothing_behind = (refl, refl)
 
--- the lines of the second paragraph, of which one is refused, and where it is one too many
+-- the lines of the second paragraph, where one is refused, and where it is one too many
 lines_shown : (lines_behind (sample false) (codes "a:1\n\nb:2\nc") ([] ∷ [])
     ≡ Some (record { first = 3; lines = codes "b:2" ∷ codes "c" ∷ [] }))
     × (lines_behind (sample true) (codes "a:1\n\nb:2\nc") ([] ∷ []) ≡ None)

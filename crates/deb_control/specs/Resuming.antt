@@ -15,7 +15,7 @@ use Rattle.deb_syntax.specs.Meaning.{Entries}
 use Rattle.deb_syntax.specs.Resuming.{IsWithout}
 use Rattle.deb_control.specs.Checking.{CheckedState, FitsChecked}
 
--- In place of the text another one fits, which lacks the paragraph behind those that were given and
+-- Instead of the text another one fits, which lacks the paragraph after those that were given and
 -- is the same otherwise: the reader goes on as if the paragraph's lines were blank.
 pub record FitsWithout (doc : Doc) (text : List ℕ) (before : List Entries) (p : Paragraph)
     (state : CheckedState) (left : Option (List ℕ)) : Type 0 where

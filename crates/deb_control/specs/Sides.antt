@@ -13,7 +13,7 @@ abbrev pub if_second : Side → Fault → Result ⊤ Fault
 if_second First fault = Ok tt
 if_second Second fault = Err fault
 
--- what an answer tells of the first file, and of the second: its fault, or none
+-- what an answer says of the first file, and of the second: its fault, or none
 abbrev pub of_first : {T : Type 0} → Result T SideFault → Result ⊤ Fault
 of_first (Ok _) = Ok tt
 of_first (Err told) = if_first told.side told.fault

@@ -1,4 +1,4 @@
--- The order in which the fields of a paragraph stand in canonical text (this project's own).
+-- The order in which the fields of a paragraph are in canonical text (this project's own).
 use Rattle.std.specs.Prelude.{◌≡◌, ℕ, Bool, true, false, List, codes, refl}
 use Rattle.std.specs.Ordering.{is_lt}
 use Rattle.deb_base.specs.Names.{canonical_name}

@@ -25,7 +25,7 @@ NoRefusalIsAccepted =
     (doc : Doc) (text : List ℕ) → (refusals_by (rules_of doc) text ≡ [])
     ↔ ((meaning : Meaning) × Accepted doc text meaning)
 
--- Behind paragraphs that have passed, a refusal that doesn't end the stream is its next item, and
+-- After paragraphs that have passed, a refusal that doesn't end the stream is its next item, and
 -- the stream of the text without that paragraph follows.
 abbrev pub RefusedIsLeftOut : Type 0
 RefusedIsLeftOut =
@@ -36,7 +36,7 @@ RefusedIsLeftOut =
     → stream_from (rules_of doc) text before
     ≡ with_item (item_of p (Err refusal)) (stream_from (rules_of doc) other before)
 
--- Behind paragraphs that have passed, one that passes is the next item, and the stream behind it
+-- After paragraphs that have passed, one that passes is the next item, and the stream after it
 -- follows.
 abbrev pub PassedIsNext : Type 0
 PassedIsNext =
@@ -45,7 +45,7 @@ PassedIsNext =
     → (p : Paragraph) × (stream_from (rules_of doc) text before
     ≡ with_item (item_of p (Ok entries)) (stream_from (rules_of doc) text (before ++ entries ∷ [])))
 
--- Where none follows behind them, the stream ends.
+-- Where none follows after them, the stream ends.
 abbrev pub EndEndsTheStream : Type 0
 EndEndsTheStream =
     (doc : Doc) (text : List ℕ) (before : List Entries)

@@ -1,7 +1,7 @@
 -- The stream of a document: its paragraphs and its refused runs of lines, one after another, and
 -- its end. Debian Policy 5.1; the order of the refusals, their lines and the limits are this
 -- project's own.
-use Rattle.std.specs.Prelude.{◌≡◌, ℕ, ◌==◌, ◌||◌, Bool, true, false, cond, List, [], ◌∷◌, ◌++◌, length, drop, Option, Some, None, is_some, Result, Ok, Err, codes, refl}
+use Rattle.std.specs.Prelude.{◌≡◌, ℕ, ◌==◌, ◌||◌, Bool, true, false, cond, List, [], ◌∷◌, ◌++◌, length, nat_lt, drop, Option, Some, None, is_some, Result, Ok, Err, codes, refl}
 use Rattle.std.specs.Str.{is_utf8, chars}
 use lib.Utf8.{encode}
 use Rattle.deb_base.specs.Bodies.{Line, paragraph_limit}
@@ -21,7 +21,7 @@ pub record CheckedItem : Type 0 where
   pub lines : List Line
   pub bodies : Result Entries Refusal
 
--- A stream: its items, and the refusal that ends it. None ends a file of which all is read.
+-- A stream: its items, and the refusal that ends it. None ends a file that is read to its end.
 pub record CheckedStream : Type 0 where
   pub items : List CheckedItem
   pub end : Option Refusal
@@ -45,8 +45,8 @@ is_end_under limit rules p refusal =
     rules.single || (is_some (line_too_long p.first limit p.lines)
     || (number_of refusal.code == 9))
 
--- a paragraph before what follows it, by what is answered of it: the paragraphs that pass are told
--- to what follows
+-- a paragraph before what follows it, by what is answered of it: what follows gets the paragraphs
+-- that have passed
 abbrev pub with_answer : (Refusal → Bool) → Paragraph → List Entries
     → Result (Option Entries) Refusal → (List Entries → CheckedStream) → CheckedStream
 with_answer is_end p before (Ok (Some entries)) behind =
@@ -56,12 +56,12 @@ with_answer is_end p before (Err refusal) behind =
     cond (is_end refusal) (ended_by (Some refusal)) (with_item (item_of p (Err refusal))
     (behind before))
 
--- the end behind the last paragraph
+-- the end after the last paragraph
 abbrev pub end_of : Result (Option Entries) Refusal → CheckedStream
 end_of (Ok entries) = ended_by None
 end_of (Err refusal) = ended_by (Some refusal)
 
--- The stream behind paragraphs that have passed, where these are left.
+-- The stream after paragraphs that have passed, where these are left.
 abbrev pub stream_behind_under : ℕ → ℕ → Rules → Option ℕ → ℕ → List Entries → List Paragraph
     → CheckedStream
 stream_behind_under limit most rules beyond n before [] =
@@ -71,7 +71,7 @@ stream_behind_under limit most rules beyond n before (p ∷ left) =
     (answer_behind_under limit most rules beyond n before (p ∷ left))
     (λ passed. stream_behind_under limit most rules beyond n passed left)
 
--- The stream of a file behind its first paragraphs, which have passed and have these canonical
+-- The stream of a file after its first paragraphs, which have passed and have these canonical
 -- bodies.
 abbrev pub stream_from_under : ℕ → ℕ → Rules → List ℕ → List Entries → CheckedStream
 stream_from_under limit most rules text before =
@@ -182,6 +182,26 @@ one_asked : (stream_under 99 99 (sample true) (codes "#\n\nPackage:a\n")
     ≡ record { items = []; end = Some (record { code = NoParagraph; line = 1 }) })
 unfolding is_utf8 chars encode
 one_asked = (refl, refl, refl)
+
+-- a paragraph that is refused isn't among those that have passed
+refused_uncounted : with_answer (λ refusal. false) (record { first = 1; lines = codes "#" ∷ [] }) []
+    (Err (record { code = Comment; line = 1 })) (λ passed. record {
+      items = [];
+      end = cond (nat_lt 0 (length passed)) (Some (record { code = NoParagraph; line = 9 })) None;
+    }) ≡ record { items = bad 1 ∷ []; end = None }
+refused_uncounted = refl
+
+-- what ends a stream: any refusal where one paragraph is asked for, lines that are too long, the
+-- file that is too long; a comment doesn't
+ends : (is_end_under 9 (sample true) (record { first = 1; lines = codes "#" ∷ [] })
+    (record { code = Comment; line = 1 }) ≡ true)
+    × (is_end_under 9 (sample false) (record { first = 1; lines = codes "#" ∷ [] })
+    (record { code = Comment; line = 1 }) ≡ false)
+    × (is_end_under 3 (sample false) (record { first = 1; lines = codes "#abcd" ∷ [] })
+    (record { code = Comment; line = 1 }) ≡ true)
+    × (is_end_under 9 (sample false) (record { first = 1; lines = codes "#" ∷ [] })
+    (record { code = FileTooLong; line = 1 }) ≡ true)
+ends = (refl, refl, refl, refl)
 
 -- canonical text of a paragraph that is too long refuses it, and ends nothing
 long_canonical : stream_under 10 99 (sample false) (codes "Package:a\n\n#\n")

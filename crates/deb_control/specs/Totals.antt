@@ -2,12 +2,12 @@
 use Rattle.std.specs.Prelude.{◌≡◌, ℕ, zero, suc, ◌+◌, ◌==◌, cond, List, [], ◌∷◌, codes, refl}
 use Rattle.deb_base.specs.Bodies.{newline}
 
--- with a further paragraph of so many bytes behind `count` ones that have `bytes` bytes: an empty
--- line stands between two
+-- with a further paragraph of so many bytes after `count` ones that have `bytes` bytes: an empty
+-- line is between two
 abbrev pub bytes_with : (count bytes length : ℕ) → ℕ
 bytes_with count bytes length = cond (count == 0) (bytes + length) (bytes + 1 + length)
 
--- what stands between so many paragraphs and a further one
+-- what is between so many paragraphs and a further one
 abbrev pub gap_behind : (count : ℕ) → List ℕ
 gap_behind zero = []
 gap_behind (suc count) = newline ∷ []

@@ -33,7 +33,7 @@ IsVisit doc visit = SpellsValue doc (canonical_name visit.0.name) visit.0.body v
 abbrev pub fields_visited : List Visit → List Field
 fields_visited visited = map (λ visit. visit.0) visited
 
--- the field with the canonical text of the value in place of its body
+-- the field with the canonical text of the value instead of its body
 abbrev pub canonical_visit : Visit → Field
 canonical_visit visit =
     record { name = visit.0.name; line = visit.0.line; body = value_text visit.1 }
@@ -86,7 +86,7 @@ abbrev pub VisitsFound : {V : Type 0} → (V → List Visit → Type 0) → V �
 VisitsFound Visited visitor doc None = ⊥
 VisitsFound Visited visitor doc (Some seen) = VisitsValues Visited visitor doc seen
 
--- A call that goes on behind the next paragraph, and answers whether there is one; if there is, it
+-- A call that goes on after the next paragraph, and answers whether there is one; if there is, it
 -- is the one that was given last, and its fields were visited.
 pub record PassesVisiting {V : Type 0} (Visited : V → List Visit → Type 0) (visitor : V) (doc : Doc)
     (before : CheckedMoment) (result : Result Bool Fault) (after : CheckedMoment) : Type 0 where
@@ -105,7 +105,7 @@ field_with_value : (field : RawField) (value : Value)
     → visit_of field value ≡ (field_of field, value_meaning value)
 field_with_value field value = refl
 
--- the value is in place of the body, and not of the name as spelled
+-- the value replaces the body, and not the name as spelled
 value_for_body : canonical_visit
     (record { name = codes "sIZE"; line = 3; body = codes "007" }, NumberMeans 7)
     ≡ record { name = codes "sIZE"; line = 3; body = codes "7" }

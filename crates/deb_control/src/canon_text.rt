@@ -19,7 +19,7 @@ use std::alloc::{AllocError, Global};
 use std::cmp::Ordering;
 
 /// Where the canonical text of a field is in a buffer, where its name ends, and its row in the
-/// table of fields, or one behind the last. The buffer has fewer than 2^32 bytes.
+/// table of fields, or one after the last. The buffer has fewer than 2^32 bytes.
 #[derive(Clone, Copy)]
 pub(crate) struct CanonSpan {
     pub(crate) row: u32,

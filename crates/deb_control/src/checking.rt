@@ -38,7 +38,7 @@ pub fn check<R: Source>(alloc: Global, doc: Doc, reader: &mut R) -> Result<u64, 
     ensures reads_at_most { (text : List ℕ) → R.left reader.old ≡ Some text
         → TakesNoMore text file_limit (R.left reader.new) }
 
-    // Whether or not the reader tells its bytes.
+    // Whether or not the bytes of the reader are known.
     ensures fault { IfErr result (λ fault. IsReadersFault fault IsRefusalOfDocument) }
     ensures counts_read_failure { R.failures reader.new ≡ read_failures_after
         (R.failures reader.old) result }

@@ -55,7 +55,7 @@ pub fn same<R: Source, S: Source>(
     ensures second_reads_at_most { (text : List ℕ) → S.left second.old ≡ Some text
         → TakesNoMore text file_limit (S.left second.new) }
 
-    // Whether or not the readers tell their bytes.
+    // Whether or not the bytes of the readers are known.
     ensures fault { IfErr result (λ told. IsReadersFault told.fault IsRefusalOfDocument) }
     ensures counts_first_failure { R.failures first.new
         ≡ read_failures_after (R.failures first.old) (of_first result) }

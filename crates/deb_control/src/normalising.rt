@@ -51,7 +51,7 @@ pub fn normalise<R: Source, W: Sink>(
     ensures reads_at_most { (text : List ℕ) → R.left reader.old ≡ Some text
         → TakesNoMore text file_limit (R.left reader.new) }
 
-    // Whether or not the reader tells its bytes.
+    // Whether or not the bytes of the reader are known.
     ensures refusal { IfRefused result IsRefusalOfDocument }
     ensures counts_read_failure { R.failures reader.new ≡ read_failures_after
         (R.failures reader.old) result }

@@ -1,4 +1,4 @@
-//! Checks one paragraph: the only place where it is decided whether a paragraph passes by itself.
+//! Checks one paragraph: only this module decides whether a paragraph passes by itself.
 
 ghost use Rattle.std.specs.Prelude.{◌≡◌, ◌≤◌, ◌-◌, ◌^◌, ◌++◌, ◌∷◌, List, [], Option, Some, Err, IfOk, IfErr, length, map, min};
 ghost use Rattle.deb_base.specs.Bodies.{IsBody};

@@ -1,6 +1,7 @@
 -- All lines are those of the difference.
 use Rattle.std.proofs.Common.{◌≡◌, ◌↔◌, ◌==◌, IsTrue, ℕ, ◌+◌, Bool, true, false, List, [], ◌∷◌, ◌++◌, length, map, Some, refl, sym, ap, ◌∙◌, subst, arith, suc, cond}
 use Rattle.std.specs.List.{AllByRecursion, flat_map, slice_get}
+use Rattle.std.specs.Option.{is_none}
 use Rattle.std.specs.Str.{bytes_eq}
 use Rattle.std.proofs.lemmas.Bool.{false≢true}
 use Rattle.std.proofs.lemmas.Bool.Decides.{nat_tests}
@@ -16,26 +17,26 @@ use Rattle.deb_control.specs.Pairs.{Pairwise}
 use Rattle.deb_control.specs.ValueFiles.{body_under}
 use Rattle.deb_control.proofs.Entries.{IsAscending, IsEntry}
 use Rattle.deb_diff.specs.Cuts.{AreAscending, AreCut, IsCut}
-use Rattle.deb_diff.specs.Differences.{Fate, difference_of_others, fates}
+use Rattle.deb_diff.specs.Differences.{Fate, difference_by_place, difference_of_others, fates, place}
 use Rattle.deb_diff.specs.Fates.{AreFated, IsAt, IsWhole}
-use Rattle.deb_diff.specs.Items.{Item, items_from, items_of, release, series, whole}
+use Rattle.deb_diff.specs.Items.{Item, items_from, items_of, release, whole}
 use Rattle.deb_diff.specs.Both.{ReadsBoth}
 use Rattle.deb_diff.specs.Kinds.{doc_of}
 use Rattle.deb_diff.specs.declared.sides.Read.{Read}
 use Rattle.deb_diff.specs.Kepts.{AreKept, IsKept}
 use Rattle.deb_diff.specs.Lines.{added_text, diff_text, difference_text, fate_text}
-use Rattle.deb_diff.specs.Pairing.{all_but, without}
-use Rattle.deb_diff.specs.Pairings.{PairsByRelease, PairsBySeries}
+use Rattle.deb_diff.specs.Pairing.{all_but, without, without_keys}
+use Rattle.deb_diff.specs.Pairings.{PairsByRelease, PairsByPlace}
 use Rattle.deb_diff.specs.Partners.{partners_of}
 use Rattle.deb_diff.specs.Pools.{pick}
 use Rattle.deb_diff.specs.Walks.{all_of, left_after_all}
-use Rattle.deb_diff.specs.declared.detail.Detail.{Detail}
+use Rattle.deb_diff.specs.declared.form.Form.{Form}
 use Rattle.deb_diff.specs.declared.kept.Kept.{Kept}
 use Rattle.deb_diff.specs.declared.kind.Kind.{Kind}
 use Rattle.deb_diff.specs.declared.pairing.Outcome.{Outcome}
 use Rattle.deb_diff.specs.declared.pairing.Partners.{Partners}
 use Rattle.deb_diff.proofs.Boths.{pick-all}
-use Rattle.deb_diff.proofs.Linked.{AllAt, fated, left_added, left_after_keys}
+use Rattle.deb_diff.proofs.Linked.{AllAt, fated, left_added, left_after_keys, left_unpaired}
 use Rattle.deb_diff.proofs.Pairs.{unpaired, unpaired-left}
 use Rattle.deb_diff.proofs.Permuted.{AreSpelled, all_spelled}
 
@@ -51,10 +52,10 @@ ascending_cut (entry ∷ entries) ascending = (ascending.0, ascending_cut entrie
 abbrev pub CanBeCut : Item → Type 0
 CanBeCut item = AreCut item.bodies
 
-pub all_cut : (doc : Doc) (kind : Kind) (n : ℕ) (meaning : Meaning) → AllByRecursion (AreSpelled doc) meaning → AllByRecursion CanBeCut (items_from kind n meaning)
-all_cut doc kind n [] are = tt
-all_cut doc kind n (values ∷ meaning) are =
-    (record { each = each_cut (map (body_under value_text) values) are.0.entries.each; ascending = ascending_cut (map (body_under value_text) values) are.0.entries.ascending }, all_cut doc kind (n + 1) meaning are.1)
+pub all_cut : (doc : Doc) (kind : Kind) (text : List ℕ) (n : ℕ) (meaning : Meaning) → AllByRecursion (AreSpelled doc) meaning → AllByRecursion CanBeCut (items_from kind text n meaning)
+all_cut doc kind text n [] are = tt
+all_cut doc kind text n (values ∷ meaning) are =
+    (record { each = each_cut (map (body_under value_text) values) are.0.entries.each; ascending = ascending_cut (map (body_under value_text) values) are.0.entries.ascending }, all_cut doc kind text (n + 1) meaning are.1)
 
 -- and those that are left can be too
 cut_all_but : (key : Item → List ℕ) (wanted : List ℕ) (items : List Item) → AllByRecursion CanBeCut items → AllByRecursion CanBeCut (all_but key wanted items)
@@ -112,14 +113,16 @@ all_at : (kept : List Kept) (items : List Item) (flags : List Bool) → Pairwise
 all_at kept items flags are = at_from [] kept items flags are
 
 -- the lines of old paragraphs, then those of added ones
-pub all_text : (detail : Detail) (new kept added : List Kept) (items others : List Item) (partners : Partners) (outcome : Outcome) (mid out : List ℕ) → Pairwise IsWhole kept items → Pairwise IsWhole new others
-    → PairsByRelease items others partners → PairsBySeries items others partners.found.items partners.waits.items outcome → added ≡ map (λ e. e.1) (pick 0 new outcome.waits.items)
-    → ((all : List (Item × Fate)) → AreFated kept outcome.became.items new all → mid ≡ flat_map (fate_text detail) all) → ((all : List Item) → AreKept added all → out ≡ mid ++ flat_map (added_text detail) all)
-    → out ≡ difference_text detail (difference_of_others items others)
-all_text detail new kept added items others partners outcome mid out are are_new by_release by_series added_is mid_is out_is =
+pub all_text : (form : Form) (new kept added : List Kept) (items others : List Item) (partners : Partners) (outcome : Outcome) (mid out : List ℕ) → Pairwise IsWhole kept items → Pairwise IsWhole new others
+    → PairsByRelease items others partners → PairsByPlace items others partners.found.items partners.waits.items outcome → added ≡ map (λ e. e.1) (pick 0 new outcome.waits.items)
+    → ((all : List (Item × Fate)) → AreFated kept outcome.became.items new all → mid ≡ flat_map (fate_text form) all) → ((all : List Item) → AreKept added all → out ≡ mid ++ flat_map (added_text form) all)
+    → out ≡ difference_text form (difference_of_others items others)
+all_text form new kept added items others partners outcome mid out are are_new by_release by_place added_is mid_is out_is =
     out_is (map (λ e. e.1) (pick 0 others outcome.waits.items)) (subst (λ l. AreKept l (map (λ e. e.1) (pick 0 others outcome.waits.items))) (sym added_is) (pick-whole IsKept 0 new others outcome.waits.items (kept-whole new others are_new)))
-    ∙ ap (λ l. l ++ flat_map (added_text detail) (map (λ e. e.1) (pick 0 others outcome.waits.items))) (mid_is (fates items others (without release others items)) are_fated)
-    ∙ ap (λ l. flat_map (fate_text detail) (fates items others (without release others items)) ++ flat_map (added_text detail) l) added_items
+    ∙ ap (λ l. l ++ flat_map (added_text form) (map (λ e. e.1) (pick 0 others outcome.waits.items))) (mid_is (fates own new_place items others (map (λ e. e.1) near)) are_fated)
+    ∙ ap (λ l. flat_map (fate_text form) (fates own new_place items others (map (λ e. e.1) near)) ++ flat_map (added_text form) l) added_items
+    ∙ ap (λ l. difference_text form (difference_by_place items others l (map (λ e. e.1) near))) old_left
+    ∙ ap (λ l. difference_text form (difference_by_place items others (without release items others) l)) left
   where
     same : List (ℕ × Item)
     same = pick 0 others by_release.flags
@@ -127,41 +130,53 @@ all_text detail new kept added items others partners outcome mid out are are_new
     near : List (ℕ × Item)
     near = pick 0 others partners.waits.items
 
+    waiting : List Item
+    waiting = map (λ e. e.1) (pick 0 items (map is_none partners.found.items))
+
+    own : Item → List ℕ
+    own = place waiting
+
+    new_place : Item → List ℕ
+    new_place = place (map (λ e. e.1) near)
+
     all : map (λ e. e.1) same ≡ others
     all = pick-all 0 others by_release.flags by_release.length_is by_release.all
 
     left : map (λ e. e.1) near ≡ without release others items
     left = ap (map (λ e. e.1)) by_release.left ∙ left_after_keys items same ∙ ap (λ l. without release l items) all
 
-    made : outcome.became.items ≡ all_of (partners_of release (map release items) same) (map series items) near
-    made = by_series.became ∙ ap (λ f. all_of f (map series items) near) by_release.found
+    waiting_unpaired : waiting ≡ unpaired release items (map (λ e. e.1) same)
+    waiting_unpaired = ap (λ f. map (λ e. e.1) (pick 0 items (map is_none f))) by_release.found ∙ left_unpaired 0 items same
 
-    are_fated : AreFated kept outcome.became.items new (fates items others (without release others items))
+    old_left : waiting ≡ without release items others
+    old_left = waiting_unpaired ∙ unpaired-left release items (map (λ e. e.1) same) ∙ ap (without release items) all
+
+    made : outcome.became.items ≡ all_of new_place (partners_of release (map release items) same) (map own items) near
+    made = by_place.became ∙ ap (λ f. all_of new_place f (map own items) near) by_release.found
+
+    are_fated : AreFated kept outcome.became.items new (fates own new_place items others (map (λ e. e.1) near))
     are_fated =
-        subst (λ b. AreFated kept b new (fates items others (without release others items))) (sym made)
-        (subst (λ l. AreFated kept (all_of (partners_of release (map release items) same) (map series items) near) new (fates items others l)) left
-        (subst (λ l. AreFated kept (all_of (partners_of release (map release items) same) (map series items) near) new (fates items l (map (λ e. e.1) near))) all
-        (fated new kept items same near are (all_at new others by_release.flags are_new) (all_at new others partners.waits.items are_new))))
+        subst (λ b. AreFated kept b new (fates own new_place items others (map (λ e. e.1) near))) (sym made)
+        (subst (λ l. AreFated kept (all_of new_place (partners_of release (map release items) same) (map own items) near) new (fates own new_place items l (map (λ e. e.1) near))) all
+        (fated own new_place new kept items same near are (all_at new others by_release.flags are_new) (all_at new others partners.waits.items are_new)))
 
-    added_items : map (λ e. e.1) (pick 0 others outcome.waits.items) ≡ without series (without release others items) (without release items others)
+    added_items : map (λ e. e.1) (pick 0 others outcome.waits.items) ≡ without_keys new_place (map (λ e. e.1) near) (map own waiting)
     added_items =
-        ap (map (λ e. e.1)) (by_series.left ∙ ap (λ f. left_after_all f (map series items) near) by_release.found)
-        ∙ left_added items same near
-        ∙ ap (λ l. without series l (unpaired release items (map (λ e. e.1) same))) left
-        ∙ ap (λ l. without series (without release others items) (unpaired release items l)) all
-        ∙ ap (λ l. without series (without release others items) l) (unpaired-left release items others)
+        ap (map (λ e. e.1)) (by_place.left ∙ ap (λ f. left_after_all new_place f (map own items) near) by_release.found)
+        ∙ left_added own new_place items same near
+        ∙ ap (λ l. without_keys new_place (map (λ e. e.1) near) (map own l)) (sym waiting_unpaired)
 
 -- which are all lines of the two files
-pub both_text : (kind : Kind) (detail : Detail) (text other : List ℕ) (read : Read) (lines : List ℕ) (both : ReadsBoth kind text other read)
-    → ((items added : List Item) → Pairwise IsWhole read.old.items items → Pairwise IsWhole read.others.new.items added → lines ≡ difference_text detail (difference_of_others (map (λ e. e.1) (pick 0 items read.others.waits.items)) added))
-    → lines ≡ diff_text kind detail both.old_meaning both.new.meaning
-both_text kind detail text other read lines both is =
-    let old = items_of kind both.old_meaning in
-    let new = items_of kind both.new.meaning in
-    let cut = all_cut (doc_of kind) kind 1 both.old_meaning (all_spelled (doc_of kind) text both.old_meaning both.accepted.means) in
-    let cut_new = all_cut (doc_of kind) kind 1 both.new.meaning (all_spelled (doc_of kind) other both.new.meaning both.new.accepted.means) in
+pub both_text : (kind : Kind) (form : Form) (text other : List ℕ) (read : Read) (lines : List ℕ) (both : ReadsBoth kind text other read)
+    → ((items added : List Item) → Pairwise IsWhole read.old.items items → Pairwise IsWhole read.others.new.items added → lines ≡ difference_text form (difference_of_others (map (λ e. e.1) (pick 0 items read.others.waits.items)) added))
+    → lines ≡ diff_text kind form text other both.old_meaning both.new.meaning
+both_text kind form text other read lines both is =
+    let old = items_of kind text both.old_meaning in
+    let new = items_of kind other both.new.meaning in
+    let cut = all_cut (doc_of kind) kind text 0 both.old_meaning (all_spelled (doc_of kind) text both.old_meaning both.accepted.means) in
+    let cut_new = all_cut (doc_of kind) kind other 0 both.new.meaning (all_spelled (doc_of kind) other both.new.meaning both.new.accepted.means) in
     is old (without whole new old) (whole-kept read.old.items old both.are_kept cut) (whole-kept read.others.new.items (without whole new old) both.new.are_kept (cut_without whole new old cut_new))
-    ∙ ap (λ l. difference_text detail (difference_of_others l (without whole new old))) both.new.left
+    ∙ ap (λ l. difference_text form (difference_of_others l (without whole new old))) both.new.left
 
 some_length : (n : ℕ) → (suc n == 0) ≡ false
 some_length n = grind (arith, nat_tests)

@@ -48,6 +48,6 @@ reads_new kind text items old new others same all waits sifts =
       meaning = sifts.meaning;
       accepted = sifts.accepted;
       length_is = ap length waits ∙ sifts.is_pool.length_is ∙ length-map items whole;
-      left = ap (λ flags. map (λ e. e.1) (pick 0 items flags)) waits ∙ sifts.left ∙ ap (λ l. without whole l (items_of kind sifts.meaning)) whole_old;
-      are_kept = subst (λ l. AreKept others.new.items (without whole (items_of kind sifts.meaning) l)) whole_old sifts.are_kept;
+      left = ap (λ flags. map (λ e. e.1) (pick 0 items flags)) waits ∙ sifts.left ∙ ap (λ l. without whole l (items_of kind text sifts.meaning)) whole_old;
+      are_kept = subst (λ l. AreKept others.new.items (without whole (items_of kind text sifts.meaning) l)) whole_old sifts.are_kept;
     }

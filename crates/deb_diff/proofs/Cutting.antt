@@ -117,7 +117,7 @@ name_ends (b ∷ bs) text each = rw each.0 (ap (λ n. 1 + n) (name_ends bs text 
 pub name_len_first : (entry : List ℕ × List ℕ) → IsCut entry → prefix_len (λ b. not (b == 58)) (field_text entry) ≡ length entry.0
 name_len_first entry is = name_ends entry.0 (behind_colon entry.1 ++ newline ∷ []) (each_from_list_all is_name_byte (λ b. not (b == 58) ≡ true) name_byte_not_colon entry.0 (each_name_byte entry.0 is.name))
 
--- entries of a map of lent texts
+-- entries of a map of borrowed texts
 abbrev pub Lents : Type 0
 Lents = List (Bor (List ℕ) × Bor (List ℕ))
 

@@ -3,39 +3,52 @@ use Rattle.std.proofs.Common.{◌≡◌, ℕ, List, [], ◌∷◌, ◌++◌, map
 use Rattle.std.specs.List.{flat_map}
 use Rattle.std.specs.Fmt.{decimal}
 use Rattle.std.proofs.lemmas.List.{append_assoc}
+use Rattle.deb_base.specs.declared.version_text.VersionText.{VersionText}
+use Rattle.deb_base.specs.declared.version_text.VersionText.TheVariants.{Canonical, Spelled}
 use Rattle.deb_diff.specs.Differences.{Changed, Fate, Upgraded}
 use Rattle.deb_diff.specs.Fates.{AreFated, IsFated}
 use Rattle.deb_diff.specs.Fields.{differing}
 use Rattle.deb_diff.specs.Items.{Item}
-use Rattle.deb_diff.specs.Kepts.{AreKept, IsKept, architecture_in, name_in, version_in}
+use Rattle.deb_diff.specs.Kepts.{AreKept, IsKept, architecture_in, name_in, printed_in, version_in}
 use Rattle.deb_diff.specs.Lefts.{rest_of_line}
-use Rattle.deb_diff.specs.Lines.{fate_line, item_line, line_of}
+use Rattle.deb_diff.specs.Lines.{fate_line, item_line, line_of, printed, version_word}
 use Rattle.deb_diff.specs.declared.became.Became.{Became}
 use Rattle.deb_diff.specs.declared.kept.Kept.{Kept}
 use Rattle.deb_diff.proofs.Lined.{line_of_rest}
 
+-- the text of its version that is chosen
+printed-kept : (versions : VersionText) (kept : Kept) (item : Item) → IsKept kept item → printed_in versions kept ≡ printed versions item
+printed-kept Canonical kept item is = is.version
+printed-kept Spelled kept item is = is.spelled
+
 -- the line of a paragraph that is kept
-pub kept_line : (word : List ℕ) (kept : Kept) (item : Item) → IsKept kept item → line_of (word ∷ decimal kept.number ∷ name_in kept ∷ version_in kept ∷ architecture_in kept ∷ []) ≡ item_line word item
-kept_line word kept item is = rw (is.number, is.name, is.version, is.architecture) refl
+pub kept_line : (versions : VersionText) (word : List ℕ) (kept : Kept) (item : Item) → IsKept kept item → line_of (word ∷ decimal kept.number ∷ name_in kept ∷ printed_in versions kept ∷ architecture_in kept ∷ []) ≡ item_line versions word item
+kept_line versions word kept item is =
+    ap (λ n. line_of (word ∷ decimal n ∷ name_in kept ∷ printed_in versions kept ∷ architecture_in kept ∷ [])) is.number
+    ∙ ap (λ n. line_of (word ∷ decimal item.number ∷ n ∷ printed_in versions kept ∷ architecture_in kept ∷ [])) is.name
+    ∙ ap (λ n. line_of (word ∷ decimal item.number ∷ item.name ∷ n ∷ architecture_in kept ∷ [])) (printed-kept versions kept item is)
+    ∙ ap (λ n. line_of (word ∷ decimal item.number ∷ item.name ∷ printed versions item ∷ n ∷ [])) is.architecture
 
-pub changed_line : (new : Kept) (item other : Item) (names : List (List ℕ)) → IsKept new other → names ≡ differing item.bodies other.bodies → codes "changed" ++ rest_of_line (decimal new.number ∷ name_in new ∷ version_in new ∷ architecture_in new ∷ names) ≡ fate_line (item, Changed other)
-changed_line new item other names is names_is =
-    sym (line_of_rest (codes "changed") (decimal new.number ∷ name_in new ∷ version_in new ∷ architecture_in new ∷ names))
-    ∙ ap (λ n. line_of (codes "changed" ∷ decimal n ∷ name_in new ∷ version_in new ∷ architecture_in new ∷ names)) is.number
-    ∙ ap (λ n. line_of (codes "changed" ∷ decimal other.number ∷ n ∷ version_in new ∷ architecture_in new ∷ names)) is.name
-    ∙ ap (λ n. line_of (codes "changed" ∷ decimal other.number ∷ other.name ∷ n ∷ architecture_in new ∷ names)) is.version
-    ∙ ap (λ n. line_of (codes "changed" ∷ decimal other.number ∷ other.name ∷ other.version ∷ n ∷ names)) is.architecture
-    ∙ ap (λ n. line_of (codes "changed" ∷ decimal other.number ∷ other.name ∷ other.version ∷ other.architecture ∷ n)) names_is
+pub changed_line : (versions : VersionText) (new : Kept) (item other : Item) (names : List (List ℕ)) → IsKept new other → names ≡ differing item.bodies other.bodies → codes "changed" ++ rest_of_line (decimal new.number ∷ name_in new ∷ printed_in versions new ∷ architecture_in new ∷ names) ≡ fate_line versions (item, Changed other)
+changed_line versions new item other names is names_is =
+    sym (line_of_rest (codes "changed") (decimal new.number ∷ name_in new ∷ printed_in versions new ∷ architecture_in new ∷ names))
+    ∙ ap (λ n. line_of (codes "changed" ∷ decimal n ∷ name_in new ∷ printed_in versions new ∷ architecture_in new ∷ names)) is.number
+    ∙ ap (λ n. line_of (codes "changed" ∷ decimal other.number ∷ n ∷ printed_in versions new ∷ architecture_in new ∷ names)) is.name
+    ∙ ap (λ n. line_of (codes "changed" ∷ decimal other.number ∷ other.name ∷ n ∷ architecture_in new ∷ names)) (printed-kept versions new other is)
+    ∙ ap (λ n. line_of (codes "changed" ∷ decimal other.number ∷ other.name ∷ printed versions other ∷ n ∷ names)) is.architecture
+    ∙ ap (λ n. line_of (codes "changed" ∷ decimal other.number ∷ other.name ∷ printed versions other ∷ other.architecture ∷ n)) names_is
 
-pub upgraded_line : (old new : Kept) (item other : Item) (names : List (List ℕ)) → IsKept old item → IsKept new other → names ≡ differing item.bodies other.bodies → codes "upgraded" ++ rest_of_line (decimal new.number ∷ name_in new ∷ version_in old ∷ version_in new ∷ architecture_in new ∷ names) ≡ fate_line (item, Upgraded other)
-upgraded_line old new item other names was is names_is =
-    sym (line_of_rest (codes "upgraded") (decimal new.number ∷ name_in new ∷ version_in old ∷ version_in new ∷ architecture_in new ∷ names))
-    ∙ ap (λ n. line_of (codes "upgraded" ∷ decimal n ∷ name_in new ∷ version_in old ∷ version_in new ∷ architecture_in new ∷ names)) is.number
-    ∙ ap (λ n. line_of (codes "upgraded" ∷ decimal other.number ∷ n ∷ version_in old ∷ version_in new ∷ architecture_in new ∷ names)) is.name
-    ∙ ap (λ n. line_of (codes "upgraded" ∷ decimal other.number ∷ other.name ∷ n ∷ version_in new ∷ architecture_in new ∷ names)) was.version
-    ∙ ap (λ n. line_of (codes "upgraded" ∷ decimal other.number ∷ other.name ∷ item.version ∷ n ∷ architecture_in new ∷ names)) is.version
-    ∙ ap (λ n. line_of (codes "upgraded" ∷ decimal other.number ∷ other.name ∷ item.version ∷ other.version ∷ n ∷ names)) is.architecture
-    ∙ ap (λ n. line_of (codes "upgraded" ∷ decimal other.number ∷ other.name ∷ item.version ∷ other.version ∷ other.architecture ∷ n)) names_is
+pub upgraded_line : (versions : VersionText) (old new : Kept) (item other : Item) (names : List (List ℕ)) → IsKept old item → IsKept new other → names ≡ differing item.bodies other.bodies → version_word (version_in old) (version_in new) ++ rest_of_line (decimal new.number ∷ name_in new ∷ printed_in versions old ∷ printed_in versions new ∷ architecture_in new ∷ names) ≡ fate_line versions (item, Upgraded other)
+upgraded_line versions old new item other names was is names_is =
+    sym (line_of_rest (version_word (version_in old) (version_in new)) (decimal new.number ∷ name_in new ∷ printed_in versions old ∷ printed_in versions new ∷ architecture_in new ∷ names))
+    ∙ ap (λ w. line_of (version_word w (version_in new) ∷ decimal new.number ∷ name_in new ∷ printed_in versions old ∷ printed_in versions new ∷ architecture_in new ∷ names)) was.version
+    ∙ ap (λ w. line_of (version_word item.version w ∷ decimal new.number ∷ name_in new ∷ printed_in versions old ∷ printed_in versions new ∷ architecture_in new ∷ names)) is.version
+    ∙ ap (λ n. line_of (version_word item.version other.version ∷ decimal n ∷ name_in new ∷ printed_in versions old ∷ printed_in versions new ∷ architecture_in new ∷ names)) is.number
+    ∙ ap (λ n. line_of (version_word item.version other.version ∷ decimal other.number ∷ n ∷ printed_in versions old ∷ printed_in versions new ∷ architecture_in new ∷ names)) is.name
+    ∙ ap (λ n. line_of (version_word item.version other.version ∷ decimal other.number ∷ other.name ∷ n ∷ printed_in versions new ∷ architecture_in new ∷ names)) (printed-kept versions old item was)
+    ∙ ap (λ n. line_of (version_word item.version other.version ∷ decimal other.number ∷ other.name ∷ printed versions item ∷ n ∷ architecture_in new ∷ names)) (printed-kept versions new other is)
+    ∙ ap (λ n. line_of (version_word item.version other.version ∷ decimal other.number ∷ other.name ∷ printed versions item ∷ printed versions other ∷ n ∷ names)) is.architecture
+    ∙ ap (λ n. line_of (version_word item.version other.version ∷ decimal other.number ∷ other.name ∷ printed versions item ∷ printed versions other ∷ other.architecture ∷ n)) names_is
 
 -- a line, and the lines of values under it
 pub line-values : (initial now new line wanted values more : List ℕ) → now ≡ initial ++ line → line ≡ wanted → new ≡ now ++ values → values ≡ more → new ≡ initial ++ (wanted ++ more)

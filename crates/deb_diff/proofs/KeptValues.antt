@@ -1,6 +1,7 @@
 -- The values and the text of a paragraph that passes, as they are kept.
-use Rattle.std.proofs.Common.{◌≡◌, ℕ, List, ◌++◌, length, take, drop, Option, Result, Ok, Err, IfOk, IsTrue, ap, ◌∙◌, subst, is_ok, refl}
+use Rattle.std.proofs.Common.{◌≡◌, ℕ, suc, ◌==◌, arith, Bool, true, false, cond, List, [], ◌∷◌, ◌++◌, length, take, drop, Option, Result, Ok, Err, IfOk, IsTrue, ap, ◌∙◌, subst, is_ok, refl}
 use Rattle.std.proofs.Math.Seq.{drop-append_seam, take-append_seam}
+use Rattle.std.proofs.lemmas.Bool.Decides.{nat_tests}
 use Rattle.std.proofs.lemmas.Slice.Eq.{bytes_eq-Decides}
 use Rattle.std.specs.FinMap.{find}
 use Rattle.std.specs.Option.{option_map}
@@ -22,7 +23,8 @@ use Rattle.deb_control.specs.declared.checked_text.CheckedText.{CheckedText}
 use Rattle.deb_control.proofs.PassingParagraphs.{values-passing}
 use Rattle.deb_control.proofs.ValueBodies.{one_paragraph}
 use Rattle.deb_diff.specs.Items.{Item, value_under, whole}
-use Rattle.deb_diff.specs.Kepts.{HasValues, IsKept}
+use Rattle.deb_diff.specs.Kepts.{HasValues, IsKept, after_name, after_version, marked, unmarked, version_in}
+use Rattle.std.specs.Str.{bytes_eq}
 use Rattle.deb_diff.specs.declared.kept.Kept.{Kept}
 
 -- the value that is found under a name is that of any list of the paragraph's values
@@ -59,15 +61,30 @@ given_values paragraph doc same =
     let found = values-passing (doc_of paragraph) (passing_of paragraph).seen (judged-text _ (passing_of paragraph).text paragraph.passes) in
     record { values = found.0; has = found.1; are = subst (λ d. AreValuesOf d (passing_of paragraph).seen found.0) same found.1 }
 
--- words that follow one another are its name, its version and its architecture
-pub words_kept : (kept : Kept) (item : Item) (name version architecture : List ℕ) → kept.words.items ≡ name ++ (version ++ architecture) → kept.name_len ≡ length name → kept.version_len ≡ length version
-    → name ≡ item.name → version ≡ item.version → architecture ≡ item.architecture → kept.number ≡ item.number → kept.text.items ≡ whole item → IsKept kept item
-words_kept kept item name version architecture words name_len version_len name_is version_is architecture_is number text =
-    let rest : drop kept.name_len kept.words.items ≡ version ++ architecture = ap (drop kept.name_len) words ∙ ap (λ n. drop n (name ++ (version ++ architecture))) name_len ∙ drop-append_seam name (version ++ architecture) in
+some_length : (n : ℕ) → (suc n == 0) ≡ false
+some_length n = grind (arith, nat_tests)
+
+-- the spelled text is found after its mark
+unmarked-marked : (version spelled : List ℕ) → unmarked version (marked version spelled) ≡ spelled
+unmarked-marked version spelled = go (bytes_eq version spelled) refl
+  where
+    go : (b : Bool) → bytes_eq version spelled ≡ b → unmarked version (cond b [] (32 ∷ spelled)) ≡ spelled
+    go true same = (bytes_eq-Decides version spelled).0 same
+    go false other = ap (λ b. cond b version spelled) (some_length (length spelled))
+
+-- words that follow one another are its name, its version, the mark of another spelling and its architecture
+pub words_kept : (kept : Kept) (item : Item) (name version mark architecture : List ℕ) → kept.words.items ≡ name ++ (version ++ (mark ++ architecture)) → kept.name_len ≡ length name → kept.version_len ≡ length version → kept.spelled_len ≡ length mark
+    → name ≡ item.name → version ≡ item.version → mark ≡ marked version item.spelled → architecture ≡ item.architecture → kept.number ≡ item.number → kept.text.items ≡ whole item → IsKept kept item
+words_kept kept item name version mark architecture words name_len version_len spelled_len name_is version_is mark_is architecture_is number text =
+    let rest : after_name kept ≡ version ++ (mark ++ architecture) = ap (drop kept.name_len) words ∙ ap (λ n. drop n (name ++ (version ++ (mark ++ architecture)))) name_len ∙ drop-append_seam name (version ++ (mark ++ architecture)) in
+    let last : after_version kept ≡ mark ++ architecture = ap (drop kept.version_len) rest ∙ ap (λ n. drop n (version ++ (mark ++ architecture))) version_len ∙ drop-append_seam version (mark ++ architecture) in
+    let own : version_in kept ≡ version = ap (take kept.version_len) rest ∙ ap (λ n. take n (version ++ (mark ++ architecture))) version_len ∙ take-append_seam version (mark ++ architecture) in
+    let found : take kept.spelled_len (after_version kept) ≡ mark = ap (take kept.spelled_len) last ∙ ap (λ n. take n (mark ++ architecture)) spelled_len ∙ take-append_seam mark architecture in
     record {
       number = number;
-      name = ap (take kept.name_len) words ∙ ap (λ n. take n (name ++ (version ++ architecture))) name_len ∙ take-append_seam name (version ++ architecture) ∙ name_is;
-      version = ap (take kept.version_len) rest ∙ ap (λ n. take n (version ++ architecture)) version_len ∙ take-append_seam version architecture ∙ version_is;
-      architecture = ap (drop kept.version_len) rest ∙ ap (λ n. drop n (version ++ architecture)) version_len ∙ drop-append_seam version architecture ∙ architecture_is;
+      name = ap (take kept.name_len) words ∙ ap (λ n. take n (name ++ (version ++ (mark ++ architecture)))) name_len ∙ take-append_seam name (version ++ (mark ++ architecture)) ∙ name_is;
+      version = own ∙ version_is;
+      spelled = ap (λ v. unmarked v (take kept.spelled_len (after_version kept))) own ∙ ap (unmarked version) (found ∙ mark_is) ∙ unmarked-marked version item.spelled;
+      architecture = ap (drop kept.spelled_len) last ∙ ap (λ n. drop n (mark ++ architecture)) spelled_len ∙ drop-append_seam mark architecture ∙ architecture_is;
       text = text;
     }

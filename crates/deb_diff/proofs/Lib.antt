@@ -16,5 +16,8 @@ pub mod Differed
 pub mod Marking
 pub mod Fating
 pub mod Linked
+pub mod Placed
 pub mod Released
 pub mod Assembled
+pub mod CanonicalLines
+pub mod SpelledVersions

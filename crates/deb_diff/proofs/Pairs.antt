@@ -9,7 +9,7 @@ use Rattle.std.proofs.lemmas.Bool.{false≢true}
 use Rattle.std.proofs.lemmas.List.Sums.{sum_by-cons}
 use Rattle.std.proofs.lemmas.List.Sorted.{IsPermutation-refl, IsPermutation-cons, IsPermutation-trans, IsPermutation-middle, sum_by-IsPermutation, length_permutation}
 use Rattle.std.proofs.lemmas.Slice.Eq.{bytes_eq-Decides}
-use Rattle.deb_diff.specs.Pairing.{earliest, all_but, without}
+use Rattle.deb_diff.specs.Pairing.{earliest, all_but, without, without_keys}
 
 pub bytes_eq-sym : (a b : List ℕ) → bytes_eq a b ≡ bytes_eq b a
 bytes_eq-sym a b = both_ways (bytes_eq a b) (bytes_eq b a) (λ e. (bytes_eq-Decides b a).1 (sym ((bytes_eq-Decides a b).0 e))) (λ e. (bytes_eq-Decides a b).1 (sym ((bytes_eq-Decides b a).0 e)))
@@ -17,51 +17,72 @@ bytes_eq-sym a b = both_ways (bytes_eq a b) (bytes_eq b a) (λ e. (bytes_eq-Deci
 bytes_eq-same : (a : List ℕ) → bytes_eq a a ≡ true
 bytes_eq-same a = (bytes_eq-Decides a a).1 refl
 
-module _ {X : Type 0} (key : X → List ℕ) where
-  -- whether some element has the key
-  abbrev pub has : List ℕ → List X → Bool
-  has wanted xs = is_some (earliest key wanted xs)
-
+-- Two lists of which each has a key of its own.
+module _ {X Y : Type 0} (own : X → List ℕ) (key : Y → List ℕ) where
   -- what finds none in a list from which the earliest are taken away one after another
-  abbrev pub unpaired : List X → List X → List X
-  unpaired [] ys = []
-  unpaired (x ∷ xs) ys = cond (has (key x) ys) (unpaired xs (all_but key (key x) ys)) (x ∷ unpaired xs (all_but key (key x) ys))
+  abbrev pub unpaired_by : List X → List Y → List X
+  unpaired_by [] ys = []
+  unpaired_by (x ∷ xs) ys = cond (is_some (earliest key (own x) ys)) (unpaired_by xs (all_but key (own x) ys)) (x ∷ unpaired_by xs (all_but key (own x) ys))
 
-  pub without-nil : (ys : List X) → without key [] ys ≡ []
-  without-nil [] = refl
-  without-nil (y ∷ ys) = without-nil ys
-
-  -- without the key nothing is taken away
-  pub all_but-none : (wanted : List ℕ) (xs : List X) → has wanted xs ≡ false → all_but key wanted xs ≡ xs
-  all_but-none wanted [] e = refl
-  all_but-none wanted (x ∷ xs) e = go (bytes_eq (key x) wanted) e (all_but-none wanted xs)
-    where
-      go : (b : Bool) → is_some (cond b (Some x) (earliest key wanted xs)) ≡ false → (has wanted xs ≡ false → all_but key wanted xs ≡ xs) → cond b xs (x ∷ all_but key wanted xs) ≡ x ∷ xs
-      go true e h = cc e
-      go false e h = ap (λ l. x ∷ l) (h e)
+  none_without : (ks : List (List ℕ)) → without_keys own [] ks ≡ []
+  none_without [] = refl
+  none_without (k ∷ ks) = none_without ks
 
   -- one element more
-  without-cons : (x : X) (xs ys : List X) → without key (x ∷ xs) ys ≡ cond (has (key x) ys) (without key xs (all_but key (key x) ys)) (x ∷ without key xs ys)
-  without-cons x xs [] = refl
-  without-cons x xs (y ∷ ys) =
-      go (bytes_eq (key x) (key y)) (bytes_eq (key y) (key x)) (bytes_eq-sym (key x) (key y)) (without-cons x (all_but key (key y) xs) ys)
+  without_keys-cons : (x : X) (xs : List X) (ys : List Y) → without_keys own (x ∷ xs) (map key ys) ≡ cond (is_some (earliest key (own x) ys)) (without_keys own xs (map key (all_but key (own x) ys))) (x ∷ without_keys own xs (map key ys))
+  without_keys-cons x xs [] = refl
+  without_keys-cons x xs (y ∷ ys) =
+      go (bytes_eq (own x) (key y)) (bytes_eq (key y) (own x)) (bytes_eq-sym (own x) (key y)) (without_keys-cons x (all_but own (key y) xs) ys)
     where
-      go : (b c : Bool) → b ≡ c → without key (x ∷ all_but key (key y) xs) ys ≡ cond (has (key x) ys) (without key (all_but key (key y) xs) (all_but key (key x) ys)) (x ∷ without key (all_but key (key y) xs) ys)
-          → without key (cond b xs (x ∷ all_but key (key y) xs)) ys ≡ cond (is_some (cond c (Some y) (earliest key (key x) ys))) (without key xs (cond c ys (y ∷ all_but key (key x) ys))) (x ∷ without key (all_but key (key y) xs) ys)
+      go : (b c : Bool) → b ≡ c → without_keys own (x ∷ all_but own (key y) xs) (map key ys) ≡ cond (is_some (earliest key (own x) ys)) (without_keys own (all_but own (key y) xs) (map key (all_but key (own x) ys))) (x ∷ without_keys own (all_but own (key y) xs) (map key ys))
+          → without_keys own (cond b xs (x ∷ all_but own (key y) xs)) (map key ys) ≡ cond (is_some (cond c (Some y) (earliest key (own x) ys))) (without_keys own xs (map key (cond c ys (y ∷ all_but key (own x) ys)))) (x ∷ without_keys own (all_but own (key y) xs) (map key ys))
       go true true e h = refl
       go false false e h = h
       go true false e h = cc e
       go false true e h = cc e
 
-  -- they are those that are left of their list without the other one
-  pub unpaired-left : (xs ys : List X) → unpaired xs ys ≡ without key xs ys
-  unpaired-left [] ys = sym (without-nil ys)
-  unpaired-left (x ∷ xs) ys =
-      go (has (key x) ys) refl (unpaired-left xs (all_but key (key x) ys)) ∙ sym (without-cons x xs ys)
+  -- without the key nothing is taken away
+  none_found : (wanted : List ℕ) (ys : List Y) → is_some (earliest key wanted ys) ≡ false → all_but key wanted ys ≡ ys
+  none_found wanted [] e = refl
+  none_found wanted (y ∷ ys) e = go (bytes_eq (key y) wanted) e (none_found wanted ys)
     where
-      go : (b : Bool) → has (key x) ys ≡ b → unpaired xs (all_but key (key x) ys) ≡ without key xs (all_but key (key x) ys) → cond b (unpaired xs (all_but key (key x) ys)) (x ∷ unpaired xs (all_but key (key x) ys)) ≡ cond b (without key xs (all_but key (key x) ys)) (x ∷ without key xs ys)
+      go : (b : Bool) → is_some (cond b (Some y) (earliest key wanted ys)) ≡ false → (is_some (earliest key wanted ys) ≡ false → all_but key wanted ys ≡ ys) → cond b ys (y ∷ all_but key wanted ys) ≡ y ∷ ys
+      go true e h = cc e
+      go false e h = ap (λ l. y ∷ l) (h e)
+
+  -- they are those that are left of their list without the keys of the other one
+  pub unpaired_by-left : (xs : List X) (ys : List Y) → unpaired_by xs ys ≡ without_keys own xs (map key ys)
+  unpaired_by-left [] ys = sym (none_without (map key ys))
+  unpaired_by-left (x ∷ xs) ys =
+      go (is_some (earliest key (own x) ys)) refl (unpaired_by-left xs (all_but key (own x) ys)) ∙ sym (without_keys-cons x xs ys)
+    where
+      go : (b : Bool) → is_some (earliest key (own x) ys) ≡ b → unpaired_by xs (all_but key (own x) ys) ≡ without_keys own xs (map key (all_but key (own x) ys)) → cond b (unpaired_by xs (all_but key (own x) ys)) (x ∷ unpaired_by xs (all_but key (own x) ys)) ≡ cond b (without_keys own xs (map key (all_but key (own x) ys))) (x ∷ without_keys own xs (map key ys))
       go true e h = h
-      go false e h = ap (λ l. x ∷ l) (h ∙ ap (without key xs) (all_but-none (key x) ys e))
+      go false e h = ap (λ l. x ∷ l) (h ∙ ap (λ l. without_keys own xs (map key l)) (none_found (own x) ys e))
+
+module _ {X : Type 0} (key : X → List ℕ) where
+  -- whether some element has the key
+  abbrev pub has : List ℕ → List X → Bool
+  has wanted xs = is_some (earliest key wanted xs)
+
+  -- the same where both lists have one key
+  abbrev pub unpaired : List X → List X → List X
+  unpaired xs ys = unpaired_by key key xs ys
+
+  -- without the key nothing is taken away
+  pub all_but-none : (wanted : List ℕ) (xs : List X) → has wanted xs ≡ false → all_but key wanted xs ≡ xs
+  all_but-none = none_found key key
+
+  pub without-nil : (ys : List X) → without key [] ys ≡ []
+  without-nil [] = refl
+  without-nil (y ∷ ys) = without-nil ys
+
+  keys-without : (xs ys : List X) → without_keys key xs (map key ys) ≡ without key xs ys
+  keys-without xs [] = refl
+  keys-without xs (y ∷ ys) = keys-without (all_but key (key y) xs) ys
+
+  pub unpaired-left : (xs ys : List X) → unpaired xs ys ≡ without key xs ys
+  unpaired-left xs ys = unpaired_by-left key key xs ys ∙ keys-without xs ys
 
   all_but-length : (wanted : List ℕ) (xs : List X) → length xs ≤ 1 + length (all_but key wanted xs)
   all_but-length wanted [] = omega arith
@@ -165,7 +186,7 @@ module _ {X : Type 0} (key : X → List ℕ) where
   none_left xs ys same =
       none_counted (without key xs ys) (λ k. omega (arith, count-without k ys xs, sum_by-IsPermutation (one k) (map key xs) (map key ys) same, count-sum k xs, count-sum k ys))
 
-  -- lists are the same in some order where their keys are, and a key tells its element
+  -- lists are the same in some order where their keys are, and equal keys have equal elements
   pub same_elements : (P : X → Type 0) → ((x y : X) → P x → P y → key x ≡ key y → x ≡ y) → (xs ys : List X) → AllByRecursion P xs → AllByRecursion P ys → IsPermutation (map key xs) (map key ys) → IsPermutation xs ys
   same_elements P tells xs ys all all_ys same =
       let le : length ys ≤ length xs = omega (arith, length_permutation (map key xs) (map key ys) same, length-map xs key, length-map ys key) in

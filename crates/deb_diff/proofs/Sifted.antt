@@ -19,6 +19,7 @@ use Rattle.deb_diff.specs.Kepts.{AreKept, IsKept}
 use Rattle.deb_diff.specs.Kinds.{doc_of}
 use Rattle.deb_diff.specs.Pairing.{all_but, earliest, without}
 use Rattle.deb_diff.specs.Pools.{IsPoolOf, Takes, left_in}
+use Rattle.deb_diff.specs.Spelled.{fields_after, fields_of_seen}
 use Rattle.deb_diff.specs.Sifting.{Sifts, SiftsFile, items_in}
 use Rattle.deb_diff.specs.declared.kept.Kept.{Kept}
 use Rattle.deb_diff.specs.declared.kind.Kind.{Kind}
@@ -85,26 +86,32 @@ unpaired-push (z ∷ xs) ys x = go (is_some (earliest whole (whole z) ys)) (unpa
     go true h = h
     go false h = ap (λ l. z ∷ l) h
 
-items-push : (kind : Kind) (n : ℕ) (meaning : Meaning) (values : ValueEntries ValueMeaning) → items_from kind n (meaning ++ values ∷ []) ≡ items_from kind n meaning ++ item_of kind (n + length meaning) values ∷ []
-items-push kind n [] values = ap (λ k. item_of kind k values ∷ []) (omega arith)
-items-push kind n (first ∷ meaning) values =
-    ap (λ l. item_of kind n first ∷ l) (items-push kind (n + 1) meaning values ∙ ap (λ k. items_from kind (n + 1) meaning ++ item_of kind k values ∷ []) (omega arith))
+-- the paragraph after so many
+abbrev item_at : Kind → List ℕ → ℕ → ValueEntries ValueMeaning → Item
+item_at kind text n values = item_of kind (n + 1) (fields_after text n) values
+
+items-push : (kind : Kind) (text : List ℕ) (n : ℕ) (meaning : Meaning) (values : ValueEntries ValueMeaning) → items_from kind text n (meaning ++ values ∷ []) ≡ items_from kind text n meaning ++ item_at kind text (n + length meaning) values ∷ []
+items-push kind text n [] values = ap (λ k. item_at kind text k values ∷ []) (omega arith)
+items-push kind text n (first ∷ meaning) values =
+    ap (λ l. item_at kind text n first ∷ l) (items-push kind text (n + 1) meaning values ∙ ap (λ k. items_from kind text (n + 1) meaning ++ item_at kind text k values ∷ []) (omega arith))
 
 -- The first paragraphs of the file were given, so many, and they were taken away or are kept.
 pub record HasSifted (kind : Kind) (text : List ℕ) (others : List Item) (old new : Pool) (kept : List Kept) (state : CheckedState) (left : Option (List ℕ)) (count : ℕ) : Type 0 where
   pub checked : HasChecked (doc_of kind) text state left
   pub values : Meaning
   pub are : SpellsEntries (SpellsValue (doc_of kind)) checked.before values
+  pub before_counted : length checked.before ≡ count
   pub counted : length values ≡ count
   pub is_pool : IsPoolOf (map whole others) new
-  pub left_is : items_in others new ≡ without whole (items_in others old) (items_of kind values)
-  pub are_kept : AreKept kept (unpaired whole (items_of kind values) (items_in others old))
+  pub left_is : items_in others new ≡ without whole (items_in others old) (items_of kind text values)
+  pub are_kept : AreKept kept (unpaired whole (items_of kind text values) (items_in others old))
 
 pub none_sifted : (kind : Kind) (text : List ℕ) (others : List Item) (pool : Pool) (state : CheckedState) (left : Option (List ℕ)) → FitsChecked (doc_of kind) text [] state left → IsPoolOf (map whole others) pool → HasSifted kind text others pool pool [] state left 0
 none_sifted kind text others pool state left fits is_pool = record {
   checked = record { before = []; fits = fits };
   values = [];
   are = tt;
+  before_counted = refl;
   counted = refl;
   is_pool = is_pool;
   left_is = refl;
@@ -122,16 +129,19 @@ spelled doc text before given new left values gives are =
 -- one paragraph more
 pub one_sifted : (kind : Kind) (text : List ℕ) (others : List Item) (old now new : Pool) (kept kept_new : List Kept) (state after : CheckedState) (left left_after : Option (List ℕ)) (count : ℕ) (values : ValueEntries ValueMeaning) (given : Passing)
     → (has : HasSifted kind text others old now kept state left count) → GivesPassing (doc_of kind) text has.checked.before given after left_after → AreValuesOf (doc_of kind) given.seen values
-    → Sifts (item_of kind (count + 1) values) others now new kept kept_new → HasSifted kind text others old new kept_new after left_after (count + 1)
+    → Sifts (item_of kind (count + 1) given.seen.fields values) others now new kept kept_new → HasSifted kind text others old new kept_new after left_after (count + 1)
 one_sifted kind text others old now new kept kept_new state after left left_after count values given has gives are sifts =
-    let item = item_of kind (count + 1) values in
-    let items = items_of kind has.values in
+    let fields = given.seen.fields in
+    let item = item_of kind (count + 1) fields values in
+    let items = items_of kind text has.values in
     let waiting = items_in others old in
-    let more : items_of kind (has.values ++ values ∷ []) ≡ items ++ item ∷ [] = items-push kind 1 has.values values ∙ ap (λ k. items ++ item_of kind k values ∷ []) (omega (arith, has.counted)) in
+    let found : fields_after text count ≡ fields = ap (fields_after text) (sym has.before_counted) ∙ ap fields_of_seen gives.seen in
+    let more : items_of kind text (has.values ++ values ∷ []) ≡ items ++ item ∷ [] = items-push kind text 0 has.values values ∙ ap (λ k. items ++ item_at kind text k values ∷ []) (omega (arith, has.counted)) ∙ ap (λ f. items ++ item_of kind (count + 1) f values ∷ []) found in
     record {
       checked = record { before = has.checked.before ++ gives.entries ∷ []; fits = gives.again };
       values = has.values ++ values ∷ [];
       are = pairwise-push (Pairwise (SpellsEntry (SpellsValue (doc_of kind)))) has.checked.before has.values gives.entries values has.are (spelled (doc_of kind) text has.checked.before given after left_after values gives are);
+      before_counted = omega (arith, length_push has.checked.before gives.entries, has.before_counted);
       counted = omega (arith, length_push has.values values, has.counted);
       is_pool = sifts.is_pool;
       left_is = sifts.left ∙ ap (all_but whole (whole item)) has.left_is ∙ sym (without-push waiting items item) ∙ ap (without whole waiting) (sym more);
@@ -152,6 +162,6 @@ all_sifted kind text others old new kept state after left left_after count has e
       meaning = all.meaning;
       accepted = all.accepted;
       is_pool = has.is_pool;
-      left = has.left_is ∙ ap (λ m. without whole (items_in others old) (items_of kind m)) same;
-      are_kept = subst (AreKept kept) (unpaired-left whole (items_of kind has.values) (items_in others old) ∙ ap (λ m. without whole (items_of kind m) (items_in others old)) same) has.are_kept;
+      left = has.left_is ∙ ap (λ m. without whole (items_in others old) (items_of kind text m)) same;
+      are_kept = subst (AreKept kept) (unpaired-left whole (items_of kind text has.values) (items_in others old) ∙ ap (λ m. without whole (items_of kind text m) (items_in others old)) same) has.are_kept;
     }

@@ -33,7 +33,7 @@ pub record AreCut (entries : Entries) : Type 0 where
   pub each : AllByRecursion IsCut entries
   pub ascending : AreAscending entries
 
--- what a map of lent texts holds
+-- what a map of borrowed texts holds
 abbrev pub texts_in : List (Bor (List ℕ) × Bor (List ℕ)) → Entries
 texts_in entries = map (λ e. (e.0.now, e.1.now)) entries
 

@@ -8,9 +8,6 @@ abbrev pub release_in : Kept → List ℕ
 release_in kept =
     name_in kept ++ codes " " ++ version_in kept ++ codes " " ++ architecture_in kept
 
-abbrev pub series_in : Kept → List ℕ
-series_in kept = name_in kept ++ codes " " ++ architecture_in kept
-
 -- words, each after a space, and a newline
 abbrev pub rest_of_line : List (List ℕ) → List ℕ
 rest_of_line words = flat_map (λ word. codes " " ++ word) words ++ codes "\n"

@@ -1,11 +1,14 @@
 pub mod Kinds
+pub mod Spelled
 pub mod Items
+pub mod Ranks
 pub mod Pairing
 pub mod Differences
 pub mod Fields
 pub mod Values
 pub mod Lines
 pub mod Kepts
+pub mod Places
 pub mod Waiting
 pub mod Pools
 pub mod Sifting

@@ -19,6 +19,11 @@ abbrev pub without : {X : Type 0} → (X → List ℕ) → List X → List X →
 without key xs [] = xs
 without key xs (y ∷ ys) = without key (all_but key (key y) xs) ys
 
+-- what is left of a list: for each of these keys, the earliest that has it is taken away
+abbrev pub without_keys : {X : Type 0} → (X → List ℕ) → List X → List (List ℕ) → List X
+without_keys key xs [] = xs
+without_keys key xs (wanted ∷ keys) = without_keys key (all_but key wanted xs) keys
+
 -- For words whose key is their first byte: the first of three, and none.
 abbrev first_byte : List ℕ → List ℕ
 first_byte [] = []
@@ -43,3 +48,9 @@ worked-without : (without first_byte three (codes "x" ∷ []) ≡ codes "y" ∷ 
     × (without first_byte three (codes "y" ∷ codes "x" ∷ []) ≡ codes "xb" ∷ [])
     × (without first_byte [] three ≡ []) × (without first_byte three [] ≡ three)
 worked-without = (refl, refl, refl, refl, refl, refl)
+
+worked-without_keys : (without_keys first_byte three (codes "x" ∷ codes "z" ∷ [])
+    ≡ codes "y" ∷ codes "xb" ∷ [])
+    × (without_keys first_byte three (codes "x" ∷ codes "x" ∷ []) ≡ codes "y" ∷ [])
+    × (without_keys first_byte three [] ≡ three)
+worked-without_keys = (refl, refl, refl)

@@ -33,6 +33,7 @@ named number name = (
     number = number + 1;
     name = name;
     version = codes "1";
+    spelled = codes "1";
     architecture = codes "all";
     bodies = [];
   },

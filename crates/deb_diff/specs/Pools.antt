@@ -15,6 +15,10 @@ pick n (x ∷ xs) [] = []
 pick n (x ∷ xs) (waits ∷ flags) =
     cond waits ((n, x) ∷ pick (n + 1) xs flags) (pick (n + 1) xs flags)
 
+-- the elements that wait
+abbrev pub waiting_in : {X : Type 0} → List X → List Bool → List X
+waiting_in xs flags = map (λ e. e.1) (pick 0 xs flags)
+
 abbrev pub left_in : {X : Type 0} → List X → Pool → List (ℕ × X)
 left_in xs pool = pick 0 xs pool.waits.items
 
@@ -38,6 +42,10 @@ pub record Takes (items : List Item) (key : Item → List ℕ) (wanted : List �
 worked-pick : pick 3 (codes "a" ∷ codes "b" ∷ codes "c" ∷ []) (true ∷ false ∷ true ∷ [])
     ≡ (3, codes "a") ∷ (5, codes "c") ∷ []
 worked-pick = refl
+
+worked-waiting_in : waiting_in (codes "a" ∷ codes "b" ∷ codes "c" ∷ []) (true ∷ false ∷ true ∷ [])
+    ≡ codes "a" ∷ codes "c" ∷ []
+worked-waiting_in = refl
 
 -- several, one and none
 worked-numbers_of : map

@@ -29,5 +29,5 @@ pub record SiftsFile (kind : Kind) (text : List ℕ) (others : List Item) (old n
   pub meaning : Meaning
   pub accepted : Accepted (doc_of kind) text meaning
   pub is_pool : IsPoolOf (map whole others) new
-  pub left : items_in others new ≡ without whole (items_in others old) (items_of kind meaning)
-  pub are_kept : AreKept kept (without whole (items_of kind meaning) (items_in others old))
+  pub left : items_in others new ≡ without whole (items_in others old) (items_of kind text meaning)
+  pub are_kept : AreKept kept (without whole (items_of kind text meaning) (items_in others old))

@@ -1,13 +1,15 @@
 -- The numbers of elements that aren't paired yet, under their keys.
 use Rattle.std.specs.Prelude.{◌≡◌, ℕ, List, [], ◌∷◌, Option, None, Some, refl}
 use Rattle.std.specs.Option.{option_map_or}
-use Rattle.std.specs.Str.{bytes_eq}
-use Rattle.indexmap.specs.IndexMap.{get_by}
+use Rattle.std.specs.BTreeMap.{get_by}
+use Rattle.std.specs.Cmp.Lexicographic.{slice_cmp}
+use Rattle.std.specs.Ordering.{nat_cmp}
 use Rattle.deb_diff.specs.declared.waiting.Waiting.{Waiting}
 
 abbrev pub numbers_under : Waiting → List ℕ → List ℕ
 numbers_under waiting key =
-    option_map_or (λ numbers. numbers.items) (get_by (λ k. bytes_eq key k.now) waiting.map) []
+    option_map_or (λ numbers. numbers.items)
+    (get_by (λ k. slice_cmp nat_cmp key k.now) waiting.map) []
 
 abbrev pub first_of : {X : Type 0} → List X → Option X
 first_of [] = None

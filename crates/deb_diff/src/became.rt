@@ -1,7 +1,7 @@
 //! What became of old paragraphs.
 
-ghost use Rattle.std.specs.Prelude.{◌≡◌, List, length, map, IfOk};
-ghost use Rattle.deb_diff.specs.Items.{Item, series};
+ghost use Rattle.std.specs.Prelude.{◌≡◌, ℕ, List, length, map, IfOk};
+ghost use Rattle.deb_diff.specs.Items.{Item};
 ghost use Rattle.deb_diff.specs.Pools.{IsPoolOf};
 ghost use Rattle.deb_diff.specs.Walks.{Becomes, BecomesOne};
 
@@ -9,7 +9,7 @@ use crate::pool::Pool;
 use std::alloc::{AllocError, Global};
 
 /// What became of an old paragraph: nothing, the new one with a number that has its release, or
-/// one that has its series.
+/// one that has its place.
 #[derive(Clone, Copy)]
 pub(crate) enum Became {
     Nothing,
@@ -17,7 +17,7 @@ pub(crate) enum Became {
     Upgraded(usize),
 }
 
-/// Returns what became of old paragraphs, given their partners by release and their series. Takes
+/// Returns what became of old paragraphs, given their partners by release and their places. Takes
 /// those that they were upgraded to away from the pool.
 pub(crate) fn all_became(
     alloc: Global,
@@ -26,8 +26,8 @@ pub(crate) fn all_became(
     pool: &mut Pool<'_>,
 ) -> Result<Vec<Became>, AllocError>
     requires { length keys.now ≡ length partners.now }
-    ensures becomes { (items : List Item) → IsPoolOf (map series items) pool.old
-        → IfOk result (λ made. Becomes items partners.now (map (λ k. k.now) keys.now) pool.old
+    ensures becomes { (items : List Item) (key : Item → List ℕ) → IsPoolOf (map key items) pool.old
+        → IfOk result (λ made. Becomes items key partners.now (map (λ k. k.now) keys.now) pool.old
         made.items pool.new) }
     ensures made { IfOk result (λ made. length made.items ≡ length partners.now) }
     ensures waits { length pool.new.waits.items ≡ length pool.old.waits.items }
@@ -41,8 +41,9 @@ pub(crate) fn all_became(
 
 /// Returns what became of one.
 fn became_of(partner: Option<usize>, key: &[u8], pool: &mut Pool<'_>) -> Became
-    ensures becomes { (items : List Item) → IsPoolOf (map series items) pool.old
-        → BecomesOne items partner key.now pool.old result pool.new }
+    ensures becomes { (items : List Item) (key_of : Item → List ℕ)
+        → IsPoolOf (map key_of items) pool.old
+        → BecomesOne items key_of partner key.now pool.old result pool.new }
     ensures waits { length pool.new.waits.items ≡ length pool.old.waits.items }
 {
     if let Some(number) = partner {

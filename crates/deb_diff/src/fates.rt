@@ -13,6 +13,7 @@ ghost use Rattle.deb_diff.specs.Values.{differing_lines, marked};
 use crate::became::Became;
 use crate::detail::Detail;
 use crate::differing::differing;
+use crate::form::Form;
 use crate::kept::Kept;
 use crate::lines::{append_changed, append_item, append_upgraded};
 use crate::values::{append_marked, append_values};
@@ -21,7 +22,7 @@ use std::alloc::{AllocError, Global};
 /// Appends the lines of old paragraphs, given what became of each.
 pub(crate) fn append_fates(
     alloc: Global,
-    detail: Detail,
+    form: Form,
     out: &mut Vec<u8>,
     old: &[&Kept],
     became: &[Became],
@@ -30,10 +31,10 @@ pub(crate) fn append_fates(
     requires { length became.now ≡ length old.now }
     ensures { (fates : List (Item × Fate))
         → AreFated (map (λ k. k.now) old.now) became.now new.now fates
-        → OnOk result (out.new.items ≡ out.old.items ++ flat_map (fate_text detail) fates) }
+        → OnOk result (out.new.items ≡ out.old.items ++ flat_map (fate_text form) fates) }
 {
     for (number, kept) in old.iter().enumerate() {
-        append_fate(alloc, detail, out, *kept, became[number], new)?;
+        append_fate(alloc, form, out, *kept, became[number], new)?;
     }
     Ok(())
 }
@@ -41,67 +42,67 @@ pub(crate) fn append_fates(
 /// Appends the lines of an old paragraph.
 fn append_fate(
     alloc: Global,
-    detail: Detail,
+    form: Form,
     out: &mut Vec<u8>,
     kept: &Kept,
     became: Became,
     new: &[Kept],
 ) -> Result<(), AllocError>
     ensures { (fate : Item × Fate) → IsFated kept.now became new.now fate
-        → OnOk result (out.new.items ≡ out.old.items ++ fate_text detail fate) }
+        → OnOk result (out.new.items ≡ out.old.items ++ fate_text form fate) }
 {
     match became {
-        Became::Nothing => remove(detail, out, kept),
+        Became::Nothing => remove(form, out, kept),
         Became::Changed(number) => match new.get(number) {
-            Some(other) => change(alloc, detail, out, kept, other),
+            Some(other) => change(alloc, form, out, kept, other),
             None => Ok(()),
         },
         Became::Upgraded(number) => match new.get(number) {
-            Some(other) => upgrade(alloc, detail, out, kept, other),
+            Some(other) => upgrade(alloc, form, out, kept, other),
             None => Ok(()),
         },
     }
 }
 
 /// Appends the lines of a removed paragraph.
-fn remove(detail: Detail, out: &mut Vec<u8>, kept: &Kept) -> Result<(), AllocError>
+fn remove(form: Form, out: &mut Vec<u8>, kept: &Kept) -> Result<(), AllocError>
     ensures { (item : Item) → IsKept kept.now item
-        → OnOk result (out.new.items ≡ out.old.items ++ fate_text detail (item, Removed)) }
+        → OnOk result (out.new.items ≡ out.old.items ++ fate_text form (item, Removed)) }
 {
-    append_item(out, b"removed", kept)?;
-    append_whole(detail, out, b" -", kept)
+    append_item(out, form.versions, b"removed", kept)?;
+    append_whole(form.detail, out, b" -", kept)
 }
 
 /// Appends the lines of a changed paragraph.
 fn change(
     alloc: Global,
-    detail: Detail,
+    form: Form,
     out: &mut Vec<u8>,
     old: &Kept,
     new: &Kept,
 ) -> Result<(), AllocError>
     ensures { (item other : Item) → IsWhole old.now item → IsWhole new.now other
-        → OnOk result (out.new.items ≡ out.old.items ++ fate_text detail (item, Changed other)) }
+        → OnOk result (out.new.items ≡ out.old.items ++ fate_text form (item, Changed other)) }
 {
     let names = differing(alloc, &old.text, &new.text)?;
-    append_changed(out, new, &names)?;
-    append_fields(alloc, detail, out, old, new, &names)
+    append_changed(out, form.versions, new, &names)?;
+    append_fields(alloc, form.detail, out, old, new, &names)
 }
 
-/// Appends the lines of an upgraded paragraph.
+/// Appends the lines of a paragraph that has another version.
 fn upgrade(
     alloc: Global,
-    detail: Detail,
+    form: Form,
     out: &mut Vec<u8>,
     old: &Kept,
     new: &Kept,
 ) -> Result<(), AllocError>
     ensures { (item other : Item) → IsWhole old.now item → IsWhole new.now other
-        → OnOk result (out.new.items ≡ out.old.items ++ fate_text detail (item, Upgraded other)) }
+        → OnOk result (out.new.items ≡ out.old.items ++ fate_text form (item, Upgraded other)) }
 {
     let names = differing(alloc, &old.text, &new.text)?;
-    append_upgraded(out, old, new, &names)?;
-    append_fields(alloc, detail, out, old, new, &names)
+    append_upgraded(out, form.versions, old, new, &names)?;
+    append_fields(alloc, form.detail, out, old, new, &names)
 }
 
 /// Appends the lines of the fields with these names, if they are wanted.
@@ -142,25 +143,21 @@ fn append_whole(
 }
 
 /// Appends the lines of added paragraphs.
-pub(crate) fn append_added(
-    detail: Detail,
-    out: &mut Vec<u8>,
-    added: &[&Kept],
-) -> Result<(), AllocError>
+pub(crate) fn append_added(form: Form, out: &mut Vec<u8>, added: &[&Kept]) -> Result<(), AllocError>
     ensures { (items : List Item) → AreKept (map (λ k. k.now) added.now) items
-        → OnOk result (out.new.items ≡ out.old.items ++ flat_map (added_text detail) items) }
+        → OnOk result (out.new.items ≡ out.old.items ++ flat_map (added_text form) items) }
 {
     for kept in added {
-        add(detail, out, *kept)?;
+        add(form, out, *kept)?;
     }
     Ok(())
 }
 
 /// Appends the lines of an added paragraph.
-fn add(detail: Detail, out: &mut Vec<u8>, kept: &Kept) -> Result<(), AllocError>
+fn add(form: Form, out: &mut Vec<u8>, kept: &Kept) -> Result<(), AllocError>
     ensures { (item : Item) → IsKept kept.now item
-        → OnOk result (out.new.items ≡ out.old.items ++ added_text detail item) }
+        → OnOk result (out.new.items ≡ out.old.items ++ added_text form item) }
 {
-    append_item(out, b"added", kept)?;
-    append_whole(detail, out, b" +", kept)
+    append_item(out, form.versions, b"added", kept)?;
+    append_whole(form.detail, out, b" +", kept)
 }

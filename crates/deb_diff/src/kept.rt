@@ -1,26 +1,30 @@
 //! Paragraphs that are kept until both files have been read.
 
-ghost use Rattle.std.specs.Prelude.{◌≡◌, ◌++◌, drop, take, IfOk};
+ghost use Rattle.std.specs.Prelude.{◌≡◌, ◌++◌, drop, length, take, IfOk};
 ghost use Rattle.std.specs.Option.{option_map};
 ghost use Rattle.deb_control.specs.ValueFiles.{ValueEntries};
 ghost use Rattle.deb_field.specs.ValueMeanings.{value_meaning};
 ghost use Rattle.deb_field.specs.Values.{ValueMeaning};
 ghost use Rattle.deb_diff.specs.Items.{architecture_of, item_of, value_under, word_in, word_under};
-ghost use Rattle.deb_diff.specs.Kepts.{HasValues, IsKept, architecture_in, name_in, version_in};
+ghost use Rattle.deb_diff.specs.Kepts.{HasValues, IsKept, after_name, after_version, architecture_in, fields_in, marked, name_in, printed_in, spelling_in, unmarked, version_in};
+ghost use Rattle.deb_diff.specs.Spelled.{spelled_in};
 
 use crate::kind::Kind;
+use deb_base::VersionText;
 use deb_control::CheckedText;
 use deb_field::Value;
 use deb_version::CanonicalVersion;
 use std::alloc::{AllocError, Global};
 
 /// A paragraph: its number in its file, counted from 1, its words, and its canonical text. Its
-/// words are its package or source, its canonical version and its architecture, one after another,
-/// since a vector for each would take a tenth of a usual paragraph's memory.
+/// words are its package or source, its canonical version, a space and the version as the file
+/// spells it if that is another text, and its architecture. They follow one another, since a vector
+/// for each would take a tenth of a usual paragraph's memory.
 #[derive(Drop)]
 pub(crate) struct Kept {
     pub(crate) number: u64,
-    name_len: usize,
+    name_len: u32,
+    spelled_len: u32,
     version_len: usize,
     words: Vec<u8>,
     pub(crate) text: Vec<u8>,
@@ -31,21 +35,65 @@ impl Kept {
     pub(crate) fn name(&self) -> &[u8]
         ensures { result.now ≡ name_in self.now }
     {
-        first_bytes(&self.words, self.name_len)
+        first_bytes(&self.words, self.name_len as usize)
     }
 
     /// Returns the canonical version.
     pub(crate) fn version(&self) -> &[u8]
         ensures { result.now ≡ version_in self.now }
     {
-        first_bytes(other_bytes(&self.words, self.name_len), self.version_len)
+        first_bytes(self.words_after_name(), self.version_len)
+    }
+
+    /// Returns the version as the file spells it.
+    fn spelled(&self) -> &[u8]
+        ensures { result.now ≡ spelling_in self.now }
+    {
+        unmarked(
+            self.version(),
+            first_bytes(self.words_after_version(), self.spelled_len as usize),
+        )
+    }
+
+    /// Returns one of the two texts of the version.
+    pub(crate) fn printed(&self, versions: VersionText) -> &[u8]
+        ensures { result.now ≡ printed_in versions self.now }
+    {
+        match versions {
+            VersionText::Canonical => self.version(),
+            VersionText::Spelled => self.spelled(),
+        }
     }
 
     /// Returns the architecture.
     pub(crate) fn architecture(&self) -> &[u8]
         ensures { result.now ≡ architecture_in self.now }
     {
-        other_bytes(other_bytes(&self.words, self.name_len), self.version_len)
+        other_bytes(self.words_after_version(), self.spelled_len as usize)
+    }
+
+    fn words_after_name(&self) -> &[u8]
+        ensures { result.now ≡ after_name self.now }
+    {
+        other_bytes(&self.words, self.name_len as usize)
+    }
+
+    fn words_after_version(&self) -> &[u8]
+        ensures { result.now ≡ after_version self.now }
+    {
+        other_bytes(self.words_after_name(), self.version_len)
+    }
+}
+
+/// Returns the version as the file spells it: the canonical one if nothing is marked, and else what
+/// follows the mark.
+fn unmarked<'a>(version: &'a [u8], marked: &'a [u8]) -> &'a [u8]
+    ensures { result.now ≡ unmarked version.now marked.now }
+{
+    if marked.is_empty() {
+        version
+    } else {
+        other_bytes(marked, 1)
     }
 }
 
@@ -79,34 +127,85 @@ pub(crate) fn keep(
     paragraph: &CheckedText<'_>,
 ) -> Result<Kept, AllocError>
     ensures { (values : ValueEntries ValueMeaning) → HasValues paragraph.now values
-        → IfOk result (λ kept. IsKept kept (item_of kind number values)) }
+        → IfOk result
+        (λ kept. IsKept kept (item_of kind number (fields_in paragraph.now) values)) }
 {
     let name = word(alloc, kind.name_field(), paragraph)?;
     let version = word(alloc, b"Version", paragraph)?;
     let architecture = architecture_of(alloc, kind, paragraph)?;
-    let words = joined(alloc, &name, &version, &architecture)?;
+    let marked = marked_spelling(alloc, &version, paragraph)?;
+    let words = joined(alloc, &name, &version, &marked, &architecture)?;
+    let name_len = short_len(&name)?;
+    let spelled_len = short_len(&marked)?;
     let text = Vec::from_slice(alloc, paragraph.canonical_text())?;
     Ok(Kept {
         number,
-        name_len: name.len(),
+        name_len,
+        spelled_len,
         version_len: version.len(),
         words,
         text,
     })
 }
 
-/// Returns three texts, one after another.
-fn joined(alloc: Global, one: &[u8], two: &[u8], three: &[u8]) -> Result<Vec<u8>, AllocError>
-    ensures { IfOk result (λ made. made.items ≡ one.now ++ (two.now ++ three.now)) }
+/// Returns the length of a text, or an error if a `u32` can't hold it. The words of a paragraph are
+/// far shorter.
+fn short_len(text: &[u8]) -> Result<u32, AllocError>
+    ensures { IfOk result (λ len. len ≡ length text.now) }
+{
+    u32::try_from(text.len()).map_err(|_| AllocError)
+}
+
+/// Returns nothing if the file spells the version by this canonical text, and else a space and the
+/// text by which it does.
+fn marked_spelling(
+    alloc: Global,
+    version: &[u8],
+    paragraph: &CheckedText<'_>,
+) -> Result<Vec<u8>, AllocError>
+    ensures { IfOk result
+        (λ made. made.items ≡ marked version.now (spelled_in (fields_in paragraph.now))) }
+{
+    let mut made = Vec::new(alloc);
+    let spelled = spelled_in(paragraph);
+    if *version != *spelled {
+        made.push(b' ')?;
+        made.extend_from_slice(spelled)?;
+    }
+    Ok(made)
+}
+
+/// Returns the text by which the file spells the version.
+fn spelled_in<'a>(paragraph: &CheckedText<'a>) -> &'a [u8]
+    ensures { result.now ≡ spelled_in (fields_in paragraph.now) }
+{
+    match paragraph.get(b"Version") {
+        Some(field) => field.body,
+        None => b"",
+    }
+}
+
+/// Returns four texts, one after another.
+fn joined(
+    alloc: Global,
+    one: &[u8],
+    two: &[u8],
+    three: &[u8],
+    four: &[u8],
+) -> Result<Vec<u8>, AllocError>
+    ensures { IfOk result
+        (λ made. made.items ≡ one.now ++ (two.now ++ (three.now ++ four.now))) }
 {
     let count = one
         .len()
         .saturating_add(two.len())
-        .saturating_add(three.len());
+        .saturating_add(three.len())
+        .saturating_add(four.len());
     let mut made = Vec::with_capacity(alloc, count)?;
     made.extend_from_slice(one)?;
     made.extend_from_slice(two)?;
     made.extend_from_slice(three)?;
+    made.extend_from_slice(four)?;
     Ok(made)
 }
 

@@ -1,10 +1,13 @@
 //! Paragraphs that wait, and what they are paired by.
 
 ghost use Rattle.std.specs.Prelude.{◌≡◌, length, map, IfOk};
-ghost use Rattle.deb_diff.specs.Lefts.{release_in, series_in};
-ghost use Rattle.deb_diff.specs.Pools.{pick};
+ghost use Rattle.std.specs.Option.{is_none};
+ghost use Rattle.deb_diff.specs.Lefts.{release_in};
+ghost use Rattle.deb_diff.specs.Places.{place_in};
+ghost use Rattle.deb_diff.specs.Pools.{pick, waiting_in};
 
 use crate::kept::Kept;
+use crate::ranks::places;
 use std::alloc::{AllocError, Global};
 
 /// Returns the paragraphs that wait.
@@ -50,26 +53,50 @@ fn release(alloc: Global, kept: &Kept) -> Result<Vec<u8>, AllocError>
     Ok(key)
 }
 
-/// Returns the name and the architecture of each paragraph.
-pub(crate) fn all_series(alloc: Global, kept: &[&Kept]) -> Result<Vec<Vec<u8>>, AllocError>
-    ensures { IfOk result
-        (λ keys. map (λ k. k.items) keys.items ≡ map (λ k. series_in k.now) kept.now) }
+/// Returns the places of paragraphs, each among those of them that wait.
+pub(crate) fn places_by(
+    alloc: Global,
+    kept: &[&Kept],
+    waits: &[bool],
+) -> Result<Vec<Vec<u8>>, AllocError>
+    requires { length waits.now ≡ length kept.now }
+    ensures { IfOk result (λ keys. map (λ k. k.items) keys.items ≡ map
+        (λ k. place_in (waiting_in (map (λ k. k.now) kept.now) waits.now) k.now) kept.now) }
 {
-    let mut keys = Vec::with_capacity(alloc, kept.len())?;
-    for paragraph in kept {
-        keys.push(series(alloc, *paragraph)?)?;
-    }
-    Ok(keys)
+    let left = lent_waiting(alloc, kept, waits)?;
+    places(alloc, kept, &left)
 }
 
-fn series(alloc: Global, kept: &Kept) -> Result<Vec<u8>, AllocError>
-    ensures { IfOk result (λ key. key.items ≡ series_in kept.now) }
+/// Returns those of some borrowed paragraphs that wait.
+fn lent_waiting<'a>(
+    alloc: Global,
+    kept: &[&'a Kept],
+    waits: &[bool],
+) -> Result<Vec<&'a Kept>, AllocError>
+    requires { length waits.now ≡ length kept.now }
+    ensures { IfOk result (λ left. left.items ≡ waiting_in kept.now waits.now) }
 {
-    let mut key = Vec::new(alloc);
-    key.extend_from_slice(kept.name())?;
-    key.push(b' ')?;
-    key.extend_from_slice(kept.architecture())?;
-    Ok(key)
+    let mut left = Vec::new(alloc);
+    for (number, paragraph) in kept.iter().enumerate() {
+        if waits[number] {
+            left.push(*paragraph)?;
+        }
+    }
+    Ok(left)
+}
+
+/// Returns which paragraphs have no partner.
+pub(crate) fn without_partner(
+    alloc: Global,
+    found: &[Option<usize>],
+) -> Result<Vec<bool>, AllocError>
+    ensures { IfOk result (λ waits. waits.items ≡ map is_none found.now) }
+{
+    let mut waits = Vec::with_capacity(alloc, found.len())?;
+    for partner in found {
+        waits.push(partner.is_none())?;
+    }
+    Ok(waits)
 }
 
 /// Lends each key.

@@ -2,13 +2,13 @@
 //! 5.6).
 //!
 //! ```text
-//! let unchanged =
-//!     diff(alloc, Kind::Packages, Detail::Fields, &mut old, &mut new, &mut writer)?;
+//! let form = Form { detail: Detail::Fields, versions: VersionText::Canonical };
+//! let unchanged = diff(alloc, Kind::Packages, form, &mut old, &mut new, &mut writer)?;
 //! ```
 //!
-//! `diff` writes a line for each paragraph that was removed, added, changed or upgraded, and
-//! returns whether there is none. `specs/` defines what changed and the lines that say so; `laws`
-//! has the theorems about these definitions.
+//! `diff` writes a line for each paragraph that was removed, added or changed, or has another
+//! version, and returns whether there is none. `specs/` defines what changed and the lines that say
+//! so; `laws` has the theorems about these definitions.
 #![tactic(auto)]
 
 mod all_lines;
@@ -18,6 +18,7 @@ mod cut;
 mod detail;
 mod differing;
 mod fates;
+mod form;
 mod kept;
 mod kind;
 pub mod laws;
@@ -26,6 +27,7 @@ mod lines;
 mod pairing;
 mod partners;
 mod pool;
+mod ranks;
 mod reading;
 mod sides;
 mod values;
@@ -33,5 +35,6 @@ mod waiting;
 mod writing;
 
 pub use detail::Detail;
+pub use form::Form;
 pub use kind::Kind;
 pub use writing::diff;

@@ -1,14 +1,14 @@
-//! Pairs old paragraphs with new ones by their releases, then by their series.
+//! Pairs old paragraphs with new ones by their releases, then by their places.
 
 ghost use Rattle.std.specs.Prelude.{◌≡◌, List, length, map, IfOk};
 ghost use Rattle.deb_diff.specs.Items.{Item};
 ghost use Rattle.deb_diff.specs.Kepts.{AreKept};
-ghost use Rattle.deb_diff.specs.Pairings.{PairsByRelease, PairsBySeries};
+ghost use Rattle.deb_diff.specs.Pairings.{PairsByRelease, PairsByPlace};
 
 use crate::became::{Became, all_became};
 use crate::both::all_wait;
 use crate::kept::Kept;
-use crate::left::{all_series, lent, releases};
+use crate::left::{lent, places_by, releases, without_partner};
 use crate::partners::partners;
 use crate::pool::Pool;
 use std::alloc::{AllocError, Global};
@@ -50,8 +50,8 @@ pub(crate) struct Outcome {
     pub(crate) waits: Vec<bool>,
 }
 
-/// Pairs old paragraphs that have no partner with new ones of the same series that wait.
-pub(crate) fn by_series(
+/// Pairs old paragraphs that have no partner with new ones that wait, by their places among these.
+pub(crate) fn by_place(
     alloc: Global,
     old: &[&Kept],
     new: &[&Kept],
@@ -62,15 +62,16 @@ pub(crate) fn by_series(
     requires waits { length waits.items ≡ length new.now }
     ensures pairs { (items others : List Item) → AreKept (map (λ k. k.now) old.now) items
         → AreKept (map (λ k. k.now) new.now) others
-        → IfOk result (PairsBySeries items others found.now waits.items) }
+        → IfOk result (PairsByPlace items others found.now waits.items) }
     ensures became { IfOk result (λ outcome. length outcome.became.items ≡ length found.now) }
     ensures waits { IfOk result (λ outcome. length outcome.waits.items ≡ length new.now) }
 {
-    let series_of_new = all_series(alloc, new)?;
-    let keys = lent(alloc, &series_of_new)?;
+    let places_of_new = places_by(alloc, new, &waits)?;
+    let keys = lent(alloc, &places_of_new)?;
     let mut pool = Pool::of(alloc, &keys, waits)?;
-    let series_of_old = all_series(alloc, old)?;
-    let wanted = lent(alloc, &series_of_old)?;
+    let waits_of_old = without_partner(alloc, found)?;
+    let places_of_old = places_by(alloc, old, &waits_of_old)?;
+    let wanted = lent(alloc, &places_of_old)?;
     let became = all_became(alloc, found, &wanted, &mut pool)?;
     let waits = pool.into_waits();
     Ok(Outcome { became, waits })

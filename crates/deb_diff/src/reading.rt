@@ -11,7 +11,7 @@ ghost use Rattle.deb_control.specs.Documents.{refusal_of};
 ghost use Rattle.deb_control.specs.ValueFiles.{ValueEntries};
 ghost use Rattle.deb_field.specs.Values.{ValueMeaning};
 ghost use Rattle.deb_diff.specs.Items.{Item, item_of, whole};
-ghost use Rattle.deb_diff.specs.Kepts.{HasValues};
+ghost use Rattle.deb_diff.specs.Kepts.{HasValues, fields_in};
 ghost use Rattle.deb_diff.specs.Kinds.{doc_of};
 ghost use Rattle.deb_diff.specs.Pools.{IsPoolOf};
 ghost use Rattle.deb_diff.specs.Sifting.{Sifts, SiftsFile};
@@ -69,8 +69,8 @@ fn sift(
     ensures waits { length pool.new.waits.items ≡ length pool.old.waits.items }
     ensures sifts { (values : ValueEntries ValueMeaning) (others : List Item)
         → HasValues paragraph.now values → IsPoolOf (map whole others) pool.old
-        → OnOk result (Sifts (item_of kind number values) others pool.old pool.new
-        kept.old.items kept.new.items) }
+        → OnOk result (Sifts (item_of kind number (fields_in paragraph.now) values) others
+        pool.old pool.new kept.old.items kept.new.items) }
 {
     if pool.take(paragraph.canonical_text()).is_none() {
         kept.push(keep(alloc, kind, number, paragraph)?)?;

@@ -11,7 +11,7 @@ ghost use Rattle.deb_control.specs.Checking.{IsRefusalOfDocument};
 ghost use Rattle.deb_control.specs.Comparing.{RefusesSecond};
 ghost use Rattle.deb_control.specs.Documents.{refusal_of};
 ghost use Rattle.deb_control.specs.Sides.{of_first, of_second};
-ghost use Rattle.deb_diff.specs.Both.{ReadsBoth};
+ghost use Rattle.deb_diff.specs.Both.{IsAcceptedFile, ReadsBoth};
 ghost use Rattle.deb_diff.specs.Kinds.{doc_of};
 
 use crate::both::{Others, read_new, read_old};
@@ -51,6 +51,12 @@ pub(crate) fn read_both<R: Source, S: Source>(
     ensures second_reads_at_most { (text : List ℕ) → S.left second.old ≡ Some text
         → TakesNoMore text file_limit (S.left second.new) }
     ensures fault { IfErr result (λ told. IsReadersFault told.fault IsRefusalOfDocument) }
+    ensures first_accepted { (text : List ℕ) → R.left first.old ≡ Some text
+        → IfOk result (λ _. IsAcceptedFile kind text) }
+    ensures second_untouched_if_first { IfErr result
+        (λ told. told.side ≡ Side.First → second.new ≡ second.old) }
+    ensures first_accepted_if_second { (text : List ℕ) → R.left first.old ≡ Some text
+        → IfErr result (λ told. told.side ≡ Side.Second → IsAcceptedFile kind text) }
     ensures second_untouched_if_refused { (text : List ℕ) (refusal : Refusal)
         → R.left first.old ≡ Some text → refusal_of (doc_of kind) text ≡ Some refusal
         → second.new ≡ second.old }

@@ -4,14 +4,14 @@ ghost use Rattle.std.specs.Prelude.{◌≡◌, ◌++◌, [], ◌∷◌, ℕ, Lis
 ghost use Rattle.std.specs.Str.{bytes_eq};
 ghost use Rattle.deb_diff.specs.Waiting.{first_of, numbers_under, rest_of};
 
-use indexmap::IndexMap;
 use std::alloc::{AllocError, Global};
-use std::collections::VecDeque;
+use std::collections::{BTreeMap, VecDeque};
 
-/// The numbers of elements that aren't paired yet, under their keys in ascending order.
+/// The numbers of elements that aren't paired yet, ascending, under their keys. Keys are found by
+/// their order, since a file can be made of keys whose hashes are equal.
 #[derive(Drop)]
 pub(crate) struct Waiting<'a> {
-    map: IndexMap<&'a [u8], VecDeque<usize>>,
+    map: BTreeMap<&'a [u8], VecDeque<usize>>,
 }
 
 impl<'a> Waiting<'a> {
@@ -20,7 +20,7 @@ impl<'a> Waiting<'a> {
         ensures { (key : List ℕ) → numbers_under result key ≡ [] }
     {
         Waiting {
-            map: IndexMap::new(alloc),
+            map: BTreeMap::new(alloc),
         }
     }
 

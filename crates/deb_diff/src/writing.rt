@@ -10,22 +10,23 @@ ghost use Rattle.deb_control.specs.Calls.{IfRefused, IfWriteFailed};
 ghost use Rattle.deb_control.specs.Comparing.{RefusesSecond};
 ghost use Rattle.deb_control.specs.Documents.{refusal_of};
 ghost use Rattle.deb_control.specs.Sides.{of_first, of_second};
-ghost use Rattle.deb_diff.specs.Both.{ReadsBoth};
+ghost use Rattle.deb_diff.specs.Both.{IsAcceptedFile, ReadsBoth};
 ghost use Rattle.deb_diff.specs.Kinds.{doc_of};
 ghost use Rattle.deb_diff.specs.Written.{IsDiffFault, IsWritersFault, KeepsHeld, WritesDiff, WritesSome};
 
 use crate::all_lines::all_lines;
-use crate::detail::Detail;
+use crate::form::Form;
 use crate::kind::Kind;
 use crate::sides::{Read, at_second, read_both};
 use deb_base::{Fault, Sink, Source, put_all};
-use deb_control::SideFault;
+use deb_control::{Side, SideFault};
 use std::alloc::Global;
 
 /// Writes the lines that say what changed between two files of a kind, the old one and the new one,
 /// and returns whether there is none: whether they hold the same paragraphs in some order.
 /// Paragraphs are the same if they mean the same (Debian Policy 5.1 and 5.3 to 5.6). With
-/// `Detail::Values` the lines of the values that differ are under the line of their paragraph.
+/// `Detail::Values` the lines of the values that differ are under the line of their paragraph; they
+/// are canonical text, also with `VersionText::Spelled`.
 ///
 /// The canonical texts of the first file are kept, and those of the paragraphs of the second file
 /// that the first one doesn't have. The first file is read to its end before the second one, and
@@ -38,21 +39,22 @@ use std::alloc::Global;
 /// - `Fault::Refused` with `Side::First`: the first file isn't accepted; with `Side::Second`: the
 ///   first file is accepted, and the second one isn't. This is the first refusal of that file.
 /// - `Fault::Memory`: a growth of memory was refused, at the file of that side, or with
-///   `Side::Second` after both were read.
+///   `Side::Second` after both were read. With `Side::First` the second reader is unchanged,
+///   whatever the error, and with `Side::Second` the first file is accepted.
 /// - `Fault::Read`: a read of the reader of that side failed in this call.
 /// - `Fault::Write` with `Side::Second`: a write failed in this call, and a prefix of the lines was
 ///   written before it. With each other error nothing was written.
 pub fn diff<R: Source, S: Source, W: Sink>(
     alloc: Global,
     kind: Kind,
-    detail: Detail,
+    form: Form,
     first: &mut R,
     second: &mut S,
     writer: &mut W,
 ) -> Result<bool, SideFault>
     ensures ok { (text other : List ℕ) → R.left first.old ≡ Some text
         → S.left second.old ≡ Some other
-        → IfOk result (WritesDiff kind detail text other (W.held writer.old)
+        → IfOk result (WritesDiff kind form text other (W.held writer.old)
         (W.held writer.new)) }
     ensures first { (text : List ℕ) → R.left first.old ≡ Some text
         → IfRefused (of_first result) (λ refusal. refusal_of (doc_of kind) text ≡ Some refusal) }
@@ -61,17 +63,21 @@ pub fn diff<R: Source, S: Source, W: Sink>(
         → IfRefused (of_second result) (RefusesSecond (doc_of kind) text other) }
     ensures write { (text other : List ℕ) → R.left first.old ≡ Some text
         → S.left second.old ≡ Some other → IfWriteFailed (of_second result)
-        (WritesSome kind detail text other (W.held writer.old) (W.held writer.new)) }
+        (WritesSome kind form text other (W.held writer.old) (W.held writer.new)) }
     ensures first_reads_at_most { (text : List ℕ) → R.left first.old ≡ Some text
         → TakesNoMore text file_limit (R.left first.new) }
     ensures second_reads_at_most { (text : List ℕ) → S.left second.old ≡ Some text
         → TakesNoMore text file_limit (S.left second.new) }
+    ensures first_accepted_if_second { (text : List ℕ) → R.left first.old ≡ Some text
+        → IfErr result (λ told. told.side ≡ Side.Second → IsAcceptedFile kind text) }
     ensures second_untouched_if_refused { (text : List ℕ) (refusal : Refusal)
         → R.left first.old ≡ Some text → refusal_of (doc_of kind) text ≡ Some refusal
         → second.new ≡ second.old }
 
     // Whether or not the readers' bytes are known.
     ensures fault { IfErr result IsDiffFault }
+    ensures second_untouched_if_first { IfErr result
+        (λ told. told.side ≡ Side.First → second.new ≡ second.old) }
     ensures nothing_written { IfErr result
         (λ told. KeepsHeld (W.held writer.old) (W.held writer.new) told.fault) }
     ensures counts_first_failure { R.failures first.new
@@ -91,7 +97,7 @@ pub fn diff<R: Source, S: Source, W: Sink>(
         (of_second result) }
 {
     match read_both(alloc, kind, first, second) {
-        Ok(read) => match write_lines(alloc, detail, &read, writer) {
+        Ok(read) => match write_lines(alloc, form, &read, writer) {
             Ok(is_empty) => Ok(is_empty),
             Err(fault) => Err(at_second(fault)),
         },
@@ -102,23 +108,23 @@ pub fn diff<R: Source, S: Source, W: Sink>(
 /// Writes the lines that say what changed, and returns whether there is none.
 fn write_lines<W: Sink>(
     alloc: Global,
-    detail: Detail,
+    form: Form,
     read: &Read,
     writer: &mut W,
 ) -> Result<bool, Fault>
     requires { length read.now.others.waits.items ≡ length read.now.old.items }
     ensures ok { (kind : Kind) (text other : List ℕ) → ReadsBoth kind text other read.now
-        → IfOk result (WritesDiff kind detail text other (W.held writer.old)
+        → IfOk result (WritesDiff kind form text other (W.held writer.old)
         (W.held writer.new)) }
     ensures write { (kind : Kind) (text other : List ℕ) → ReadsBoth kind text other read.now
-        → IfWriteFailed result (WritesSome kind detail text other (W.held writer.old)
+        → IfWriteFailed result (WritesSome kind form text other (W.held writer.old)
         (W.held writer.new)) }
     ensures keeps { IfErr result (KeepsHeld (W.held writer.old) (W.held writer.new)) }
     ensures fault { IfErr result IsWritersFault }
     ensures counts_failure { W.failures writer.new ≡ write_failures_after
         (W.failures writer.old) result }
 {
-    let lines = all_lines(alloc, detail, &read.old, &read.others)?;
+    let lines = all_lines(alloc, form, &read.old, &read.others)?;
     put_all(writer, &lines)?;
     Ok(lines.is_empty())
 }

@@ -15,7 +15,7 @@ is_some-named name (field ∷ fields) = go (bytes_eq (folded field.name) (folded
     go true e h = rw e refl
     go false e h = rw e h
 
--- what was found by a name tells that the name stands there
+-- if something was found by a name, the name is there
 pub has_name-found : (o : Option RawField) (name : List ℕ) (fields : List Field) → option_map field_of o ≡ field_named name fields → is_some o ≡ has_name name fields
 has_name-found None name fields h = ap is_some h ∙ is_some-named name fields
 has_name-found (Some raw) name fields h = ap is_some h ∙ is_some-named name fields

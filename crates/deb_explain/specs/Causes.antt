@@ -1,5 +1,5 @@
 -- What is wrong in a value, and where. Debian Policy 5.6.1 and 5.6.12 (versions), 7.1 (relations);
--- the faults and their places are those of the libraries that read these.
+-- the faults and their offsets are those of the libraries that read these.
 use Rattle.std.specs.Prelude.{◌≡◌, ℕ, ◌+◌, cond, List, Option, Some, None, codes, refl}
 use Rattle.std.specs.List.{after_first, position_or_len, prefix_len}
 use Rattle.std.specs.Option.{option_map}
@@ -25,12 +25,12 @@ use Rattle.deb_explain.specs.declared.cause.Cause.TheVariants.{Version, Relation
 use Rattle.deb_explain.specs.declared.cause.Word.{Word}
 use Rattle.deb_explain.specs.declared.cause.Word.TheVariants as words
 
--- the first fault of a version that stands at an offset of a body
+-- the first fault of a version that is at an offset of a body
 abbrev pub version_fault : ℕ → List ℕ → Option Cause
 version_fault start version = option_map (λ fault. Version fault start) (first_fault version)
 
--- in the field Source: what stands between the first opening parenthesis and the last byte, and
--- where the version begins in it, behind spaces and tabs
+-- in the field Source: what is between the first opening parenthesis and the last byte, and
+-- where the version begins in it, after spaces and tabs
 abbrev pub within_parentheses : List ℕ → List ℕ
 within_parentheses body = without_last (after_first is_open body)
 

@@ -9,7 +9,7 @@ use Rattle.std.specs.List.{flat_map}
 unfoldable pub hex_digit : ℕ → ℕ
 hex_digit n = cond (nat_lt n 10) (48 + n) (97 + (n - 10))
 
--- a byte in printable ASCII (32 to 126), of which a backslash (92) begins what stands for another
+-- a byte in printable ASCII (32 to 126), where a backslash (92) begins what represents another
 unfoldable pub escaped_byte : ℕ → List ℕ
 escaped_byte b =
     cond (b == 9) (codes "\\t")
@@ -26,24 +26,27 @@ most_shown = 200
 unfoldable pub front_of : List ℕ → Option (List ℕ)
 front_of text = cond (nat_le (length text) most_shown) None (Some (take most_shown text))
 
--- a text, or its front, and the end of its line: what is left out is told by three dots
+-- a text, or its prefix, and the end of its line: `\...` is written for what is left out, which no
+-- byte is escaped as
 unfoldable pub shortened : List ℕ → Option (List ℕ) → List ℕ
 shortened text None = flat_map escaped_byte text ++ codes "\n"
-shortened text (Some front) = flat_map escaped_byte front ++ codes "...\n"
+shortened text (Some front) = flat_map escaped_byte front ++ codes "\\...\n"
 
--- a line of a text behind its key
+-- a line of a text after its key
 unfoldable pub shown_line : List ℕ → List ℕ → List ℕ
 shown_line key text = key ++ shortened text (front_of text)
 
--- bytes that are shown as they stand, and others
+-- bytes that are shown as they are, and others
 escapes : (flat_map escaped_byte (codes "a ~\t\n\\") ≡ codes "a ~\\t\\n\\\\")
     × (flat_map escaped_byte (31 ∷ 127 ∷ 0 ∷ 195 ∷ 188 ∷ []) ≡ codes "\\x1f\\x7f\\x00\\xc3\\xbc")
 unfolding escaped_byte hex_digit
 escapes = (refl, refl)
 
--- of the 201st byte on, three dots stand for it
+-- a text is cut after its 200th byte; one that ends in three dots isn't shown like one that is cut
 long_texts : (front_of (replicate 200 97) ≡ None)
     × (front_of (replicate 201 97) ≡ Some (replicate 200 97))
-    × (shortened (codes "abc") (Some (codes "ab")) ≡ codes "ab...\n")
+    × (shortened (codes "abc") (Some (codes "ab")) ≡ codes "ab\\...\n")
+    × (shortened (codes "ab...") None ≡ codes "ab...\n")
+    × (shortened (codes "ab\\...") None ≡ codes "ab\\\\...\n")
 unfolding front_of shortened escaped_byte
-long_texts = (refl, refl, refl)
+long_texts = (refl, refl, refl, refl, refl)

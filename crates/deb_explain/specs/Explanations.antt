@@ -1,4 +1,4 @@
--- Why a file is refused, in full. Debian Policy 5.1, 5.3 to 5.6 and 7; which of it is told is this
+-- Why a file is refused, in full. Debian Policy 5.1, 5.3 to 5.6 and 7; what is reported is this
 -- project's own.
 use Rattle.std.specs.Prelude.{◌≡◌, ℕ, List, [], Option, Some, None, codes}
 use Rattle.std.specs.Prelude.{refl}
@@ -41,7 +41,7 @@ explain_refusal doc refusal line paragraph =
       about = about_topic (topic_of refusal.code) doc line refusal paragraph;
     }
 
--- What is told where this comes of a file, by the paragraph behind those that pass: by the line of
+-- What is reported if this comes of a file, by the paragraph after those that pass: by the line of
 -- it that has the refusal's number, and by its fields.
 abbrev pub explanation_in : Rules → (Refusal → Option Line → Option Seen → WhyRefused) → List ℕ
     → Outcome → Option WhyRefused
@@ -77,7 +77,7 @@ abbrev why : Code → ℕ → About → Option WhyRefused
 why code line about =
     Some (record { refusal = record { code = code; line = line }; about = about })
 
--- a bad version in the second paragraph: that field, and not the one at this place of the first
+-- a bad version in the second paragraph: that field, and not the one at this line of the first
 second_paragraph : explained Packages
     (codes "Package: aa\nVersion: 1\nArchitecture: all\n\nPackage: bb\nvERSION: 1_2\n")
     ≡ why code.BadVersion 6
@@ -104,7 +104,7 @@ missing : (explained Packages (codes "architecture: all\npackage: aa")
 unfolding file_limit paragraph_limit is_utf8 chars encode kind_of kind_at known_row first_fault
 missing = (refl, refl, refl)
 
--- refusals of a line: the line, or what stands before its colon
+-- refusals of a line: the line, or what precedes its colon
 lines : (explained Packages (codes "Package: aa\npackage: bb\n")
     ≡ why code.DuplicateField 2 (AboutName (codes "package")))
     × (explained Packages (codes "Package : aa")

@@ -1,4 +1,4 @@
--- A worked case at the rules of a kind, of a paragraph behind one that passes. Debian Policy 5.3.
+-- A worked case at the rules of a kind, of a paragraph after one that passes. Debian Policy 5.3.
 --
 -- How a kind finds the canonical texts of values doesn't compute; that they are those of what the
 -- bodies spell is a law of documents, and nothing else of them counts here.
@@ -25,7 +25,7 @@ use Rattle.deb_explain.specs.Explanations.{explain_refusal}
 use Rattle.deb_explain.specs.Subjects.{AboutField}
 use Rattle.deb_explain.specs.declared.cause.Cause.TheVariants as causes
 
--- two packages, of which the second has a bad version
+-- two packages, where the second has a bad version
 abbrev index : List ℕ
 index = codes "Package: aa\nVersion: 01.0-0\nArchitecture: all\n\nPackage: bb\nvERSION: 1_2\n"
 

@@ -1,5 +1,5 @@
 -- What a refusal is about, and what is wrong there. Debian Policy 5.1 (fields), 5.3 and 5.4
--- (required fields), 5.6 and 7 (values); which of it is told is this project's own.
+-- (required fields), 5.6 and 7 (values); which of it is reported is this project's own.
 use Rattle.std.specs.Prelude.{◌≡◌, ℕ, ◌+◌, ◌==◌, not, List, [], ◌∷◌, find, map}
 use Rattle.std.specs.Prelude.{Option, Some, None, codes, refl}
 use Rattle.std.specs.List.{after_first, before_first, position_or_len, prefix_len}
@@ -17,7 +17,7 @@ use Rattle.deb_explain.specs.declared.cause.Cause.{Cause}
 use Rattle.deb_explain.specs.declared.topic.Topic.{Topic}
 use Rattle.deb_explain.specs.declared.topic.Topic.TheVariants as topics
 
--- what a refusal is about: a paragraph or the file as a whole, a line, what stands before the colon
+-- what a refusal is about: a paragraph or the file as a whole, a line, what precedes the colon
 -- of a line, the name of a required field that is missing, or a field, with its name as spelled,
 -- the column of its line at which its body begins, its body and what is wrong in that
 pub data About : Type 0 where
@@ -95,7 +95,7 @@ abbrev pub about_value : Doc → Option Line → Refusal → Seen → About
 about_value doc line refusal seen =
     about_found (about_field doc line refusal) (field_at refusal.line seen.fields)
 
--- of a refusal by what its code is about, at this line; of which this paragraph was refused, where
+-- of a refusal by what its code is about, at this line; this paragraph was refused, where
 -- its lines are no reason to
 abbrev pub about_topic : Topic → Doc → Option Line → Refusal → Option Seen → About
 about_topic topics.Whole doc line refusal paragraph = AboutWhole

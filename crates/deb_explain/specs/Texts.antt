@@ -1,4 +1,4 @@
--- The text that tells why a file is refused, in lines `key: value`. Its form is this project's own.
+-- The text that says why a file is refused, in lines `key: value`. Its form is this project's own.
 use Rattle.std.specs.Prelude.{◌≡◌, ℕ, ◌+◌, ◌==◌, cond, List, [], ◌∷◌, ◌++◌, map, take, Option}
 use Rattle.std.specs.Prelude.{Some, None, codes, refl}
 use Rattle.std.specs.Fmt.{decimal, digits}
@@ -20,7 +20,7 @@ use Rattle.deb_relation.specs.declared.fault.Reason.TheVariants as reason
 use Rattle.deb_explain.specs.Causes.{word_code}
 use Rattle.deb_explain.specs.Escapes.{escaped_byte, front_of, shortened, shown_line}
 use Rattle.deb_explain.specs.Explanations.{WhyRefused}
-use Rattle.deb_explain.specs.Paths.{has_control, path_byte, shown_path}
+use Rattle.deb_explain.specs.Paths.{is_hidden, path_byte, shown_path}
 use Rattle.deb_explain.specs.Subjects.{About, AboutWhole, AboutLine, AboutName, AboutMissing}
 use Rattle.deb_explain.specs.Subjects.{AboutField}
 use Rattle.deb_explain.specs.declared.cause.Cause.{Cause}
@@ -31,7 +31,7 @@ use Rattle.deb_explain.specs.declared.spot.Spot.{Spot}
 
 -- ---- what is wrong in a value
 
--- the offset of what is wrong in a version: 0 where the fault has no place
+-- the offset of what is wrong in a version: 0 if the fault has no offset
 unfoldable pub place_within : BadVersion → ℕ
 place_within (UpstreamByte at) = at
 place_within (RevisionByte at) = at
@@ -79,7 +79,7 @@ spot_after spot b =
     cond (b == newline) (record { line = spot.line + 1; column = 1 })
     (record { line = spot.line; column = spot.column + 1 })
 
--- the spot after these bytes, of which the first one stands at a spot
+-- the spot after these bytes, where the first one is at this spot
 abbrev pub spot_behind : Spot → List ℕ → Spot
 spot_behind spot [] = spot
 spot_behind spot (b ∷ bs) = spot_behind (spot_after spot b) bs
@@ -98,7 +98,7 @@ unfoldable pub cause_text : ℕ → ℕ → List ℕ → Option Cause → List �
 cause_text line column body None = []
 cause_text line column body (Some why) = place_text (wrong_spot line column body why) why
 
--- of a word of the command line, which stands in no file
+-- of a word of the command line, which is in no file
 unfoldable pub word_cause_text : Cause → List ℕ
 word_cause_text why =
     concat (codes "place: " ∷ decimal (place_of why) ∷ codes "\nreason: " ∷ reason_of why
@@ -143,7 +143,7 @@ rule_text c = code_lines c ++ rule_lines c
 unfoldable pub line_number : ℕ → List ℕ
 line_number n = concat (codes "line: " ∷ decimal n ∷ codes "\n" ∷ [])
 
--- the line of a path behind its key, which is never shortened
+-- the line of a path after its key, which is never shortened
 unfoldable pub path_line : List ℕ → List ℕ → List ℕ
 path_line key path = key ++ (shown_path path ++ codes "\n")
 
@@ -164,8 +164,8 @@ word_text kind why word =
     code_lines (word_code kind)
     ++ (word_cause_text why ++ (shown_line (codes "value: ") word ++ rule_lines (word_code kind)))
 
--- where a value is wrong: a version that stands behind others, one in a relation, and a fault
--- without a place
+-- where a value is wrong: a version that is after others, one in a relation, and a fault
+-- without an offset
 places : (place_of (cause.Version (UpstreamByte 1) 4) ≡ 5)
     × (place_of (cause.Version RevisionEmpty 4) ≡ 4)
     × (place_of (cause.Relation (reason.Version (RevisionByte 2)) 7) ≡ 9)
@@ -181,7 +181,7 @@ worked_field : explanation_text (codes "a\tb") (record {
     ≡ codes "file: a\\tb\nline: 12\ncode: 18\nname: BadVersion\nfield: vERSION\nplace: 1\n"
     ++ (codes "at: 12:11\nreason: UpstreamByte\nvalue: 1_2\n" ++ rule_lines code.BadVersion)
 unfolding digits shown_line shortened front_of escaped_byte path_line is_utf8 chars encode
-    has_control path_byte line_number code_lines subject_text field_text cause_text place_of
+    is_hidden path_byte line_number code_lines subject_text field_text cause_text place_of
     place_within reason_of version_reason
 worked_field = refl
 

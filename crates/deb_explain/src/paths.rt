@@ -2,11 +2,14 @@
 
 ghost use Rattle.std.specs.Prelude.{◌≡◌, IfErr};
 ghost use Rattle.deb_base.specs.Devices.{write_failures_after, Puts, WriteFaultIffFailed};
-ghost use Rattle.deb_explain.specs.Paths.{has_control, is_plain, path_byte, shown_path};
+ghost use Rattle.std.specs.List.{list_any};
+ghost use Rattle.std.specs.Str.{chars};
+ghost use Rattle.deb_explain.specs.Paths.{is_hidden, is_plain, path_byte, shown_path};
 ghost use Rattle.deb_explain.specs.Texts.{file_line, path_line};
 
 use crate::writing::write_byte;
 use deb_base::{Fault, Sink, put_all};
+use ucd_category::GeneralCategory;
 
 /// Writes the line `file: PATH` of an explanation; the path isn't shortened. Takes no memory.
 ///
@@ -39,8 +42,9 @@ fn write_path_line<W: Sink>(key: &[u8], path: &[u8], out: &mut W) -> Result<(), 
 }
 
 /// Writes a path so that it can be shown in a line: control characters and backslashes as `\n`,
-/// `\t`, `\\` or `\xNN`, other text unchanged. If the path isn't UTF-8, or contains a control
-/// character from U+0080 to U+009F, each byte beyond ASCII is written as `\xNN`. Takes no memory.
+/// `\t`, `\\` or `\xNN`, other text unchanged. If the path isn't UTF-8, or contains a character
+/// beyond ASCII that hides or reorders text or ends a line (Unicode's categories Cc, Cf, Zl and
+/// Zp), each byte beyond ASCII is written as `\xNN`. Takes no memory.
 ///
 /// # Errors
 ///
@@ -60,29 +64,42 @@ pub fn write_path<W: Sink>(path: &[u8], out: &mut W) -> Result<(), Fault>
     Ok(())
 }
 
-/// Whether a path is UTF-8 without control characters beyond ASCII.
+/// Whether a path is UTF-8 without a hidden character.
 fn is_plain(path: &[u8]) -> bool
     ensures { result ≡ is_plain path.now }
 {
     match str::from_utf8(path) {
-        Ok(_) => !has_control(path),
+        Ok(text) => !has_hidden(text),
         Err(_) => false,
     }
 }
 
-/// Whether a text in UTF-8 holds a control character from U+0080 to U+009F.
-#[tactic(auto, unfolding(crate::specs::Paths::has_control))]
-fn has_control(text: &[u8]) -> bool
-    ensures { result ≡ has_control 0 text.now }
+/// Whether a text contains a hidden character.
+fn has_hidden(text: &str) -> bool
+    ensures { result ≡ list_any is_hidden (chars text.now) }
 {
-    let mut before = 0;
-    for byte in text {
-        if before == 0xc2 && *byte < 0xa0 {
+    for c in text.chars() {
+        if is_hidden(c) {
             return true;
         }
-        before = *byte;
     }
     false
+}
+
+/// Whether a character beyond ASCII has an effect on the text around it: one of Unicode's
+/// categories Cc, Cf, Zl and Zp.
+#[tactic(auto, unfolding(crate::specs::Paths::is_hidden, crate::specs::Paths::has_effect))]
+fn is_hidden(c: char) -> bool
+    ensures { result ≡ is_hidden c }
+{
+    c >= '\u{80}'
+        && matches!(
+            GeneralCategory::for_char(c),
+            GeneralCategory::Control
+                | GeneralCategory::Format
+                | GeneralCategory::LineSeparator
+                | GeneralCategory::ParagraphSeparator
+        )
 }
 
 #[tactic(auto, unfolding(crate::specs::Paths::path_byte))]

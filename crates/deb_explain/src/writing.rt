@@ -35,7 +35,7 @@ impl Explanation {
     /// offset of its own), `at` (the same position in the file, as `LINE:COLUMN`, both counted from
     /// 1), `reason`, `value`, `rule` and `usually`. Bytes that aren't printable ASCII are written
     /// as `\n`, `\t` or `\xNN`, and a backslash as `\\`. A text of more than 200 bytes is cut after
-    /// 200, and `...` follows. The path is written as [`write_path`](crate::write_path) writes it.
+    /// 200, and `\...` follows. The path is written as [`write_path`](crate::write_path) writes it.
     ///
     /// # Errors
     ///
@@ -292,7 +292,7 @@ fn place_of(cause: &Cause) -> u128
     }
 }
 
-/// The offset of what is wrong in a version; 0 where the fault has no place.
+/// The offset of what is wrong in a version; 0 if the fault has no offset.
 #[tactic(auto, unfolding(crate::specs::Texts::place_within))]
 fn place_within(fault: &BadVersion) -> usize
     ensures { result ≡ place_within fault.now }
@@ -368,7 +368,7 @@ fn write_shortened<W: Sink>(text: &[u8], out: &mut W) -> Result<(), Fault>
     match front_of(text) {
         Some(front) => {
             write_escaped(front, out)?;
-            put_all(out, b"...\n")
+            put_all(out, b"\\...\n")
         }
         None => {
             write_escaped(text, out)?;

@@ -71,7 +71,7 @@ closed-some (b ∷ bs) h = omega arith
 last-short : (text : List ℕ) → 1 ≤ length text → length (without_last text) + 1 ≡ length text
 last-short text some = omega (arith, length-take (length text - 1) text)
 
--- the canonical text of a source that was read has a length that a number of 64 bits can tell
+-- the canonical text of a source that was read has a length that fits in 64 bits
 pub source-short : (before behind name last text : List ℕ) (version : VersionMeaning) → length before + length behind < 2 ^ 63 → is_closed behind ≡ true → name ≡ without_trailing_blanks before → last ≡ without_last behind → text ≡ trimmed last → SpellsVersion text version
     → length (source_text (source_of name (Some version))) < 2 ^ 64
 source-short before behind name last text version small closed name_is last_is text_is s =

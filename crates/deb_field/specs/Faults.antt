@@ -25,12 +25,12 @@ takes_memory kinds.Folded = false
 takes_memory (kinds.Relation sort) = true
 takes_memory kinds.Text = false
 
--- The fault tells this refusal; out of memory says nothing of it.
+-- The fault is this refusal, or out of memory.
 abbrev pub IsFaultOrMemory : Option Code → ValueFault → Type 0
 IsFaultOrMemory refusal (Refused code) = refusal ≡ Some code
 IsFaultOrMemory refusal Memory = Unit {0}
 
--- The fault tells the refusal of the body; memory is wanting only where the kind takes some.
+-- The fault is the refusal of the body, or out of memory if the kind takes some.
 abbrev pub IsFaultOf : Kind → List ℕ → ValueFault → Type 0
 IsFaultOf kind body (Refused code) = kind_refusal kind body ≡ Some code
 IsFaultOf kind body Memory = IsTrue (takes_memory kind)

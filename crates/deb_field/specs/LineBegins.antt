@@ -1,4 +1,4 @@
--- Whether a text begins with a newline, so that it stands on the lines below the name of its field.
+-- Whether a text begins with a newline, so that it is on the lines below the name of its field.
 -- Debian Policy 5.1.
 use Rattle.std.specs.Prelude.{◌≡◌, ℕ, ◌==◌, Bool, true, false, List, [], ◌∷◌, codes, refl}
 use Rattle.deb_base.specs.Bodies.{newline}

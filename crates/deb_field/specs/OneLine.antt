@@ -1,4 +1,4 @@
--- Bodies of which one line is asked, and the refusal of a body by a test. Debian Policy 5.1 (simple
+-- Bodies that must be one line, and the refusal of a body by a test. Debian Policy 5.1 (simple
 -- fields); the order of the refusals is this project's own.
 use Rattle.std.specs.Prelude.{◌≡◌, ℕ, ◌==◌, Bool, true, false, cond, List, [], ◌∷◌, Option, Some, None, codes, refl}
 use Rattle.std.specs.List.{list_any, filter, range_with_len}

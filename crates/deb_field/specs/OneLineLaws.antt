@@ -18,7 +18,7 @@ HasNoNewline-test (b ∷ text) h = rw h.0 (HasNoNewline-test text h.1)
 pub graphic_no_newline : (b : ℕ) → IsGraphic b → (b == newline) ≡ false
 graphic_no_newline b h = grind (arith, nat_tests)
 
--- graphic bytes stand on one line
+-- graphic bytes are on one line
 pub one_line-graphic : (text : List ℕ) → AllByRecursion IsGraphic text → holds_newline text ≡ false
 one_line-graphic [] h = refl
 one_line-graphic (b ∷ text) h = rw (graphic_no_newline b h.0) (one_line-graphic text h.1)

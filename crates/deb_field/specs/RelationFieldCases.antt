@@ -67,7 +67,7 @@ former_operators : (told Conflicts (codes "vv (< 1)") ≡ None)
 unfolding told
 former_operators = (refl, refl, refl)
 
--- of two faults in one body the first code is told, wherever they stand
+-- of two faults in one body the first code is reported, wherever they are
 two_faults : (told Conflicts (codes "bb | cc, a") ≡ Some BadRelation)
     × (told Provides (codes "vv (>= 1), a") ≡ Some BadRelation)
     × (told Provides (codes "vv (>= 1) | ww") ≡ Some AlternativesNotAllowed)

@@ -12,7 +12,7 @@ use Rattle.deb_base.specs.Kinds.{takes_alternatives, takes_all_operators}
 use Rattle.deb_field.specs.OneLine.{refusal_unless}
 use Rattle.deb_base.specs.declared.kind.Relationship.{Relationship}
 
--- alternatives stand only where they are taken
+-- alternatives are only where they are taken
 abbrev pub passes_alternatives : Relationship → Relation → Bool
 passes_alternatives sort m = takes_alternatives sort || not (has_alternatives m)
 
@@ -26,13 +26,13 @@ pub record SpellsRelationship (sort : Relationship) (body : List ℕ) (m : Relat
   pub alternatives : IsTrue (passes_alternatives sort m)
   pub operators : IsTrue (passes_operators sort m)
 
--- of a relation in a field of this sort: alternatives are told before operators
+-- of a relation in a field of this sort: alternatives are reported before operators
 abbrev pub relation_refusal : Relationship → Relation → Option Code
 relation_refusal sort m =
     cond (passes_alternatives sort m) (refusal_unless (passes_operators sort m) ProvidesBound)
     (Some AlternativesNotAllowed)
 
--- of what is read of a body: what is no relation is told before both
+-- of what is read of a body: what is no relation is reported before both
 abbrev pub reading_refusal : Relationship → Result Relation (Reason × ℕ) → Option Code
 reading_refusal sort (Ok m) = relation_refusal sort m
 reading_refusal sort (Err fault) = Some BadRelation

@@ -46,7 +46,7 @@ SpellsSource body source =
     MatchOption source.version (SpellsPlain body source.name)
     (λ version. SpellsVersioned body source.name version)
 
--- a version in parentheses behind a name
+-- a version in parentheses after a name
 abbrev pub version_suffix : Option VersionMeaning → List ℕ
 version_suffix None = []
 version_suffix (Some version) = 32 ∷ 40 ∷ version_text version ++ 41 ∷ []
@@ -80,7 +80,7 @@ without_last text = take (length text - 1) text
 abbrev pub version_within : List ℕ → List ℕ
 version_within body = trimmed (without_last (after_first is_open body))
 
--- of what stands before the first opening parenthesis and behind it: the name and the closing
+-- of what precedes and what follows the first opening parenthesis: the name and the closing
 -- parenthesis are judged before the version
 abbrev pub refusal_around : List ℕ → List ℕ → Option Code
 refusal_around before behind =

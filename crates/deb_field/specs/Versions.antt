@@ -1,4 +1,4 @@
--- Versions as values of fields: what spells one stands in deb_version. Debian Policy 5.6.12.
+-- Versions as values of fields: deb_version defines what spells one. Debian Policy 5.6.12.
 use Rattle.std.specs.Prelude.{◌≡◌, ℕ, Bool, true, false, List, [], Option, Some, None, codes, refl}
 use Rattle.deb_base.specs.declared.code.Code.{Code}
 use Rattle.deb_base.specs.declared.code.Code.TheVariants.{NotOneLine, BadVersion}

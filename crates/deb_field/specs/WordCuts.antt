@@ -22,7 +22,7 @@ pub split-other : (b : ℕ) (bs : List ℕ) → is_white b ≡ false
 split-other b bs h =
     ap (λ t. cond t ([] ∷ slice_split is_white bs) (onto_first b (slice_split is_white bs))) h
 
--- white space in front of a text
+-- white space before a text
 pub words_of-white : (b : ℕ) (bs : List ℕ) → is_white b ≡ true → words_of (b ∷ bs) ≡ words_of bs
 words_of-white b bs h = ap (filter is_word) (split-white b bs h)
 
@@ -32,7 +32,7 @@ drop-more b bs n = let e : 1 + n ≡ suc n = omega arith in ap (λ k. drop k (b 
 take-more : (b : ℕ) (bs : List ℕ) (n : ℕ) → take (1 + n) (b ∷ bs) ≡ b ∷ take n bs
 take-more b bs n = let e : 1 + n ≡ suc n = omega arith in ap (λ k. take k (b ∷ bs)) e
 
--- the text behind the white space at its front
+-- the text after the white space at its start
 abbrev pub behind_white : List ℕ → List ℕ
 behind_white text = drop (prefix_len is_white text) text
 
@@ -75,7 +75,7 @@ pub no_word : (text : List ℕ) → prefix_len is_other (behind_white text) ≡ 
 no_word [] e = refl
 no_word (b ∷ bs) e = none-step b bs (is_white b) refl (no_word bs) e
 
--- the first piece of a text, and the words behind it
+-- the first piece of a text, and the words after it
 pub record FirstPiece (text : List ℕ) : Type 0 where
   pub others : List (List ℕ)
   pub split : slice_split is_white text ≡ take (prefix_len is_other text) text ∷ others

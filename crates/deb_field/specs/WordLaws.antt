@@ -21,7 +21,7 @@ use Rattle.deb_field.specs.WordTexts.{words_text-cons, words_text-short, more_te
 abbrev pub HasNoWhite : List ℕ → Type 0
 HasNoWhite text = AllByRecursion (λ b. is_white b ≡ false) text
 
--- a text without white space, with one behind it
+-- a text without white space, with one after it
 split-at : (front : List ℕ) (b : ℕ) (text : List ℕ) → HasNoWhite front → is_white b ≡ true
     → slice_split is_white (front ++ b ∷ text) ≡ front ∷ slice_split is_white text
 split-at [] b text h w = split-white b text w

@@ -7,7 +7,7 @@ use Rattle.std.specs.List.{filter, slice_split, onto_first}
 use Rattle.deb_field.specs.Words.{is_white, is_word, words_of, words_text}
 use Rattle.deb_field.specs.WordCuts.{split-white, split-other, first_piece}
 
--- words behind a first one, each with a space before it
+-- words after a first one, each with a space before it
 abbrev pub more_text : List (List ℕ) → List ℕ
 more_text [] = []
 more_text (word ∷ words) = 32 ∷ (word ++ more_text words)
@@ -88,7 +88,7 @@ short-words text (word ∷ words) e =
 pub words_text-short : (text : List ℕ) → length (words_text (words_of text)) ≤ length text
 words_text-short text = short-words text (words_of text) refl
 
--- a first word is cut off, and the words behind it are those of the rest
+-- a first word is cut off, and the words after it are those of the rest
 module _ (text word from rest others : List ℕ) (same : from ≡ text)
     (cut : words_of from ≡ word ∷ words_of rest) (goes : others ≡ rest) where
   cut-text : words_text (words_of text) ≡ word ++ more_text (words_of others)

@@ -15,7 +15,7 @@ is_white b = is_blank_byte b || (b == newline)
 abbrev pub is_word : List ℕ → Bool
 is_word text = not (length text == 0)
 
--- what stands between white space, without the empty pieces
+-- what is between white space, without the empty pieces
 abbrev pub words_of : List ℕ → List (List ℕ)
 words_of text = filter is_word (slice_split is_white text)
 

@@ -1,9 +1,9 @@
 //! Tests of `diff`: moved and equal paragraphs, each kind of line, and a refusal, in pieces.
 
 use crate::devices::{Pieces, SIZES};
-use deb_base::{Code, Fault, Input, Refusal, VecSink};
+use deb_base::{Code, Fault, Input, Refusal, VecSink, VersionText};
 use deb_control::{Side, SideFault};
-use deb_diff::{Detail, Kind, diff};
+use deb_diff::{Detail, Form, Kind, diff};
 use std::alloc::Global;
 
 const OLD: &[u8] = b"Package: gone\nVersion: 2.10-2\nArchitecture: amd64\n\n\
@@ -60,25 +60,60 @@ const REFUSED_LATER: &[u8] = b"Package: fresh\nVersion: 1\nArchitecture: all\n\n
 
 const BAD: &[u8] = b"Package: gone\nVersion: 2.10-2\nArchitecture: amd64\n\nPackage: gone\n";
 
-/// A detail, two files, and the lines that say what changed.
-struct Pair(Detail, &'static [u8], &'static [u8], &'static [u8]);
+const SPELLED_BACK: &[u8] = b"changed 1 world 1.0-0 all Depends Size\n\
+    removed 2 fresh 2.10-3 amd64\n\
+    downgraded 3 hello 2.10-3 2.10-2 amd64 Version\n\
+    added 2 gone 2.010-2 amd64\n";
 
-const PAIRS: [Pair; 7] = [
-    Pair(Detail::Fields, OLD, MOVED, b""),
-    Pair(Detail::Values, OLD, MOVED, b""),
-    Pair(Detail::Fields, b"", b"\n \n", b""),
-    Pair(Detail::Fields, OLD, NEW, LINES),
-    Pair(Detail::Values, OLD, NEW, VALUES),
-    Pair(Detail::Values, SHORT, LONG, TEXTS),
-    Pair(Detail::Fields, b"", OLD, LATER),
+const SPELLED_ONE: &[u8] = b"Package: aa\nVersion:  01-0 \nArchitecture: all\n";
+
+const SPELLED_VALUES: &[u8] = b"added 1 aa 01-0 all\n\
+    \x20+Architecture: all\n\
+    \x20+Package: aa\n\
+    \x20+Version: 1\n";
+
+/// What the lines have, two files, and the lines that say what changed.
+struct Pair(Form, &'static [u8], &'static [u8], &'static [u8]);
+
+const FIELDS: Form = Form {
+    detail: Detail::Fields,
+    versions: VersionText::Canonical,
+};
+
+const FIELDS_SPELLED: Form = Form {
+    detail: Detail::Fields,
+    versions: VersionText::Spelled,
+};
+
+const ALL_VALUES: Form = Form {
+    detail: Detail::Values,
+    versions: VersionText::Canonical,
+};
+
+const VALUES_SPELLED: Form = Form {
+    detail: Detail::Values,
+    versions: VersionText::Spelled,
+};
+
+const PAIRS: [Pair; 10] = [
+    Pair(FIELDS, OLD, MOVED, b""),
+    Pair(ALL_VALUES, OLD, MOVED, b""),
+    Pair(FIELDS, b"", b"\n \n", b""),
+    Pair(FIELDS, OLD, NEW, LINES),
+    Pair(ALL_VALUES, OLD, NEW, VALUES),
+    Pair(ALL_VALUES, SHORT, LONG, TEXTS),
+    Pair(FIELDS, b"", OLD, LATER),
+    Pair(VALUES_SPELLED, OLD, MOVED, b""),
+    Pair(FIELDS_SPELLED, NEW, MOVED, SPELLED_BACK),
+    Pair(VALUES_SPELLED, b"", SPELLED_ONE, SPELLED_VALUES),
 ];
 
 /// Each pair, in pieces of several sizes.
 #[test]
 fn lines_of_two_files(rt: HostRuntime) {
-    for Pair(detail, old, new, lines) in &PAIRS {
+    for Pair(form, old, new, lines) in &PAIRS {
         for size in SIZES {
-            let (answer, written) = in_pieces(rt.alloc(), *detail, old, new, size);
+            let (answer, written) = in_pieces(rt.alloc(), *form, old, new, size);
             assert!(rt;
                 answer == Ok(lines.is_empty()),
                 "in pieces of {size}: {answer:?}"
@@ -100,7 +135,7 @@ fn refused_files(rt: HostRuntime) {
         (OLD, BAD, Side::Second),
         (OLD, REFUSED_LATER, Side::Second),
     ] {
-        let (answer, written) = in_pieces(rt.alloc(), Detail::Values, old, new, 7);
+        let (answer, written) = in_pieces(rt.alloc(), ALL_VALUES, old, new, 7);
         let fault = Fault::Refused(Refusal {
             code: Code::MissingField,
             line: 5,
@@ -112,7 +147,7 @@ fn refused_files(rt: HostRuntime) {
 
 fn in_pieces(
     alloc: Global,
-    detail: Detail,
+    form: Form,
     old: &[u8],
     new: &[u8],
     size: usize,
@@ -123,7 +158,7 @@ fn in_pieces(
     let answer = diff(
         alloc,
         Kind::Packages,
-        detail,
+        form,
         &mut Input::new(&mut reader),
         &mut Input::new(&mut other),
         &mut writer,

@@ -2,7 +2,7 @@
 //! and devices that fail.
 
 use crate::devices::{Pieces, SIZES, Slow, Then};
-use deb_base::{Code, Fault, Input, Output, Refusal};
+use deb_base::{Code, Fault, Input, Output, Refusal, VersionText};
 use deb_field::MultiArch;
 use deb_index::Verdict::{Ignored, Met, Unmet};
 use deb_index::{DetailedReport, Index, Question, Report};
@@ -108,7 +108,41 @@ fn is_told_why(report: &DetailedReport<'_>) -> Option<bool> {
     )
 }
 
-/// Two packages: the first with entries of Provides that provide nothing, one of them in the middle.
+/// The reasons with the versions as the file spells them: `world 1.0` is `1.0-0` there.
+const SPELLED: &[u8] = b"ignored hello [linux-amd64]\n\
+    \x20hello [linux-amd64]: linux-amd64 isn't the target amd64\n\
+    unmet vv (>= 3) | ww\n\
+    \x20vv (>= 3): 1 hello 1 amd64 is provided without a version\n\
+    \x20vv (>= 3): 2 world 1.0-0 all is earlier\n\
+    \x20ww: no package has this name\n\
+    met world\n 2 world 1.0-0 all\n";
+
+#[test]
+fn versions_as_spelled(rt: HostRuntime) -> Result<(), Fail> {
+    let index = Index::read(rt.alloc(), &mut Input::new(HELLO))?;
+    let (Some(hello), Some(world)) = (index.package(1), index.package(2)) else {
+        return Err("no package".into());
+    };
+    assert!(rt; hello.spelled_version() == b"1".as_slice());
+    assert!(rt; world.version() == b"1.0".as_slice());
+    assert!(rt; world.spelled_version() == b"1.0-0".as_slice());
+    let question = Question::parse(rt.alloc(), b"amd64", &[], ASKED)?;
+    let detailed = index.ask_why_with(rt.alloc(), &question, VersionText::Spelled)?;
+    let mut writer = Slow::new(rt.alloc(), 7, 1_000, Then::Fails);
+    let mut out = Output::new(&mut writer);
+    assert!(rt; detailed.write_with(VersionText::Spelled, &mut out) == Ok(()));
+    assert!(rt; writer.held.as_slice() == SPELLED);
+    let question = Question::parse(rt.alloc(), b"amd64", &[], b"world")?;
+    let report = index.ask(rt.alloc(), &question)?;
+    let mut writer = Slow::new(rt.alloc(), 7, 1_000, Then::Fails);
+    let mut out = Output::new(&mut writer);
+    assert!(rt; report.write_with(VersionText::Spelled, &mut out) == Ok(()));
+    assert!(rt; writer.held.as_slice() == b"met world\n 2 world 1.0-0 all\n".as_slice());
+    Ok(())
+}
+
+/// Two packages: the first with entries of Provides that provide nothing, one of them in the
+/// middle.
 const DETAILED: &[u8] = b"\n\nVersion: 0:1.00-0\nPackage: hello\nArchitecture: amd64\n\
     Multi-Arch: foreign\nProvides: xx (= 02.0), vv, ww:any, vv (= 1), uu [amd64]\n\n\n\
     Package: world\nVersion: 2\nArchitecture: all\nProvides: ww:any\n";
@@ -158,7 +192,7 @@ fn looked_up(rt: HostRuntime) -> Result<(), Fail> {
     Ok(())
 }
 
-/// Only an entry of Provides that is a name alone, or with a version, tells a provider.
+/// Only an entry of Provides that is a name alone, or with a version, is a provider.
 #[test]
 fn entries_that_provide_nothing(rt: HostRuntime) -> Result<(), Fail> {
     let file = b"Package: aa\nVersion: 1\nArchitecture: all\n\
@@ -298,7 +332,7 @@ fn a_failed_write(rt: HostRuntime) -> Result<(), Fail> {
     Ok(())
 }
 
-/// Whether all is written, or a prefix up to the one bad write, which is told.
+/// Whether all is written, or a prefix up to the one bad write, which is reported.
 fn writes(report: &Report<'_>, mut writer: Slow) -> bool {
     let answer = report.write(&mut Output::new(&mut writer));
     let held = writer.held.as_slice();

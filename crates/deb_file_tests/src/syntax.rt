@@ -11,7 +11,7 @@ use std::alloc::Global;
 use std::process::Abort;
 use std::test::Fail;
 
-/// Reads a file to its end, and returns how many lines it has, or to a fault. A line `@N` is told
+/// Reads a file to its end, and returns how many lines it has, or to a fault. A line `@N` is shown
 /// for each paragraph, where N is its first line, and one for each of its fields: its line, its
 /// name, and its body or a long one's length.
 fn read_all(
@@ -68,7 +68,7 @@ fn next_within(
     Ok(found)
 }
 
-/// Whether the buffer, and the bytes that each read was lent, are as few as they may be at a
+/// Whether the buffer, and the room that each read was given, have as few bytes as they may at a
 /// return.
 fn is_within(paragraphs: &Paragraphs, reader: &Pieces<'_>) -> bool {
     paragraphs.held() <= 16_842_752 && reader.longest <= 65_536
@@ -102,7 +102,7 @@ fn begins(paragraphs: &mut Paragraphs, reader: &mut Pieces<'_>) -> Result<Option
     paragraphs.begins(&mut Input::new(&mut *reader))
 }
 
-/// The first line of the next paragraph, which is told.
+/// The first line of the next paragraph, which is reported.
 fn next_line(
     paragraphs: &mut Paragraphs,
     reader: &mut Pieces<'_>,
@@ -158,7 +158,7 @@ fn begins_at(found: Result<Option<u64>, Fault>, line: u64) -> bool {
     }
 }
 
-/// A file, what is told of its paragraphs, and how many lines it has or the code and the line of
+/// A file, what is shown of its paragraphs, and how many lines it has or the code and the line of
 /// its refusal.
 struct Row(&'static [u8], &'static str, Result<u64, (Code, u64)>);
 
@@ -201,7 +201,7 @@ fn end_of(end: Result<u64, (Code, u64)>) -> Result<u64, Fault> {
     }
 }
 
-/// What is told of a file, and what is answered at last, with `begins` and without it.
+/// What is reported of a file, and what is answered at last, with `begins` and without it.
 fn assert_read(
     rt: &impl Abort,
     alloc: Global,

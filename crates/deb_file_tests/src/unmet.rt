@@ -2,10 +2,10 @@
 //! before a refusal.
 
 use crate::devices::{Pieces, SIZES};
-use deb_base::{Code, Fault, Input, Output, Refusal};
+use deb_base::{Code, Fault, Input, Output, Refusal, VersionText};
 use deb_index::Index;
 use deb_relation::Env;
-use deb_unmet::{Asked, Strength, Summary, unmet};
+use deb_unmet::{Asked, Request, Strength, Summary, unmet};
 use std::io::Write;
 use std::test::Fail;
 
@@ -21,32 +21,48 @@ const LINES: &[u8] = b"unmet 1 xx 1.0 all Pre-Depends cc\nunmet 1 xx 1.0 all Dep
     unmet 1 xx 1.0 all Depends bb\nunmet 2 yy 2 i386 Depends aa\n\
     unsure 2 yy 2 i386 Depends cc [linux-any]\n";
 
+const SPELLED_LINES: &[u8] = b"unmet 1 xx 0:1.00 all Pre-Depends cc\n\
+    unmet 1 xx 0:1.00 all Depends aa (>= 2)\nunmet 1 xx 0:1.00 all Depends bb\n\
+    unmet 2 yy 2 i386 Depends aa\nunsure 2 yy 2 i386 Depends cc [linux-any]\n";
+
 #[test]
 fn lines_of_packages(rt: HostRuntime) -> Result<(), Fail> {
     let index = Index::read(rt.alloc(), &mut Input::new(INDEX))?;
     let environment = Env::new(rt.alloc(), b"amd64", &[])?;
     let asked = Asked::Packages(Strength::Depends);
     for size in SIZES {
-        let mut reader = Input::new(Pieces::new(FILE, size, 0));
-        let mut held = Vec::new(rt.alloc());
-        let summary = unmet(
-            rt.alloc(),
-            &index,
-            &environment,
-            asked,
-            &mut reader,
-            &mut Output::new(&mut held),
-        )?;
-        let wanted = Summary {
-            paragraphs: 2,
-            is_empty: false,
-        };
-        assert!(rt;
-            summary == wanted && held.as_slice() == LINES,
-            "pieces of {size}"
-        );
+        for (versions, lines) in [
+            (VersionText::Canonical, LINES),
+            (VersionText::Spelled, SPELLED_LINES),
+        ] {
+            let mut reader = Input::new(Pieces::new(FILE, size, 0));
+            let mut held = Vec::new(rt.alloc());
+            let summary = unmet(
+                rt.alloc(),
+                &index,
+                &environment,
+                Request { asked, versions },
+                &mut reader,
+                &mut Output::new(&mut held),
+            )?;
+            let wanted = Summary {
+                paragraphs: 2,
+                is_empty: false,
+            };
+            assert!(rt;
+                summary == wanted && held.as_slice() == lines,
+                "pieces of {size}"
+            );
+        }
     }
     Ok(())
+}
+
+fn canonical(asked: Asked) -> Request {
+    Request {
+        asked,
+        versions: VersionText::Canonical,
+    }
 }
 
 const WITH_RECOMMENDS: &[u8] = b"Package: xx\nVersion: 1\nArchitecture: amd64\n\
@@ -87,7 +103,7 @@ fn lines_of_each_kind(rt: HostRuntime) -> Result<(), Fail> {
             rt.alloc(),
             &index,
             &environment,
-            asked,
+            canonical(asked),
             &mut Input::new(file),
             &mut Output::new(&mut held),
         )?;
@@ -97,7 +113,7 @@ fn lines_of_each_kind(rt: HostRuntime) -> Result<(), Fail> {
     Ok(())
 }
 
-/// Two thousand packages with one group each, of which every other one is unmet.
+/// Two thousand packages with one group each: every other one is unmet.
 #[test]
 fn lines_of_many(rt: HostRuntime) -> Result<(), Fail> {
     let mut file = Vec::new(rt.alloc());
@@ -119,7 +135,7 @@ fn lines_of_many(rt: HostRuntime) -> Result<(), Fail> {
         rt.alloc(),
         &index,
         &environment,
-        Asked::Packages(Strength::Recommends),
+        canonical(Asked::Packages(Strength::Recommends)),
         &mut Input::new(file.as_slice()),
         &mut Output::new(&mut held),
     )?;
@@ -140,7 +156,7 @@ fn lines_before_a_refusal(rt: HostRuntime) -> Result<(), Fail> {
         rt.alloc(),
         &index,
         &environment,
-        Asked::Packages(Strength::Depends),
+        canonical(Asked::Packages(Strength::Depends)),
         &mut Input::new(file.as_slice()),
         &mut Output::new(&mut held),
     );

@@ -1,4 +1,4 @@
--- No comma stands in the canonical text of a group.
+-- The canonical text of a group contains no comma.
 use Rattle.std.proofs.Common.{◌≡◌, ℕ, ◌==◌, Bool, true, false, not, List, [], ◌∷◌, ◌++◌, map, IsTrue, Option, Some, None, IfSome, refl, ap, codes}
 use Rattle.std.specs.List.{AllByRecursion}
 use Rattle.deb_base.specs.PackageNames.{is_package_byte, is_arch_name}

@@ -140,7 +140,7 @@ some-same a b e = cc
 provision-same : (n m : List ℕ) (v w : Option Version) → n ≡ m → v ≡ w → ◌≡◌ {A = List Provision} (record { name = n; version = v } ∷ []) (record { name = m; version = w } ∷ [])
 provision-same n m v w e f = rw (e, f) refl
 
--- the entry of a group: its name and its version stand at these places
+-- the entry of a group: its name and its version are at these offsets
 module _ (text : List ℕ) (start end k : ℕ) (a : Alternative) (others : Group) (regular : IsRegular a) (is : part start end text ≡ group_text (a ∷ others)) (long : k ≡ prefix_len in_name (part start end text)) (fits : start + k ≤ end) where
   pub behind_is : drop k (part start end text) ≡ behind_name a others
   behind_is = ap (λ n. drop n (part start end text)) long ∙ behind_at a others regular (part start end text) is

@@ -9,17 +9,18 @@ use Rattle.deb_index.specs.AnswerStores.{HasAnswers, answers_in}
 use Rattle.deb_index.specs.Detailed.{AppendsBelow, details_cut}
 use Rattle.deb_index.specs.Listed.{Listed}
 use Rattle.deb_index.specs.Reports.{Answer, answer, group_verdict}
+use Rattle.deb_index.specs.ReportText.{VersionShown}
 use Rattle.deb_index.specs.Why.{answer_in, detailed, lines_below}
 use Rattle.deb_index.specs.declared.answer_store.AnswerStore.{AnswerStore}
 use Rattle.deb_index.specs.declared.verdict.Verdict.{Verdict}
 use Rattle.deb_index.proofs.Answered.{nothing}
 
 -- A store has the answers for these groups, and these lines and lengths are those of the groups.
-pub record HasDetails (environment : Environment) (packages : List Listed) (groups : Relation) (store : AnswerStore) (reasons lens : List ℕ) : Type 0 where
+pub record HasDetails (shown : VersionShown) (environment : Environment) (packages : List Listed) (groups : Relation) (store : AnswerStore) (reasons lens : List ℕ) : Type 0 where
   pub has : HasAnswers environment packages groups store
   pub all : sum_by (λ n. n) lens ≡ length reasons
   pub each : length lens ≡ length groups
-  pub details : details_cut (answers_in packages store) reasons lens ≡ map (detailed environment packages) groups
+  pub details : details_cut (answers_in packages store) reasons lens ≡ map (detailed shown environment packages) groups
 
 -- the lines before stay, and the new ones are the last
 pub cut-push : (answers : List Answer) (a : Answer) (reasons lines lens : List ℕ) → sum_by (λ n. n) lens ≡ length reasons → length lens ≡ length answers
@@ -43,9 +44,9 @@ answers_cut (a ∷ answers) reasons [] = ap (λ l. a ∷ l) (answers_cut answers
 answers_cut (a ∷ answers) reasons (n ∷ lens) = ap (λ l. a ∷ l) (answers_cut answers (drop n reasons) lens)
 
 -- one group more
-pub detailed_more : (environment : Environment) (packages : List Listed) (groups : Relation) (group : Group) (old new : AnswerStore) (reasons lines more lens longer : List ℕ) (verdict : Verdict) (len : ℕ) → HasDetails environment packages groups old reasons lens → verdict ≡ group_verdict environment packages group → HasAnswers environment packages (groups ++ group ∷ []) new
-    → lines ≡ lines_below environment packages group verdict → AppendsBelow reasons more lines len → longer ≡ lens ++ len ∷ [] → HasDetails environment packages (groups ++ group ∷ []) new more longer
-detailed_more environment packages groups group old new reasons lines more lens longer verdict len so_far is has below appends one =
+pub detailed_more : (shown : VersionShown) (environment : Environment) (packages : List Listed) (groups : Relation) (group : Group) (old new : AnswerStore) (reasons lines more lens longer : List ℕ) (verdict : Verdict) (len : ℕ) → HasDetails shown environment packages groups old reasons lens → verdict ≡ group_verdict environment packages group → HasAnswers environment packages (groups ++ group ∷ []) new
+    → lines ≡ lines_below shown environment packages group verdict → AppendsBelow reasons more lines len → longer ≡ lens ++ len ∷ [] → HasDetails shown environment packages (groups ++ group ∷ []) new more longer
+detailed_more shown environment packages groups group old new reasons lines more lens longer verdict len so_far is has below appends one =
     let a = answer environment packages group in
     let lens_are : longer ≡ lens ++ length lines ∷ [] = one ∙ ap (λ n. lens ++ n ∷ []) appends.counted in
     let each : length lens ≡ length (answers_in packages old) = so_far.each ∙ sym (ap length so_far.has.answers ∙ length-map groups (answer environment packages)) in
@@ -57,6 +58,6 @@ detailed_more environment packages groups group old new reasons lines more lens 
           (ap (λ l. details_cut l (reasons ++ lines) (lens ++ length lines ∷ [])) (has.answers ∙ map-append (answer environment packages) groups (group ∷ []) ∙ ap (λ l. l ++ a ∷ []) (sym so_far.has.answers))
           ∙ cut-push (answers_in packages old) a reasons lines lens so_far.all each
           ∙ ap (λ l. l ++ record { answer = a; reasons = lines } ∷ []) so_far.details
-          ∙ ap (λ l. map (detailed environment packages) groups ++ record { answer = a; reasons = l } ∷ []) (below ∙ ap (lines_below environment packages group) is)
-          ∙ sym (map-append (detailed environment packages) groups (group ∷ [])));
+          ∙ ap (λ l. map (detailed shown environment packages) groups ++ record { answer = a; reasons = l } ∷ []) (below ∙ ap (lines_below shown environment packages group) is)
+          ∙ sym (map-append (detailed shown environment packages) groups (group ∷ [])));
     }

@@ -1,4 +1,4 @@
--- A file lists one list of packages, and so does its canonical text; what is told goes by meanings.
+-- A file lists one list of packages, and so does its canonical text; reports depend on meanings alone.
 use Rattle.std.proofs.Common.{◌≡◌, ℕ, List, [], ◌∷◌, Option, None, Some, refl, sym, ap, ◌∙◌, subst}
 use Rattle.std.specs.Option.{option_map}
 use Rattle.deb_relation.specs.Grammar.{SpellsRelation}
@@ -68,7 +68,7 @@ canonical_text_lists text meaning packages accepted lists = record {
   listed = subst (λ m. Pairwise Lists m packages) (one_meaning text lists.meaning meaning lists.accepted accepted) lists.listed;
 }
 
--- equal packages and relations are told alike
+-- equal packages and relations have equal reports
 alike : (packages others : List Listed) (m n : Relation) → packages ≡ others → m ≡ n → ReportAlike packages others m n
 alike packages others m n same is = record {
   reports = λ environment. ap (λ p. report p m environment) same ∙ ap (λ r. report others r environment) is;

@@ -40,6 +40,7 @@ use Rattle.deb_index.specs.PackageBuilder.{KeepsPackage, KeepsVisited, shown_of,
 use Rattle.deb_index.specs.declared.paragraph.PackageBuilder.{PackageBuilder}
 use Rattle.deb_index.specs.Listed.{Listed, Provision, provisions_in, provisions_of}
 use Rattle.deb_index.specs.Listing.{HasProvisions, SeenLists}
+use Rattle.deb_index.specs.VersionSpellings.{body_or_nothing, version_body}
 
 -- some text spells a relation
 abbrev IsSpelled : Relation → Type 0
@@ -79,16 +80,16 @@ module _ (seen : Seen) (passes : IsTrue (is_judged Packages seen)) (fields : are
   one-under name o p has other = has.found ∙ ap (find byte_order (canonical_name name)) (one_list_of_values seen has.values other.values has.are other.are) ∙ sym other.found
 
   -- a value is one that a body of a field of the name spells
-  under : (name : List ℕ) (o : Option ValueMeaning) → HasValue Packages seen name o → (o ≡ None) ⊎ ((v : ValueMeaning) × (body : List ℕ) × SpellsValue Packages (canonical_name name) body v × (o ≡ Some v))
+  under : (name : List ℕ) (o : Option ValueMeaning) → HasValue Packages seen name o → (o ≡ None) ⊎ ((v : ValueMeaning) × (field : Field) × SpellsValue Packages (canonical_name name) field.body v × (o ≡ Some v) × (field_named name seen.fields ≡ Some field))
   under name o has = go (field_named name seen.fields) refl
     where
-      go : (f : Option Field) → field_named name seen.fields ≡ f → (o ≡ None) ⊎ ((v : ValueMeaning) × (body : List ℕ) × SpellsValue Packages (canonical_name name) body v × (o ≡ Some v))
+      go : (f : Option Field) → field_named name seen.fields ≡ f → (o ≡ None) ⊎ ((v : ValueMeaning) × (field : Field) × SpellsValue Packages (canonical_name name) field.body v × (o ≡ Some v) × (field_named name seen.fields ≡ Some field))
       go None is = inl (one-under name o None has (none-passing Packages seen passes fields name is))
       go (Some field) is =
           let values = values-passing Packages seen passes in
           let entry : find byte_order (canonical_name name) (entries_of seen.fields) ≡ Some field.body = body_at-entries_of seen.fields (distinct-from seen.fields fields) name ∙ (field-body name seen.fields field is).0 in
           let at = value_at ValueMeaning (SpellsValue Packages) value_text (value_law Packages) (canonical_name name) field.body (entries_of seen.fields) values.0 values.1.spelled entry in
-          inr (at.0, field.body, at.1, one-under name o (Some at.0) has (record { values = values.0; are = values.1; found = sym at.2 }))
+          inr (at.0, field, at.1, one-under name o (Some at.0) has (record { values = values.0; are = values.1; found = sym at.2 }), is)
 
   -- so it is of the kind of the field
   name-said : (o : Option ValueMeaning) → HasValue Packages seen (codes "Package") o → (name : List ℕ) × (o ≡ Some (NameMeans name))
@@ -105,11 +106,11 @@ module _ (seen : Seen) (passes : IsTrue (is_judged Packages seen)) (fields : are
     | inr s ↦ (s.2.0, s.3 ∙ ap Some s.2.1)
   ]
 
-  version-said : (o : Option ValueMeaning) → HasValue Packages seen (codes "Version") o → (version : Version) × (o ≡ Some (VersionMeans version)) × (body : List ℕ) × SpellsVersion body version
+  version-said : (o : Option ValueMeaning) → HasValue Packages seen (codes "Version") o → (version : Version) × (o ≡ Some (VersionMeans version)) × SpellsVersion (version_body seen.fields) version
   unfolding kind_of kind_at known_row
   version-said o has = elim (under (codes "Version") o has) [
     | inl none ↦ absurd (version-there (subst (HasValue Packages seen (codes "Version")) none has))
-    | inr s ↦ (s.2.0, s.3 ∙ ap Some s.2.1, s.1, s.2.2)
+    | inr s ↦ (s.2.0, s.3 ∙ ap Some s.2.1, rw (ap body_or_nothing s.4) s.2.2)
   ]
 
   multi_arch-said : (o : Option ValueMeaning) → HasValue Packages seen (codes "Multi-Arch") o → (word : Option MultiArch) × (o ≡ option_map MultiArchMeans word)
@@ -123,7 +124,7 @@ module _ (seen : Seen) (passes : IsTrue (is_judged Packages seen)) (fields : are
   unfolding kind_of kind_at known_row
   provides-said o has = elim (under (codes "Provides") o has) [
     | inl none ↦ (None, none, tt)
-    | inr s ↦ (Some s.2.0, s.3 ∙ ap Some s.2.1, (s.1, s.2.2.spells))
+    | inr s ↦ (Some s.2.0, s.3 ∙ ap Some s.2.1, (s.1.body, s.2.2.spells))
   ]
 
 -- what was read of a paragraph is the package that it lists
@@ -155,8 +156,9 @@ pub record ListsKept (kept : PackageBuilder) (seen : Seen) : Type 0 where
   pub listed : Listed
   pub keeps : KeepsPackage kept listed
   pub lists : SeenLists seen listed
+  pub spells : SpellsVersion (version_body seen.fields) listed.version
 
--- what stands in Provides, if it is there: a regular relation
+-- the value of Provides, if the field is there: a regular relation
 abbrev relation_in : Option Relation → Relation
 relation_in None = []
 relation_in (Some m) = m
@@ -195,7 +197,7 @@ lists-kept kept seen keeps =
         relation = relation_in provides.0;
         name = keeps.visits.name.follows (Some name.0) name.1;
         version = keeps.visits.version.follows (Some version.0) version.1;
-        spelled = canonical_text_spells version.2 version.0 version.3;
+        spelled = canonical_text_spells (version_body seen.fields) version.0 version.2;
         architecture = keeps.visits.architecture.follows (Some architecture.0) architecture.1;
         multi_arch = refl;
         provides = keeps.visits.provides.follows provides.0 provides.1 ∙ provides-text provides.0;
@@ -209,4 +211,5 @@ lists-kept kept seen keeps =
           (subst (HasValue Packages seen (codes "Architecture")) architecture.1 (are (codes "Architecture")))
           (subst (HasValue Packages seen (codes "Multi-Arch")) (word.1 ∙ ap (option_map MultiArchMeans) (sym (keeps.visits.multi_arch.follows word.0 word.1))) (are (codes "Multi-Arch")))
           (record { provides = provides.0; has = subst (HasValue Packages seen (codes "Provides")) provides.1 (are (codes "Provides")); are = refl });
+      spells = version.2;
     }

@@ -1,4 +1,4 @@
--- What a relation provides stands in the byte order of its names, since its groups stand in that of their texts.
+-- What a relation provides is in the byte order of its names, since its groups are in that of their texts.
 use Rattle.std.proofs.Common.{◌≡◌, ℕ, ◌==◌, ◌&&◌, ◌<◌, Bool, true, false, cond, IsTrue, List, [], ◌∷◌, ◌++◌, length, map, Option, None, Some, is_none, append-nil, refl, sym, ap, ◌∙◌, arith, rules, tests}
 use Rattle.std.specs.List.{AllByRecursion, AllPairs}
 use Rattle.std.specs.Ordering.{is_gt, nat_cmp, ordering_then}
@@ -30,7 +30,7 @@ IsSpaced (b ∷ bs) = b ≡ 32
 over_space : (b : ℕ) → IsTrue (is_package_byte b) → 32 < b
 over_space b is = search (rules, tests)
 
--- a text that is a name, and nothing or a space behind it, isn't before one of an earlier name
+-- a text that is a name, and nothing or a space after it, isn't before one of an earlier name
 names_in_order : (s t u v : List ℕ) → Passes is_package_byte s → Passes is_package_byte t → IsSpaced u → IsSpaced v → byte_cmp (s ++ u) (t ++ v) ≡ Less → IsNotAfter s t
 names_in_order [] [] u v p q spaced also less = refl
 names_in_order [] (y ∷ t) u v p q spaced also less = refl
@@ -46,7 +46,7 @@ names_in_order (x ∷ s) (y ∷ t) u v p q spaced also less = go (nat_cmp x y) l
     go Equal e more = more e
     go Greater e more = absurd (cc)
 
--- the text of a plain alternative is its name, and nothing or a space behind it
+-- the text of a plain alternative is its name, and nothing or a space after it
 record HasPlainText (a : Alternative) : Type 0 where
   behind : List ℕ
   text : group_text (a ∷ []) ≡ a.name ++ behind

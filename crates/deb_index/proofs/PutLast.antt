@@ -87,7 +87,7 @@ apart_list n before list apart =
       | inr other ↦ ap (λ v. cond v list (Some (numbers_with list (Some before) ++ n ∷ []))) (sym other)
     ]
 
--- the same by what an insert and an append to a list tell
+-- the same from the clauses of an insert and of an append to a list
 module _ (key : Vec ℕ Global) (name : List ℕ) (n before : ℕ) (old new : Names) (ends : EndInLast old) (key_is : key.items ≡ name)
     (updates : UpdatesBy (λ x y. bytes_eq x.items y.items) (λ k. bytes_eq key.items k.items) old.last new.last (Some n))
     (is : before ≡ unwrap_or (get_by (λ k. bytes_eq key.items k.items) old.last) n) where

@@ -1,23 +1,29 @@
 -- What a store keeps of one package more, and of those before it.
-use Rattle.std.proofs.Common.{◌≡◌, ℕ, ◌≤◌, List, [], ◌∷◌, ◌++◌, length, map, refl, sym, ap, ◌∙◌, subst, arith, append_assoc}
+use Rattle.std.proofs.Common.{◌≡◌, ℕ, ◌≤◌, ◌==◌, Bool, true, false, cond, None, List, [], ◌∷◌, ◌++◌, length, map, refl, sym, ap, ◌∙◌, subst, arith, append_assoc}
 use Rattle.std.specs.List.{All, AllByRecursion, AllPairs}
+use Rattle.std.proofs.lemmas.Bool.{ne_eqb}
 use Rattle.std.proofs.lemmas.List.{length-append, map-append}
 use Rattle.std.proofs.lemmas.List.Elements.{All-append, All-from_recursion, All-weaker, recursion_from_All}
 use Rattle.std.proofs.lemmas.Simd.{map-map}
+use Rattle.std.proofs.lemmas.Slice.Eq.{bytes_eq-Decides}
+use Rattle.std.specs.Str.{bytes_eq}
 use Rattle.deb_version.specs.Canonical.{version_text}
 use Rattle.deb_version.specs.Faults.{first_fault}
+use Rattle.deb_version.specs.declared.fault.BadVersion.TheVariants.{Empty}
+use Rattle.deb_version.specs.Grammar.{SpellsVersion}
 use Rattle.deb_version.specs.Parts.{Meaning as Version}
 use Rattle.deb_version.specs.Places.{version_in}
 use Rattle.deb_version.proofs.FaultLemmas.{no_fault-from_spells}
 use Rattle.deb_version.proofs.KeptVersions.{version_in-spelled}
 use Rattle.deb_field.specs.declared.flag.MultiArch.{MultiArch}
-use Rattle.std.proofs.Common.{Option}
+use Rattle.std.proofs.Common.{Option, Some}
 use Rattle.deb_index.specs.Entries.{AppendsEntries, Places, entry_name, provision_at}
 use Rattle.deb_index.specs.Listed.{Listed, Provision, provisions_of}
 use Rattle.deb_index.specs.PackageBuilder.{KeepsPackage}
 use Rattle.deb_index.specs.ProvidedNames.{IsNotAfter}
 use Rattle.deb_index.specs.Spans.{part}
-use Rattle.deb_index.specs.Stores.{AreEntries, IsKept, IsStore, IsVersionKept, KeepsOneMore, architecture_by, entries_by, listed_by, listed_in, name_by, provides_by, version_by}
+use Rattle.deb_index.specs.Stores.{AreEntries, IsKept, IsSpelling, IsStore, IsVersionKept, KeepsOneMore, architecture_by, besides_by, entries_by, listed_by, listed_in, name_by, provides_by, spelling_by, spellings_in, version_by}
+use Rattle.deb_index.specs.VersionSpellings.{spelling_or, text_besides}
 use Rattle.deb_index.specs.declared.paragraph.PackageBuilder.{PackageBuilder}
 use Rattle.deb_index.specs.declared.store.Record.{Record}
 use Rattle.deb_index.specs.declared.store.Store.{Store}
@@ -37,7 +43,12 @@ module _ (bytes more : List ℕ) (entries others : List Places) (r : Record) (ke
   version_stays = part-append r.name_end r.version_end bytes more kept.version_end
 
   architecture_stays : architecture_by (bytes ++ more) r ≡ architecture_by bytes r
-  architecture_stays = part-append r.version_end r.architecture_end bytes more kept.architecture_end
+  architecture_stays = part-append r.besides_end r.architecture_end bytes more kept.architecture_end
+
+  spelling_stays : spelling_by (bytes ++ more) r ≡ spelling_by bytes r
+  spelling_stays =
+      ap (λ t. spelling_or t (besides_by (bytes ++ more) r)) version_stays
+      ∙ ap (spelling_or (version_by bytes r)) (part-append r.version_end r.besides_end bytes more kept.besides_end)
 
   provides_stays : provides_by (bytes ++ more) r ≡ provides_by bytes r
   provides_stays = part-append r.architecture_end r.end bytes more kept.end
@@ -51,10 +62,12 @@ module _ (bytes more : List ℕ) (entries others : List Places) (r : Record) (ke
       record {
         name_end = omega (arith, kept.name_end, long);
         version_end = omega (arith, kept.version_end, long);
+        besides_end = omega (arith, kept.besides_end, long);
         architecture_end = omega (arith, kept.architecture_end, long);
         end = omega (arith, kept.end, long);
         entries_end = omega (arith, kept.entries_end, length-append entries others);
         version = subst IsVersionKept (sym version_stays) kept.version;
+        spelling = subst (λ t. IsSpelling t (spelling_by (bytes ++ more) r)) (sym version_stays) (subst (IsSpelling (version_by bytes r)) (sym spelling_stays) kept.spelling);
         provides = subst (AreEntries (provides_by (bytes ++ more) r)) (sym entries_stay) (subst (λ t. AreEntries t (entries_by entries r)) (sym provides_stays) kept.provides);
       }
 
@@ -71,18 +84,46 @@ all-listed bytes more entries others records all = go records (recursion_from_Al
     go [] all = refl
     go (r ∷ records) all = ap (λ p. p ∷ map (listed_by (bytes ++ more) (entries ++ others)) records) (stays-listed bytes more entries others r all.0) ∙ ap (λ ps. listed_by bytes entries r ∷ ps) (go records all.1)
 
--- the texts of one package more, one after another
-abbrev pub bytes_with : List ℕ → PackageBuilder → List ℕ
-bytes_with bytes kept = (((bytes ++ kept.name.items) ++ kept.version.items) ++ kept.architecture.items) ++ kept.provides.items
+all-spelled : (bytes more : List ℕ) (entries : List Places) (records : List Record) → All (IsKept bytes entries) records → map (spelling_by (bytes ++ more)) records ≡ map (spelling_by bytes) records
+all-spelled bytes more entries records all = go records (recursion_from_All (IsKept bytes entries) records all)
+  where
+    go : (records : List Record) → AllByRecursion (IsKept bytes entries) records → map (spelling_by (bytes ++ more)) records ≡ map (spelling_by bytes) records
+    go [] all = refl
+    go (r ∷ records) all = ap (λ p. p ∷ map (spelling_by (bytes ++ more)) records) (spelling_stays bytes more entries [] r all.0) ∙ ap (λ ps. spelling_by bytes r ∷ ps) (go records all.1)
 
-abbrev pub record_with : List ℕ → PackageBuilder → ℕ → ℕ → ℕ → Record
-record_with bytes kept first entries_end line =
+no_version : first_fault [] ≡ Some Empty
+unfolding first_fault
+no_version = refl
+
+-- what spells a version is found again from what is kept besides the canonical text
+module _ (canonical : List ℕ) (version : Version) where
+  nonempty : (text : List ℕ) → SpellsVersion text version → (length text == 0) ≡ false
+  nonempty [] s = absurd (go (sym no_version ∙ no_fault-from_spells [] version s))
+    where
+      go : {A : Type 0} {x : A} → Some x ≡ None → ⊥
+      go e = cc
+  nonempty (b ∷ bs) s = ne_eqb (length (b ∷ bs)) 0 (λ e. omega (arith, e))
+
+  found_again : (text : List ℕ) → SpellsVersion text version → spelling_or canonical (text_besides canonical text) ≡ text
+  found_again text s = go (bytes_eq text canonical) refl
+    where
+      go : (t : Bool) → bytes_eq text canonical ≡ t → spelling_or canonical (cond t [] text) ≡ text
+      go true e = sym ((bytes_eq-Decides text canonical).0 e)
+      go false e = ap (λ t. cond t canonical text) (nonempty text s)
+
+-- the texts of one package more, one after another
+abbrev pub bytes_with : List ℕ → PackageBuilder → List ℕ → List ℕ
+bytes_with bytes kept besides = ((((bytes ++ kept.name.items) ++ kept.version.items) ++ besides) ++ kept.architecture.items) ++ kept.provides.items
+
+abbrev pub record_with : List ℕ → PackageBuilder → List ℕ → ℕ → ℕ → ℕ → Record
+record_with bytes kept besides first entries_end line =
     record {
       start = length bytes;
       name_end = length (bytes ++ kept.name.items);
       version_end = length ((bytes ++ kept.name.items) ++ kept.version.items);
-      architecture_end = length (((bytes ++ kept.name.items) ++ kept.version.items) ++ kept.architecture.items);
-      end = length (bytes_with bytes kept);
+      besides_end = length (((bytes ++ kept.name.items) ++ kept.version.items) ++ besides);
+      architecture_end = length ((((bytes ++ kept.name.items) ++ kept.version.items) ++ besides) ++ kept.architecture.items);
+      end = length (bytes_with bytes kept besides);
       first = first;
       entries_end = entries_end;
       line = line;
@@ -92,37 +133,57 @@ record_with bytes kept first entries_end line =
 long-append : {A : Type 0} (xs ys : List A) → length xs ≤ length (xs ++ ys)
 long-append xs ys = omega (arith, length-append xs ys)
 
-module _ (bytes : List ℕ) (entries new : List Places) (kept : PackageBuilder) (line : ℕ) (p : Listed) (keeps : KeepsPackage kept p) (cut : AppendsEntries kept.provides.items entries new (provisions_of keeps.relation)) where
+module _ (bytes : List ℕ) (entries new : List Places) (kept : PackageBuilder) (text : List ℕ) (line : ℕ) (p : Listed) (keeps : KeepsPackage kept p) (spells : SpellsVersion text p.version) (cut : AppendsEntries kept.provides.items entries new (provisions_of keeps.relation)) where
+  abbrev besides : List ℕ
+  besides = text_besides kept.version.items text
+
   abbrev one : List ℕ
   one = bytes ++ kept.name.items
 
   abbrev two : List ℕ
   two = one ++ kept.version.items
 
+  abbrev both : List ℕ
+  both = two ++ besides
+
   abbrev three : List ℕ
-  three = two ++ kept.architecture.items
+  three = both ++ kept.architecture.items
 
   abbrev four : List ℕ
   four = three ++ kept.provides.items
 
   abbrev r : Record
-  r = record_with bytes kept (length entries) (length new) line
+  r = record_with bytes kept besides (length entries) (length new) line
 
   name_is : name_by four r ≡ kept.name.items
   name_is =
-      part-append (length bytes) (length one) three kept.provides.items (omega (arith, long-append one kept.version.items, long-append two kept.architecture.items))
-      ∙ part-append (length bytes) (length one) two kept.architecture.items (long-append one kept.version.items)
+      part-append (length bytes) (length one) three kept.provides.items (omega (arith, long-append one kept.version.items, long-append two besides, long-append both kept.architecture.items))
+      ∙ part-append (length bytes) (length one) both kept.architecture.items (omega (arith, long-append one kept.version.items, long-append two besides))
+      ∙ part-append (length bytes) (length one) two besides (long-append one kept.version.items)
       ∙ part-append (length bytes) (length one) one kept.version.items (omega arith)
       ∙ part-behind bytes kept.name.items
 
   version_is : version_by four r ≡ kept.version.items
   version_is =
-      part-append (length one) (length two) three kept.provides.items (long-append two kept.architecture.items)
-      ∙ part-append (length one) (length two) two kept.architecture.items (omega arith)
+      part-append (length one) (length two) three kept.provides.items (omega (arith, long-append two besides, long-append both kept.architecture.items))
+      ∙ part-append (length one) (length two) both kept.architecture.items (long-append two besides)
+      ∙ part-append (length one) (length two) two besides (omega arith)
       ∙ part-behind one kept.version.items
 
+  besides_is : besides_by four r ≡ besides
+  besides_is =
+      part-append (length two) (length both) three kept.provides.items (long-append both kept.architecture.items)
+      ∙ part-append (length two) (length both) both kept.architecture.items (omega arith)
+      ∙ part-behind two besides
+
+  spelling_is : spelling_by four r ≡ text
+  spelling_is =
+      ap (λ t. spelling_or t (besides_by four r)) version_is
+      ∙ ap (spelling_or kept.version.items) besides_is
+      ∙ found_again kept.version.items p.version text spells
+
   architecture_is : architecture_by four r ≡ kept.architecture.items
-  architecture_is = part-append (length two) (length three) three kept.provides.items (omega arith) ∙ part-behind two kept.architecture.items
+  architecture_is = part-append (length both) (length three) three kept.provides.items (omega arith) ∙ part-behind both kept.architecture.items
 
   provides_is : provides_by four r ≡ kept.provides.items
   provides_is = part-behind three kept.provides.items
@@ -138,6 +199,13 @@ module _ (bytes : List ℕ) (entries new : List Places) (kept : PackageBuilder) 
         canonical = ap version_text same ∙ sym keeps.version;
       }
 
+  spelling_good : IsSpelling kept.version.items text
+  spelling_good =
+      record {
+        faultless = no_fault-from_spells text p.version spells;
+        canonical = ap version_text (version_in-spelled text p.version spells) ∙ sym keeps.version;
+      }
+
   entries_good : AreEntries kept.provides.items cut.more
   entries_good =
       let names : names_in (provisions_of keeps.relation) ≡ map (entry_name kept.provides.items) cut.more = ap names_in (sym cut.provides) ∙ map-map (λ q. q.name) (provision_at kept.provides.items) cut.more in
@@ -146,12 +214,14 @@ module _ (bytes : List ℕ) (entries new : List Places) (kept : PackageBuilder) 
   new-kept : IsKept four new r
   new-kept =
       record {
-        name_end = omega (arith, long-append one kept.version.items, long-append two kept.architecture.items, long-append three kept.provides.items);
-        version_end = omega (arith, long-append two kept.architecture.items, long-append three kept.provides.items);
+        name_end = omega (arith, long-append one kept.version.items, long-append two besides, long-append both kept.architecture.items, long-append three kept.provides.items);
+        version_end = omega (arith, long-append two besides, long-append both kept.architecture.items, long-append three kept.provides.items);
+        besides_end = omega (arith, long-append both kept.architecture.items, long-append three kept.provides.items);
         architecture_end = long-append three kept.provides.items;
         end = omega arith;
         entries_end = omega arith;
         version = subst IsVersionKept (sym version_is) version_good;
+        spelling = subst (λ t. IsSpelling t (spelling_by four r)) (sym version_is) (subst (IsSpelling kept.version.items) (sym spelling_is) spelling_good);
         provides = subst (AreEntries (provides_by four r)) (sym entries_are) (subst (λ t. AreEntries t cut.more) (sym provides_is) entries_good);
       }
 
@@ -164,10 +234,10 @@ module _ (bytes : List ℕ) (entries new : List Places) (kept : PackageBuilder) 
       (ap (λ t. map (provision_at t) (entries_by new r)) provides_is ∙ ap (map (provision_at kept.provides.items)) entries_are ∙ provisions)
 
   -- the store with the package
-  pub keeps_one_more : (old store : Store) → old.bytes.items ≡ bytes → old.entries.items ≡ entries → store.bytes.items ≡ four → store.entries.items ≡ new → store.records.items ≡ old.records.items ++ r ∷ [] → IsStore old → KeepsOneMore old store p
+  pub keeps_one_more : (old store : Store) → old.bytes.items ≡ bytes → old.entries.items ≡ entries → store.bytes.items ≡ four → store.entries.items ≡ new → store.records.items ≡ old.records.items ++ r ∷ [] → IsStore old → KeepsOneMore old store p text
   keeps_one_more old store b e is_bytes is_entries is_records is =
-      let more : List ℕ = kept.name.items ++ (kept.version.items ++ (kept.architecture.items ++ kept.provides.items)) in
-      let grown : four ≡ old.bytes.items ++ more = reordered bytes kept.name.items kept.version.items kept.architecture.items kept.provides.items ∙ ap (λ l. l ++ more) (sym b) in
+      let more : List ℕ = kept.name.items ++ (kept.version.items ++ (besides ++ (kept.architecture.items ++ kept.provides.items))) in
+      let grown : four ≡ old.bytes.items ++ more = reordered bytes kept.name.items kept.version.items besides kept.architecture.items kept.provides.items ∙ ap (λ l. l ++ more) (sym b) in
       let grown_entries : new ≡ old.entries.items ++ cut.more = cut.appended ∙ ap (λ l. l ++ cut.more) (sym e) in
       record {
         kept =
@@ -183,7 +253,13 @@ module _ (bytes : List ℕ) (entries new : List Places) (kept : PackageBuilder) 
             (ap (λ l. map (listed_by l store.entries.items) old.records.items) (is_bytes ∙ grown) ∙ ap (λ l. map (listed_by (old.bytes.items ++ more) l) old.records.items) (is_entries ∙ grown_entries)
             ∙ all-listed old.bytes.items more old.entries.items cut.more old.records.items is)
             ∙ ap (λ q. listed_in old ++ q ∷ []) (ap (λ l. listed_by l store.entries.items r) is_bytes ∙ ap (λ l. listed_by four l r) is_entries ∙ new-listed);
+        spellings =
+            ap (map (spelling_by store.bytes.items)) is_records
+            ∙ map-append (spelling_by store.bytes.items) old.records.items (r ∷ [])
+            ∙ ap (λ l. l ++ spelling_by store.bytes.items r ∷ [])
+            (ap (λ l. map (spelling_by l) old.records.items) (is_bytes ∙ grown) ∙ all-spelled old.bytes.items more old.entries.items old.records.items is)
+            ∙ ap (λ q. spellings_in old ++ q ∷ []) (ap (λ l. spelling_by l r) is_bytes ∙ spelling_is);
       }
     where
-      reordered : (b n v a p : List ℕ) → (((b ++ n) ++ v) ++ a) ++ p ≡ b ++ (n ++ (v ++ (a ++ p)))
-      reordered b n v a p = simp append_assoc refl
+      reordered : (b n v t a p : List ℕ) → ((((b ++ n) ++ v) ++ t) ++ a) ++ p ≡ b ++ (n ++ (v ++ (t ++ (a ++ p))))
+      reordered b n v t a p = simp append_assoc refl

@@ -1,4 +1,4 @@
--- Where the version stands in what follows the name of an alternative.
+-- Where the version is in what follows the name of an alternative.
 use Rattle.std.proofs.Common.{◌≡◌, ◌≢◌, ℕ, suc, ◌+◌, ◌-◌, ◌<◌, ◌≤◌, ◌==◌, ◌&&◌, Bool, true, false, cond, not, List, [], ◌∷◌, ◌++◌, length, take, drop, get_or, map, IsTrue, Option, Some, None, IfSome, is_none, append_assoc, refl, sym, ap, ◌∙◌, subst, arith, codes}
 use Rattle.std.specs.List.{prefix_len}
 use Rattle.std.specs.Option.{option_map}
@@ -162,7 +162,7 @@ module _ (a : Alternative) (others : Group) (rest : List ℕ) (has : HasBound a 
       let v = version_text has.bound.1 in
       ap length has.cut ∙ omega (arith, length-append op (32 ∷ (v ++ (41 ∷ has.tail))), length-append v (41 ∷ has.tail))
 
-  -- between the two stands the version
+  -- the version is between the two
   pub bound_place : (b c : ℕ) → part (prefix_len (is_other 32) rest + 3) (prefix_len (is_other 41) rest + 2) (b ∷ c ∷ rest) ≡ version_text has.bound.1
   bound_place b c =
       let op = operator_text has.bound.0 in

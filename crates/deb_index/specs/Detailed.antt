@@ -12,7 +12,8 @@ use Rattle.deb_index.specs.Listed.{Listed}
 use Rattle.deb_index.specs.Questions.{wildcard}
 use Rattle.deb_index.specs.Reported.{answer_of, answers_left, report_of}
 use Rattle.deb_index.specs.Reports.{Answer}
-use Rattle.deb_index.specs.Why.{Detailed, detailed_report}
+use Rattle.deb_index.specs.ReportText.{VersionShown, canonical_version}
+use Rattle.deb_index.specs.Why.{Detailed, detailed_report_by}
 use Rattle.deb_index.specs.declared.answer.Answer.{Answer as Answered}
 use Rattle.deb_index.specs.declared.answer.Answers.{Answers}
 use Rattle.deb_index.specs.declared.report.Report.{Report}
@@ -50,12 +51,18 @@ pub record AppendsBelow (old new lines : List ℕ) (len : ℕ) : Type 0 where
   pub counted : len ≡ length lines
 
 -- the report of a relation with reasons, or its refusal for a wildcard
-abbrev pub DetailsOf : List Listed → Relation → Environment → Result DetailedReport Fault → Type 0
-DetailsOf packages relation environment (Ok found) =
+abbrev pub DetailsOfBy : VersionShown → List Listed → Relation → Environment
+    → Result DetailedReport Fault → Type 0
+DetailsOfBy shown packages relation environment (Ok found) =
     IsFalse (some_wildcard relation)
-    × (details_of found ≡ detailed_report packages relation environment)
-DetailsOf packages relation environment (Err fault) =
+    × (details_of found ≡ detailed_report_by shown packages relation environment)
+DetailsOfBy shown packages relation environment (Err fault) =
     RefusedOrMemory fault (λ refusal. IsTrue (some_wildcard relation) × (refusal ≡ wildcard))
+
+-- with canonical versions
+abbrev pub DetailsOf : List Listed → Relation → Environment → Result DetailedReport Fault → Type 0
+DetailsOf packages relation environment answer =
+    DetailsOfBy canonical_version packages relation environment answer
 
 -- the answer and the lines of one group
 worked-detailed : (answer : Answered) (reasons : Bor (List ℕ))

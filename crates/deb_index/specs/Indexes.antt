@@ -1,7 +1,8 @@
--- The packages that an index is to its callers, and the lines of their paragraphs.
+-- The packages that an index is to its callers, the lines of their paragraphs, and the texts by
+-- which these spell their versions.
 use Rattle.std.specs.Prelude.{ℕ, List}
 use Rattle.deb_index.specs.Listed.{Listed}
-use Rattle.deb_index.specs.Stores.{lines_in, listed_in}
+use Rattle.deb_index.specs.Stores.{lines_in, listed_in, spellings_in}
 use Rattle.deb_index.specs.declared.index.Index.{Index}
 
 -- the packages that it lists
@@ -11,3 +12,7 @@ packages_of index = listed_in index.store
 -- the lines at which their paragraphs start
 abbrev pub lines_of : Index → List ℕ
 lines_of index = lines_in index.store
+
+-- the texts of their versions
+abbrev pub spellings_of : Index → List (List ℕ)
+spellings_of index = spellings_in index.store

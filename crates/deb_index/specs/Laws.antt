@@ -29,13 +29,13 @@ CanonicalTextLists =
     (text : List ℕ) (meaning : Meaning) (packages : List Listed) → Accepted Packages text meaning
     → ListsAll text packages → ListsAll (canonical_text meaning) packages
 
--- what is told of two relations over two lists, for every environment: the same
+-- two relations over two lists have the same report, for every environment
 pub record ReportAlike (packages others : List Listed) (m n : Relation) : Type 0 where
   pub reports : (environment : Environment)
       → report packages m environment ≡ report others n environment
   pub wildcards : some_wildcard m ≡ some_wildcard n
 
--- What is told doesn't change where a file, a relation, or both, are put in their canonical text.
+-- The report doesn't change if a file, a relation or both are replaced by their canonical text.
 pub record CanonicalTextChangesNoAnswer : Type 0 where
   pub files : (text : List ℕ) (meaning : Meaning) (packages others : List Listed) (m : Relation)
       → Accepted Packages text meaning → ListsAll text packages

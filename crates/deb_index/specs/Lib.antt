@@ -2,6 +2,7 @@ pub mod Alternatives
 pub mod Listed
 pub mod Meeting
 pub mod Reports
+pub mod VersionSpellings
 pub mod ReportText
 pub mod Reasons
 pub mod Why
@@ -20,6 +21,7 @@ pub mod Listing
 pub mod Indexes
 pub mod AnswerStores
 pub mod Reported
+pub mod ShownVersions
 pub mod Questions
 pub mod Asked
 pub mod Detailed

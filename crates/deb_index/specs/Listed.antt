@@ -1,4 +1,4 @@
--- The packages of a list: what of each is asked when a relation is. Debian Policy 5.6.1, 5.6.8,
+-- The packages of a list, with the values of each that a query uses. Debian Policy 5.6.1, 5.6.8,
 -- 5.6.12 and 7.5; Multi-Arch is that of deb-control(5).
 use Rattle.std.specs.Prelude.{◌≡◌, ℕ, ◌==◌, ◌&&◌, Bool, false, cond, length, is_none, List, [], ◌∷◌, Option, Some, None, codes, refl}
 use Rattle.std.specs.List.{flat_map}
@@ -11,7 +11,7 @@ use Rattle.deb_field.specs.declared.flag.MultiArch.{MultiArch}
 use Rattle.deb_index.specs.Alternatives.{alone, with_bound, with_qualifier, with_list, with_formula}
 use Rattle.deb_version.specs.Places.{version_in}
 
--- a name that a package provides, with its version, if one is told
+-- a name that a package provides, with its version if it has one
 pub record Provision : Type 0 where
   pub name : List ℕ
   pub version : Option Version

@@ -1,14 +1,35 @@
 -- The text of a report: for each group a line, and after that of a met group a line for each
 -- package that meets it. Its form is this project's own; the canonical text of a version is that of
--- Debian Policy 5.6.12, as deb_version has it.
+-- Debian Policy 5.6.12, as deb_version has it. A version is written as its canonical text, or as
+-- the file spells it.
 use Rattle.std.specs.Prelude.{◌≡◌, ℕ, ◌++◌, List, [], ◌∷◌, None, codes, refl}
 use Rattle.std.specs.Fmt.{decimal, digits}
 use Rattle.std.specs.List.{concat, flat_map}
+use Rattle.std.specs.Option.{option_map_or}
+use Rattle.deb_base.specs.declared.version_text.VersionText.{VersionText}
+use Rattle.deb_base.specs.declared.version_text.VersionText.TheVariants.{Canonical, Spelled}
 use Rattle.deb_version.specs.Canonical.{version_text}
 use Rattle.deb_index.specs.Reports.{Numbered, Answer}
 use Rattle.deb_version.specs.Places.{version_in}
+use Rattle.deb_index.specs.VersionSpellings.{spelling_at}
 use Rattle.deb_index.specs.declared.verdict.Verdict.{Verdict}
 use Rattle.deb_index.specs.declared.verdict.Verdict.TheVariants.{Ignored, Met, Unmet}
+
+-- the text that is written of the version of a package that was found
+abbrev pub VersionShown : Type 0
+VersionShown = Numbered → List ℕ
+
+abbrev pub canonical_version : VersionShown
+canonical_version = λ p. version_text p.1.version
+
+-- of these texts that of the package's number, or where there is none the canonical one
+abbrev pub spelled_version : List (List ℕ) → VersionShown
+spelled_version spellings =
+    λ p. option_map_or (λ text. text) (spelling_at p.0 spellings) (version_text p.1.version)
+
+abbrev pub version_shown : VersionText → List (List ℕ) → VersionShown
+version_shown Canonical spellings = canonical_version
+version_shown Spelled spellings = spelled_version spellings
 
 abbrev pub verdict_word : Verdict → List ℕ
 verdict_word Ignored = codes "ignored"
@@ -21,17 +42,21 @@ group_line reported =
     concat (verdict_word reported.verdict ∷ codes " " ∷ reported.text ∷ codes "\n" ∷ [])
 
 -- ` NUMBER PACKAGE VERSION ARCHITECTURE`
-abbrev pub package_line : Numbered → List ℕ
-package_line p =
-    concat (codes " " ∷ decimal p.0 ∷ codes " " ∷ p.1.name ∷ codes " " ∷ version_text p.1.version
-    ∷ codes " " ∷ p.1.architecture ∷ codes "\n" ∷ [])
+abbrev pub package_line : VersionShown → Numbered → List ℕ
+package_line shown p =
+    concat (codes " " ∷ decimal p.0 ∷ codes " " ∷ p.1.name ∷ codes " " ∷ shown p ∷ codes " "
+    ∷ p.1.architecture ∷ codes "\n" ∷ [])
 
 -- what is written of a group, and of all of them
-abbrev pub answer_text : Answer → List ℕ
-answer_text reported = group_line reported ++ flat_map package_line reported.packages
+abbrev pub answer_text : VersionShown → Answer → List ℕ
+answer_text shown reported = group_line reported ++ flat_map (package_line shown) reported.packages
 
+abbrev pub report_text_by : VersionShown → List Answer → List ℕ
+report_text_by shown answers = flat_map (answer_text shown) answers
+
+-- with canonical versions
 abbrev pub report_text : List Answer → List ℕ
-report_text answers = flat_map answer_text answers
+report_text answers = report_text_by canonical_version answers
 
 -- the second package of an index, whose version is written as its canonical text
 abbrev world : Numbered
@@ -46,13 +71,25 @@ world = (
   },
 )
 
-worked-report : report_text
-    (record { text = codes "ww | world"; verdict = Met; packages = world ∷ [] }
+abbrev three : List Answer
+three = record { text = codes "ww | world"; verdict = Met; packages = world ∷ [] }
     ∷ record { text = codes "ww"; verdict = Unmet; packages = [] }
-    ∷ record { text = codes "ww [i386]"; verdict = Ignored; packages = [] } ∷ [])
+    ∷ record { text = codes "ww [i386]"; verdict = Ignored; packages = [] } ∷ []
+
+worked-report : report_text three
     ≡ codes "met ww | world\n 2 world 1.0 all\nunmet ww\nignored ww [i386]\n"
 unfolding digits
 worked-report = refl
+
+-- as the file spells it; the first text is that of another package
+worked-spelled : report_text_by (version_shown Spelled (codes "01" ∷ codes "0:1.0-0" ∷ [])) three
+    ≡ codes "met ww | world\n 2 world 0:1.0-0 all\nunmet ww\nignored ww [i386]\n"
+unfolding digits
+worked-spelled = refl
+
+worked-canonical : (version_shown Canonical (codes "01" ∷ codes "0:1.0-0" ∷ []) world
+    ≡ codes "1.0") × (version_shown Spelled (codes "01" ∷ []) world ≡ codes "1.0")
+worked-canonical = (refl, refl)
 
 worked-nothing : report_text [] ≡ []
 worked-nothing = refl

@@ -1,4 +1,4 @@
--- What is told of a relation over a list of packages: of each group whether it is met, and by which
+-- The report on a relation over a list of packages: for each group whether it is met, and by which
 -- packages. Debian Policy 7.1; that a group of which nothing applies is ignored is this project's
 -- own, after dpkg.
 use Rattle.std.specs.Prelude.{◌≡◌, ℕ, ◌+◌, ◌-◌, ◌&&◌, Bool, true, false, cond, not, List, [], ◌∷◌, map, Option, Some, None, codes, refl}
@@ -47,7 +47,7 @@ met_unless_none (p ∷ found) = Met
 abbrev pub verdict_of : Bool → List Numbered → Verdict
 verdict_of applies found = cond applies (met_unless_none found) Ignored
 
--- what is told of a group: its canonical text, whether it is met, and the packages that meet it, in
+-- the answer for a group: its canonical text, whether it is met, and the packages that meet it, in
 -- ascending order of their numbers
 pub record Answer : Type 0 where
   pub text : List ℕ
@@ -70,7 +70,7 @@ answer environment packages group =
 abbrev pub group_verdict : Environment → List Listed → Group → Verdict
 group_verdict environment packages group = (answer environment packages group).verdict
 
--- what is told of a relation: of each group in the order of their canonical texts
+-- the report on a relation: the answers for its groups, in the order of their canonical texts
 abbrev pub report : List Listed → Relation → Environment → List Answer
 report packages relation environment = map (answer environment packages) relation
 

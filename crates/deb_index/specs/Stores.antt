@@ -8,6 +8,7 @@ use Rattle.deb_index.specs.Entries.{IsFaultless, Places, entry_name, provision_a
 use Rattle.deb_index.specs.Listed.{Listed}
 use Rattle.deb_index.specs.ProvidedNames.{IsNotAfter}
 use Rattle.deb_index.specs.Spans.{part}
+use Rattle.deb_index.specs.VersionSpellings.{spelling_or}
 use Rattle.deb_index.specs.declared.store.Record.{Record}
 use Rattle.deb_index.specs.declared.store.Store.{Store}
 
@@ -18,8 +19,12 @@ name_by bytes r = part r.start r.name_end bytes
 abbrev pub version_by : List ℕ → Record → List ℕ
 version_by bytes r = part r.name_end r.version_end bytes
 
+-- the text by which the file spells the version, if it isn't the canonical one
+abbrev pub besides_by : List ℕ → Record → List ℕ
+besides_by bytes r = part r.version_end r.besides_end bytes
+
 abbrev pub architecture_by : List ℕ → Record → List ℕ
-architecture_by bytes r = part r.version_end r.architecture_end bytes
+architecture_by bytes r = part r.besides_end r.architecture_end bytes
 
 abbrev pub provides_by : List ℕ → Record → List ℕ
 provides_by bytes r = part r.architecture_end r.end bytes
@@ -49,10 +54,22 @@ line_by r = r.line
 abbrev pub lines_in : Store → List ℕ
 lines_in store = map line_by store.records.items
 
+-- the texts by which these spell their versions
+abbrev pub spelling_by : List ℕ → Record → List ℕ
+spelling_by bytes r = spelling_or (version_by bytes r) (besides_by bytes r)
+
+abbrev pub spellings_in : Store → List (List ℕ)
+spellings_in store = map (spelling_by store.bytes.items) store.records.items
+
 -- A version's text is one, and canonical.
 pub record IsVersionKept (version : List ℕ) : Type 0 where
   pub faultless : first_fault version ≡ None
   pub canonical : version_text (version_in version) ≡ version
+
+-- A text is that of a version with this canonical text.
+pub record IsSpelling (version text : List ℕ) : Type 0 where
+  pub faultless : first_fault text ≡ None
+  pub canonical : version_text (version_in text) ≡ version
 
 -- Entries are in the order of their names, and their versions are versions.
 pub record AreEntries (text : List ℕ) (entries : List Places) : Type 0 where
@@ -64,16 +81,19 @@ pub record AreEntries (text : List ℕ) (entries : List Places) : Type 0 where
 pub record IsKept (bytes : List ℕ) (entries : List Places) (r : Record) : Type 0 where
   pub name_end : r.name_end ≤ length bytes
   pub version_end : r.version_end ≤ length bytes
+  pub besides_end : r.besides_end ≤ length bytes
   pub architecture_end : r.architecture_end ≤ length bytes
   pub end : r.end ≤ length bytes
   pub entries_end : r.entries_end ≤ length entries
   pub version : IsVersionKept (version_by bytes r)
+  pub spelling : IsSpelling (version_by bytes r) (spelling_by bytes r)
   pub provides : AreEntries (provides_by bytes r) (entries_by entries r)
 
 abbrev pub IsStore : Store → Type 0
 IsStore store = All (IsKept store.bytes.items store.entries.items) store.records.items
 
--- one package more
-pub record KeepsOneMore (old new : Store) (p : Listed) : Type 0 where
+-- one package more, with the text of its version
+pub record KeepsOneMore (old new : Store) (p : Listed) (text : List ℕ) : Type 0 where
   pub kept : IsStore new
   pub listed : listed_in new ≡ listed_in old ++ p ∷ []
+  pub spellings : spellings_in new ≡ spellings_in old ++ text ∷ []

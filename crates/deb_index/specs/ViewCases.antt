@@ -16,15 +16,16 @@ use Rattle.deb_version.specs.Places.{version_in}
 use Rattle.deb_field.specs.declared.flag.MultiArch.TheVariants.{Foreign}
 use Rattle.deb_index.specs.AnswerStores.{answers_in, numbered, span_of}
 use Rattle.deb_index.specs.Entries.{IsFaultless, Places, entry_name}
-use Rattle.deb_index.specs.Indexes.{lines_of, packages_of}
-use Rattle.deb_index.specs.Kept.{line_of, listed_of}
+use Rattle.deb_index.specs.Indexes.{lines_of, packages_of, spellings_of}
+use Rattle.deb_index.specs.Kept.{line_of, listed_of, spelling_of}
 use Rattle.deb_index.specs.Listed.{Listed, Provision}
 use Rattle.deb_index.specs.Named.{AreNumbers}
 use Rattle.deb_index.specs.PackageBuilder.{itself}
 use Rattle.deb_index.specs.ProvidedNames.{IsNotAfter}
 use Rattle.deb_index.specs.Maps.{list_under, numbers_under, numbers_with}
 use Rattle.deb_index.specs.Reported.{answer_of, answers_left, found_of, report_of}
-use Rattle.deb_index.specs.Stores.{line_by, listed_by}
+use Rattle.deb_index.specs.Stores.{line_by, listed_by, spelling_by}
+use Rattle.deb_index.specs.VersionSpellings.{spelling_or}
 use Rattle.deb_index.specs.declared.answer.Found.{Found}
 use Rattle.deb_index.specs.declared.answer.FoundPackages.{FoundPackages}
 use Rattle.deb_index.specs.declared.answer_store.AnswerStore.{AnswerStore}
@@ -59,18 +60,23 @@ worked-itself : itself (codes "aa") ≡ codes "aa"
 worked-itself = refl
 
 -- aa for all with Multi-Arch `foreign`, which provides vv, and ww in a version
-abbrev listed : Provisions → first_fault (codes "1.0") ≡ None
-    → version_text (version_in (codes "1.0")) ≡ codes "1.0" → Package
-listed provisions faultless canonical =
+abbrev listed : Provisions → (besides : List ℕ) → first_fault (codes "1.0") ≡ None
+    → version_text (version_in (codes "1.0")) ≡ codes "1.0"
+    → first_fault (spelling_or (codes "1.0") besides) ≡ None
+    → version_text (version_in (spelling_or (codes "1.0") besides)) ≡ codes "1.0" → Package
+listed provisions besides faultless canonical is_version equal =
     record {
       name = lent (codes "aa");
       version = lent (codes "1.0");
+      besides = lent besides;
       architecture = lent (codes "all");
       line = 7;
       multi_arch = Some Foreign;
       provisions = provisions;
       faultless = faultless;
       canonical = canonical;
+      is_version = is_version;
+      equal = equal;
     }
 
 abbrev provided : List Places
@@ -107,9 +113,21 @@ two = record { name = codes "vv"; version = None }
 worked-package : (ascend : AllPairs IsNotAfter (map (entry_name provides) provided))
     (faultless : All (IsFaultless provides) provided) (own : first_fault (codes "1.0") ≡ None)
     (canonical : version_text (version_in (codes "1.0")) ≡ codes "1.0")
-    → (listed_of (listed (lent_provisions ascend faultless) own canonical) ≡ foreign two)
-    × (line_of (listed (lent_provisions ascend faultless) own canonical) ≡ 7)
-worked-package ascend faultless own canonical = (refl, refl)
+    → (listed_of (listed (lent_provisions ascend faultless) [] own canonical own canonical)
+    ≡ foreign two)
+    × (line_of (listed (lent_provisions ascend faultless) [] own canonical own canonical) ≡ 7)
+    × (spelling_of (listed (lent_provisions ascend faultless) [] own canonical own canonical)
+    ≡ codes "1.0")
+worked-package ascend faultless own canonical = (refl, refl, refl)
+
+-- where another text spells its version
+worked-spelling : (provisions : Provisions) (own : first_fault (codes "1.0") ≡ None)
+    (canonical : version_text (version_in (codes "1.0")) ≡ codes "1.0")
+    (is_version : first_fault (codes "01.0") ≡ None)
+    (equal : version_text (version_in (codes "01.0")) ≡ codes "1.0")
+    → spelling_of (listed provisions (codes "01.0") own canonical is_version equal)
+    ≡ codes "01.0"
+worked-spelling provisions own canonical is_version equal = refl
 
 -- the same package after another one in a store
 abbrev second : Record
@@ -118,6 +136,7 @@ second =
       start = 2;
       name_end = 4;
       version_end = 7;
+      besides_end = 7;
       architecture_end = 10;
       end = 22;
       first = 0;
@@ -128,7 +147,28 @@ second =
 
 worked-second : (listed_by (codes "xxaa1.0allvv, ww (= 2)yy") provided second ≡ foreign two)
     × (line_by second ≡ 5)
-worked-second = (refl, refl)
+    × (spelling_by (codes "xxaa1.0allvv, ww (= 2)yy") second ≡ codes "1.0")
+worked-second = (refl, refl, refl)
+
+-- and the same where the text of its version is kept too
+abbrev other : Record
+other =
+    record {
+      start = 2;
+      name_end = 4;
+      version_end = 7;
+      besides_end = 12;
+      architecture_end = 15;
+      end = 27;
+      first = 0;
+      entries_end = 2;
+      line = 5;
+      multi_arch = Some Foreign;
+    }
+
+worked-other : (listed_by (codes "xxaa1.00:1.0allvv, ww (= 2)yy") provided other ≡ foreign two)
+    × (spelling_by (codes "xxaa1.00:1.0allvv, ww (= 2)yy") other ≡ codes "0:1.0")
+worked-other = (refl, refl)
 
 worked-packages : (index : Index) (p q : Record) → index.store.records.items ≡ p ∷ q ∷ p ∷ []
     → packages_of index
@@ -141,6 +181,11 @@ worked-packages index p q are =
 worked-line_numbers : (index : Index) (p q : Record) → index.store.records.items ≡ p ∷ q ∷ []
     → lines_of index ≡ p.line ∷ q.line ∷ []
 worked-line_numbers index p q are = ap (map line_by) are
+
+worked-spellings : (index : Index) (p q : Record) → index.store.records.items ≡ p ∷ q ∷ []
+    → spellings_of index
+    ≡ spelling_by index.store.bytes.items p ∷ spelling_by index.store.bytes.items q ∷ []
+worked-spellings index p q are = ap (map (spelling_by index.store.bytes.items)) are
 
 -- aa under 1 and 3, and vv under 2: names that are there, a prefix of one, and another one
 worked-numbers : (alloc : Global) (names : Names)

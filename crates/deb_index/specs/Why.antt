@@ -5,7 +5,7 @@
 use Rattle.std.specs.Prelude.{◌≡◌, ℕ, ◌==◌, ◌||◌, ◌++◌, Bool, true, false, cond, List, [], ◌∷◌, map, Option, None, Some, codes, refl}
 use Rattle.std.specs.Fmt.{decimal, digits}
 use Rattle.std.specs.List.{concat, flat_map, list_any}
-use Rattle.deb_version.specs.Canonical.{version_text}
+use Rattle.deb_base.specs.declared.version_text.VersionText.TheVariants.{Spelled}
 use Rattle.deb_version.specs.Places.{version_in}
 use Rattle.deb_relation.specs.Applying.{Environment, applies, is_among}
 use Rattle.deb_relation.specs.Meaning.{Alternative, Group, Relation}
@@ -16,7 +16,7 @@ use Rattle.deb_index.specs.Listed.{Listed, Provision}
 use Rattle.deb_index.specs.Named.{has_name, provides}
 use Rattle.deb_index.specs.Reasons.{reason}
 use Rattle.deb_index.specs.Reports.{Answer, Numbered, answer, group_verdict, passing_from, report}
-use Rattle.deb_index.specs.ReportText.{answer_text}
+use Rattle.deb_index.specs.ReportText.{VersionShown, answer_text, canonical_version, version_shown}
 use Rattle.deb_index.specs.declared.reason.Reason.{Reason}
 use Rattle.deb_index.specs.declared.reason.Reason.TheVariants.{IsEarlier, IsLater, IsAnother, IsNotLater, IsNotEarlier, HasNoVersion, IsOfAnotherArchitecture, IsNotAllowed}
 use Rattle.deb_index.specs.declared.verdict.Verdict.{Verdict}
@@ -35,35 +35,37 @@ reason_words IsOfAnotherArchitecture = codes "is of another architecture"
 reason_words IsNotAllowed = codes "isn't Multi-Arch: allowed"
 
 -- ` ALTERNATIVE: NUMBER NAME VERSION ARCHITECTURE REASON`, for the text of the alternative
-abbrev pub reason_line : List ℕ → Numbered → Reason → List ℕ
-reason_line text p why =
+abbrev pub reason_line : VersionShown → List ℕ → Numbered → Reason → List ℕ
+reason_line shown text p why =
     concat (codes " " ∷ text ∷ codes ": " ∷ decimal p.0 ∷ codes " " ∷ p.1.name ∷ codes " "
-    ∷ version_text p.1.version ∷ codes " " ∷ p.1.architecture ∷ codes " " ∷ reason_words why
+    ∷ shown p ∷ codes " " ∷ p.1.architecture ∷ codes " " ∷ reason_words why
     ∷ codes "\n" ∷ [])
 
 -- a package that meets the alternative has no line
-abbrev pub line_unless_met : List ℕ → Numbered → Option Reason → List ℕ
-line_unless_met text p None = []
-line_unless_met text p (Some why) = reason_line text p why
+abbrev pub line_unless_met : VersionShown → List ℕ → Numbered → Option Reason → List ℕ
+line_unless_met shown text p None = []
+line_unless_met shown text p (Some why) = reason_line shown text p why
 
-abbrev pub package_reason : Environment → Alternative → Numbered → List ℕ
-package_reason environment a p = line_unless_met (alternative_text a) p (reason environment a p.1)
+abbrev pub package_reason : VersionShown → Environment → Alternative → Numbered → List ℕ
+package_reason shown environment a p =
+    line_unless_met shown (alternative_text a) p (reason environment a p.1)
 
 -- ` ALTERNATIVE: no package has this name`
 abbrev pub nameless_line : List ℕ → List ℕ
 nameless_line text = concat (codes " " ∷ text ∷ codes ": no package has this name\n" ∷ [])
 
 -- the lines for the packages that have or provide the name, or the line that there is none
-abbrev pub lines_of : Environment → Alternative → List Numbered → List ℕ
-lines_of environment a [] = nameless_line (alternative_text a)
-lines_of environment a (p ∷ found) = flat_map (package_reason environment a) (p ∷ found)
+abbrev pub lines_of : VersionShown → Environment → Alternative → List Numbered → List ℕ
+lines_of shown environment a [] = nameless_line (alternative_text a)
+lines_of shown environment a (p ∷ found) =
+    flat_map (package_reason shown environment a) (p ∷ found)
 
 abbrev pub has_or_provides : List ℕ → Listed → Bool
 has_or_provides name p = has_name name p || provides name p
 
-abbrev pub asked_lines : Environment → List Listed → Alternative → List ℕ
-asked_lines environment packages a =
-    lines_of environment a (passing_from 1 (has_or_provides a.name) packages)
+abbrev pub asked_lines : VersionShown → Environment → List Listed → Alternative → List ℕ
+asked_lines shown environment packages a =
+    lines_of shown environment a (passing_from 1 (has_or_provides a.name) packages)
 
 -- ---- alternatives that don't
 
@@ -90,41 +92,51 @@ system_lines target a = list_lines (alternative_text a) target a.architectures
 
 -- ---- groups and relations
 
-abbrev pub alternative_lines : Environment → List Listed → Alternative → List ℕ
-alternative_lines environment packages a =
-    cond (applies a environment) (asked_lines environment packages a)
+abbrev pub alternative_lines : VersionShown → Environment → List Listed → Alternative → List ℕ
+alternative_lines shown environment packages a =
+    cond (applies a environment) (asked_lines shown environment packages a)
     (system_lines environment.target a)
 
 -- what is below the line of a group with this verdict: nothing if it is met
-abbrev pub lines_below : Environment → List Listed → Group → Verdict → List ℕ
-lines_below environment packages group Ignored =
-    flat_map (alternative_lines environment packages) group
-lines_below environment packages group Met = []
-lines_below environment packages group Unmet =
-    flat_map (alternative_lines environment packages) group
+abbrev pub lines_below : VersionShown → Environment → List Listed → Group → Verdict → List ℕ
+lines_below shown environment packages group Ignored =
+    flat_map (alternative_lines shown environment packages) group
+lines_below shown environment packages group Met = []
+lines_below shown environment packages group Unmet =
+    flat_map (alternative_lines shown environment packages) group
 
 -- the answer for a group, and the lines with its reasons
 pub record Detailed : Type 0 where
   pub answer : Answer
   pub reasons : List ℕ
 
-abbrev pub detailed : Environment → List Listed → Group → Detailed
-detailed environment packages group =
+abbrev pub detailed : VersionShown → Environment → List Listed → Group → Detailed
+detailed shown environment packages group =
     record {
       answer = answer environment packages group;
-      reasons = lines_below environment packages group (group_verdict environment packages group);
+      reasons =
+          lines_below shown environment packages group (group_verdict environment packages group);
     }
 
 -- the report with reasons, in the order of the report
-abbrev pub detailed_report : List Listed → Relation → Environment → List Detailed
-detailed_report packages relation environment = map (detailed environment packages) relation
+abbrev pub detailed_report_by : VersionShown → List Listed → Relation → Environment → List Detailed
+detailed_report_by shown packages relation environment =
+    map (detailed shown environment packages) relation
 
 -- below what the report writes of a group are its reasons
-abbrev pub detailed_answer_text : Detailed → List ℕ
-detailed_answer_text d = answer_text d.answer ++ d.reasons
+abbrev pub detailed_answer_text : VersionShown → Detailed → List ℕ
+detailed_answer_text shown d = answer_text shown d.answer ++ d.reasons
+
+abbrev pub detailed_text_by : VersionShown → List Detailed → List ℕ
+detailed_text_by shown answers = flat_map (detailed_answer_text shown) answers
+
+-- with canonical versions
+abbrev pub detailed_report : List Listed → Relation → Environment → List Detailed
+detailed_report packages relation environment =
+    detailed_report_by canonical_version packages relation environment
 
 abbrev pub detailed_text : List Detailed → List ℕ
-detailed_text answers = flat_map detailed_answer_text answers
+detailed_text answers = detailed_text_by canonical_version answers
 
 abbrev pub answer_in : Detailed → Answer
 answer_in d = d.answer
@@ -176,6 +188,20 @@ worked-unmet : shown
     ++ codes " aa (>= 1.5): 1 aa 1.0 amd64 is earlier\n")))
 unfolding digits group_text
 worked-unmet = refl
+
+-- as the file spells the versions, among the reasons and below a met group
+abbrev spelled : VersionShown
+spelled = version_shown Spelled (codes "1.0-0" ∷ codes "0:2.0" ∷ [])
+
+worked-spelled : detailed_text_by spelled
+    (detailed_report_by spelled packages
+    ((with_bound (codes "vv") LaterEqual (codes "3") ∷ []) ∷ (alone (codes "aa") ∷ []) ∷ []) target)
+    ≡ codes "unmet vv (>= 3)\n"
+    ++ (codes " vv (>= 3): 1 aa 1.0-0 amd64 is provided without a version\n"
+    ++ (codes " vv (>= 3): 2 bb 0:2.0 i386 is earlier\n"
+    ++ codes "met aa\n 1 aa 1.0-0 amd64\n"))
+unfolding digits group_text
+worked-spelled = refl
 
 -- by the qualifier; and a package that has the name and provides it has one line
 worked-qualifiers : shown (with_qualifier (codes "aa") (codes "any") ∷ alone (codes "bb") ∷ [])

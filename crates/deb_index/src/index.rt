@@ -8,28 +8,31 @@ ghost use Rattle.deb_base.specs.Faults.{IsReadersFault};
 ghost use Rattle.deb_base.specs.Reading.{TakesNoMore};
 ghost use Rattle.deb_syntax.specs.Lines.{file_limit};
 ghost use Rattle.deb_control.specs.Calls.{IfRefused};
+ghost use Rattle.deb_control.specs.CheckedStates.{passing_judged};
 ghost use Rattle.deb_control.specs.Checking.{IsRefusalOfDocument};
 ghost use Rattle.deb_control.specs.Documents.{refusal_of};
 ghost use Rattle.deb_index.specs.FirstLines.{first_lines, line_at};
-ghost use Rattle.deb_index.specs.Kept.{line_of, listed_of};
+ghost use Rattle.deb_index.specs.Kept.{line_of, listed_of, spelling_of};
 ghost use Rattle.deb_index.specs.Listing.{ListsAll};
 ghost use Rattle.deb_index.specs.Maps.{numbers_under};
 ghost use Rattle.deb_index.specs.Named.{has_name, numbers_of, package_at, provides};
-ghost use Rattle.deb_index.specs.Stores.{IsStore, lines_in, listed_in};
+ghost use Rattle.deb_index.specs.Stores.{IsStore, lines_in, listed_in, spellings_in};
+ghost use Rattle.deb_index.specs.VersionSpellings.{spelling_at, version_body, version_spellings};
 
 use crate::names::Names;
 use crate::package::Package;
 use crate::paragraph::PackageBuilder;
 use crate::store::Store;
 use deb_base::{Fault, Source};
-use deb_control::Checked;
+use deb_control::{Checked, CheckedView};
 use deb_field::Doc;
 use std::alloc::{AllocError, Global};
 
 /// The packages that a file lists, in file order.
 ///
 /// It owns what it keeps of each package: the name, the version, the architecture, Multi-Arch, what
-/// it provides, and the line at which its paragraph starts. It also keeps which packages have or
+/// it provides, the line at which its paragraph starts, and the text by which that spells the
+/// version. It also keeps which packages have or
 /// provide a name, so that they are found without going over the list.
 #[derive(Debug, Drop)]
 pub struct Index {
@@ -44,7 +47,7 @@ pub struct Index {
 }
 
 impl Index {
-    ghost use Rattle.deb_index.specs.Indexes.{lines_of, packages_of};
+    ghost use Rattle.deb_index.specs.Indexes.{lines_of, packages_of, spellings_of};
 
     /// Reads a file as an index of packages (Debian Policy 5.1, 5.3 and 5.6).
     ///
@@ -63,6 +66,8 @@ impl Index {
             → IfOk result (λ index. ListsAll text (packages_of index)) }
         ensures lines { (text : List ℕ) → R.left reader.old ≡ Some text
             → IfOk result (λ index. lines_of index ≡ first_lines text) }
+        ensures spellings { (text : List ℕ) → R.left reader.old ≡ Some text
+            → IfOk result (λ index. spellings_of index ≡ version_spellings text) }
         ensures refused { (text : List ℕ) → R.left reader.old ≡ Some text
             → IfRefused result (λ refusal. refusal_of Doc.Packages text ≡ Some refusal) }
         ensures reads_at_most { (text : List ℕ) → R.left reader.old ≡ Some text
@@ -88,7 +93,7 @@ impl Index {
             let Some(paragraph) = checked.current() else {
                 unreachable!()
             };
-            store.push(&builder, paragraph.first_line())?;
+            store.push(&builder, version_body(&paragraph), paragraph.first_line())?;
         }
         // No file has so many paragraphs.
         unreachable!()
@@ -99,6 +104,7 @@ impl Index {
         requires { IsStore store }
         ensures packages { IfOk result (λ index. packages_of index ≡ listed_in store) }
         ensures lines { IfOk result (λ index. lines_of index ≡ lines_in store) }
+        ensures spellings { IfOk result (λ index. spellings_of index ≡ spellings_in store) }
     {
         let named = Names::own(alloc, &store)?;
         let provided = Names::provided(alloc, &store)?;
@@ -135,6 +141,8 @@ impl Index {
     pub fn package(&self, number: u64) -> Option<Package<'_>>
         ensures listed { option_map listed_of result ≡ package_at number (packages_of self.now) }
         ensures line { option_map line_of result ≡ line_at number (lines_of self.now) }
+        ensures spelling { option_map spelling_of result
+            ≡ spelling_at number (spellings_of self.now) }
     {
         if number == 0 || number as usize > self.len() {
             return None;
@@ -148,6 +156,8 @@ impl Index {
         requires within { number ≤ length (packages_of self.now) }
         ensures listed { slice_get (packages_of self.now) (number - 1) ≡ Some (listed_of result) }
         ensures line { slice_get (lines_of self.now) (number - 1) ≡ Some (line_of result) }
+        ensures spelling { slice_get (spellings_of self.now) (number - 1)
+            ≡ Some (spelling_of result) }
     {
         self.store.package(number as usize - 1)
     }
@@ -157,5 +167,15 @@ impl Index {
         ensures { result ≡ length (packages_of self.now) }
     {
         self.store.records.len()
+    }
+}
+
+/// The body of Version as the file has it; empty if there is no such field.
+fn version_body<'a>(paragraph: &CheckedView<'a>) -> &'a [u8]
+    ensures { result.now ≡ version_body (passing_judged paragraph.now).seen.fields }
+{
+    match paragraph.get(b"Version") {
+        Some(field) => field.body,
+        None => b"",
     }
 }

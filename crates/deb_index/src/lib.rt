@@ -32,6 +32,7 @@ mod question;
 mod reason;
 mod report;
 mod report_text;
+mod shown;
 mod span;
 mod store;
 mod verdict;

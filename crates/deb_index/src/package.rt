@@ -9,6 +9,7 @@ ghost use Rattle.deb_version.specs.Canonical.{version_text};
 ghost use Rattle.deb_version.specs.Faults.{first_fault};
 ghost use Rattle.deb_version.specs.Places.{version_in};
 ghost use Rattle.deb_index.specs.Meeting.{effective, is_allowed, is_foreign, meets, meets_by_name, meets_qualifier, multi_arch_or_no};
+ghost use Rattle.deb_index.specs.VersionSpellings.{spelling_or};
 
 use crate::entry::meets_bound;
 use crate::provisions::Provisions;
@@ -20,16 +21,21 @@ use deb_relation::{Alternative, Env};
 pub struct Package<'a> {
     pub(crate) name: &'a [u8],
     pub(crate) version: &'a [u8],
+    /// The text by which the file spells the version; empty if it is the canonical one.
+    pub(crate) besides: &'a [u8],
     pub(crate) architecture: &'a [u8],
     pub(crate) line: u32,
     pub(crate) multi_arch: Option<MultiArch>,
     pub(crate) provisions: Provisions<'a>,
     ghost faultless: { first_fault version.now ≡ None },
     ghost canonical: { version_text (version_in version.now) ≡ version.now },
+    ghost is_version: { first_fault (spelling_or version.now besides.now) ≡ None },
+    ghost equal: { version_text (version_in (spelling_or version.now besides.now))
+        ≡ version.now },
 }
 
 impl<'a> Package<'a> {
-    ghost use Rattle.deb_index.specs.Kept.{line_of, listed_of};
+    ghost use Rattle.deb_index.specs.Kept.{line_of, listed_of, spelling_of};
 
     /// Returns the name.
     pub fn name(&self) -> &'a [u8]
@@ -43,6 +49,21 @@ impl<'a> Package<'a> {
         ensures { result.now ≡ version_text (listed_of self.now).version }
     {
         self.version
+    }
+
+    /// Returns the text by which the file spells the version: the body of Version, without the
+    /// spaces and tabs at both ends.
+    pub fn spelled_version(&self) -> &'a [u8]
+        ensures text { result.now ≡ spelling_of self.now }
+        ensures is_version { first_fault result.now ≡ None }
+        ensures equal { version_text (version_in result.now)
+            ≡ version_text (listed_of self.now).version }
+    {
+        if self.besides.is_empty() {
+            self.version
+        } else {
+            self.besides
+        }
     }
 
     /// Returns the architecture, which may be `all`.

@@ -5,10 +5,11 @@ ghost use Rattle.deb_relation.specs.Environments.{environment_of};
 ghost use Rattle.deb_relation.specs.Relations.{relation_of};
 ghost use Rattle.deb_relation.specs.Tests.{some_wildcard};
 ghost use Rattle.deb_index.specs.Asked.{environment_asked, relation_asked};
-ghost use Rattle.deb_index.specs.Indexes.{packages_of};
+ghost use Rattle.deb_index.specs.Indexes.{packages_of, spellings_of};
 ghost use Rattle.deb_index.specs.Questions.{ReportsOf, wildcard};
 ghost use Rattle.deb_index.specs.Reports.{report};
 ghost use Rattle.deb_index.specs.Reported.{report_of};
+ghost use Rattle.deb_index.specs.ShownVersions.{spellings_reported};
 
 use crate::fault::QueryFault;
 use crate::index::Index;
@@ -37,6 +38,8 @@ impl Index {
         ensures ok { IfOk result
             (λ reported. report_of reported ≡ report (packages_of self.now)
             (relation_of relation.now) (environment_of environment.now)) }
+        ensures spellings { IfOk result
+            (λ reported. spellings_reported reported ≡ spellings_of self.now) }
         ensures wildcard { IsTrue (some_wildcard (relation_of relation.now))
             → result ≡ Err QueryFault.Wildcard }
         ensures refused { IfErr result
@@ -60,6 +63,8 @@ impl Index {
     pub fn ask(&self, alloc: Global, question: &Question<'_>) -> Result<Report<'_>, Fault>
         ensures reports { ReportsOf (packages_of self.now) (relation_asked question.now)
             (environment_asked question.now) result }
+        ensures spellings { IfOk result
+            (λ reported. spellings_reported reported ≡ spellings_of self.now) }
         ensures wildcard { IsTrue (some_wildcard (relation_asked question.now))
             → result ≡ Err (Fault.Refused wildcard) }
     {

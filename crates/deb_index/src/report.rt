@@ -7,7 +7,7 @@ ghost use Rattle.deb_relation.specs.Groups.{group_of};
 ghost use Rattle.deb_relation.specs.Meaning.{Relation as Meaning};
 ghost use Rattle.deb_relation.specs.Relations.{relation_of};
 ghost use Rattle.deb_index.specs.AnswerStores.{HasAnswers};
-ghost use Rattle.deb_index.specs.Indexes.{packages_of};
+ghost use Rattle.deb_index.specs.Indexes.{packages_of, spellings_of};
 ghost use Rattle.deb_index.specs.Named.{AreNumbers};
 ghost use Rattle.deb_index.specs.Reports.{all_met, group_verdict, is_unmet, report};
 
@@ -30,6 +30,7 @@ pub struct Report<'a> {
 
 impl<'a> Report<'a> {
     ghost use Rattle.deb_index.specs.Reported.{answers_left, report_of};
+    ghost use Rattle.deb_index.specs.ShownVersions.{spellings_reported};
 
     /// Returns the answer for each group, in the order of the groups' canonical texts.
     pub fn answers(&self) -> Answers<'_>
@@ -57,9 +58,11 @@ impl<'a> Report<'a> {
         relation: &Relation<'_>,
         environment: &Env,
     ) -> Result<Report<'a>, AllocError>
-        ensures { IfOk result
+        ensures report { IfOk result
             (λ reported. report_of reported ≡ report (packages_of index.now)
             (relation_of relation.now) (environment_of environment.now)) }
+        ensures spellings { IfOk result
+            (λ reported. spellings_reported reported ≡ spellings_of index.now) }
     {
         let groups = relation.groups();
         let text_len = relation.canon_len() as usize;

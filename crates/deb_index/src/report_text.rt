@@ -3,13 +3,15 @@
 ghost use Rattle.std.specs.Prelude.{◌≡◌, IfErr};
 ghost use Rattle.std.specs.List.{flat_map};
 ghost use Rattle.deb_base.specs.Devices.{write_failures_after, Puts, WriteFaultIffFailed};
-ghost use Rattle.deb_index.specs.ReportText.{answer_text, group_line, package_line, report_text, verdict_word};
+ghost use Rattle.deb_index.specs.ReportText.{answer_text, group_line, package_line, report_text, report_text_by, verdict_word, version_shown};
 ghost use Rattle.deb_index.specs.Reported.{answer_of, answers_left, found_left, found_of, report_of};
+ghost use Rattle.deb_index.specs.ShownVersions.{shown_by, spellings_reported};
 
 use crate::answer::{Answer, Answers, Found, FoundPackages};
 use crate::report::Report;
+use crate::shown::Versions;
 use crate::verdict::Verdict;
-use deb_base::{Fault, Sink, put_pieces};
+use deb_base::{Fault, Sink, VersionText, put_pieces};
 use itoa::Buffer;
 
 impl Report<'_> {
@@ -31,32 +33,63 @@ impl Report<'_> {
         ensures fault_iff_write_failed { WriteFaultIffFailed (W.failures out.old)
             (W.failures out.new) result }
     {
-        write_answers(self.answers(), out)
+        self.write_with(VersionText::Canonical, out)
+    }
+
+    /// Writes the report as [`Report::write`] does, with this text of each version.
+    ///
+    /// # Errors
+    ///
+    /// `Fault::Write` only: a write failed in this call, and a prefix of the report was written
+    /// before it.
+    pub fn write_with<W: Sink>(&self, versions: VersionText, out: &mut W) -> Result<(), Fault>
+        ensures written { Puts (W.held out.old) (W.held out.new) result
+            (report_text_by (version_shown versions (spellings_reported self.now))
+            (report_of self.now)) }
+        ensures fault { IfErr result (λ fault. fault ≡ Fault.Write) }
+        ensures counts_failure { W.failures out.new ≡ write_failures_after (W.failures out.old)
+            result }
+        ensures fault_iff_write_failed { WriteFaultIffFailed (W.failures out.old)
+            (W.failures out.new) result }
+    {
+        let versions = Versions {
+            index: self.index,
+            chosen: versions,
+        };
+        write_answers(self.answers(), versions, out)
     }
 }
 
-fn write_answers<W: Sink>(answers: Answers<'_>, out: &mut W) -> Result<(), Fault>
+fn write_answers<W: Sink>(
+    answers: Answers<'_>,
+    versions: Versions<'_>,
+    out: &mut W,
+) -> Result<(), Fault>
     ensures written { Puts (W.held out.old) (W.held out.new) result
-        (report_text (answers_left answers.entry)) }
+        (report_text_by (shown_by versions.entry) (answers_left answers.entry)) }
     ensures fault { IfErr result (λ fault. fault ≡ Fault.Write) }
     ensures counts_failure { W.failures out.new ≡ write_failures_after (W.failures out.old) result }
 {
     for answer in answers {
-        write_answer(&answer, out)?;
+        write_answer(&answer, versions, out)?;
     }
     Ok(())
 }
 
 /// Writes the line of a group, and those of the packages that meet it.
 #[tactic(auto, using(deb_base::proofs::Writes::puts))]
-pub(crate) fn write_answer<W: Sink>(answer: &Answer<'_>, out: &mut W) -> Result<(), Fault>
+pub(crate) fn write_answer<W: Sink>(
+    answer: &Answer<'_>,
+    versions: Versions<'_>,
+    out: &mut W,
+) -> Result<(), Fault>
     ensures written { Puts (W.held out.old) (W.held out.new) result
-        (answer_text (answer_of answer.now)) }
+        (answer_text (shown_by versions.entry) (answer_of answer.now)) }
     ensures fault { IfErr result (λ fault. fault ≡ Fault.Write) }
     ensures counts_failure { W.failures out.new ≡ write_failures_after (W.failures out.old) result }
 {
     write_group(answer, out)?;
-    write_packages(answer.packages(), out)
+    write_packages(answer.packages(), versions, out)
 }
 
 /// Writes the line of a group.
@@ -72,22 +105,30 @@ fn write_group<W: Sink>(answer: &Answer<'_>, out: &mut W) -> Result<(), Fault>
     )
 }
 
-fn write_packages<W: Sink>(packages: FoundPackages<'_>, out: &mut W) -> Result<(), Fault>
+fn write_packages<W: Sink>(
+    packages: FoundPackages<'_>,
+    versions: Versions<'_>,
+    out: &mut W,
+) -> Result<(), Fault>
     ensures written { Puts (W.held out.old) (W.held out.new) result
-        (flat_map package_line (found_left packages.entry)) }
+        (flat_map (package_line (shown_by versions.entry)) (found_left packages.entry)) }
     ensures fault { IfErr result (λ fault. fault ≡ Fault.Write) }
     ensures counts_failure { W.failures out.new ≡ write_failures_after (W.failures out.old) result }
 {
     for found in packages {
-        write_package(&found, out)?;
+        write_package(&found, versions, out)?;
     }
     Ok(())
 }
 
 /// Writes the line of a package.
-fn write_package<W: Sink>(found: &Found<'_>, out: &mut W) -> Result<(), Fault>
+fn write_package<'a, W: Sink>(
+    found: &Found<'a>,
+    versions: Versions<'a>,
+    out: &mut W,
+) -> Result<(), Fault>
     ensures written { Puts (W.held out.old) (W.held out.new) result
-        (package_line (found_of found.now)) }
+        (package_line (shown_by versions.entry) (found_of found.now)) }
     ensures fault { IfErr result (λ fault. fault ≡ Fault.Write) }
     ensures counts_failure { W.failures out.new ≡ write_failures_after (W.failures out.old) result }
 {
@@ -101,7 +142,7 @@ fn write_package<W: Sink>(found: &Found<'_>, out: &mut W) -> Result<(), Fault>
             b" ",
             package.name(),
             b" ",
-            package.version(),
+            versions.of(found),
             b" ",
             package.architecture(),
             b"\n",

@@ -2,11 +2,13 @@
 
 ghost use Rattle.std.specs.Prelude.{◌≡◌, ◌-◌, ◌<◌, ◌++◌, ◌∷◌, [], length, Some, IfOk, OnOk};
 ghost use Rattle.std.specs.List.{slice_get};
-ghost use Rattle.deb_index.specs.Kept.{line_of, listed_of};
+ghost use Rattle.deb_index.specs.Kept.{line_of, listed_of, spelling_of};
 ghost use Rattle.deb_index.specs.Listed.{Listed};
 ghost use Rattle.deb_index.specs.PackageBuilder.{KeepsPackage};
 ghost use Rattle.deb_index.specs.Spans.{part};
-ghost use Rattle.deb_index.specs.Stores.{IsStore, KeepsOneMore, lines_in, listed_in};
+ghost use Rattle.deb_index.specs.Stores.{IsStore, KeepsOneMore, lines_in, listed_in, spellings_in};
+ghost use Rattle.deb_index.specs.VersionSpellings.{text_besides};
+ghost use Rattle.deb_version.specs.Grammar.{SpellsVersion};
 
 use crate::cut::append_entries;
 use crate::entry::Entry;
@@ -24,6 +26,7 @@ pub(crate) struct Record {
     pub(crate) start: u32,
     pub(crate) name_end: u32,
     pub(crate) version_end: u32,
+    pub(crate) besides_end: u32,
     pub(crate) architecture_end: u32,
     pub(crate) end: u32,
     pub(crate) first: u32,
@@ -33,7 +36,8 @@ pub(crate) struct Record {
 }
 
 /// The packages of an index, one after another. One buffer contains the texts of each: the name,
-/// the version, the architecture and Provides, in this order.
+/// the canonical version, the text by which the file spells that unless it is the same, the
+/// architecture and Provides, in this order.
 #[derive(Debug, Drop)]
 pub(crate) struct Store {
     pub(crate) bytes: Vec<u8>,
@@ -53,10 +57,16 @@ impl Store {
         }
     }
 
-    /// Appends a package, whose paragraph starts at a line of the file.
-    pub(crate) fn push(&mut self, kept: &PackageBuilder, line: u64) -> Result<(), AllocError>
-        ensures kept { (p : Listed) → KeepsPackage kept.now p → IsStore self.old
-            → OnOk result (KeepsOneMore self.old self.new p) }
+    /// Appends a package, whose paragraph spells its version by a text and starts at a line of the
+    /// file.
+    pub(crate) fn push(
+        &mut self,
+        kept: &PackageBuilder,
+        spelled: &[u8],
+        line: u64,
+    ) -> Result<(), AllocError>
+        ensures kept { (p : Listed) → KeepsPackage kept.now p → SpellsVersion spelled.now p.version
+            → IsStore self.old → OnOk result (KeepsOneMore self.old self.new p spelled.now) }
         ensures line { OnOk result (lines_in self.new ≡ lines_in self.old ++ line ∷ []) }
     {
         let start = offset(self.bytes.len())?;
@@ -64,6 +74,9 @@ impl Store {
         let name_end = offset(self.bytes.len())?;
         self.bytes.extend_from_slice(&kept.version)?;
         let version_end = offset(self.bytes.len())?;
+        self.bytes
+            .extend_from_slice(text_besides(&kept.version, spelled))?;
+        let besides_end = offset(self.bytes.len())?;
         self.bytes.extend_from_slice(&kept.architecture)?;
         let architecture_end = offset(self.bytes.len())?;
         self.bytes.extend_from_slice(&kept.provides)?;
@@ -74,6 +87,7 @@ impl Store {
             start,
             name_end,
             version_end,
+            besides_end,
             architecture_end,
             end,
             first,
@@ -112,15 +126,21 @@ impl Store {
         requires within { index < length self.now.records.items }
         ensures listed { slice_get (listed_in self.now) index ≡ Some (listed_of result) }
         ensures line { slice_get (lines_in self.now) index ≡ Some (line_of result) }
+        ensures spelling { slice_get (spellings_in self.now) index ≡ Some (spelling_of result) }
     {
         let record = &self.records[index];
         let bytes = self.bytes.as_slice();
         Package {
             name: self.name(record),
             version: part(bytes, record.name_end as usize, record.version_end as usize),
-            architecture: part(
+            besides: part(
                 bytes,
                 record.version_end as usize,
+                record.besides_end as usize,
+            ),
+            architecture: part(
+                bytes,
+                record.besides_end as usize,
                 record.architecture_end as usize,
             ),
             line: record.line,
@@ -131,6 +151,13 @@ impl Store {
             },
         }
     }
+}
+
+/// What is kept of a text that spells a version besides the canonical text: nothing if it is that.
+fn text_besides<'a>(canonical: &[u8], text: &'a [u8]) -> &'a [u8]
+    ensures { result.now ≡ text_besides canonical.now text.now }
+{
+    if text == canonical { b"" } else { text }
 }
 
 /// The offset or length in 32 bits, or out of memory if it has more.

@@ -6,12 +6,14 @@ ghost use Rattle.deb_relation.specs.Environments.{environment_of};
 ghost use Rattle.deb_relation.specs.Relations.{relation_of};
 ghost use Rattle.deb_relation.specs.Tests.{some_wildcard};
 ghost use Rattle.deb_index.specs.Asked.{environment_asked, relation_asked};
-ghost use Rattle.deb_index.specs.Detailed.{DetailsOf, detailed_of, details_left, details_of, first_len};
-ghost use Rattle.deb_index.specs.Indexes.{packages_of};
+ghost use Rattle.deb_index.specs.Detailed.{DetailsOf, DetailsOfBy, detailed_of, details_left, details_of, first_len};
+ghost use Rattle.deb_index.specs.Indexes.{packages_of, spellings_of};
 ghost use Rattle.deb_index.specs.Questions.{wildcard};
 ghost use Rattle.deb_index.specs.Reports.{all_met};
 ghost use Rattle.deb_index.specs.Reported.{answer_of};
-ghost use Rattle.deb_index.specs.Why.{answer_in, detailed_answer_text, detailed_report, detailed_text};
+ghost use Rattle.deb_index.specs.ReportText.{version_shown};
+ghost use Rattle.deb_index.specs.ShownVersions.{shown_by, spellings_detailed, version_by};
+ghost use Rattle.deb_index.specs.Why.{answer_in, detailed_answer_text, detailed_report_by, detailed_text, detailed_text_by};
 
 use crate::answer::{Answer, Answers};
 use crate::answer_store::AnswerStore;
@@ -19,9 +21,10 @@ use crate::index::Index;
 use crate::question::{Question, refusal};
 use crate::report::{Report, append_answer};
 use crate::report_text::write_answer;
+use crate::shown::Versions;
 use crate::span::cut;
 use crate::why_lines::append_below;
-use deb_base::{Code, Fault, Sink, put_all};
+use deb_base::{Code, Fault, Sink, VersionText, put_all};
 use deb_relation::{Env, Relation};
 use std::alloc::{AllocError, Global};
 
@@ -116,10 +119,40 @@ impl Index {
         ensures wildcard { IsTrue (some_wildcard (relation_asked question.now))
             → result ≡ Err (Fault.Refused wildcard) }
     {
+        self.ask_why_with(alloc, question, VersionText::Canonical)
+    }
+
+    /// Reports as [`Index::ask_why`] does, with this text of each version in the reasons.
+    ///
+    /// # Errors
+    ///
+    /// Those of `ask_why`.
+    pub fn ask_why_with(
+        &self,
+        alloc: Global,
+        question: &Question<'_>,
+        versions: VersionText,
+    ) -> Result<DetailedReport<'_>, Fault>
+        ensures reports { DetailsOfBy (version_by versions self.now) (packages_of self.now)
+            (relation_asked question.now) (environment_asked question.now) result }
+        ensures spellings { IfOk result
+            (λ reported. spellings_detailed reported ≡ spellings_of self.now) }
+        ensures wildcard { IsTrue (some_wildcard (relation_asked question.now))
+            → result ≡ Err (Fault.Refused wildcard) }
+    {
         if question.relation.has_wildcard() {
             return Err(refusal(Code::Wildcard));
         }
-        let report = DetailedReport::of(alloc, self, &question.relation, &question.environment)?;
+        let versions = Versions {
+            index: self,
+            chosen: versions,
+        };
+        let report = DetailedReport::of(
+            alloc,
+            versions,
+            &question.relation,
+            &question.environment,
+        )?;
         Ok(report)
     }
 }
@@ -169,21 +202,50 @@ impl<'a> DetailedReport<'a> {
         ensures fault_iff_write_failed { WriteFaultIffFailed (W.failures out.old)
             (W.failures out.new) result }
     {
-        write_all(self.answers(), out)
+        self.write_with(VersionText::Canonical, out)
+    }
+
+    /// Writes the report as [`DetailedReport::write`] does, with this text of each version below
+    /// the line of a group that is met. The reasons have the text for which
+    /// [`Index::ask_why_with`] was asked.
+    ///
+    /// # Errors
+    ///
+    /// `Fault::Write` only: a write failed in this call, and a prefix of the report was written
+    /// before it.
+    pub fn write_with<W: Sink>(&self, versions: VersionText, out: &mut W) -> Result<(), Fault>
+        ensures written { Puts (W.held out.old) (W.held out.new) result
+            (detailed_text_by (version_shown versions (spellings_detailed self.now))
+            (details_of self.now)) }
+        ensures fault { IfErr result (λ fault. fault ≡ Fault.Write) }
+        ensures counts_failure { W.failures out.new ≡ write_failures_after (W.failures out.old)
+            result }
+        ensures fault_iff_write_failed { WriteFaultIffFailed (W.failures out.old)
+            (W.failures out.new) result }
+    {
+        let versions = Versions {
+            index: self.report.index,
+            chosen: versions,
+        };
+        write_all(self.answers(), versions, out)
     }
 
     /// Returns the answers for the groups of a relation, over the packages of an index, with their
     /// reasons.
     fn of(
         alloc: Global,
-        index: &'a Index,
+        versions: Versions<'a>,
         relation: &Relation<'_>,
         environment: &Env,
     ) -> Result<DetailedReport<'a>, AllocError>
-        ensures { IfOk result
-            (λ reported. details_of reported ≡ detailed_report (packages_of index.now)
-            (relation_of relation.now) (environment_of environment.now)) }
+        ensures details { IfOk result
+            (λ reported. details_of reported ≡ detailed_report_by (shown_by versions.entry)
+            (packages_of versions.entry.index.now) (relation_of relation.now)
+            (environment_of environment.now)) }
+        ensures spellings { IfOk result (λ reported. spellings_detailed reported
+            ≡ spellings_of versions.entry.index.now) }
     {
+        let index = versions.index;
         let groups = relation.groups();
         let text_len = relation.canon_len() as usize;
         let mut answers = AnswerStore::with_capacity(alloc, text_len, groups.len())?;
@@ -191,7 +253,7 @@ impl<'a> DetailedReport<'a> {
         let mut lens = Vec::with_capacity(alloc, groups.len())?;
         for group in groups {
             let verdict = append_answer(alloc, index, group, environment, &mut answers)?;
-            lens.push(append_below(alloc, index, group, environment, verdict, &mut reasons)?)?;
+            lens.push(append_below(alloc, versions, group, environment, verdict, &mut reasons)?)?;
         }
         let report = Report { index, answers };
         Ok(DetailedReport {
@@ -202,26 +264,34 @@ impl<'a> DetailedReport<'a> {
     }
 }
 
-fn write_all<W: Sink>(answers: DetailedAnswers<'_>, out: &mut W) -> Result<(), Fault>
+fn write_all<W: Sink>(
+    answers: DetailedAnswers<'_>,
+    versions: Versions<'_>,
+    out: &mut W,
+) -> Result<(), Fault>
     ensures written { Puts (W.held out.old) (W.held out.new) result
-        (detailed_text (details_left answers.entry)) }
+        (detailed_text_by (shown_by versions.entry) (details_left answers.entry)) }
     ensures fault { IfErr result (λ fault. fault ≡ Fault.Write) }
     ensures counts_failure { W.failures out.new ≡ write_failures_after (W.failures out.old) result }
 {
     for answer in answers {
-        write_one(&answer, out)?;
+        write_one(&answer, versions, out)?;
     }
     Ok(())
 }
 
 /// Writes what the report has of a group, and then the reasons.
 #[tactic(auto, using(deb_base::proofs::Writes::puts))]
-fn write_one<W: Sink>(answer: &DetailedAnswer<'_>, out: &mut W) -> Result<(), Fault>
+fn write_one<W: Sink>(
+    answer: &DetailedAnswer<'_>,
+    versions: Versions<'_>,
+    out: &mut W,
+) -> Result<(), Fault>
     ensures written { Puts (W.held out.old) (W.held out.new) result
-        (detailed_answer_text (detailed_of answer.now)) }
+        (detailed_answer_text (shown_by versions.entry) (detailed_of answer.now)) }
     ensures fault { IfErr result (λ fault. fault ≡ Fault.Write) }
     ensures counts_failure { W.failures out.new ≡ write_failures_after (W.failures out.old) result }
 {
-    write_answer(&answer.answer, out)?;
+    write_answer(&answer.answer, versions, out)?;
     put_all(out, answer.reasons)
 }

@@ -12,11 +12,13 @@ ghost use Rattle.deb_index.specs.Detailed.{AppendsBelow};
 ghost use Rattle.deb_index.specs.Indexes.{packages_of};
 ghost use Rattle.deb_index.specs.Named.{numbers_of};
 ghost use Rattle.deb_index.specs.Reported.{found_of};
+ghost use Rattle.deb_index.specs.ShownVersions.{shown_by};
 ghost use Rattle.deb_index.specs.Why.{alternative_lines, asked_lines, has_or_provides, line_unless_met, list_lines, lines_below, names_system, nameless_line, system_line, system_lines};
 
 use crate::answer::Found;
 use crate::index::Index;
 use crate::reason::Reason;
+use crate::shown::Versions;
 use crate::verdict::Verdict;
 use deb_relation::{Alternative, Env, Group};
 use itoa::Buffer;
@@ -25,19 +27,19 @@ use std::alloc::{AllocError, Global};
 /// Appends the lines below that of a group with a verdict, and returns how many bytes they have.
 pub(crate) fn append_below(
     alloc: Global,
-    index: &Index,
+    versions: Versions<'_>,
     group: &Group<'_>,
     environment: &Env,
     verdict: Verdict,
     out: &mut Vec<u8>,
 ) -> Result<usize, AllocError>
     ensures { IfOk result (AppendsBelow out.old.items out.new.items
-        (lines_below (environment_of environment.now) (packages_of index.now)
-        (group_of group.now) verdict)) }
+        (lines_below (shown_by versions.entry) (environment_of environment.now)
+        (packages_of versions.entry.index.now) (group_of group.now) verdict)) }
 {
     let before = out.len();
     if !matches!(verdict, Verdict::Met) {
-        append_all(alloc, index, group.alternatives(), environment, out)?;
+        append_all(alloc, versions, group.alternatives(), environment, out)?;
     }
     Ok(out.len() - before)
 }
@@ -45,18 +47,19 @@ pub(crate) fn append_below(
 /// Appends the lines of alternatives.
 fn append_all(
     alloc: Global,
-    index: &Index,
+    versions: Versions<'_>,
     group: &[Alternative<'_>],
     environment: &Env,
     out: &mut Vec<u8>,
 ) -> Result<(), AllocError>
     ensures { OnOk result (out.new.items
         ≡ out.old.items ++ flat_map
-        (alternative_lines (environment_of environment.now) (packages_of index.now))
+        (alternative_lines (shown_by versions.entry) (environment_of environment.now)
+        (packages_of versions.entry.index.now))
         (map alternative_of group.now)) }
 {
     for alternative in group {
-        append_alternative(alloc, index, alternative, environment, out)?;
+        append_alternative(alloc, versions, alternative, environment, out)?;
     }
     Ok(())
 }
@@ -64,17 +67,18 @@ fn append_all(
 /// Appends the lines of an alternative.
 fn append_alternative(
     alloc: Global,
-    index: &Index,
+    versions: Versions<'_>,
     alternative: &Alternative<'_>,
     environment: &Env,
     out: &mut Vec<u8>,
 ) -> Result<(), AllocError>
     ensures { OnOk result (out.new.items
-        ≡ out.old.items ++ alternative_lines (environment_of environment.now)
-        (packages_of index.now) (alternative_of alternative.now)) }
+        ≡ out.old.items ++ alternative_lines (shown_by versions.entry)
+        (environment_of environment.now) (packages_of versions.entry.index.now)
+        (alternative_of alternative.now)) }
 {
     if alternative.applies(environment) {
-        append_asked(alloc, index, alternative, environment, out)
+        append_asked(alloc, versions, alternative, environment, out)
     } else {
         append_systems(alloc, alternative, environment.target(), out)
     }
@@ -84,15 +88,16 @@ fn append_alternative(
 /// meet it, or the line that no package has this name.
 fn append_asked(
     alloc: Global,
-    index: &Index,
+    versions: Versions<'_>,
     alternative: &Alternative<'_>,
     environment: &Env,
     out: &mut Vec<u8>,
 ) -> Result<(), AllocError>
     ensures { OnOk result (out.new.items
-        ≡ out.old.items ++ asked_lines (environment_of environment.now) (packages_of index.now)
-        (alternative_of alternative.now)) }
+        ≡ out.old.items ++ asked_lines (shown_by versions.entry) (environment_of environment.now)
+        (packages_of versions.entry.index.now) (alternative_of alternative.now)) }
 {
+    let index = versions.index;
     let text = alternative.text(alloc)?;
     let numbers = numbers_under(alloc, index, alternative.name())?;
     if numbers.is_empty() {
@@ -101,7 +106,7 @@ fn append_asked(
     for &number in &numbers {
         let package = index.numbered(number);
         let reason = package.reason(alternative, environment);
-        append_reason(&text, &Found { number, package }, reason, out)?;
+        append_reason(&text, &Found { number, package }, versions, reason, out)?;
     }
     Ok(())
 }
@@ -127,14 +132,16 @@ fn append_nameless(text: &[u8], out: &mut Vec<u8>) -> Result<(), AllocError>
 
 /// Appends the line of a package that doesn't meet an alternative with this text; nothing if there
 /// is no reason.
-fn append_reason(
+fn append_reason<'a>(
     text: &[u8],
-    found: &Found<'_>,
+    found: &Found<'a>,
+    versions: Versions<'a>,
     reason: Option<Reason>,
     out: &mut Vec<u8>,
 ) -> Result<(), AllocError>
     ensures { OnOk result (out.new.items
-        ≡ out.old.items ++ line_unless_met text.now (found_of found.now) reason) }
+        ≡ out.old.items ++ line_unless_met (shown_by versions.entry) text.now
+        (found_of found.now) reason) }
 {
     let Some(reason) = reason else {
         return Ok(());
@@ -150,7 +157,7 @@ fn append_reason(
             b" ",
             package.name(),
             b" ",
-            package.version(),
+            versions.of(found),
             b" ",
             package.architecture(),
             b" ",

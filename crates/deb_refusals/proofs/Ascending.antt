@@ -1,4 +1,4 @@
--- Each refusal is told within its run, and the runs of a file lie one after another.
+-- Each refusal is reported within its run, and the runs of a file lie one after another.
 use Rattle.std.proofs.Common.{◌≡◌, ◌≢◌, ◌&&◌, ◌+◌, ◌-◌, ◌==◌, ◌<◌, ◌≤◌, ◌++◌, Bool, ℕ, true, false, cond, not, nat_le, is_some, IfErr, IfSome, List, [], ◌∷◌, length, Option, None, Some, Result, Ok, Err, refl, sym, ap, ◌∙◌, subst, arith, append_assoc, length-append, true≢false}
 use Rattle.std.proofs.lemmas.Bool.{or_parts}
 use Rattle.std.specs.List.{AllByRecursion}

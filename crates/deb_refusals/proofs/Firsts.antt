@@ -20,7 +20,7 @@ module _ (doc : Doc) (text : List ℕ) where
   abbrev FirstFrom : List Entries → Type 0
   FirstFrom before = first_why (explanations_from doc text text before) ≡ explanation_of doc text
 
-  -- by what is answered behind paragraphs that pass
+  -- by what is answered after paragraphs that pass
   first_by : (before : List Entries) (a : Result (Option Entries) Refusal) → next_checked (rules_of doc) text before ≡ a → Follow (rules_of doc) text [] before → ((entries : Entries) → next_checked (rules_of doc) text before ≡ Ok (Some entries) → FirstFrom (before ++ entries ∷ [])) → FirstFrom before
   first_by before (Err refusal) is follow more =
       ap first_why (explained_next doc text text before refusal (λ _. refl) follow is).1 ∙ sym (explained_by_next doc text before refusal follow is)
@@ -30,7 +30,7 @@ module _ (doc : Doc) (text : List ℕ) where
   first_by before (Ok (Some entries)) is follow more =
       ap (λ s. first_why (explained_stream doc (explanation_of doc text) s)) (passed_is_next doc text before entries is).1 ∙ more entries is
 
-  -- one is left fewer behind each of them
+  -- one is left fewer after each of them
   rest_of : (before : List Entries) (p : Paragraph) (left : List Paragraph) (entries : Entries) → drop (length before) (paragraphs_within text) ≡ p ∷ left → drop (length (before ++ entries ∷ [])) (paragraphs_within text) ≡ left
   rest_of before p left entries here =
       let count : length before + 1 ≡ length (before ++ entries ∷ []) = omega (arith, length-append before (entries ∷ [])) in

@@ -33,7 +33,7 @@ use Rattle.deb_refusals.proofs.Counts.{each_has_one_explanation, few_explanation
 use Rattle.deb_refusals.proofs.Steps.{behind_seam, ends_the_stream, goes_on_within}
 use Rattle.deb_refusals.proofs.Telling.{explained_last, explained_next, explained_refused, several_if_goes}
 
--- how much is read of a text is told by one of as many bytes
+-- how much is read of a text is reported by one of as many bytes
 pub takes_as : (text other : List ℕ) (left : Option (List ℕ)) → length other ≡ length text → TakesNoMore other file_limit left → TakesNoMore text file_limit left
 takes_as text other left same takes = record { rest = takes.rest; told = takes.told; few = omega (arith, takes.few, same) }
 
@@ -180,7 +180,7 @@ goes_passing doc text checked new summary left after done given count goes gives
 pub few_passed : (doc : Doc) (text : List ℕ) (checked : Checked) (summary : Summary) (left : Option (List ℕ)) (done : List WhyRefused) → (goes : GoesOn doc text checked summary left done) → summary.passed ≡ (checked_state checked).count
 few_passed doc text checked summary left done goes = goes.awaits.remains.counted ∙ sym goes.awaits.fits.counted
 
--- those that were given are the first ones, also with the one at which it stands
+-- those that were given are the first ones, also with the one at which it is
 pub goes_first : (doc : Doc) (text : List ℕ) (checked : Checked) (summary : Summary) (left : Option (List ℕ)) (done : List WhyRefused) → GoesOn doc text checked summary left done → AreFirst doc text done
 goes_first doc text checked summary left done goes = are_first doc text done _ goes.awaits.remains.whys
 
@@ -189,7 +189,7 @@ stands_first doc text refusal state lines left passed done stands =
     let next = next_why doc text stands.other stands.before passed stands.front refusal stands.remains stands.refused in
     are_first doc text done next.0 (next.1 ∙ ap (λ d. d ++ next.0) (sym stands.is))
 
--- all were given, and the reader tells that
+-- all were given, and the reader has answered so
 pub gives_all : (doc : Doc) (text : List ℕ) (r : Refusals) (left : Option (List ℕ)) (done : List WhyRefused) → r.position ≡ End → r.doc ≡ doc → doc_read r.checked ≡ doc → AreFirst doc text done → TakesNoMore text file_limit left → r.summary.refused ≡ length done → HasAll doc text r.summary.passed done → GivesAll doc text r left done
 gives_all doc text r left done ends kind reads first taken refused all =
     let refusals : refusals_of doc text ≡ refusals_explained done = sym (each_has_one_explanation doc text) ∙ ap refusals_explained all.whys in
@@ -228,7 +228,7 @@ gives_found doc text r left done (Err Memory) stands kind reads first taken find
 gives_found doc text r left done (Err Read) stands kind reads first taken finds = first
 gives_found doc text r left done (Err Write) stands kind reads first taken finds = finds
 
--- ---- after the refusal at which it stands
+-- ---- after the refusal at which it is
 
 module _ (doc : Doc) (text : List ℕ) (r : Refusals) (left : Option (List ℕ)) (done : List WhyRefused) (refusal : Refusal) (at : r.position ≡ At refusal) (has : HasGiven doc text r left done) where
   stands_there : StandsAt doc text refusal (checked_state r.checked) (lines_checked r.checked) left r.summary.passed done
@@ -250,7 +250,7 @@ module _ (doc : Doc) (text : List ℕ) (r : Refusals) (left : Option (List ℕ))
   pub ends_after : resumes (doc_read r.checked) (checked_state r.checked).fault (lines_checked r.checked) ≡ false → HasAll doc text r.summary.passed done
   ends_after stays = all_after doc text refusal (checked_state r.checked) (lines_checked r.checked) left r.summary.passed done stands_there (sym resumes_is ∙ stays)
 
-  -- what is told of it is the last explanation
+  -- what is reported of it is the last explanation
   pub last_told : (why : WhyRefused) (line : Option Line) (seen : Option Seen) → why ≡ explain_refusal doc refusal line seen → line ≡ line_judged refusal.line (lines_checked r.checked) → seen ≡ refused_last (checked_state r.checked) → IsLastOf why done
   last_told why line seen is line_is seen_is =
       let stands = stands_there in

@@ -41,7 +41,7 @@ abbrev pub tail_length : Option ℕ → List Line → ℕ
 tail_length None tail = total_length tail
 tail_length (Some line) tail = 0
 
--- What remains of lines: the paragraphs that pass behind others, at whatever line.
+-- What remains of lines: the paragraphs that pass after others, at whatever line.
 pub record Remains (rules : Rules) (beyond : Option ℕ) (before : List Entries) (lines tail out : List Line) (items : List CheckedItem) : Type 0 where
   pub passes : (m : ℕ) → AllPass rules None before (paragraphs_from m out) (passed_bodies items)
   pub own : (m : ℕ) → map (λ p. p.lines) (paragraphs_from m out) ≡ passed_lines items

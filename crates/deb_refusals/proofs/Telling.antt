@@ -1,4 +1,4 @@
--- What a refusal of a stream is about is what is told of the paragraph behind those that pass.
+-- What a refusal of a stream is about is what is reported of the paragraph after those that pass.
 use Rattle.std.proofs.Common.{◌≡◌, ◌==◌, ◌&&◌, ℕ, ◌+◌, Bool, true, false, not, cond, List, [], ◌∷◌, length, drop, nat_le, Option, None, Some, Result, Ok, Err, refl, sym, ap, ◌∙◌, subst}
 use Rattle.std.specs.Prelude.{slice_get}
 use Rattle.deb_base.specs.Bodies.{Line, paragraph_limit}
@@ -96,7 +96,7 @@ module _ (doc : Doc) (text : List ℕ) (before : List Entries) (several : is_sin
   judged_is : lines_behind (rules_of doc) text before ≡ judged_by (next_answer text (length before)) (slice_get (paragraphs_within text) (length before))
   judged_is = ap (λ t. cond (t && has_some before) None (judged_by (next_answer text (length before)) (slice_get (paragraphs_within text) (length before)))) several
 
-  -- behind the last paragraph nothing is seen
+  -- after the last paragraph nothing is seen
   none_at_end : drop (length before) (paragraphs_within text) ≡ [] → (seen_in (next_answer text (length before)) ≡ None)
   none_at_end here = ap (λ left. seen_in (answer_of_first (line_beyond 1 file_limit text) left)) here ∙ go (line_beyond 1 file_limit text)
     where
@@ -181,7 +181,7 @@ module _ (doc : Doc) (text : List ℕ) (before : List Entries) (several : is_sin
 
 -- ---- the stream of a text, as part of a file
 
--- The file is explained by the paragraph behind those that pass.
+-- The file is explained by the paragraph after those that pass.
 pub explained_by_next : (doc : Doc) (text : List ℕ) (before : List Entries) (refusal : Refusal) → Follow (rules_of doc) text [] before → next_checked (rules_of doc) text before ≡ Err refusal → explanation_of doc text ≡ Some (why_next_refused doc text before refusal)
 explained_by_next doc text before refusal follow refused = ap (explanation_in (rules_of doc) (explain_refusal doc) text) (outcome-from_refusal (rules_of doc) text before refusal follow refused)
 

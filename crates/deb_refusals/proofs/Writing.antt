@@ -30,7 +30,7 @@ module _ (of : WhyRefused → List ℕ) (doc : Doc) (text : List ℕ) where
   pub nothing_written : (r : Refusals) (left held : Option (List ℕ)) → HasGiven doc text r left [] → HasWritten of doc text r left held held
   nothing_written r left held given = record { done = []; given = given; written = Appends-nil held }
 
-  -- one refusal more, of which it is written
+  -- one refusal more, which is written
   pub one_written : (r new : Refusals) (left after old held writes : Option (List ℕ)) (refusal : Refusal) → (has : HasWritten of doc text r left old held) → (gives : GivesRefusal doc text refusal new after has.done) → Appends held writes (of gives.why) → HasWritten of doc text new after old writes
   one_written r new left after old held writes refusal has gives line = record {
     done = has.done ++ gives.why ∷ [];

@@ -1,5 +1,5 @@
 -- What all refusals of a file are about, and the text that is written of them. Debian Policy 5.1,
--- 5.3 to 5.6 and 7; which of it is told, and the text, are this project's own.
+-- 5.3 to 5.6 and 7; which of it is reported, and the text, are this project's own.
 use Rattle.std.specs.Prelude.{◌≡◌, ℕ, Bool, cond, List, [], ◌∷◌, ◌++◌, length, map, Option, None, Some, Result, Ok, Err, codes, refl}
 use Rattle.std.specs.Fmt.{digits}
 use Rattle.std.specs.List.{flat_map}
@@ -59,14 +59,14 @@ abbrev pub explained_once : Option WhyRefused → List WhyRefused
 explained_once None = []
 explained_once (Some why) = why ∷ []
 
--- What the refusal that ends a stream is about: where exactly one paragraph is asked for, that is
--- told of the file, and otherwise the refusal is about the file as a whole.
+-- What the refusal that ends a stream is about: what the file says, where exactly one paragraph is
+-- asked for, and otherwise the file as a whole.
 abbrev pub explained_at_end : Bool → Option WhyRefused → Option Refusal → List WhyRefused
 explained_at_end single why None = []
 explained_at_end single why (Some refusal) =
     cond single (explained_once why) (whole_refused refusal ∷ [])
 
--- the same of a stream, where this is told of the file
+-- the same of a stream, where this is reported of the file
 abbrev pub explained_stream : Doc → Option WhyRefused → CheckedStream → List WhyRefused
 explained_stream doc why stream =
     explained_in doc stream.items (explained_at_end (is_single doc) why stream.end)
@@ -90,7 +90,7 @@ explained_block path why = explanation_text path why ++ codes "\n"
 abbrev pub explained_blocks : List ℕ → List WhyRefused → List ℕ
 explained_blocks path whys = flat_map (explained_block path) whys
 
--- A text for each refusal, with an empty line behind it, and the last line.
+-- A text for each refusal, with an empty line after it, and the last line.
 abbrev pub explained_lines : List ℕ → Doc → List ℕ → List ℕ
 explained_lines path doc text =
     explained_blocks path (explanations_of doc text)
@@ -146,7 +146,7 @@ worked-end : explained_stream Packages None
 unfolding is_utf8 chars encode kind_of kind_at known_row first_fault
 worked-end = refl
 
--- each text has an empty line behind it
+-- each text has an empty line after it
 worked-blocks : (first second : WhyRefused) (path : List ℕ)
     → (explained_blocks path (first ∷ second ∷ [])
     ≡ (explanation_text path first ++ codes "\n")

@@ -46,7 +46,7 @@ given_last r = refusal_at r.position
 abbrev pub failure_of : Refusals → Option Fault
 failure_of r = fault_at r.position
 
--- whether it told that no further refusal follows
+-- whether it answered that no further refusal follows
 abbrev pub has_ended : Refusals → Bool
 has_ended r = is_end r.position
 
@@ -58,19 +58,19 @@ pub record AreFirst (doc : Doc) (text : List ℕ) (done : List WhyRefused) : Typ
   pub all : explanations_of doc text ≡ done ++ more
   pub refusals : refusals_of doc text ≡ refusals_explained done ++ refusals_explained more
 
--- what is told of the paragraph behind those that pass, for this refusal
+-- what is reported of the paragraph after those that pass, for this refusal
 abbrev pub why_next_refused : Doc → List ℕ → List Entries → Refusal → WhyRefused
 why_next_refused doc text before refusal =
     explain_refusal doc refusal
     (line_judged refusal.line (lines_behind (rules_of doc) text before))
     (seen_behind (rules_of doc) text before)
 
--- What the refusals of the stream of a text behind these paragraphs are about, as part of a file.
+-- What the refusals of the stream of a text after these paragraphs are about, as part of a file.
 abbrev pub explanations_from : Doc → List ℕ → List ℕ → List Entries → List WhyRefused
 explanations_from doc file text before =
     explained_stream doc (explanation_of doc file) (stream_from (rules_of doc) text before)
 
--- Behind these paragraphs of a text of as many bytes, its stream is what is left of the file: so
+-- After these paragraphs of a text of as many bytes, its stream is what is left of the file: so
 -- many paragraphs passed before it, and the refusals before it were these.
 pub record Remains (doc : Doc) (text other : List ℕ) (before : List Entries) (passed : ℕ)
     (done : List WhyRefused) : Type 0 where
@@ -177,7 +177,7 @@ pub record GivesAll (doc : Doc) (text : List ℕ) (new : Refusals) (left : Optio
   pub passed : (summary_of new).passed ≡ passed_of doc text
   pub refused : (summary_of new).refused ≡ length (refusals_of doc text)
 
--- What an answer says of a file of which these were given before.
+-- What an answer says of a file after these refusals were given.
 abbrev pub GivesNext : Doc → List ℕ → Result (Option Refusal) Fault → Refusals → Option (List ℕ)
     → List WhyRefused → Type 0
 GivesNext doc text (Ok (Some refusal)) new left done = GivesRefusal doc text refusal new left done

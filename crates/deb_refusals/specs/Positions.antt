@@ -1,4 +1,4 @@
--- Where a reader of refusals stands (this project's own).
+-- Where a reader of refusals is (this project's own).
 use Rattle.std.specs.Prelude.{◌≡◌, Bool, true, false, not, is_some, Option, None, Some, Result, Ok, Err, refl}
 use Rattle.deb_base.specs.declared.fault.Fault.{Fault}
 use Rattle.deb_base.specs.declared.fault.Fault.TheVariants.{Refused, Memory, Read, Write}
@@ -20,7 +20,7 @@ fault_at (At refusal) = None
 fault_at End = None
 fault_at (Failed fault) = Some fault
 
--- whether it was told that no further refusal follows
+-- whether a call has answered that no further refusal follows
 abbrev pub is_end : Position → Bool
 is_end Start = false
 is_end (At refusal) = false

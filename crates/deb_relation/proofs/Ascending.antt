@@ -14,7 +14,7 @@ less_from_greater : (a b : List ℕ) → byte_cmp a b ≡ Greater → byte_cmp b
 less_from_greater a b g = nat_list_cmp_total.antisymm b a ∙ ap ordering_reverse g
 
 module _ {A : Type 0} (text : A → List ℕ) (x : A) where
-  -- a member that comes behind the first
+  -- a member that comes after the first
   under : (y : A) (ys : List A) → Ascends text (y ∷ ys) → byte_cmp (text x) (text y) ≡ Greater → Ascends text (y ∷ insert_by text x ys)
   under y [] a g = (less_from_greater (text x) (text y) g, tt)
   under y (z ∷ zs) a g = by_cases (under z zs a.1) (byte_cmp (text x) (text z)) refl

@@ -16,7 +16,7 @@ use Rattle.deb_relation.proofs.ReadLists.{TookItem, architecture_took, restricti
 use Rattle.deb_relation.proofs.ReadParts.{either, ok-same, begins_is}
 use Rattle.deb_relation.proofs.Runs.{Passes, Stops, run_of-split, run_of-passes}
 
--- the items before a place, without the white space after them
+-- the items before an offset, without the white space after them
 record ItemsFront {A : Type 0} (text : A → List ℕ) (close : ℕ) (Good : A → Type 0) (rest after : List ℕ) : Type 0 where
   front : List ℕ
   items : List A
@@ -25,7 +25,7 @@ record ItemsFront {A : Type 0} (text : A → List ℕ) (close : ℕ) (Good : A �
   apart : Stops (is_before close) rest → (white : List ℕ) → IsWhite white → IsApart (front ++ white)
   spells : (white : List ℕ) → IsWhite white → SpellItems (front ++ white) (map text items)
 
--- a list after its opening byte, up to the place where it stops
+-- a list after its opening byte, up to the offset where it stops
 record BegunList {A : Type 0} (text : A → List ℕ) (close : ℕ) (Good : A → Type 0) (rest : List ℕ) (left : ℕ) : Type 0 where
   before : List ℕ
   after : List ℕ

@@ -15,7 +15,7 @@ use Rattle.deb_relation.specs.Reading.{Stopped, Reading, and_then, begins, behin
 use Rattle.deb_relation.proofs.ReadParts.{either, begins_is, operator_took, version_took}
 use Rattle.deb_relation.proofs.Runs.{run_of-split, run_of-passes}
 
--- what comes before the place where the reading of a part stops, and what continues it to such a part
+-- what comes before the offset where the reading of a part stops, and what continues it to such a part
 pub record Begun {A : Type 0} (spells : List ℕ → A → Type 0) (text : List ℕ) (left : ℕ) : Type 0 where
   pub before : List ℕ
   pub after : List ℕ

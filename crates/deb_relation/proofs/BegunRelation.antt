@@ -1,4 +1,4 @@
--- The place of each fault is reached: what comes before it can be continued to a relation.
+-- The offset of each fault is reached: what comes before it can be continued to a relation.
 use Rattle.std.proofs.Common.{◌≡◌, ℕ, zero, suc, ◌+◌, ◌||◌, Bool, List, [], ◌∷◌, ◌++◌, length, drop, IsTrue, Option, Some, None, Ok, Err, refl, sym, ap, ◌∙◌, subst, append_assoc, append-nil, codes, arith, inl, inr}
 use Rattle.std.proofs.lemmas.List.{length-append}
 use Rattle.deb_base.specs.PackageNames.{is_package_name}
@@ -230,7 +230,7 @@ piece_begun text s e =
       spelled = subst (λ r. SpellsGroup r q.0) (sym (append-nil t.piece)) t.spelled;
     }))))
 
--- the pieces of a text, up to the place where one stops
+-- the pieces of a text, up to the offset where one stops
 record BegunPieces (text : List ℕ) (left : ℕ) : Type 0 where
   before : List ℕ
   after : List ℕ

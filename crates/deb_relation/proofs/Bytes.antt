@@ -1,4 +1,4 @@
--- The bytes of names, items and versions: none of them ends a run that they stand in.
+-- The bytes of names, items and versions: none of them ends a run that they are in.
 use Rattle.std.proofs.Common.{◌≡◌, ◌≢◌, ℕ, ◌==◌, ◌||◌, ◌&&◌, Bool, true, false, not, List, [], ◌∷◌, ◌++◌, length, nat_le, IsTrue, None, Some, refl, ap, subst, rules, tests}
 use Rattle.std.specs.List.{AllByRecursion, list_all}
 use Rattle.std.proofs.lemmas.Bool.Decides.{Decides-eqb}

@@ -92,7 +92,7 @@ formula_spelled : (lists : List Restrictions) → AllByRecursion IsItems lists �
 formula_spelled [] all = refl
 formula_spelled (list ∷ lists) all = (space ++ restrictions_text list, formula_text lists, refl, items_spelled list all.0, formula_spelled lists all.1)
 
--- with white space before and behind
+-- with white space before and after
 alternative_spelled : (before behind : List ℕ) (a : Alternative) → IsWhite before → IsWhite behind → IsRegular a → SpellsAlternative (before ++ (alternative_text a ++ behind)) a
 alternative_spelled before behind a w w' is = record {
   before = before;

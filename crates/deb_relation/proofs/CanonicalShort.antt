@@ -119,7 +119,7 @@ bound_short text (Some bound) is =
     written_length : (operator version : List ℕ) → length (32 ∷ 40 ∷ (operator ++ (32 ∷ (version ++ 41 ∷ [])))) ≡ 4 + (length operator + length version)
     written_length operator version = omega (arith, length-append operator (32 ∷ (version ++ 41 ∷ [])), length-append version (41 ∷ []))
 
--- a list's spelling and its canonical text, by what stands between the brackets
+-- a list's spelling and its canonical text, by what is between the brackets
 bracketed_length : (before : List ℕ) (begin : ℕ) (inner : List ℕ) (close : ℕ) → 2 + length inner ≤ length (before ++ (begin ∷ (inner ++ close ∷ [])))
 bracketed_length before begin inner close = omega (arith, length-append before (begin ∷ (inner ++ close ∷ [])), length-append inner (close ∷ []))
 

@@ -15,7 +15,7 @@ abbrev left_of : {A : Type 0} → (A → ℕ) → Result A Stopped → ℕ
 left_of size (Ok a) = size a
 left_of size (Err stopped) = stopped.1
 
--- behind what was read, and behind a further one if there is one
+-- after what was read, and after a further one if there is one
 abbrev behind : {A : Type 0} → A × List ℕ → ℕ
 behind p = length p.1
 
@@ -31,7 +31,7 @@ left-and_then : {A B : Type 0} (size : B → ℕ) (r : Reading A) (f : A → Lis
 left-and_then size (Ok p) f n le g = g p.0 p.1 le
 left-and_then size (Err stopped) f n le g = le
 
--- a reading of which each leaves no more than there were
+-- readings that each leave no more bytes than there were
 abbrev Leaves : {A : Type 0} → (A → ℕ) → (List ℕ → Result A Stopped) → Type 0
 Leaves size read = (n : ℕ) (text : List ℕ) → length text ≤ n → left_of size (read text) ≤ n
 
@@ -184,7 +184,7 @@ relation : Leaves behind read_relation
 unfolding read_relation
 relation n text le = left-gather next_piece put_piece piece [] n text le
 
--- the place of a fault, and the bytes from there on
+-- the offset of a fault, and the bytes from there on
 pub faults_stand : (text : List ℕ) (reason : Reason) (at : ℕ) → relation_in text ≡ Err (reason, at) → (left : ℕ) × (read_relation text ≡ Err (reason, left)) × (at + left ≡ length text)
 unfolding relation_in
 faults_stand text reason at is = from (read_relation text) refl (relation (length text) text (omega arith)) is

@@ -1,4 +1,4 @@
--- A text spells a relation exactly where no step of its reading fails; and what the reading says of sets and places.
+-- A text spells a relation exactly where no step of its reading fails; and what the reading says of sets and offsets.
 use Rattle.std.proofs.Common.{◌≡◌, ◌↔◌, ℕ, List, Some, None, Result, Ok, Err, refl, ap}
 use Rattle.std.specs.List.{AllByRecursion}
 use Rattle.deb_relation.specs.declared.fault.Reason.{Reason}

@@ -150,7 +150,7 @@ piece_ends : (rest : List ℕ) → (is_at_end rest || begins 44 rest) ≡ true �
 piece_ends [] e = tt
 piece_ends (b ∷ bs) e = sym (ap (λ v. v || (b == 44)) (at_end-some (b ∷ bs) (cons_not_nil b bs))) ∙ e
 
--- a group in its place, the white space after it and the end of its piece are read
+-- a group in its piece, the white space after it and the end of that piece are read
 pub group_in_place : (text front : List ℕ) (two equals : Bool) (behind rest : List ℕ) → CutsGroup text front two equals behind → rest ≡ behind_white behind → (is_at_end rest || begins 44 rest) ≡ true → read_summary text ≡ Ok (summary_with front two equals, rest)
 unfolding read_summary
 group_in_place text front two equals behind rest cuts at_rest ends =

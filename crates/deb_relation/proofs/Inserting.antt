@@ -6,7 +6,7 @@ use Rattle.deb_relation.specs.Grammar.{set_of, set_with}
 use Rattle.deb_relation.specs.Reading.{append}
 use Rattle.deb_relation.specs.Sets.{byte_cmp, by_order, insert_by}
 
--- a set of values that stand for members is the set of those members
+-- a set of values that represent members is the set of those members
 pub map-insert_by : {A B : Type 0} (view : A → B) (text : B → List ℕ) (x : A) (xs : List A) → map view (insert_by (λ y. text (view y)) x xs) ≡ insert_by text (view x) (map view xs)
 map-insert_by view text x [] = refl
 map-insert_by view text x (y ∷ ys) = by_cases (byte_cmp (text (view x)) (text (view y))) (map-insert_by view text x ys)
@@ -23,7 +23,7 @@ map-set_with view text (x ∷ xs) set = map-set_with view text xs (insert_by (λ
 pub map-set_of : {A B : Type 0} (view : A → B) (text : B → List ℕ) (xs : List A) → map view (set_of (λ y. text (view y)) xs) ≡ set_of text (map view xs)
 map-set_of view text xs = map-set_with view text xs []
 
--- one member more, behind the others
+-- one member more, after the others
 pub set_with-append : {A : Type 0} (text : A → List ℕ) (x : A) (xs set : List A) → set_with text (append x xs) set ≡ insert_by text x (set_with text xs set)
 set_with-append text x [] set = refl
 set_with-append text x (y ∷ ys) set = set_with-append text x ys (insert_by text y set)

@@ -8,7 +8,7 @@ pub nil_of : (text : List ℕ) → (length text == 0) ≡ true → text ≡ []
 nil_of [] none = refl
 nil_of (b ∷ text) none = absurd (omega (arith, eqb-true (length (b ∷ text)) 0 none))
 
--- what stands in `out` before the texts from this place on, which are still to come
+-- what is in `out` before the texts from this index on, which are still to come
 abbrev pub IsAppended : {A B : Type 0} → List ℕ → (B → List ℕ) → (A → B) → List A → List ℕ → List ℕ → ℕ → Type 0
 IsAppended separator text view xs start out i = start ++ separated separator (map text (map view xs)) ≡ out ++ separated separator (map text (map view (drop i xs)))
 

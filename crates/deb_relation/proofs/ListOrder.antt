@@ -37,7 +37,7 @@ profiles_read text items rest e =
     let l = restrictions_took text (items, rest) e in
     subst (λ set. IsTrue (are_profiles set)) (sym l.set) (tested _ (set_of-some item_text l.items [] l.some) (all-set_with item_text (λ item. IsTrue (is_profile_name item.1)) l.items [] l.good tt))
 
--- lists of which the one is empty, by their lengths
+-- lists, one of them empty, by their lengths
 less_none : {A : Type 0} (x : A) (xs : List A) → nat_cmp 0 (length (x ∷ xs)) ≡ Less
 less_none x xs = sym (nat_cmp_is 0 (length (x ∷ xs)) Less (omega arith))
 
@@ -52,7 +52,7 @@ last_more : (a : List ℕ) (t : ℕ) → byte_cmp (a ++ t ∷ []) [] ≡ Greater
 last_more [] t = refl
 last_more (c ∷ a) t = refl
 
--- texts of which the one is empty
+-- texts, one of them empty
 pub ends-cmp : (a b : List ℕ) (t u : ℕ) → (a ≡ []) ⊎ (b ≡ []) → ordering_then (nat_cmp (first_of a t) (first_of b u)) (nat_cmp (length a) (length b)) ≡ byte_cmp (a ++ t ∷ []) (b ++ u ∷ [])
 ends-cmp [] [] t u one = refl
 ends-cmp [] (c ∷ b) t u one = ap (ordering_then (nat_cmp t c)) (less_none c b ∙ sym (last_less b u))

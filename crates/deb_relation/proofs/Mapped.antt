@@ -1,4 +1,4 @@
--- Tests of lists of values that stand for members.
+-- Tests of lists of values that represent members.
 use Rattle.std.proofs.Common.{◌≡◌, Bool, ◌&&◌, ◌||◌, List, [], ◌∷◌, map, refl, ap}
 use Rattle.std.specs.List.{list_all, list_any}
 

@@ -16,7 +16,7 @@ use Rattle.deb_relation.proofs.Gathering.{IsStep}
 use Rattle.deb_relation.proofs.ReadParts.{either, WentOn, went_on, stopped-no, ok-same, begins_is, TookWhite}
 use Rattle.deb_relation.proofs.Runs.{Passes, Stops, run_of-split, run_of-passes, behind_run-stops}
 
--- an item that is read, and what is behind it
+-- an item that is read, and what is after it
 pub record TookItem {A : Type 0} (text : A → List ℕ) (close : ℕ) (Good : A → Type 0) (rest : List ℕ) (q : A × List ℕ) : Type 0 where
   pub white : List ℕ
   pub split : rest ≡ white ++ (text q.0 ++ q.1)
@@ -24,7 +24,7 @@ pub record TookItem {A : Type 0} (text : A → List ℕ) (close : ℕ) (Good : A
   pub good : Good q.0
   pub stops : Stops (is_before close) q.1
 
--- behind an item white space comes, before a further one
+-- after an item white space comes, before a further one
 apart_item : (close : ℕ) (white item behind more : List ℕ) → IsWhite white → item ≢ [] → Passes (is_before close) item → Stops (is_before close) ((white ++ (item ++ behind)) ++ more) → IsApart (white ++ (item ++ behind))
 apart_item close [] [] behind more w some run stops = absurd (some refl)
 apart_item close [] (b ∷ bs) behind more w some run stops = absurd (false≢true (sym stops ∙ run.0))
@@ -42,7 +42,7 @@ record Gathered {A : Type 0} (text key : A → List ℕ) (close : ℕ) (Good : A
   ended : ends_list close (behind_white q.1) ≡ true
   pub spells : (white more : List ℕ) → IsWhite white → q.1 ≡ white ++ close ∷ more → (inner : List ℕ) × (rest ≡ inner ++ close ∷ more) × SpellItems inner (map text items)
 
--- a whole list behind its opening byte
+-- a whole list after its opening byte
 pub record TookList {A : Type 0} (text key : A → List ℕ) (close : ℕ) (Good : A → Type 0) (rest : List ℕ) (q : List A × List ℕ) : Type 0 where
   pub inner : List ℕ
   pub more : List ℕ

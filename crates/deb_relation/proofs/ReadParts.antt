@@ -73,7 +73,7 @@ qualifier_took text q e =
     not_false true e = refl
     not_false false e = cc
 
--- the same where white space is skipped before it and behind it
+-- the same where white space is skipped before it and after it
 pub record TookWhite {A : Type 0} (spells : List ℕ → A → Type 0) (text : List ℕ) (q : A × List ℕ) : Type 0 where
   pub piece : List ℕ
   pub more : List ℕ
@@ -81,7 +81,7 @@ pub record TookWhite {A : Type 0} (spells : List ℕ → A → Type 0) (text : L
   pub behind : q.1 ≡ behind_white more
   pub spelled : spells piece q.0
 
--- a run that is told by its text
+-- the run that a text begins with
 is_text : (run : List ℕ) (text : List ℕ) (o : Op) (rest : Option Op) (op : Op) → SpellsOperator text o → cond (bytes_eq run text) (Some o) rest ≡ Some op → (rest ≡ Some op → SpellsOperator run op) → SpellsOperator run op
 is_text run text o rest op spells e others =
     either (bytes_eq run text) (Some o) rest (Some op) e
@@ -146,7 +146,7 @@ version_took text q e = from (first_fault (run_of (is_before 41) text)) refl e
       white = run_of-passes is_white (behind_run (is_before 41) text);
     })
 
--- what stands behind `(` and white space
+-- what follows `(` and white space
 record TookBehind (text : List ℕ) (q : (Op × Version) × List ℕ) : Type 0 where
   operator : List ℕ
   between : List ℕ

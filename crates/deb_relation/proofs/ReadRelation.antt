@@ -60,7 +60,7 @@ alternative_took text q e =
       };
     })
 
--- alternatives behind the first, each behind its bar
+-- alternatives after the first, each after its bar
 abbrev are_more : Group → List ℕ → List ℕ → Type 0
 are_more [] rest behind = rest ≡ behind
 are_more (a ∷ group) rest behind = (piece : List ℕ) × (rest ≡ 124 ∷ (piece ++ behind)) × SpellsGroup piece (a ∷ group)
@@ -129,7 +129,7 @@ group_took text q e =
     let m = more_took (length s.first.1) s.first.1 (s.first.0 ∷ []) q s.then in
     subst (λ g. Took SpellsGroup text (g, q.1)) (sym m.set) (first_and_more s.first.0 m.group text t.piece s.first.1 q.1 t.split t.spelled m.are)
 
--- a piece and the comma behind it, or the last piece
+-- a piece and the comma after it, or the last piece
 pub record TookPiece (text : List ℕ) (q : Option Group × List ℕ) : Type 0 where
   pub piece : List ℕ
   pub spelled : SpellsPiece piece q.0
@@ -162,7 +162,7 @@ piece_took text q e =
     (λ _ e2. let s = went_on (read_group (behind_white text)) piece_behind (Some q) e2 in
     group_piece text s.first.0 s.first.1 q (group_took text s.first s.was) s.then))
 
--- a piece leaves fewer bytes: behind the last there are none
+-- a piece leaves fewer bytes: after the last there are none
 pub step-next_piece : IsStep next_piece
 unfolding next_piece
 step-next_piece = record { ends = refl; shrinks = λ text piece rest e. by_split text piece rest e (piece_took text (piece, rest) e) }

@@ -31,7 +31,7 @@ run_of-whole test run rest all stops = ap (λ n. take n (run ++ rest)) (prefix_l
 pub behind_run-whole : (test : ℕ → Bool) (run rest : List ℕ) → Passes test run → Stops test rest → behind_run test (run ++ rest) ≡ rest
 behind_run-whole test run rest all stops = ap (λ n. drop n (run ++ rest)) (prefix_len-whole test run rest all stops) ∙ drop-append_seam run rest
 
--- a run and what is behind it make up the text
+-- a run and what is after it make up the text
 pub run_of-split : (test : ℕ → Bool) (text : List ℕ) → text ≡ run_of test text ++ behind_run test text
 run_of-split test text = sym (take-append-drop (prefix_len test text) text)
 
@@ -58,7 +58,7 @@ pub stops-append : (test : ℕ → Bool) (text rest : List ℕ) → Stops test t
 stops-append test [] rest s t = t
 stops-append test (b ∷ bs) rest s t = s
 
--- a text of which no byte passes
+-- a text in which no byte passes
 pub stops-each : (P : ℕ → Type 0) (test : ℕ → Bool) → ((b : ℕ) → P b → test b ≡ false) → (text : List ℕ) → AllByRecursion P text → Stops test text
 stops-each P test not [] all = tt
 stops-each P test not (b ∷ bs) all = not b all.0

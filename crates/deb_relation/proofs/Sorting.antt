@@ -1,4 +1,4 @@
--- A list that is sorted by texts, of which repeats then go, is the set of its members.
+-- A list that is sorted by texts, and then loses its repeats, is the set of its members.
 use Rattle.std.proofs.Common.{◌≡◌, ◌≢◌, ◌⊎◌, inl, inr, ⊎_elim, ℕ, Bool, cond, not, ◌&&◌, List, [], ◌∷◌, ◌++◌, Option, Some, None, sym, ap, ap₂, ◌∙◌, refl, append-nil, arith, filter, length, map, unwrap_or, ◌<◌}
 use Rattle.std.specs.List.{dedup, dedup_from, AllByRecursion}
 use Rattle.std.specs.Ordering.{is_eq, is_lt, ordering_reverse}
@@ -68,7 +68,7 @@ module _ {X : Type 0} (text : X → List ℕ) where
   pass_over p z [] ys n = first-other p z ys n
   pass_over p z (x ∷ xs) ys n = first-more p x (xs ++ z ∷ ys) (xs ++ ys) (pass_over p z xs ys n)
 
-  -- and so are all that come behind p
+  -- and so are all that come after p
   pass_all : (p q : X) (xs ys : List X) → order p q ≡ Equal → AllByRecursion (λ z. order q z ≡ Less) xs → first p (xs ++ ys) ≡ first p ys
   pass_all p q [] ys e all = refl
   pass_all p q (x ∷ xs) ys e all = first-other p x (xs ++ ys) (unequal (order p x) (total.congr p q x e ∙ all.0)) ∙ pass_all p q xs ys e all.1
@@ -96,7 +96,7 @@ module _ {X : Type 0} (text : X → List ℕ) where
   first-set_with p [] set a = ap (first p) (sym (append-nil set))
   first-set_with p (x ∷ xs) set a = first-set_with p xs (insert_by text x set) (ascends-insert_by text x set a) ∙ first-insert_by p x set xs a
 
-  -- a repeat behind one of its text isn't found
+  -- a repeat after one of its text isn't found
   first-dedup_from : (p k : X) (xs : List X) → first p (dedup_from is_same k xs) ≡ first p (k ∷ xs)
   first-dedup_from p k [] = refl
   first-dedup_from p k (x ∷ xs) = by_cases (first-dedup_from p k xs) (first-dedup_from p x xs) (order x k) refl
@@ -168,7 +168,7 @@ module _ {X : Type 0} (text : X → List ℕ) where
       one_list (dedup is_same ys) (set_of text xs) (IsStrictlySortedBy-dedup total (λ x y. refl) ys sorted) (strictly (set_of text xs) (ascends-set_with text xs [] tt))
       (λ p. first-dedup p ys ∙ first-filter p ys ∙ ap head (stable p) ∙ sym (first-filter p xs) ∙ sym (first-set_with p xs [] tt))
 
--- The same of values that stand for members.
+-- The same of values that represent members.
 pub map-sorted : {A X : Type 0} (view : X → A) (text : A → List ℕ) (xs ys zs : List X) → IsSortedBy (is_before (λ x. text (view x))) ys → IsStableBy (is_before (λ x. text (view x))) xs ys → zs ≡ dedup (is_same (λ x. text (view x))) ys → map view zs ≡ set_of text (map view xs)
 map-sorted view text xs ys zs sorted stable left = ap (map view) (left ∙ set_of-sorted (λ x. text (view x)) xs ys sorted stable) ∙ map-set_of view text xs
 

@@ -15,7 +15,7 @@ use Rattle.deb_base.specs.PackageNames.{is_package_byte}
 use Rattle.deb_relation.proofs.SpelledRelation.{Starts, is_end, alternative_read}
 use Rattle.deb_version.specs.PartsLemmas.{cons_not_nil}
 
--- what may stand behind a piece
+-- what may be after a piece
 abbrev pub is_piece_end : ℕ → Bool
 is_piece_end b = b == 44
 
@@ -55,7 +55,7 @@ group_read (a ∷ next ∷ group) text rest spells end =
     let spelt : text ++ rest ≡ spells.0 ++ behind = ap (λ t. t ++ rest) spells.2 ∙ append_assoc spells.0 (124 ∷ spells.1) rest in
     rw (spelt, alternative_read spells.0 a behind spells.3 refl) (more_read (next ∷ group) spells.1 (a ∷ []) rest spells.4 end)
 
--- what stands behind white space in a group's spelling: a name, which begins no further piece
+-- what follows white space in a group's spelling: a name, which begins no further piece
 record IsNamed (text : List ℕ) : Type 0 where
   some : is_at_end (behind_white text) ≡ false
   no_comma : begins 44 (behind_white text) ≡ false
@@ -81,7 +81,7 @@ group_named (a ∷ next ∷ group) text rest spells =
     let spelt : text ++ rest ≡ spells.0 ++ 124 ∷ (spells.1 ++ rest) = ap (λ t. t ++ rest) spells.2 ∙ append_assoc spells.0 (124 ∷ spells.1) rest in
     subst IsNamed (sym spelt) (alternative_named spells.0 a (124 ∷ (spells.1 ++ rest)) spells.3)
 
--- a piece and the comma behind it
+-- a piece and the comma after it
 piece_takes : (piece : Option Group) (text behind : List ℕ) → SpellsPiece text piece → next_piece (text ++ 44 ∷ behind) ≡ Ok (Some (piece, behind))
 unfolding next_piece
 piece_takes None text behind spells =

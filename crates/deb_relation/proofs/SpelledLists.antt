@@ -1,4 +1,4 @@
--- An architecture list, a restriction list and a formula that are spelled are read, whatever stands behind them.
+-- An architecture list, a restriction list and a formula that are spelled are read, whatever is after them.
 use Rattle.std.proofs.Common.{◌≡◌, ◌≢◌, ℕ, Bool, true, false, not, List, [], ◌∷◌, ◌++◌, length, map, IsTrue, Option, Some, None, Ok, refl, sym, ap, ◌∙◌, append_assoc, ◌||◌, ◌==◌, arith}
 use Rattle.std.proofs.lemmas.Bool.{ne_eqb}
 use Rattle.std.proofs.lemmas.Bool.Decides.{Decides-eqb}
@@ -39,7 +39,7 @@ pub empty_list-some : {A : Type 0} (xs : List A) → xs ≢ [] → is_empty_list
 empty_list-some [] some = absurd (some refl)
 empty_list-some (x ∷ xs) some = ne_eqb (length (x ∷ xs)) 0 (λ e. omega arith)
 
--- what stands behind an item ends its run: white space, or the closing byte
+-- what follows an item ends its run: white space, or the closing byte
 apart_stops : (close : ℕ) (behind more : List ℕ) → is_white close ≡ false → IsApart behind → Stops (is_before close) (behind ++ close ∷ more)
 apart_stops close [] more c apart = white_stops_close close [] more c tt
 apart_stops close (b ∷ bs) more c apart = ap (λ v. not (v || (b == close))) apart
@@ -79,7 +79,7 @@ restriction_ends : (white more : List ℕ) → IsWhite white → next_restrictio
 unfolding next_restriction
 restriction_ends white more w = rw (white-past white (62 ∷ more) w refl, ends_list-close 62 more) refl
 
--- an item stands before the end of its list
+-- an item is before the end of its list
 item_stands : (close : ℕ) (item behind : List ℕ) → item ≢ [] → Passes (is_before close) item → ends_list close (item ++ behind) ≡ false
 item_stands close [] behind some run = absurd (some refl)
 item_stands close (b ∷ bs) behind some run = rw (at_end-some (b ∷ (bs ++ behind)) (λ e. cons_not_nil b (bs ++ behind) e), no_close (is_white b) (b == close) run.0) refl

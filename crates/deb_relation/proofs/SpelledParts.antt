@@ -1,4 +1,4 @@
--- A name, a qualifier and a bound that are spelled are read, whatever stands behind them.
+-- A name, a qualifier and a bound that are spelled are read, whatever is after them.
 use Rattle.std.proofs.Common.{◌≡◌, inl, inr, ℕ, false, List, [], ◌∷◌, ◌++◌, IsTrue, Option, Some, None, Ok, refl, sym, ap, ◌∙◌, append_assoc}
 use Rattle.deb_base.specs.PackageNames.{is_package_name}
 use Rattle.deb_version.specs.Parts.{Meaning as Version}
@@ -68,7 +68,7 @@ version_read text m white more spells w =
     (sym (ap behind_white (behind_run-whole (is_before 41) text (white ++ 41 ∷ more) (version_run text all) stops) ∙ white-past white (41 ∷ more) w refl))
     spells
 
--- the pieces of a bound, and the text behind it
+-- the pieces of a bound, and the text after it
 abbrev bound_pieces : List ℕ → List ℕ → List ℕ → List ℕ → List ℕ → List ℕ
 bound_pieces operator between version behind more = operator ++ (between ++ (version ++ (behind ++ 41 ∷ more)))
 
@@ -83,7 +83,7 @@ bound_behind_read bound operator between version behind more is w spells w' =
 reordered : (before within operator between version behind more : List ℕ) → (before ++ (40 ∷ (within ++ (operator ++ (between ++ (version ++ (behind ++ 41 ∷ []))))))) ++ more ≡ before ++ (40 ∷ (within ++ bound_pieces operator between version behind more))
 reordered before within operator between version behind more = simp append_assoc refl
 
--- a bound or nothing: white space before it is skipped, and so is that behind it
+-- a bound or nothing: white space before it is skipped, and so is that after it
 pub bound_read : (text : List ℕ) (bound : Option (Op × Version)) (more : List ℕ) → SpellsBound text bound → begins 40 (behind_white more) ≡ false → read_bound (behind_white (text ++ more)) ≡ Ok (bound, behind_white more)
 unfolding read_bound
 bound_read text None more is other = rw (is, other) refl

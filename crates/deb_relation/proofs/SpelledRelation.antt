@@ -15,7 +15,7 @@ abbrev pub Starts : (ℕ → Bool) → List ℕ → Type 0
 Starts test [] = Unit {0}
 Starts test (b ∷ bs) = IsTrue (test b)
 
--- what may stand behind an alternative and white space; behind that and a formula; and so on
+-- what may be after an alternative and white space; after that and a formula; and so on
 abbrev pub is_end : ℕ → Bool
 is_end b = (b == 44) || (b == 124)
 
@@ -75,7 +75,7 @@ after_name b p = by_sides (is_white b) (b == 40) (b == 91) (b == 60) (b == 44) (
         last false false z u false true e = refl
         last false false z u false false e = cc
 
--- what stands behind an alternative's name, from its end to its beginning
+-- what follows an alternative's name, from its end to its beginning
 module _ (behind rest : List ℕ) (w : IsWhite behind) (end : Starts is_end rest) where
   behind_read : behind_white (behind ++ rest) ≡ rest
   behind_read = white-past behind rest w (starts-stops is_end is_white end_white rest end)

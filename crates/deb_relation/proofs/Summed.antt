@@ -58,7 +58,7 @@ summaries_read : (body : List ℕ) → gather next_summary put_summary [] body �
 unfolding read_relation
 summaries_read body = gather-viewed next_piece next_summary (option_map summary_of) next_viewed put_piece put_summary (map summary_of) put_viewed [] body
 
--- what was told is told of a relation that the body means
+-- the summaries are those of a relation that the body means
 pub record IsTold (body : List ℕ) (told : List Summary) : Type 0 where
   pub read : relation_in body ≡ Ok (meaning_in body)
   pub are : told ≡ map summary_of (meaning_in body)
@@ -87,7 +87,7 @@ pub told_fault : (body : List ℕ) (reason : Reason) (left : ℕ) → gather nex
 unfolding relation_in read_relation
 told_fault body reason left e = ap (λ r. fault_of (placed (length body) r)) (untold body reason left e)
 
--- what is told of the groups is told of the relation
+-- the summaries of the groups are those of the relation
 module _ (body : List ℕ) (groups : List GroupSummary) (is : IsTold body (map told_of groups)) where
   texts_are : (m : Relation) → map summary_key (map summary_of m) ≡ map group_text m
   texts_are [] = refl

@@ -16,7 +16,7 @@ use Rattle.deb_relation.proofs.Gathering.{IsRead, gives-err, read-last, read-mor
 use Rattle.deb_relation.proofs.InPlace.{joined-append}
 use Rattle.deb_relation.proofs.ReadRelation.{step-next_alternative}
 
--- alternatives were read behind the first, of which the summary says all
+-- alternatives were read after the first, and the summary says all of them
 pub record IsSummed (first : Alternative) (text : List ℕ) (summary : Summary) (rest : List ℕ) : Type 0 where
   pub more : List Alternative
   pub read : IsRead next_alternative append (first ∷ []) text (first ∷ more) rest

@@ -1,10 +1,10 @@
--- Steps of which others are views.
+-- Steps, and other steps that are views of them.
 use Rattle.std.proofs.Common.{◌≡◌, ℕ, zero, suc, ◌<◌, List, [], length, Some, None, Ok, Err, refl, sym, ap, ◌∙◌, arith}
 use Rattle.deb_relation.specs.Reading.{Next, and_next, mapped, gathered, gather}
 use Rattle.deb_relation.proofs.Gathering.{IsStep}
 use Rattle.deb_relation.proofs.ReadLists.{none_some, some_same}
 
--- a step of which the other is a view
+-- the second step is a view of the first
 abbrev pub mapped_next : {A B : Type 0} → (A → B) → Next A → Next B
 mapped_next f (Ok None) = Ok None
 mapped_next f (Ok (Some p)) = Ok (Some (f p.0, p.1))

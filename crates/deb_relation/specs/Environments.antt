@@ -1,4 +1,4 @@
--- What an `Env` stands for.
+-- What an `Env` represents.
 use Rattle.std.proofs.Common.{◌≡◌, ℕ, List, [], ◌∷◌, Vec, map, codes, refl, ap}
 use Rattle.std.specs.declared.alloc.Global.{Global}
 use Rattle.deb_relation.specs.declared.environment.Env.{Env}

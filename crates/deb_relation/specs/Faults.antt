@@ -1,5 +1,5 @@
--- Why a text spells no relation: the first step of its reading that fails, with its place, an
--- offset in the text. The order of the steps and the places are this project's.
+-- Why a text spells no relation: the first step of its reading that fails, with its offset in the
+-- text. The order of the steps and the offsets are this project's.
 use Rattle.std.specs.Prelude.{ℕ, List, Option, Some, None, Result, Ok, Err}
 use Rattle.deb_relation.specs.declared.fault.Reason.{Reason}
 use Rattle.deb_relation.specs.Meaning.{Relation}

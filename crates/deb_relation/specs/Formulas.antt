@@ -1,4 +1,4 @@
--- What the lists of a formula stand for while they are ordered.
+-- What the lists of a formula represent while they are ordered.
 use Rattle.std.proofs.Common.{◌≡◌, ℕ, true, false, List, [], ◌∷◌, codes, ap}
 use Rattle.deb_version.specs.Lent.{lent}
 use Rattle.deb_relation.specs.declared.profile_list.ProfileList.{ProfileList}

@@ -31,14 +31,14 @@ set_with text (x ∷ xs) set = set_with text xs (insert_by text x set)
 abbrev pub set_of : {A : Type 0} → (A → List ℕ) → List A → List A
 set_of text xs = set_with text xs []
 
--- A text in turn: each piece of it spells its member, one piece directly behind the other.
+-- A text in turn: each piece of it spells its member, one piece directly after the other.
 abbrev pub SpellInTurn : {A : Type 0} → (List ℕ → A → Type 0) → List ℕ → List A → Type 0
 SpellInTurn spells text [] = text ≡ []
 SpellInTurn spells text (a ∷ all) =
     (piece : List ℕ) × (behind : List ℕ) × (text ≡ piece ++ behind) × spells piece a
     × SpellInTurn spells behind all
 
--- A text in pieces with this byte between two of them, one piece at least, each of which spells its
+-- A text in pieces with this byte between two of them, one piece at least, where each spells its
 -- member.
 abbrev pub SpellBetween : {A : Type 0} → ℕ → (List ℕ → A → Type 0) → List ℕ → List A → Type 0
 SpellBetween byte spells text [] = ⊥
@@ -62,7 +62,7 @@ SpellsOperator text Equal = text ≡ codes "="
 SpellsOperator text LaterEqual = (text ≡ codes ">=") ⊎ (text ≡ codes ">")
 SpellsOperator text Later = text ≡ codes ">>"
 
--- A bound: white space, `(`, an operator, a version, `)`. White space may stand on both sides of
+-- A bound: white space, `(`, an operator, a version, `)`. White space may be on both sides of
 -- the operator and of the version.
 pub record IsBound (text : List ℕ) (bound : Op × Version) : Type 0 where
   pub before : List ℕ
@@ -92,7 +92,7 @@ abbrev pub IsApart : List ℕ → Type 0
 IsApart [] = Unit {0}
 IsApart (b ∷ bs) = IsTrue (is_white b)
 
--- items in turn, white space between two of them, and perhaps before the first and behind the last
+-- items in turn, white space between two of them, and perhaps before the first and after the last
 abbrev pub SpellItems : List ℕ → List (List ℕ) → Type 0
 SpellItems text [] = IsWhite text
 SpellItems text (item ∷ items) =
@@ -100,7 +100,7 @@ SpellItems text (item ∷ items) =
     × IsApart behind × SpellItems behind items
 
 -- An architecture list: white space, `[`, one or more items, `]`. An item is the name of an
--- architecture; `!` stands directly before each or before none. The list means the set of its
+-- architecture; `!` is directly before each or before none. The list means the set of its
 -- names.
 pub record IsArchitectures (text : List ℕ) (list : Bool × List (List ℕ)) : Type 0 where
   pub before : List ℕ
@@ -130,7 +130,7 @@ pub record SpellsRestrictions (text : List ℕ) (list : Restrictions) : Type 0 w
   pub are_profiles : AllByRecursion (λ item. IsTrue (is_profile_name item.1)) members
   pub set : list ≡ set_of item_text members
 
--- An alternative: white space, the name of a package, and what stands behind it, each thing or
+-- An alternative: white space, the name of a package, and what follows it, each thing or
 -- nothing: a qualifier, a bound, an architecture list, restriction lists, white space. It means the
 -- set of its restriction lists.
 pub record SpellsAlternative (text : List ℕ) (a : Alternative) : Type 0 where

@@ -1,4 +1,4 @@
--- What groups of the code stand for.
+-- What groups of the code represent.
 use Rattle.std.proofs.Common.{◌≡◌, ℕ, List, [], ◌∷◌, map, Option, Some, None, refl, ap}
 use Rattle.deb_relation.specs.declared.alternative.Alternative.{Alternative as Parts}
 use Rattle.std.specs.Option.{option_map}
@@ -16,7 +16,7 @@ group_of group = map alternative_of group.alternatives.items
 abbrev pub group_key : Alternatives → List ℕ
 group_key group = group_text (group_of group)
 
--- a piece's meaning and the text behind it
+-- a piece's meaning and the text after it
 abbrev pub piece_behind : Option Alternatives × Bor (List ℕ) → Option Group × List ℕ
 piece_behind p = (option_map group_of p.0, p.1.now)
 

@@ -1,4 +1,4 @@
--- The bytes of a text that is kept, lent or owned.
+-- The bytes of a text that is kept, borrowed or owned.
 use Rattle.std.specs.Prelude.{◌≡◌, ℕ, List, Vec, codes, refl}
 use Rattle.std.specs.declared.alloc.Global.{Global}
 use Rattle.deb_relation.specs.declared.kept_text.KeptText.{KeptText}

@@ -60,9 +60,8 @@ Ascends text (x ∷ y ∷ ys) = (byte_cmp (text x) (text y) ≡ Less) × Ascends
 abbrev pub GroupsAscend : Type 0
 GroupsAscend = (text : List ℕ) (m : Relation) → SpellsRelation text m → Ascends group_text m
 
--- The place of a fault is within the text, or at its end: the step that fails there is the one that
--- the reading stops at, and what is left of the text from there on makes up the text with what
--- stands before.
+-- The offset of a fault is within the text, or at its end: the reading stops at the step that fails
+-- there, and the text is what precedes that offset and what is left from there on.
 abbrev pub FaultsStandInTheirText : Type 0
 FaultsStandInTheirText =
     (text : List ℕ) (reason : Reason) (at : ℕ) → first_fault text ≡ Some (reason, at)

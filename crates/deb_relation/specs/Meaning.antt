@@ -4,7 +4,7 @@ use Rattle.std.specs.Prelude.{ℕ, Bool, List, Option}
 use Rattle.deb_relation.specs.declared.operator.Op.{Op}
 use Rattle.deb_version.specs.Parts.{Meaning as Version}
 
--- an item of a restriction list: whether `!` stands before it, and the profile
+-- an item of a restriction list: whether `!` is before it, and the profile
 abbrev pub Item : Type 0
 Item = Bool × List ℕ
 

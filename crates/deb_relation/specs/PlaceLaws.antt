@@ -1,4 +1,4 @@
--- What the place of a fault is: what comes before it can be continued to a relation. Debian Policy
+-- What the offset of a fault is: what comes before it can be continued to a relation. Debian Policy
 -- 7.1.
 use Rattle.std.specs.Prelude.{◌≡◌, ℕ, List, ◌++◌, length, Some}
 use Rattle.deb_relation.specs.declared.fault.Reason.{Reason}
@@ -10,7 +10,7 @@ use Rattle.deb_relation.specs.Meaning.{Relation}
 abbrev pub BeginsRelation : List ℕ → Type 0
 BeginsRelation text = (more : List ℕ) × (m : Relation) × SpellsRelation (text ++ more) m
 
--- A place of a text: what comes before it begins a relation.
+-- An offset of a text: what comes before it begins a relation.
 pub record IsReached (text : List ℕ) (at : ℕ) : Type 0 where
   pub before : List ℕ
   pub after : List ℕ
@@ -18,7 +18,7 @@ pub record IsReached (text : List ℕ) (at : ℕ) : Type 0 where
   pub place : length before ≡ at
   pub begins : BeginsRelation before
 
--- So is the place of each fault, whatever its reason.
+-- The offset of each fault is one, whatever its reason.
 abbrev pub PlacesAreReached : Type 0
 PlacesAreReached =
     (text : List ℕ) (reason : Reason) (at : ℕ) → first_fault text ≡ Some (reason, at)

@@ -6,7 +6,7 @@ use Rattle.deb_relation.specs.Meaning.{Restrictions}
 use Rattle.deb_relation.specs.Reading.{is_empty_list}
 use Rattle.deb_relation.specs.Texts.{item_text}
 
--- whether there are items, each of which names a profile
+-- whether there are items, and all of them name a profile
 abbrev pub are_profiles : Restrictions → Bool
 are_profiles items = not (is_empty_list items) && list_all (λ item. is_profile_name item.1) items
 

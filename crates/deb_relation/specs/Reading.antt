@@ -1,5 +1,5 @@
--- How a relation is read from the left: each step of the grammar with what it takes, and where the
--- first step that fails stands. Debian Policy 7.1; the order of the steps and the places of faults
+-- How a relation is read from the left: each step of the grammar with what it takes, and the offset
+-- of the first step that fails. Debian Policy 7.1; the order of the steps and the offsets of faults
 -- are this project's.
 use Rattle.std.specs.Prelude.{ℕ, zero, suc, ◌-◌, ◌==◌, ◌||◌, not, Bool, false, if◌then◌else◌, List, [], ◌∷◌, ◌++◌, length, take, drop, Option, Some, None, Result, Ok, Err, codes}
 use Rattle.std.specs.List.{prefix_len}
@@ -19,20 +19,20 @@ use Rattle.deb_relation.specs.Meaning.{Item, Restrictions, Alternative, Group, R
 use Rattle.deb_relation.specs.Sets.{insert_by, itself, same_bool}
 use Rattle.deb_relation.specs.Texts.{item_text, restrictions_text, group_text}
 
--- A step that fails: the reason, and how many bytes are left from its place to the end of the text.
+-- A step that fails: the reason, and how many bytes the text has from its offset on.
 abbrev pub Stopped : Type 0
 Stopped = Reason × ℕ
 
--- What was read and the text behind it, or the step that fails.
+-- What was read and the text after it, or the step that fails.
 abbrev pub Reading : Type 0 → Type 0
 Reading A = Result (A × List ℕ) Stopped
 
--- One of several things read and the text behind it, or none if there is no further one, or the
+-- One of several things read and the text after it, or none if there is no further one, or the
 -- step that fails.
 abbrev pub Next : Type 0 → Type 0
 Next A = Result (Option (A × List ℕ)) Stopped
 
--- one step and then another, on what was read and the text behind it
+-- one step and then another, on what was read and the text after it
 abbrev pub and_then : {A B : Type 0} → Reading A → (A → List ℕ → Result B Stopped)
     → Result B Stopped
 and_then (Ok p) next = next p.0 p.1
@@ -60,14 +60,14 @@ gathered step put (suc n) all rest =
 unfoldable pub gather : {A S : Type 0} → (List ℕ → Next A) → (A → S → S) → S → List ℕ → Reading S
 gather step put all rest = gathered step put (length rest) all rest
 
--- the longest run of bytes that pass the test, and the text behind it
+-- the longest run of bytes that pass the test, and the text after it
 abbrev pub run_of : (ℕ → Bool) → List ℕ → List ℕ
 run_of test text = take (prefix_len test text) text
 
 abbrev pub behind_run : (ℕ → Bool) → List ℕ → List ℕ
 behind_run test text = drop (prefix_len test text) text
 
--- the text behind white space
+-- the text after white space
 abbrev pub behind_white : List ℕ → List ℕ
 behind_white text = behind_run is_white text
 
@@ -129,7 +129,7 @@ abbrev pub or_stop : {A : Type 0} → Option A → List ℕ → Stopped → Read
 or_stop (Some a) behind stopped = Ok (a, behind)
 or_stop None behind stopped = Err stopped
 
--- an operator, and white space behind it
+-- an operator, and white space after it
 unfoldable pub read_operator : List ℕ → Reading Op
 read_operator text =
     or_stop (operator_of (run_of is_in_operator text))
@@ -140,15 +140,15 @@ abbrev pub or_fault : Option BadVersion → Version → List ℕ → ℕ → Rea
 or_fault None version behind left = Ok (version, behind)
 or_fault (Some fault) version behind left = Err (VersionBad fault, left)
 
--- a version, and white space behind it
+-- a version, and white space after it
 unfoldable pub read_version : List ℕ → Reading Version
 read_version text =
     or_fault (first_fault (run_of (is_before 41) text))
     (meaning_of_components (components_in (run_of (is_before 41) text)))
     (behind_white (behind_run (is_before 41) text)) (length text)
 
--- what stands behind a bound's `(` and white space: an operator, a version and `)`, and white space
--- behind it
+-- what follows a bound's `(` and white space: an operator, a version and `)`, and white space
+-- after it
 abbrev pub read_close : {A : Type 0} → A → List ℕ → Reading A
 read_close bound text =
     if begins 41 text then Ok (bound, behind_white (drop 1 text)) else Err (Unclosed, length text)
@@ -172,7 +172,7 @@ read_bound text =
 abbrev pub ends_list : ℕ → List ℕ → Bool
 ends_list close text = is_at_end text || begins close text
 
--- the name of an item: what stands behind its `!`, if it has one
+-- the name of an item: what follows its `!`, if it has one
 abbrev pub name_of_item : List ℕ → List ℕ
 name_of_item item = if begins 33 item then drop 1 item else item
 
@@ -198,7 +198,7 @@ next_restriction text =
 abbrev pub is_empty_list : {A : Type 0} → List A → Bool
 is_empty_list items = length items == 0
 
--- the end of a list, empty or not, and white space behind it; a text that ends first has no byte
+-- the end of a list, empty or not, and white space after it; a text that ends first has no byte
 -- left
 unfoldable pub read_list_end : Bool → List ℕ → Result (List ℕ) Stopped
 read_list_end empty text =
@@ -215,7 +215,7 @@ with_behind a (Err stopped) = Err stopped
 abbrev pub end_list : {A : Type 0} → List A → List ℕ → Reading (List A)
 end_list items text = with_behind items (read_list_end (is_empty_list items) text)
 
--- what stands behind `[`: the names, a set
+-- what follows `[`: the names, a set
 unfoldable pub read_names : Bool → List ℕ → Reading (List (List ℕ))
 read_names negated text =
     and_then (gather (next_architecture negated) (insert_by itself) [] text) end_list
@@ -227,7 +227,7 @@ read_architectures text =
     if begins 91 text then and_then (read_names negated (drop 1 text))
     (λ names rest. Ok (Some (negated, names), rest)) else Ok (None, text)
 
--- what stands behind `<`: the items, a set
+-- what follows `<`: the items, a set
 unfoldable pub read_restrictions : List ℕ → Reading Restrictions
 read_restrictions text = and_then (gather next_restriction (insert_by item_text) [] text) end_list
 
@@ -254,7 +254,7 @@ alternative_with name qualifier bound architectures formula =
       formula = formula;
     }
 
--- an alternative, and white space behind it
+-- an alternative, and white space after it
 unfoldable pub read_alternative : List ℕ → Reading Alternative
 read_alternative text =
     and_then (read_name text) (λ name text1.
@@ -264,22 +264,22 @@ read_alternative text =
     and_then (read_formula text4) (λ formula behind.
     Ok (alternative_with name qualifier bound architectures formula, behind))))))
 
--- the next alternative of a group, behind `|`
+-- the next alternative of a group, after `|`
 unfoldable pub next_alternative : List ℕ → Next Alternative
 next_alternative text =
     if begins 124 text then and_then
     (read_alternative (behind_white (drop 1 text))) some_next else Ok None
 
--- alternatives stand in their order, repeats kept
+-- alternatives are in their order, repeats kept
 abbrev pub append : {A : Type 0} → A → List A → List A
 append a all = all ++ a ∷ []
 
--- a group, and white space behind it
+-- a group, and white space after it
 unfoldable pub read_group : List ℕ → Reading Group
 read_group text =
     and_then (read_alternative text) (λ a rest. gather next_alternative append (a ∷ []) rest)
 
--- a piece between commas: a group, or none where it is white space alone; and the text behind its
+-- a piece between commas: a group, or none where it is white space alone; and the text after its
 -- comma
 abbrev pub piece_behind : Group → List ℕ → Next (Option Group)
 piece_behind group text =

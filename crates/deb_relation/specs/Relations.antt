@@ -1,4 +1,4 @@
--- What relations of the code stand for, and what is asked of them.
+-- What relations of the code represent, and what is asked of them.
 use Rattle.std.proofs.Common.{◌≡◌, ℕ, [], ◌∷◌, map, Option, Some, Result, Ok, Err, ap}
 use Rattle.deb_relation.specs.declared.group.Group.{Group as Alternatives}
 use Rattle.deb_relation.specs.declared.fault.Reason.{Reason}

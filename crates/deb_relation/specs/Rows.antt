@@ -70,7 +70,7 @@ ends_of_architectures = refl
 ends_of_profiles : filter (λ b. not (is_before 62 b)) (range_with_len 0 256) ≡ codes "\t\n >"
 ends_of_profiles = refl
 
--- The first step that fails, and its place.
+-- The first step that fails, and its offset.
 refused-1 : first_fault (codes "a") ≡ Some (NameBad, 0)
 unfolding steps relation_in group_text
 refused-1 = refl
@@ -293,7 +293,7 @@ order-5 : first_fault (codes "aa \r") ≡ Some (Trailing, 3)
 unfolding steps relation_in group_text
 order-5 = refl
 
--- Of two steps that can fail at one place the earlier one is told.
+-- If two steps fail at one offset, the earlier one is reported.
 earlier-1 : first_fault (codes ":any") ≡ Some (NameExpected, 0)
 unfolding steps relation_in group_text
 earlier-1 = refl
@@ -458,7 +458,7 @@ short-1 : text_of (relation_in (codes "aa [x] <y>")) ≡ Ok (codes "aa [x] <y>")
 unfolding steps relation_in group_text
 short-1 = refl
 
--- A place counts bytes from the text's begin, white space and earlier groups among them.
+-- An offset counts bytes from the text's begin, white space and earlier groups among them.
 place-1 : first_fault (codes "\n aa,\n bb (>> 1:)") ≡ Some (VersionBad UpstreamEmpty, 14)
 unfolding steps relation_in group_text
 place-1 = refl

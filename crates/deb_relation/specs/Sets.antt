@@ -15,7 +15,7 @@ by_order Less less equal greater = less
 by_order Equal less equal greater = equal
 by_order Greater less equal greater = greater
 
--- a member put into a set: at its place, or nowhere if a member of its text is there
+-- a member put into a set: in its order, or nowhere if a member of its text is there
 abbrev pub insert_by : {A : Type 0} → (A → List ℕ) → A → List A → List A
 insert_by text x [] = x ∷ []
 insert_by text x (y ∷ ys) =

@@ -51,7 +51,7 @@ worked-commas = record {
   set = refl;
 }
 
--- groups are a set: their order doesn't matter, nor that one stands twice
+-- groups are a set: neither their order nor a repeat matters
 worked-groups :
     SpellsRelation (codes "bb,aa,bb ") ((bare (codes "aa") ∷ []) ∷ (bare (codes "bb") ∷ []) ∷ [])
 unfolding bare group_text
@@ -75,7 +75,7 @@ worked-groups = record {
   set = refl;
 }
 
--- alternatives stand in their order, repeats kept
+-- alternatives are in their order, repeats kept
 worked-alternatives :
     SpellsRelation (codes "bb |aa|bb")
     ((bare (codes "bb") ∷ bare (codes "aa") ∷ bare (codes "bb") ∷ []) ∷ [])

@@ -1,4 +1,4 @@
--- How an answer of the code stands to a reading of the specification.
+-- How an answer of the code relates to a reading of the specification.
 use Rattle.std.specs.Prelude.{◌≡◌, ℕ, List, length, codes, refl, Option, Some, None, Result, Ok, Err}
 use Rattle.deb_relation.specs.declared.fault.Reason.{Reason}
 use Rattle.deb_relation.specs.declared.fault.Stop.{Stop}
@@ -11,7 +11,7 @@ Gives (Ok a) view reading = reading ≡ Ok (view a)
 Gives (Err (Bad reason left)) view reading = reading ≡ Err (reason, left)
 Gives (Err Memory) view reading = Unit {0}
 
--- a view of what was read and of the text behind it, where there is a further one
+-- a view of what was read and of the text after it, where there is a further one
 abbrev pub next_of : {A B : Type 0} → (A → B) → Option A → Option B
 next_of view None = None
 next_of view (Some a) = Some (view a)
@@ -20,7 +20,7 @@ worked-next_of : (next_of {A = List ℕ} {B = ℕ} length None ≡ None)
     × (next_of {A = List ℕ} {B = ℕ} length (Some (codes "aa")) ≡ Some 2)
 worked-next_of = (refl, refl)
 
--- a step that fails has the reading's reason and place, and what was read is the reading's
+-- a step that fails has the reading's reason and offset, and what was read is the reading's
 stopped_whole : (A B : Type 0) (view : A → B) (reading : Result B Stopped) (reason : Reason)
     (left : ℕ) → Gives (Err (Bad reason left)) view reading → reading ≡ Err (reason, left)
 stopped_whole A B view reading reason left gives = gives

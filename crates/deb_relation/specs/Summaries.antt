@@ -26,7 +26,7 @@ summary_of group =
 abbrev pub summary_key : Summary → List ℕ
 summary_key summary = summary.text
 
--- a group, and white space behind it
+-- a group, and white space after it
 unfoldable pub read_summary : List ℕ → Reading Summary
 read_summary text = mapped summary_of (read_group text)
 

@@ -1,4 +1,4 @@
--- What the summaries of the code stand for.
+-- What the summaries of the code represent.
 use Rattle.std.specs.Prelude.{◌≡◌, ℕ, true, false, List, Option, Some, None, codes, refl}
 use Rattle.std.specs.Option.{option_map}
 use denote.Ref.{Bor}
@@ -15,7 +15,7 @@ told_of group = summary_with (bytes_of group.text) group.has_two group.only_equa
 abbrev pub told_key : GroupSummary → List ℕ
 told_key group = bytes_of group.text
 
--- a piece's summary and the text behind it
+-- a piece's summary and the text after it
 abbrev pub told_behind : Option GroupSummary × Bor (List ℕ) → Option Summary × List ℕ
 told_behind p = (option_map told_of p.0, p.1.now)
 

@@ -35,7 +35,7 @@ item_text item = signed_text item.0 item.1
 abbrev pub restrictions_text : Restrictions → List ℕ
 restrictions_text items = codes "<" ++ (joined (codes " ") (map item_text items) ++ codes ">")
 
--- what stands behind the name: nothing, or `:` and the qualifier
+-- what follows the name: nothing, or `:` and the qualifier
 abbrev pub qualifier_text : Option (List ℕ) → List ℕ
 qualifier_text None = []
 qualifier_text (Some qualifier) = codes ":" ++ qualifier

@@ -1,4 +1,4 @@
--- What the values of the code stand for: the meanings of a relation's parts.
+-- What the values of the code represent: the meanings of a relation's parts.
 use Rattle.std.proofs.Common.{◌≡◌, ℕ, Bool, true, false, List, [], ◌∷◌, Option, Some, None, map, codes, refl, ap}
 use Rattle.std.specs.Option.{option_copied, option_map}
 use denote.Ref.{Bor}
@@ -40,14 +40,14 @@ name_key name = name.now
 abbrev pub restrictions_of : Vec (Bool × Bor (List ℕ)) Global → Restrictions
 restrictions_of list = items_of list.items
 
--- what was read, and the text behind it
+-- what was read, and the text after it
 abbrev pub text_behind : Bor (List ℕ) × Bor (List ℕ) → List ℕ × List ℕ
 text_behind p = (p.0.now, p.1.now)
 
 abbrev pub item_behind : (Bool × Bor (List ℕ)) × Bor (List ℕ) → Item × List ℕ
 item_behind p = (item_of p.0, p.1.now)
 
--- the bound and the architecture list that are lent
+-- the bound and the architecture list that are borrowed
 abbrev pub lent_bound_of : Op × Bor Spelled → Op × Version
 lent_bound_of bound = (bound.0, meaning_of bound.1.now)
 

@@ -14,7 +14,7 @@ use crate::formula::append_item;
 use crate::items::{next_architecture, sort_names};
 use std::alloc::{AllocError, Global};
 
-/// What is left behind the end of a list and white space; a list has an item at least.
+/// What is left after the end of a list and white space; a list has an item at least.
 #[tactic(auto, unfolding(crate::specs::Reading::read_list_end))]
 pub(crate) fn read_list_end(text: &[u8], is_empty: bool) -> Result<&[u8], Stop>
     ensures { Gives result (λ rest. rest.now) (read_list_end is_empty text.now) }
@@ -59,7 +59,7 @@ fn read_set(alloc: Global, text: &[u8], negated: bool) -> Result<(Vec<&[u8]>, &[
     Ok((names, rest))
 }
 
-/// The names of a list behind its `[`, and what is left behind it and white space.
+/// The names of a list after its `[`, and what is left after it and white space.
 #[tactic(auto, unfolding(crate::specs::Reading::read_names))]
 fn read_names(alloc: Global, text: &[u8], negated: bool) -> Result<(Vec<&[u8]>, &[u8]), Stop>
     ensures { Gives result (λ p. (names_of p.0.items, p.1.now)) (read_names negated text.now) }
@@ -69,7 +69,7 @@ fn read_names(alloc: Global, text: &[u8], negated: bool) -> Result<(Vec<&[u8]>, 
     Ok((names, rest))
 }
 
-/// The architecture list, or nothing; and what is left behind it and white space.
+/// The architecture list, or nothing; and what is left after it and white space.
 #[tactic(auto, unfolding(crate::specs::Reading::read_architectures))]
 pub(crate) fn read_architectures(
     alloc: Global,

@@ -34,7 +34,7 @@ fn operator_of(run: &[u8]) -> Option<Op>
     }
 }
 
-/// The operator, and what is left behind it and white space.
+/// The operator, and what is left after it and white space.
 #[tactic(auto, unfolding(crate::specs::Reading::read_operator))]
 fn read_operator(text: &[u8]) -> Result<(Op, &[u8]), Stop>
     ensures { Gives result (λ p. (p.0, p.1.now)) (read_operator text.now) }
@@ -49,7 +49,7 @@ fn read_operator(text: &[u8]) -> Result<(Op, &[u8]), Stop>
     }
 }
 
-/// The version, and what is left behind it and white space.
+/// The version, and what is left after it and white space.
 #[tactic(auto, unfolding(crate::specs::Reading::read_version))]
 fn read_version(text: &[u8]) -> Result<(Version<'_>, &[u8]), Stop>
     ensures { Gives result (λ p. (meaning_of p.0, p.1.now)) (read_version text.now) }
@@ -64,7 +64,7 @@ fn read_version(text: &[u8]) -> Result<(Version<'_>, &[u8]), Stop>
     }
 }
 
-/// What stands behind a bound's opening parenthesis and white space, and what is left behind it and
+/// What follows a bound's opening parenthesis and white space, and what is left after it and
 /// white space.
 #[tactic(auto, unfolding(crate::specs::Reading::read_bound_behind))]
 fn read_bound_behind(text: &[u8]) -> Result<((Op, Version<'_>), &[u8]), Stop>
@@ -81,7 +81,7 @@ fn read_bound_behind(text: &[u8]) -> Result<((Op, Version<'_>), &[u8]), Stop>
     Ok(((operator, version), skip_white(&rest[1..])))
 }
 
-/// The bound, or nothing; and what is left behind it and white space.
+/// The bound, or nothing; and what is left after it and white space.
 #[tactic(auto, unfolding(crate::specs::Reading::read_bound))]
 pub(crate) fn read_bound(text: &[u8]) -> Result<(Option<(Op, Version<'_>)>, &[u8]), Stop>
     ensures { Gives result (λ p. (option_map bound_of p.0, p.1.now)) (read_bound text.now) }
@@ -103,7 +103,7 @@ pub(crate) fn bound_is_equal(bound: &Option<(Op, Version<'_>)>) -> bool
     }
 }
 
-/// What stands before the version of a bound.
+/// What precedes the version of a bound.
 fn bound_front(operator: Op) -> &'static [u8]
     ensures { result.now ≡ codes " (" ++ (operator_text operator ++ codes " ") }
 {

@@ -13,7 +13,7 @@ pub(crate) fn is_white(byte: u8) -> bool
     byte == b' ' || byte == b'\t' || byte == b'\n'
 }
 
-/// What is left behind white space.
+/// What is left after white space.
 pub(crate) fn skip_white(text: &[u8]) -> &[u8]
     ensures value { result.now ≡ behind_white text.now }
     ensures bound { length result.now ≤ length text.now }
@@ -50,7 +50,7 @@ fn name_len(text: &[u8]) -> usize
     text.iter().take_while(|byte| is_in_name(**byte)).count()
 }
 
-/// The run of a name, and what is left behind it.
+/// The run of a name, and what is left after it.
 pub(crate) fn cut_name(text: &[u8]) -> (&[u8], &[u8])
     ensures run { result.0.now ≡ run_of is_in_name text.now }
     ensures behind { result.1.now ≡ behind_run is_in_name text.now }
@@ -73,7 +73,7 @@ fn operator_len(text: &[u8]) -> usize
         .count()
 }
 
-/// The run of an operator, and what is left behind it.
+/// The run of an operator, and what is left after it.
 pub(crate) fn cut_operator(text: &[u8]) -> (&[u8], &[u8])
     ensures run { result.0.now ≡ run_of is_in_operator text.now }
     ensures behind { result.1.now ≡ behind_run is_in_operator text.now }
@@ -91,7 +91,7 @@ fn len_before(text: &[u8], close: u8) -> usize
 }
 
 /// The run of a version or of an item, which ends at white space and at a closing byte, and what is
-/// left behind it.
+/// left after it.
 pub(crate) fn cut_before(text: &[u8], close: u8) -> (&[u8], &[u8])
     ensures run { result.0.now ≡ run_of (is_before close) text.now }
     ensures behind { result.1.now ≡ behind_run (is_before close) text.now }

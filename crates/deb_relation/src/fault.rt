@@ -40,7 +40,7 @@ pub enum RelationFault {
     Memory,
 }
 
-/// Why reading stops: a step fails with so many bytes left from its place on, or out of memory.
+/// Why reading stops: a step fails with so many bytes left from its offset on, or out of memory.
 #[derive(Clone, Copy)]
 pub(crate) enum Stop {
     Bad { reason: Reason, left: usize },

@@ -48,7 +48,7 @@ fn read_items(alloc: Global, text: &[u8]) -> Result<(Vec<(bool, &[u8])>, &[u8]),
     Ok((items, rest))
 }
 
-/// The items of a list behind its `<`, and what is left behind it and white space.
+/// The items of a list after its `<`, and what is left after it and white space.
 #[tactic(auto, unfolding(crate::specs::Reading::read_restrictions))]
 pub(crate) fn read_restrictions(
     alloc: Global,
@@ -61,7 +61,7 @@ pub(crate) fn read_restrictions(
     Ok((items, rest))
 }
 
-/// The next list of a formula, and what is left behind it and white space.
+/// The next list of a formula, and what is left after it and white space.
 #[tactic(auto, unfolding(crate::specs::Reading::next_restrictions))]
 fn next_restrictions(alloc: Global, text: &[u8]) -> Result<Option<(ProfileList<'_>, &[u8])>, Stop>
     ensures value { Gives result (next_of (λ p. (profiles_of p.0, p.1.now)))
@@ -157,7 +157,7 @@ fn drop_lists(lists: &mut Vec<ProfileList<'_>>, most: &mut usize) -> Result<(), 
     Ok(())
 }
 
-/// The set of the lists of a formula, and what is left behind it.
+/// The set of the lists of a formula, and what is left after it.
 fn gather_lists(alloc: Global, text: &[u8]) -> Result<(Vec<ProfileList<'_>>, &[u8]), Stop>
     ensures { Gives result (λ p. (map profiles_of p.0.items, p.1.now))
         (gather next_restrictions (insert_by restrictions_text) [] text.now) }
@@ -189,7 +189,7 @@ fn items_of_lists<'a>(
     Ok(all)
 }
 
-/// The formula, perhaps of no list, and what is left behind it and white space.
+/// The formula, perhaps of no list, and what is left after it and white space.
 #[tactic(auto, unfolding(crate::specs::Reading::read_formula))]
 pub(crate) fn read_formula(
     alloc: Global,

@@ -110,7 +110,7 @@ fn read_group(alloc: Global, text: &[u8]) -> Result<(GroupSummary<'_>, &[u8]), S
     }
 }
 
-/// The next piece between commas, a group or white space alone, and what is left behind it and its
+/// The next piece between commas, a group or white space alone, and what is left after it and its
 /// comma.
 #[tactic(auto, unfolding(crate::specs::Summaries::next_summary))]
 fn next_piece(alloc: Global, text: &[u8]) -> Result<Option<(Option<GroupSummary<'_>>, &[u8])>, Stop>

@@ -21,15 +21,15 @@ fn ends_list(text: &[u8], close: u8) -> bool
     text.is_empty() || begins(text, close)
 }
 
-/// The name of an item: what stands behind its `!`, if it has one.
+/// The name of an item: what follows its `!`, if it has one.
 fn name_of_item(item: &[u8]) -> &[u8]
     ensures { result.now ≡ name_of_item item.now }
 {
     if begins(item, b'!') { &item[1..] } else { item }
 }
 
-/// The name of the next item of an architecture list of which each item has `!` or none has, and
-/// what is left behind it.
+/// The name of the next item of an architecture list, and what is left after it. All items of the
+/// list have `!`, or none has.
 #[tactic(auto, unfolding(crate::specs::Reading::next_architecture))]
 pub(crate) fn next_architecture(text: &[u8], negated: bool) -> Result<Option<(&[u8], &[u8])>, Stop>
     ensures value { Gives result (next_of text_behind) (next_architecture negated text.now) }
@@ -55,7 +55,7 @@ pub(crate) fn next_architecture(text: &[u8], negated: bool) -> Result<Option<(&[
     Ok(Some((name, behind)))
 }
 
-/// The next item of a restriction list, and what is left behind it.
+/// The next item of a restriction list, and what is left after it.
 #[tactic(auto, unfolding(crate::specs::Reading::next_restriction))]
 pub(crate) fn next_restriction(text: &[u8]) -> Result<Option<((bool, &[u8]), &[u8])>, Stop>
     ensures value { Gives result (next_of item_behind) (next_restriction text.now) }

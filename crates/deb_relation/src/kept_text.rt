@@ -1,4 +1,4 @@
-//! Canonical text that is lent from a body that has it, and else kept.
+//! Canonical text: borrowed from a body that has it, and kept otherwise.
 
 ghost use Rattle.std.specs.Prelude.{◌≡◌};
 ghost use Rattle.deb_relation.specs.KeptTexts.{bytes_of};

@@ -74,12 +74,12 @@ pub fn sets_ascend()
     ensures { SetsAscend }
 {}
 
-/// The place of a fault is within the text, or at its end.
+/// The offset of a fault is within the text, or at its end.
 pub fn faults_stand_in_their_text()
     ensures { FaultsStandInTheirText }
 {}
 
-/// What comes before the place of a fault can be continued to a relation, whatever the reason.
+/// What comes before the offset of a fault can be continued to a relation, whatever the reason.
 pub fn places_are_reached()
     ensures { PlacesAreReached }
 {}

@@ -20,7 +20,7 @@ fn first_of(text: &[u8], end: u8) -> u8
     }
 }
 
-/// Two texts of which one is empty, each with a byte after it, in byte order.
+/// Two texts, at least one of them empty, each with a byte after it, in byte order.
 fn compare_ends(a: &[u8], a_end: u8, b: &[u8], b_end: u8) -> Ordering
     ensures { (a.now ≡ []) ⊎ (b.now ≡ []) →
         result ≡ byte_cmp (a.now ++ a_end ∷ []) (b.now ++ b_end ∷ []) }

@@ -28,7 +28,7 @@ fn begins_small_or_digit(name: &[u8]) -> bool
     matches!(name, [first, ..] if first.is_ascii_lowercase() || first.is_ascii_digit())
 }
 
-/// The name, and what is left behind it, where the bytes of package names that a text begins with
+/// The name, and what is left after it, where the bytes of package names that a text begins with
 /// are one: so that a good name is passed over once.
 #[tactic(auto, using(crate::proofs::Names::name_begun))]
 pub(crate) fn read_good_name(text: &[u8]) -> Option<(&[u8], &[u8])>
@@ -42,7 +42,7 @@ pub(crate) fn read_good_name(text: &[u8]) -> Option<(&[u8], &[u8])>
     }
 }
 
-/// The name, and what is left behind it, or why there is none.
+/// The name, and what is left after it, or why there is none.
 #[tactic(auto, unfolding(crate::specs::Reading::read_name))]
 fn read_any_name(text: &[u8]) -> Result<(&[u8], &[u8]), Stop>
     ensures { Gives result text_behind (read_name text.now) }
@@ -63,7 +63,7 @@ fn read_any_name(text: &[u8]) -> Result<(&[u8], &[u8]), Stop>
     Ok((name, behind))
 }
 
-/// The name, and what is left behind it.
+/// The name, and what is left after it.
 pub(crate) fn read_name(text: &[u8]) -> Result<(&[u8], &[u8]), Stop>
     ensures { Gives result text_behind (read_name text.now) }
 {
@@ -73,7 +73,7 @@ pub(crate) fn read_name(text: &[u8]) -> Result<(&[u8], &[u8]), Stop>
     }
 }
 
-/// A colon and a qualifier, or nothing; and what is left behind it.
+/// A colon and a qualifier, or nothing; and what is left after it.
 #[tactic(auto, unfolding(crate::specs::Reading::read_qualifier))]
 pub(crate) fn read_qualifier(text: &[u8]) -> Result<(Option<&[u8]>, &[u8]), Stop>
     ensures { Gives result (λ p. (option_copied p.0, p.1.now)) (read_qualifier text.now) }

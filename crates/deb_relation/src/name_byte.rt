@@ -4,7 +4,7 @@ ghost use Rattle.std.specs.Prelude.{◌≡◌};
 ghost use Rattle.deb_base.specs.PackageNames.{is_package_byte};
 ghost use Rattle.deb_relation.specs.Reading.{is_in_name};
 
-// A `p` is at the place of each byte of package names, an `n` at those of other bytes in the run of
+// A `p` is at the index of each byte of package names, an `n` at those of other bytes in the run of
 // a name, and a hyphen at those of the bytes that end it.
 static NAME_BYTES: [u8; 256] = *b"\
     nnnnnnnnn--nnnnnnnnnnnnnnnnnnnnn\

@@ -18,7 +18,7 @@ use crate::repeats::{FEW, most_after};
 use std::alloc::{AllocError, Global};
 use std::cmp::Ordering;
 
-/// A set of groups, each of which must be met (Debian Policy 7.1).
+/// A set of groups that must all be met (Debian Policy 7.1).
 #[derive(Debug, Drop)]
 pub struct Relation<'a> {
     pub(crate) groups: Vec<Group<'a>>,

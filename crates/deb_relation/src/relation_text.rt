@@ -83,7 +83,8 @@ impl<'a> RelationText<'a> {
     /// Parses the relation that a body spells. It accepts the same bodies as [`Relation::parse`],
     /// and returns the same faults.
     ///
-    /// It borrows the body, and takes no memory if the body is canonical and has no lists.
+    /// It borrows the body, and takes no memory if the body is canonical and has neither
+    /// versions nor lists.
     ///
     /// # Errors
     ///

@@ -1,4 +1,4 @@
--- The line of a row says which kind it is: the kinds of a form are told apart by their lines.
+-- The line of a row says which kind it is: no two kinds of a form have a line in common.
 use Rattle.std.proofs.Common.{◌≡◌, ℕ, Bool, true, false, cond, not, List, [], ◌∷◌, ◌++◌, length, drop, get_or, refl, sym, ap, ◌∙◌, inl, inr, append_assoc}
 use Rattle.std.specs.Prelude.{◌==◌, ◌&&◌, ◌||◌, codes}
 use Rattle.std.specs.Char.{is_ascii_digit}
@@ -44,7 +44,8 @@ diff_kind text =
     cond (get_or text 0 0 == 114) kind.Removed
     (cond (get_or text 0 0 == 99) kind.Changed
     (cond (get_or text 0 0 == 117) kind.Upgraded
-    (cond (get_or text 0 0 == 97) kind.Added (cond (get_or text 1 0 == 45) kind.OldLine kind.NewLine))))
+    (cond (get_or text 0 0 == 100) kind.Downgraded
+    (cond (get_or text 0 0 == 97) kind.Added (cond (get_or text 1 0 == 45) kind.OldLine kind.NewLine)))))
 
 abbrev pub number_kind : List ℕ → RowKind
 number_kind text = cond (get_or (drop (length (cell_of Number text)) text) 0 0 == 10) kind.Count kind.Summary
@@ -294,3 +295,4 @@ line_kind kind.End cells more e = refl
 line_kind kind.Count cells more e = count_line_kind cells more e
 line_kind kind.Summary cells more e = summary_line_kind cells more e
 line_kind kind.Valid cells more e = refl
+line_kind kind.Downgraded cells more e = refl

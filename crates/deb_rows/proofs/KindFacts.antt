@@ -69,6 +69,7 @@ cells_close kind.End = tt
 cells_close kind.Count = (number_line, tt)
 cells_close kind.Summary = (number_comma, (number_refused, tt))
 cells_close kind.Valid = tt
+cells_close kind.Downgraded = package_and_closes word_and_text (word_space, text_closes)
 
 -- a kind is one of these
 abbrev pub IsAmong : RowKind → List RowKind → Type 0
@@ -95,6 +96,7 @@ is_among kind.End = inr (inl refl)
 is_among kind.Count = inr (inr (inl refl))
 is_among kind.Summary = inr (inr (inr (inl refl)))
 is_among kind.Valid = inr (inr (inr (inr (inl refl))))
+is_among kind.Downgraded = inr (inr (inr (inr (inr (inr (inl refl))))))
 
 -- these kinds are of a form
 abbrev pub AreOf : Form → List RowKind → Type 0
@@ -104,5 +106,5 @@ AreOf form (kind ∷ kinds) = (form_of kind ≡ form) × AreOf form kinds
 pub are_of_form : (form : Form) → AreOf form (kinds_of form)
 are_of_form form.Report = (refl, (refl, (refl, (refl, (refl, (refl, tt))))))
 are_of_form form.UnmetLines = (refl, (refl, tt))
-are_of_form form.DiffLines = (refl, (refl, (refl, (refl, (refl, (refl, tt))))))
+are_of_form form.DiffLines = (refl, (refl, (refl, (refl, (refl, (refl, (refl, tt)))))))
 are_of_form form.Explanation = (refl, (refl, (refl, (refl, (refl, tt)))))

@@ -68,6 +68,7 @@ few_pieces kind.End = omega arith
 few_pieces kind.Count = omega arith
 few_pieces kind.Summary = omega arith
 few_pieces kind.Valid = omega arith
+few_pieces kind.Downgraded = omega arith
 
 entry_names : (form : Form) (text : List ℕ) (row : RowText) (start : ℕ) (more : List ℕ) → IsRow form row → drop start text ≡ row_line row ++ more
     → cells_in text (row_at start row) ≡ row.cells

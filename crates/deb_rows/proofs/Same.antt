@@ -93,6 +93,7 @@ line_bytes kind.End cells e = refl
 line_bytes kind.Count cells e = refl
 line_bytes kind.Summary cells e = refl
 line_bytes kind.Valid cells e = refl
+line_bytes kind.Downgraded cells e = refl
 
 some_bytes : (text : List ℕ) → has_bytes text ≡ true → 1 ≤ length text
 some_bytes [] e = absurd (false≢true e)

@@ -38,6 +38,7 @@ front_of kind.End = codes "\n"
 front_of kind.Count = codes "ok "
 front_of kind.Summary = codes "ok "
 front_of kind.Valid = codes "ok\n"
+front_of kind.Downgraded = codes "downgraded "
 
 -- a number, name, version and architecture, each with a space after it, and more
 abbrev pub package_and : List Piece → List Piece
@@ -76,6 +77,7 @@ pieces_of kind.End = []
 pieces_of kind.Count = (Number, codes "\n") ∷ []
 pieces_of kind.Summary = (Number, codes ", ") ∷ (Number, codes " refused\n") ∷ []
 pieces_of kind.Valid = []
+pieces_of kind.Downgraded = package_and word_and_text
 
 -- the number of a kind in a table
 abbrev pub number_of : RowKind → ℕ
@@ -98,6 +100,7 @@ number_of kind.End = 15
 number_of kind.Count = 16
 number_of kind.Summary = 17
 number_of kind.Valid = 18
+number_of kind.Downgraded = 19
 
 -- the form of the texts that have a kind
 abbrev pub form_of : RowKind → Form
@@ -120,6 +123,7 @@ form_of kind.End = form.Explanation
 form_of kind.Count = form.Explanation
 form_of kind.Summary = form.Explanation
 form_of kind.Valid = form.Explanation
+form_of kind.Downgraded = form.DiffLines
 
 -- the kinds of a form
 abbrev pub kinds_of : Form → List RowKind
@@ -127,7 +131,8 @@ kinds_of form.Report =
     kind.Met ∷ kind.Unmet ∷ kind.Ignored ∷ kind.Package ∷ kind.Reason ∷ kind.PackageReason ∷ []
 kinds_of form.UnmetLines = kind.UnmetGroup ∷ kind.UnsureGroup ∷ []
 kinds_of form.DiffLines =
-    kind.Removed ∷ kind.Changed ∷ kind.Upgraded ∷ kind.Added ∷ kind.OldLine ∷ kind.NewLine ∷ []
+    kind.Removed ∷ kind.Changed ∷ kind.Upgraded ∷ kind.Added ∷ kind.OldLine ∷ kind.NewLine
+    ∷ kind.Downgraded ∷ []
 kinds_of form.Explanation = kind.Key ∷ kind.End ∷ kind.Count ∷ kind.Summary ∷ kind.Valid ∷ []
 
 -- Worked cases.
@@ -135,23 +140,24 @@ kinds_of form.Explanation = kind.Key ∷ kind.End ∷ kind.Count ∷ kind.Summar
 pieces : (piece_in (Word, record { ref_ptr = (0, 0); now = codes " " }) ≡ (Word, codes " "))
     × (pieces_of kind.Upgraded ≡ (Number, codes " ") ∷ (Word, codes " ") ∷ (Word, codes " ")
     ∷ (Word, codes " ") ∷ (Word, codes " ") ∷ (Line, codes "\n") ∷ [])
+    × (pieces_of kind.Downgraded ≡ pieces_of kind.Upgraded)
     × (pieces_of kind.Changed ≡ (Number, codes " ") ∷ (Word, codes " ") ∷ (Word, codes " ")
     ∷ (Word, codes " ") ∷ (Line, codes "\n") ∷ [])
     × (pieces_of kind.Added
     ≡ (Number, codes " ") ∷ (Word, codes " ") ∷ (Word, codes " ") ∷ (Word, codes "\n") ∷ [])
-pieces = (refl, refl, refl, refl)
+pieces = (refl, refl, refl, refl, refl)
 
 -- the kinds have the numbers of `deb_row_kind` in `include/debctl.h`
 numbers : map (map number_of)
     (kinds_of form.Report ∷ kinds_of form.UnmetLines ∷ kinds_of form.DiffLines
     ∷ kinds_of form.Explanation ∷ [])
-    ≡ (0 ∷ 1 ∷ 2 ∷ 3 ∷ 4 ∷ 5 ∷ []) ∷ (6 ∷ 7 ∷ []) ∷ (8 ∷ 9 ∷ 10 ∷ 11 ∷ 12 ∷ 13 ∷ [])
+    ≡ (0 ∷ 1 ∷ 2 ∷ 3 ∷ 4 ∷ 5 ∷ []) ∷ (6 ∷ 7 ∷ []) ∷ (8 ∷ 9 ∷ 10 ∷ 11 ∷ 12 ∷ 13 ∷ 19 ∷ [])
     ∷ (14 ∷ 15 ∷ 16 ∷ 17 ∷ 18 ∷ []) ∷ []
 numbers = refl
 
 forms : map (map form_of)
     (kinds_of form.Report ∷ kinds_of form.UnmetLines ∷ kinds_of form.DiffLines
     ∷ kinds_of form.Explanation ∷ [])
-    ≡ replicate 6 form.Report ∷ replicate 2 form.UnmetLines ∷ replicate 6 form.DiffLines
+    ≡ replicate 6 form.Report ∷ replicate 2 form.UnmetLines ∷ replicate 7 form.DiffLines
     ∷ replicate 5 form.Explanation ∷ []
 forms = refl

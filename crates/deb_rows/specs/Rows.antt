@@ -137,10 +137,13 @@ changes : (row_line (row kind.Removed
     × (row_line (row kind.Upgraded
     (codes "15" ∷ codes "hello" ∷ codes "2.10-2" ∷ codes "2.10-3" ∷ codes "amd64"
     ∷ codes "Version" ∷ [])) ≡ codes "upgraded 15 hello 2.10-2 2.10-3 amd64 Version\n")
+    × (row_line (row kind.Downgraded
+    (codes "15" ∷ codes "hello" ∷ codes "2.10-3" ∷ codes "2.10-2" ∷ codes "amd64"
+    ∷ codes "Version" ∷ [])) ≡ codes "downgraded 15 hello 2.10-3 2.10-2 amd64 Version\n")
     × (row_line (row kind.Added
     (codes "14" ∷ codes "fresh" ∷ codes "2.10-3" ∷ codes "amd64" ∷ []))
     ≡ codes "added 14 fresh 2.10-3 amd64\n")
-changes = (refl, refl, refl, refl)
+changes = (refl, refl, refl, refl, refl)
 
 values : (row_line (row kind.OldLine (codes "Depends: aa, bb" ∷ [])) ≡ codes " -Depends: aa, bb\n")
     × (row_line (row kind.NewLine (codes " a line" ∷ [])) ≡ codes " + a line\n")

@@ -39,6 +39,7 @@ pub(crate) fn kinds_of(form: Form) -> &'static [RowKind]
             RowKind::Added,
             RowKind::OldLine,
             RowKind::NewLine,
+            RowKind::Downgraded,
         ],
         Form::Explanation => &[
             RowKind::Key,

@@ -47,6 +47,9 @@ pub enum RowKind {
     Summary = 17,
     /// A relation or a version is accepted.
     Valid = 18,
+    /// A paragraph that was downgraded: number, package, old version, new version, architecture,
+    /// fields.
+    Downgraded = 19,
 }
 
 /// The text before the first cell of a line of this kind.
@@ -62,6 +65,7 @@ pub(crate) fn front_of(kind: RowKind) -> &'static [u8]
         RowKind::Removed => b"removed ",
         RowKind::Changed => b"changed ",
         RowKind::Upgraded => b"upgraded ",
+        RowKind::Downgraded => b"downgraded ",
         RowKind::Added => b"added ",
         RowKind::OldLine => b" -",
         RowKind::NewLine => b" +",
@@ -96,7 +100,7 @@ pub(crate) fn pieces_of(kind: RowKind) -> &'static [(Class, &'static [u8])]
             (Class::Word, b" "),
             (Class::Line, b"\n"),
         ],
-        RowKind::UnmetGroup | RowKind::UnsureGroup | RowKind::Upgraded => &[
+        RowKind::UnmetGroup | RowKind::UnsureGroup | RowKind::Upgraded | RowKind::Downgraded => &[
             (Class::Number, b" "),
             (Class::Word, b" "),
             (Class::Word, b" "),

@@ -37,7 +37,7 @@ equal : (stands_before false (codes "1.0") (codes "0:1.00-0") ≡ false)
     × (stands_before false (codes "0:1.00-0") (codes "1.0") ≡ false)
 equal = (refl, refl)
 
--- of sorted lines none comes before the one in front of it, in the order that is asked
+-- of sorted lines none comes before the one before it, in the order that is asked
 in_reverse : (lines sorted : List Line) → Sorts true lines sorted
     → IsSortedBy (λ a b. is_earlier b a) sorted
 in_reverse lines sorted sorts = sorts.in_order

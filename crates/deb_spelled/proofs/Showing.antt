@@ -58,7 +58,7 @@ then_ok (Err stopped) next P each = tt
 known : {A : Type 0} (r : Reading A) (a : A) (rest : List ℕ) (P : A × List ℕ → Type 0) → IfOk r P → r ≡ Ok (a, rest) → P (a, rest)
 known r a rest P holds e = subst (λ r. IfOk r P) e holds
 
--- no byte of a run is left behind it
+-- no byte of a run is left after it
 none_left : (test : ℕ → Bool) (text : List ℕ) → Stops test text → prefix_len test text ≡ 0
 none_left test [] stops = refl
 none_left test (b ∷ bs) stops = ap (λ v. if v then 1 + prefix_len test bs else 0) stops
@@ -72,7 +72,7 @@ name_ok text = by_tests (is_at_end (run_of is_in_name text)) (is_package_name (r
     by_tests false true x y = (refl, refl)
     by_tests false false x y = tt
 
--- behind a name
+-- after a name
 qualifier_ok : (text : List ℕ) → Stops is_in_name text → IfOk (read_qualifier text) (λ p. (run_of is_in_name (behind_byte 58 text) ≡ unwrap_or p.0 []) × (behind_run is_in_name (behind_byte 58 text) ≡ p.1))
 unfolding read_qualifier
 qualifier_ok text stops = by_tests (begins 58 text) (is_arch_name (run_of is_in_name (drop 1 text))) _

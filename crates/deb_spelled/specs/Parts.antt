@@ -111,7 +111,7 @@ worked-qualifier : (cut_qualifier 9 (codes ":any\n|b") ≡ (at 3 3, codes "|b"))
 unfolding steps
 worked-qualifier = (refl, refl)
 
--- with white space in all its places and without; and no bound
+-- with white space wherever it may be and without; and no bound
 worked-bound : (cut_bound 20 (codes "( <<\t01.0 ) [a]") ≡ (at 7 2, at 10 4, codes "[a]"))
     × (cut_bound 20 (codes "(=1)|b") ≡ (at 15 1, at 16 1, codes "|b"))
     × (cut_bound 20 (codes "<a>") ≡ (no_span, no_span, codes "<a>"))

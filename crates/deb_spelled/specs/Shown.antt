@@ -1,4 +1,4 @@
--- What the parts of an alternative show: the alternative that the grammar reads at the same place.
+-- What the parts of an alternative show: the alternative that the grammar reads at the same offset.
 -- Debian Policy 7.1.
 use Rattle.std.specs.Prelude.{◌≡◌, ℕ, List, [], ◌++◌, drop, length, take, Option, Some, None, codes, refl}
 use Rattle.std.specs.Option.{unwrap_or}
@@ -37,7 +37,7 @@ pub record ShowsAlternative (text : List ℕ) (parts : AlternativeSpans) (a : Al
   pub qualifier : part text parts.qualifier ≡ unwrap_or a.qualifier []
   pub bound : ShowsBound text parts.operator parts.version a.bound
 
--- If an alternative is read at some place of a text, the parts that are cut there show it.
+-- If an alternative is read at some offset of a text, the parts that are cut there show it.
 abbrev pub PartsShowAlternatives : Type 0
 PartsShowAlternatives =
     (before text : List ℕ) (group : ℕ) → IfOk (read_alternative text)

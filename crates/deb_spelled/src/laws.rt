@@ -4,7 +4,7 @@
 
 ghost use Rattle.deb_spelled.specs.Shown.{PartsShowAlternatives};
 
-/// If `deb_relation` reads an alternative at some place of a text, the parts that are cut there are
+/// If `deb_relation` reads an alternative at an offset of a text, the parts that are cut there are
 /// its name and its qualifier, and spell its operator and its version.
 pub fn parts_show_alternatives()
     ensures { PartsShowAlternatives }

@@ -28,11 +28,11 @@ no_bytes [] e = refl
 no_bytes (b ∷ bs) e = absurd (omega arith)
 
 module _ (text passed : List ℕ) (cursor : CursorState) (overlong_len : ℕ) (finished : Bool) (current : Option Seen) (fault : Option Fault) (left : Option (List ℕ)) where
-  -- a text that fits stands ahead
+  -- a text that fits is ahead
   pub fits_ahead : (fits : Fits text passed (state_from cursor overlong_len finished current fault) left) → IsAhead (ahead_of text passed (state_from cursor overlong_len finished current fault) left fits) fits.overlong cursor left
   fits_ahead fits = record { rest = fits.rest; told = fits.told; whole = refl; ended = fits.ended }
 
-  -- a text that stands ahead fits
+  -- a text that is ahead fits
   pub ahead_fits : (ahead bytes : List ℕ) (count lines : ℕ) → IsCut text passed ahead count lines → IsAhead ahead bytes cursor left → cursor.bytes ≡ count → cursor.lines ≡ lines → length bytes ≡ overlong_len → HasNoNewline bytes → (IsTrue finished → ahead ≡ []) → Fits text passed (state_from cursor overlong_len finished current fault) left
   ahead_fits ahead bytes count lines cut is count_is lines_is hides line ends = record {
     overlong = bytes;
@@ -48,7 +48,7 @@ module _ (text passed : List ℕ) (cursor : CursorState) (overlong_len : ℕ) (f
     finished = λ f. sym is.whole ∙ ends f;
   }
 
--- the answers are those on what stands ahead
+-- the answers are those on what is ahead
 module _ (text passed ahead : List ℕ) (count lines : ℕ) (cut : IsCut text passed ahead count lines) (small : count ≤ file_limit) where
   pub answer_ahead : next_answer text (passed_count passed) ≡ left_answer (lines + 1) (file_limit - count) ahead
   answer_ahead =
@@ -64,7 +64,7 @@ module _ (text passed ahead : List ℕ) (count lines : ℕ) (cut : IsCut text pa
       ap (λ t. next_begin t (passed_count passed)) cut.whole ∙ next_begin-left passed ahead cut.behind (omega (arith, cut.bytes))
       ∙ ap (λ n. left_begin n (file_limit - length passed) ahead) number ∙ ap (λ r. left_begin (lines + 1) r ahead) room
 
-  -- the paragraphs that are looked at, from the first that stands ahead on
+  -- the paragraphs that are looked at, from the first that is ahead on
   pub paragraphs_ahead : (p : Paragraph) (more : List Paragraph) → paragraphs_from (lines + 1) (lines_of (part_within (file_limit - count) ahead)) ≡ p ∷ more → paragraphs_within text ≡ paragraphs_of passed ++ p ∷ more
   paragraphs_ahead p more found =
       let number : lines + 1 ≡ 1 + length (lines_of passed) = omega (arith, cut.lines) in
@@ -123,7 +123,7 @@ long_refused ahead overlong cursor left is long ends no_newline =
 pub same_count : (text passed passed_now : List ℕ) → paragraphs_of passed_now ≡ paragraphs_of passed → (next_answer text (passed_count passed_now) ≡ next_answer text (passed_count passed)) × (next_begin text (passed_count passed_now) ≡ next_begin text (passed_count passed))
 same_count text passed passed_now e = (ap (λ ps. next_answer text (length ps)) e, ap (λ ps. next_begin text (length ps)) e)
 
--- What the walk finds ahead, told of the whole text, where no bytes are discarded.
+-- What the walk finds ahead, said of the whole text, where no bytes are discarded.
 module _ (text passed : List ℕ) (cursor : CursorState) (overlong_len : ℕ) (none_overlong : overlong_len ≡ 0) (finished : Bool) (current : Option Seen) (fault : Option Fault) (left : Option (List ℕ)) (fits : Fits text passed (state_from cursor overlong_len finished current fault) left) (small : cursor.bytes ≤ file_limit) where
   cut : IsCut text passed (ahead_of text passed (state_from cursor overlong_len finished current fault) left fits) cursor.bytes cursor.lines
   cut = fits_cut text passed (state_from cursor overlong_len finished current fault) left fits
@@ -194,7 +194,7 @@ module _ (text passed : List ℕ) (cursor : CursorState) (overlong_len : ℕ) (n
       passed_run [] is not_blank some = absurd (some refl)
       passed_run (line ∷ run) is not_blank some = paragraphs-passed text passed _ cursor.bytes cursor.lines cut p.passed p.ahead line run p.ending p.whole is not_blank p.blank
 
--- a paragraph that stands ahead and was judged has passed
+-- a paragraph that is ahead and was judged has passed
 pub passes_next : (text : List ℕ) (before mid after : CursorState) (left : Option (List ℕ)) (e : Extent) (x : IsExtentOf e mid) (seen : Seen) → SameCounts before mid → PassesParagraph text e mid left x.lines → IsNextRun (before.lines + 1) (room_ahead before) text x.lines → seen.first ≡ before.lines + 1 → judged (before.lines + 1) x.lines ≡ Ok seen.fields → PassesOn mid e.skip e.bytes e.lines after → PassesNext text before seen after left
 passes_next text before mid after left e x seen same passes next first fields on = record {
   run = x.lines;
@@ -217,7 +217,7 @@ passes_next text before mid after left e x seen same passes next first fields on
   counted = omega (arith, on.lines, same.lines, passes.counted);
 }
 
--- an answer behind blank lines that have passed is the answer before them
+-- an answer after blank lines that have passed is the answer before them
 pub answers_behind : (text passed passed_now : List ℕ) (answer : Result (Option Seen) Fault) (new : State) (left : Option (List ℕ)) → paragraphs_of passed_now ≡ paragraphs_of passed → Answers text passed_now answer new left → Answers text passed answer new left
 answers_behind text passed passed_now (Ok None) new left same a = record { answer = sym (same_count text passed passed_now same).0 ∙ a.answer; begin = sym (same_count text passed passed_now same).1 ∙ a.begin; again = a.again; passes = a.passes ∙ same; finished = a.finished }
 answers_behind text passed passed_now (Ok (Some seen)) new left same a = record {
@@ -248,14 +248,14 @@ judged_is_readers n lines Memory some is = tt
 judged_is_readers n lines Read some is = absurd is
 judged_is_readers n lines Write some is = absurd is
 
--- a paragraph that stands ahead and whose lines are refused
+-- a paragraph that is ahead and whose lines are refused
 pub judged_fault : (text : List ℕ) (before : CursorState) (run : List Line) (n : ℕ) (fault : Fault) → n ≡ before.lines + 1 → IsNextRun (before.lines + 1) (room_ahead before) text run → IsFaultOf (judged n run) fault → IsPassed text before (Err fault) before None
 judged_fault text before run n (Refused refusal) is next judges = next.answer ∙ ap (seen_from (before.lines + 1)) (ap (λ k. judged k run) (sym is) ∙ judges)
 judged_fault text before run n Memory is next judges = tt
 judged_fault text before run n Read is next judges = absurd judges
 judged_fault text before run n Write is next judges = absurd judges
 
--- where a paragraph's bytes stand in the buffer, these are its bytes
+-- where a paragraph's bytes are in the buffer, these are its bytes
 module _ (mid : FileCursor) (buffer : List ℕ) (e : Extent) (from : ℕ) (spans : List FieldSpan) (same : buffer ≡ buffer_of mid) (at : from ≡ start_of mid) (x : IsExtentOf e (cursor_state mid)) where
   pub standing_bytes : slice_range buffer from (from + e.end) ≡ take e.end (cursor_state mid).unread
   standing_bytes = ap (λ zs. slice_range zs from (from + e.end)) same ∙ ap (λ k. slice_range (buffer_of mid) k (k + e.end)) at ∙ front_of_unread mid e.end x.end_within
@@ -347,7 +347,7 @@ pub long_some : (n : ℕ) → paragraph_limit ≤ n → 0 < n
 unfolding paragraph_limit
 long_some n long = omega arith
 
--- a paragraph begins behind the blank lines that have passed
+-- a paragraph begins after the blank lines that have passed
 pub begins_line : (text passed : List ℕ) (new : State) (left : Option (List ℕ)) (line : ℕ) → line ≡ new.lines + 1 → IsNear new.unread → BeginsHere text passed new left → GivesLine text passed line new left
 begins_line text passed new left line is near b = record {
   begin = b.begin ∙ ap (λ n. Ok (Some n)) (sym is);
@@ -358,7 +358,7 @@ begins_line text passed new left line is near b = record {
   near = near;
 }
 
--- a line that is discarded is refused, told of what had passed before
+-- a line that is discarded is refused, said of what had passed before
 pub dropped_answer : (text passed : List ℕ) (cursor : CursorState) (overlong_len : ℕ) (finished : Bool) (current : Option Seen) (fault : Option Fault) (left : Option (List ℕ)) (line : ℕ) → BeginsHere text passed (state_from cursor overlong_len finished current fault) left → 0 < overlong_len → HidesLong overlong_len cursor → cursor.bytes ≤ file_limit → line ≡ cursor.lines + 1 → next_answer text (passed_count passed) ≡ Err (record { code = ParagraphTooLong; line = line })
 dropped_answer text passed cursor overlong_len finished current fault left line b some test small is =
     sym (same_count text passed b.passed_now b.passes).0 ∙ overlong_answer text b.passed_now cursor overlong_len finished current fault left b.again some test small ∙ ap (λ n. Err (record { code = ParagraphTooLong; line = n })) (sym is)

@@ -9,7 +9,7 @@ use Rattle.deb_syntax.proofs.LinesLawsPlaces.{paragraphs_of-IsRun, paragraphs_of
 use Rattle.deb_syntax.proofs.LinesLawsTexts.{lines_of-some}
 use Rattle.deb_syntax.proofs.Parts.{part_within-all, part_within-some, line_beyond-none}
 
--- what is left of a text behind its whole lines
+-- what is left of a text after its whole lines
 behind_whole : (text : List ℕ) → (rest : List ℕ) × (text ≡ whole_lines text ++ rest) × (ends_line (whole_lines text) ≡ true)
 behind_whole [] = ([], refl, refl)
 behind_whole (b ∷ bs) = let h = behind_whole bs in go (b == newline) refl (whole_lines bs) h.0 h.1 h.2
@@ -125,7 +125,7 @@ answer-fits text count short =
     ap (λ b. answer_of_first b (drop count (paragraphs_within text))) (line_beyond-none 1 file_limit text short)
     ∙ ap (λ t. answer_of_first None (drop count (paragraphs_of t))) (part_within-all file_limit text short)
 
--- they end exactly behind its last paragraph
+-- they end exactly after its last paragraph
 pub next_answer-end : (text : List ℕ) (count : ℕ) → next_answer text count ≡ Ok None → (length text ≤ file_limit) × (length (paragraphs_of text) ≤ count)
 next_answer-end text count h =
     let e = MatchResult-at_ok (λ seen. seen ≡ None → (line_beyond 1 file_limit text ≡ None) × (drop count (paragraphs_within text) ≡ [])) (IsTextRefusal text) None h (next_answer-says text count) refl in

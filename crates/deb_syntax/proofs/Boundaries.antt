@@ -1,11 +1,11 @@
--- Cutting a text behind whole lines.
+-- Cutting a text after whole lines.
 use Rattle.deb_syntax.proofs.Common.{◌≡◌, ℕ, ◌==◌, true, false, cond, List, [], ◌∷◌, ◌++◌, refl, ap, ◌∙◌, subst, append_assoc, Line, newline, with_byte, lines_of, ends_line}
 use Rattle.deb_syntax.proofs.LinesLawsTexts.{lines_of-some}
 
 with_byte-append : (b : ℕ) (ls ks : List Line) (l : Line) (rest : List Line) → ls ≡ l ∷ rest → with_byte b (ls ++ ks) ≡ with_byte b ls ++ ks
 with_byte-append b ls ks l rest e = rw e refl
 
--- lines behind whole lines
+-- lines after whole lines
 pub lines_of-append : (a b : List ℕ) → ends_line a ≡ true → lines_of (a ++ b) ≡ lines_of a ++ lines_of b
 lines_of-append [] b h = refl
 lines_of-append (x ∷ []) b h = rw h refl

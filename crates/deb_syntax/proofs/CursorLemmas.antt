@@ -9,7 +9,7 @@ slice_range-same_front old new s f le h =
     let whole : s + (f - s) ≡ f = omega arith in
     sym (drop-take s (f - s) new) ∙ ap (λ k. drop s (take k new)) whole ∙ ap (drop s) h ∙ ap (λ k. drop s (take k old)) (sym whole) ∙ drop-take s (f - s) old
 
--- n bytes came behind the first f, which are the same
+-- n bytes came after the first f, which are the same
 pub slice_range-grown : (old new : List ℕ) (s f n : ℕ) → s ≤ f → take f new ≡ take f old → slice_range new s (f + n) ≡ slice_range old s f ++ take n (drop f new)
 slice_range-grown old new s f n le h =
     let sizes : (f + n) - s ≡ (f - s) + n = omega arith in
@@ -39,7 +39,7 @@ cursor_small cursor = omega (arith, cursor.small)
 pub cursor_few : (cursor : FileCursor) → (cursor_state cursor).lines ≤ (cursor_state cursor).bytes
 cursor_few cursor = cursor.few
 
--- what a reader has left behind the bytes that were taken
+-- what a reader has left after the bytes that were taken
 consumed_rest : (rest bytes : List ℕ) (left left_after : Option (List ℕ)) → left ≡ Some rest → Consumes left left_after bytes → (rest_after : List ℕ) × (left_after ≡ Some rest_after) × (rest ≡ bytes ++ rest_after)
 consumed_rest rest bytes None left_after e c = absurd (cc)
 consumed_rest rest bytes (Some xs) None e c = absurd c

@@ -1,4 +1,4 @@
--- Fields of which no two have one name: in another order, one more, and with other bodies.
+-- Fields with distinct names: in another order, one more, and with other bodies.
 use Rattle.deb_syntax.proofs.Common.{◌≡◌, ℕ, Bool, false, ◌||◌, List, [], ◌∷◌, ◌++◌, map, refl, sym, ap, ◌∙◌, IsPermutation, or_parts, or_from, list_any-append, IsPermutation-sym, IsPermutation-to_front, IsPermutation-middle, IsDistinct-IsPermutation, nat_list_eq_equiv, AllByRecursion, bytes_eq, folded, Line, Field, has_name, AreDistinct, ended, continued}
 use Rattle.std.specs.List.{IsDistinct}
 use Rattle.deb_syntax.proofs.Slices.{list_any-map}

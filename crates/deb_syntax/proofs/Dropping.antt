@@ -44,14 +44,14 @@ dropping-start before left run more within room described small = record {
   );
 }
 
--- what of a text stands behind the bytes that were seen: a piece, and what the source has left
+-- what of a text is after the bytes that were seen: a piece, and what the source has left
 pub record PieceAhead (text front seen piece : List ℕ) (cursor : CursorState) (left : Option (List ℕ)) : Type 0 where
   pub rest : List ℕ
   pub told : left ≡ Some rest
   pub whole : text ≡ front ++ (seen ++ (piece ++ rest))
   pub ended : IsTrue cursor.ended → rest ≡ []
 
--- a piece came behind what was seen of the line
+-- a piece came after what was seen of the line
 pub record Came (before : CursorState) (left_before : Option (List ℕ)) (run : LineRun) (cursor : CursorState) (left : Option (List ℕ)) (partial : PartialLine) : Type 0 where
   pub seen : List ℕ
   pub describes : Describes partial seen
@@ -225,7 +225,7 @@ module _ (before : CursorState) (left_before : Option (List ℕ)) (run : LineRun
     whole-room : length after.unread ≤ room_of after partial.len → run.bytes + length (c.seen ++ c.piece) ≤ room_ahead before
     whole-room le = omega (arith, length-append c.seen c.piece, came-length, room-is, c.front, c.room, le)
 
-    -- and goes on behind them
+    -- and goes on after them
     pub more-dropping : length after.unread ≤ room_of after partial.len → IsFalse after.ended → Dropping before left_before run after left next
     more-dropping le more = record {
       seen = c.seen ++ c.piece;

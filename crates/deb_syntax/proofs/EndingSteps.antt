@@ -1,10 +1,10 @@
--- Where a paragraph ends, by why no line more was taken: at the file's end, or behind a line that was dropped.
+-- Where a paragraph ends, by why no line more was taken: at the file's end, or after a line that was dropped.
 use Rattle.deb_syntax.proofs.Common.{inl, inr, min, append_assoc, length-take, drop-length, ◌≡◌, ◌≢◌, ℕ, ◌+◌, ◌-◌, ◌<◌, ◌≤◌, true, false, List, [], ◌∷◌, ◌++◌, Option, Some, None, Result, Ok, Err, length, take, drop, IsTrue, refl, sym, ap, subst, ◌∙◌, arith, length-append, length-drop, append-nil, take-append-drop, drop-drop, Line, newline, paragraph_limit, is_blank, Code, ParagraphTooLong, FileTooLong, Fault, Refused, Refusal, left_answer, room_ahead, IsAhead, IsExtentOf, PassesParagraph, IsNextRun, IsExtentAhead, DropsLine, EndsAt, TextAfterLine, IsDropped, Seen, CursorState, with_newlines, StandInFront, Stops, DroppedLine, Extent, LineRun, RunEnd, Open}
 use Rattle.deb_syntax.proofs.Endings.{RunLines, Ends, extent_behind, ends-ahead, ends-behind, ends-last, some-lines, some-full, refused-long, refused-end, refused-beyond}
 use Rattle.deb_syntax.proofs.Faults.{readers_fault}
 use Rattle.deb_syntax.proofs.WalkingLines.{front-step, take-front, drop-front, length-front, few_lines-with_newlines}
 
--- the line behind a run goes on through all bytes
+-- the line after a run goes on through all bytes
 pub open-front : (text : List ℕ) (run : LineRun) (s : Stops text Open run) → StandInFront text s.lines s.seen
 open-front text run s = record {
   text = s.stands.front.text ∙ ap (λ zs. with_newlines s.lines ++ zs) (ap (λ zs. s.seen ++ zs) s.stopped ∙ append-nil s.seen);
@@ -28,7 +28,7 @@ run_lines-open text run s = record {
   counted = s.stands.counted;
 }
 
--- nothing is behind a text that passes whole
+-- nothing is after a text that passes whole
 at-end : (passed unread : List ℕ) (n : ℕ) → n ≡ length unread → passed ≡ passed ++ (drop n unread ++ [])
 at-end passed unread n is = sym (append-nil passed) ∙ ap (λ zs. passed ++ zs) (sym (append-nil (drop n unread) ∙ ap (λ k. drop k unread) is ∙ drop-length unread))
 
@@ -48,7 +48,7 @@ ahead-end text state left a ended =
 same_line : (code : Code) (answer : Result (Option Seen) Refusal) (a b : ℕ) → a ≡ b → answer ≡ Err (record { code = code; line = a }) → answer ≡ Err (record { code = code; line = b })
 same_line code answer a b e h = subst (λ n. answer ≡ Err (record { code = code; line = n })) e h
 
--- a refusal at the line behind a run
+-- a refusal at the line after a run
 pub refusal-ahead : (text : List ℕ) (before after : CursorState) (left : Option (List ℕ)) (fault : Fault) (code : Code) (count : ℕ) (lines : List Line) → fault ≡ Refused (record { code = code; line = before.lines + count + 1 }) → count ≡ length lines → left_answer (before.lines + 1) (room_ahead before) text ≡ Err (record { code = code; line = before.lines + 1 + length lines }) → IsExtentAhead text before (Err fault) after left
 refusal-ahead text before after left fault code count lines is counted answer =
     let line : before.lines + 1 + length lines ≡ before.lines + count + 1 = omega arith in
@@ -61,7 +61,7 @@ module _ (state : CursorState) (run : LineRun) (s : Stops state.unread Open run)
   pub file-some : is_blank s.seen ≡ true → 0 < run.bytes
   file-some blank = let some = some-bytes s.lines (file-lines blank) in omega (arith, s.stands.bytes)
 
-  -- a blank line without newline is behind the run, or nothing
+  -- a blank line without newline is after the run, or nothing
   pub file-none : (e : Extent) → is_blank s.seen ≡ true → IsTrue state.ended → length state.unread ≤ room_ahead state → e ≡ extent_behind run (run.bytes + run.partial.len) 0 → Ends (with_newlines s.lines ++ s.seen) e state
   file-none e blank ended room is =
       let size = open-length state.unread run s in
@@ -160,7 +160,7 @@ module _ (before after : CursorState) (run : LineRun) (s : Stops before.unread O
               (omega (arith, x.2, s.stands.bytes)) s.stands.not_blank line_not (omega (arith, s.stands.short, s.stands.bytes)) (omega arith)
         ])
 
-    -- a blank line is behind the run, with its newline or without
+    -- a blank line is after the run, with its newline or without
     pub dropped-behind : (e : Extent) (at newline_len : ℕ) → paragraph_limit ≤ length before.unread → is_blank d.line ≡ true → EndsAt before run d.line at after → newline_len ≡ min (length after.unread - at) 1 → e ≡ extent_behind (record run { partial = dropped.line }) at newline_len → Ends (with_newlines s.lines ++ (d.line ++ take newline_len (drop at after.unread))) e after
     dropped-behind e at n full blank h n_is is =
         let bytes = ap (λ (x : Extent). x.bytes) is in

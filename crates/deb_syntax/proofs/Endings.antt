@@ -1,4 +1,4 @@
--- Where a paragraph ends: lines that aren't blank at the front of a text, and a blank line or the end behind them.
+-- Where a paragraph ends: lines that aren't blank at the start of a text, and a blank line or the end after them.
 use Rattle.deb_syntax.proofs.Common.{min, IsClosed, LineRun, ◌≡◌, ◌≢◌, ℕ, ◌+◌, ◌-◌, ◌<◌, ◌≤◌, ◌⊎◌, inl, inr, true, false, nat_le, List, [], ◌∷◌, ◌++◌, Option, Some, Err, length, take, drop, IsTrue, refl, sym, ap, subst, ◌∙◌, append_assoc, arith, length-append, length-drop, drop-length, and_parts, leb-true, false≢true, append-nil, take_all, AllByRecursion, All-append, ParagraphTooLong, FileTooLong, Line, newline, is_blank, is_all_blank, pieces_of, HasNoNewline, left_answer, room_ahead, IsExtentOf, PassesParagraph, IsNextRun, part_within, whole_lines, AreBlank, AreNotBlank, CursorState, piece_limit, lines_of, with_newlines, total_length, begins_blank, paragraphs_from, StandInFront, CannotBeBlank, Extent}
 use Rattle.deb_base.specs.Bodies.{paragraph_limit}
 use Rattle.deb_syntax.proofs.Boundaries.{lines_of-append}
@@ -20,7 +20,7 @@ not_both seen (inr h) b =
     let short : length seen + 1 ≤ paragraph_limit = leb-true _ _ p.0 in
     absurd (omega arith)
 
--- so where a blank line comes, lines stand before it
+-- so where a blank line comes, lines are before it
 pub some-lines : (lines : List Line) (seen : List ℕ) → (lines ≢ []) ⊎ CannotBeBlank seen → is_blank seen ≡ true → lines ≢ []
 some-lines lines seen (inl some) b = some
 some-lines lines seen (inr cannot) b = absurd (not_both seen cannot b)
@@ -31,7 +31,7 @@ some-full lines seen line full longer b e =
     let none : length (with_newlines lines) ≡ 0 = ap (λ ls. length (with_newlines ls)) e in
     not_both line (inr (omega arith)) b
 
--- the lines within sight, behind whole ones
+-- the lines within sight, after whole ones
 part-lines : (room : ℕ) (text : List ℕ) (lines : List Line) (rest : List ℕ) → StandInFront text lines rest → length (with_newlines lines) ≤ room → lines_of (part_within room text) ≡ lines ++ lines_of (part_within (room - length (with_newlines lines)) rest)
 part-lines room text lines rest h within =
     ap (λ t. lines_of (part_within room t)) h.text
@@ -86,7 +86,7 @@ next-run n room text (line ∷ run) rest some is not_blank begins short ends = r
   answer = left-run n room text line run rest is not_blank begins short ends;
 }
 
--- Whole lines of a run at the front of a text.
+-- Whole lines of a run at the start of a text.
 pub record RunLines (text : List ℕ) (run : LineRun) : Type 0 where
   pub lines : List Line
   pub behind : List ℕ
@@ -100,7 +100,7 @@ pub record RunLines (text : List ℕ) (run : LineRun) : Type 0 where
 abbrev pub extent_behind : LineRun → (at newline : ℕ) → Extent
 extent_behind run at newline = record { end = run.bytes - 1; skip = at + newline; bytes = run.bytes + (run.partial.len + newline); lines = run.lines + min (run.partial.len + newline) 1 }
 
--- A paragraph ends here, and passes with the blank line behind it, or with all that is left: which bytes and lines of the file those are.
+-- A paragraph ends here, and passes with the blank line after it, or with all that is left: which bytes and lines of the file those are.
 pub record Ends (passed : List ℕ) (e : Extent) (state : CursorState) : Type 0 where
   pub lines : List Line
   pub ending : List Line
@@ -211,7 +211,7 @@ module _ (state : CursorState) (run : LineRun) (t : RunLines state.unread run) (
         subst IsClosed (with_newlines-append t.lines (line ∷ []) ∙ ap (λ zs. with_newlines t.lines ++ zs) (sym e))
         (ends_line-with_newlines all, subst (λ ls. Rattle.deb_syntax.specs.Lines.ends_blank ls ≡ true) (sym is) (ends_blank-append t.lines (line ∷ []) (some_more [] line) blank))
 
-    -- it is behind the lines
+    -- it is after the lines
     pub ends-behind : (tail : List ℕ) → (tail ≡ line ++ newline ∷ []) ⊎ ((tail ≡ line) × IsTrue state.ended × (e.skip ≡ length state.unread)) → e.skip ≤ length state.unread → length (drop e.skip state.unread) ≤ piece_limit → e.bytes ≡ run.bytes + length tail → e.lines ≡ run.lines + min (length tail) 1 → Ends (with_newlines t.lines ++ tail) e state
     ends-behind tail ends skip near bytes count =
         let size = length-append (with_newlines t.lines) tail in

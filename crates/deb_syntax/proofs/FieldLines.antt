@@ -12,7 +12,7 @@ prefix_len-at p (b ∷ bs) (suc k) h all other =
     let parts = and_parts (p b) (list_all p (take k bs)) all in
     rw (parts.0, prefix_len-at p bs k (omega arith) parts.1 other) (omega arith)
 
--- where no name and colon stand at the front, what stands before the first colon is no name
+-- where the line begins with no name and colon, what precedes the first colon is no name
 pub not_named : (line : Line) (n k : ℕ) → n ≡ prefix_len is_name_byte line → is_named line n ≡ false → IsFirstByte (is_byte colon) line (Some k) → is_name (take k line) ≡ false
 not_named line n k most not found =
     false_from_ne_true _ (λ name.
@@ -46,7 +46,7 @@ module _ (n : ℕ) (fields : List Field) (line : Line) where
       let split : line ≡ take at line ++ colon ∷ drop (at + 1) line = sym (take-append-drop at line) ∙ ap (λ zs. take at line ++ zs) (drop_more line at 0 (ltb-true _ _ front.0) ∙ ap (λ b. b ∷ drop (at + 1) line) (eqb-true _ _ front.1)) in
       ap (field_line n fields) split ∙ field_line-name n fields (take at line) (drop (at + 1) line) parts.1
 
--- a name at the front of a line
+-- a name at the start of a line
 pub is_named-at_front : (line : Line) (front : NameAtFront) → IsAtFront line front → is_named line front.len ≡ true
 is_named-at_front line front is = and_from _ _ (and_from _ _ (lt-ltb front.len (length line) is.within) (eq-eqb _ _ is.colon)) is.name
 

@@ -1,4 +1,4 @@
--- The first line ahead that isn't blank: blank lines that pass by pieces, and the line behind them.
+-- The first line ahead that isn't blank: blank lines that pass by pieces, and the line after them.
 use Rattle.deb_syntax.proofs.Common.{◌≡◌, ℕ, ◌+◌, ◌-◌, ◌<◌, ◌≤◌, ◌==◌, inl, inr, Bool, true, false, cond, List, [], ◌∷◌, ◌++◌, Option, Some, None, Result, Ok, Err, length, take, drop, IsTrue, IsFalse, refl, sym, ap, subst, ◌∙◌, append_assoc, arith, length-append, length-drop, length-take, nat_lt, min, take-append_seam, drop-append_seam, drop-length, false≢true, take-append-drop, drop_all, MatchBool, unwrap_or, All-append, Line, newline, HasNoNewline, is_blank, paragraph_limit, FileTooLong, Fault, Refused, Refusal, part_within, line_beyond, answer_of_first, begin_of_first, AreBlank, Paragraph, lines_of, with_newlines, paragraphs_from, file_limit, CursorState, Comes, PassesOn, Sees, IsEnd, room_of, StandInFront, Describes, EndsNotBlank, SkipsBlanks, left_answer, left_begin, room_ahead, IsAhead, IsNear, PassesBlanks, PassesAll, KeepsLine, HidesLine, HasFirst, IsFirst, EndsAt, TextAfterLine, IsDropped, PartialLine, FirstLine, Visible, End, More, Eof, Limit, Skipped, LineRun, DroppedLine, NoMore, Buffered, TooLong}
 use Rattle.std.proofs.Common.{append-nil}
 use mir.Val.{bool_byte}
@@ -11,7 +11,7 @@ use Rattle.deb_syntax.proofs.Passing.{ends_line-with_newlines}
 use Rattle.deb_syntax.proofs.Runs.{paragraphs_from-blanks}
 use Rattle.deb_syntax.proofs.WalkingLines.{blank-last, count-last, lines_of-with_newlines_and, with_newlines-append, few_lines-with_newlines}
 
--- what is answered behind blank lines
+-- what is answered after blank lines
 left-blanks : {A : Type 0} (f : Option ℕ → List Paragraph → A) (n room : ℕ) (text ahead : List ℕ) (blanks : List Line) → StandInFront text blanks ahead → AreBlank blanks → length (with_newlines blanks) ≤ room
     → f (line_beyond n room text) (paragraphs_from n (lines_of (part_within room text)))
     ≡ f (line_beyond (n + length blanks) (room - length (with_newlines blanks)) ahead) (paragraphs_from (n + length blanks) (lines_of (part_within (room - length (with_newlines blanks)) ahead)))
@@ -29,7 +29,7 @@ left-blanks f n room text ahead blanks front blank within =
     ap (λ b. f b (paragraphs_from n (lines_of (part_within room text)))) beyond
     ∙ ap (f (line_beyond (n + length blanks) (room - length (with_newlines blanks)) ahead)) paragraphs
 
--- what is answered of a text is answered of it behind blank lines
+-- what is answered of a text is answered of it after blank lines
 module _ (text ahead : List ℕ) (before cursor : CursorState) (p : PassesBlanks text before cursor ahead) (small : cursor.bytes ≤ file_limit) where
   room-left : room_ahead before - length (with_newlines p.blanks) ≡ room_ahead cursor
   room-left = omega (arith, p.bytes)
@@ -104,7 +104,7 @@ passes-none text cursor = record {
   lines = omega arith;
 }
 
--- behind what has no newline stands no more than what comes behind it
+-- after what has no newline is no more than what comes after it
 pub near-piece : (seen piece front more : List ℕ) → HasNoNewline seen → seen ++ piece ≡ front ++ newline ∷ more → length more ≤ length piece
 near-piece [] piece front more h e = omega (arith, ap length e, length-append front (newline ∷ more))
 near-piece (b ∷ seen) piece [] more h e =
@@ -112,7 +112,7 @@ near-piece (b ∷ seen) piece [] more h e =
     absurd (false≢true (sym h.0 ∙ ap (λ c. c == newline) b_is))
 near-piece (b ∷ seen) piece (c ∷ front) more h e = near-piece seen piece front more h.1 (ap (drop 1) e)
 
--- no newline stands in a line
+-- no newline is in a line
 near-line : (line : List ℕ) → HasNoNewline line → IsNear line
 near-line line h front more e =
     let none : length more ≤ length {A = ℕ} [] = near-piece line [] front more h (append-nil line ∙ e) in
@@ -236,7 +236,7 @@ module _ (cursor : CursorState) (partial : PartialLine) (visible : Visible) (see
   pub skipped-few : (skipped : Skipped) → SkipsBlanks visible.bytes.now skipped → skipped.lines ≤ skipped.bytes
   skipped-few skipped s = omega (arith, s.bytes, s.counted, few_lines-with_newlines s.lines)
 
--- behind blank lines stand so many bytes that may be looked at, and others
+-- after blank lines are so many bytes that may be looked at, and others
 pub record Stands (before : CursorState) (left_before : Option (List ℕ)) (cursor : CursorState) (left : Option (List ℕ)) (skipped : Skipped) (kind : End) : Type 0 where
   pub rest : List ℕ
   pub beyond : List ℕ
@@ -367,7 +367,7 @@ module _ (before : CursorState) (left_before : Option (List ℕ)) (cursor : Curs
       first-behind text h.0 before cursor h.1 small cursor left (Err (Refused refusal))
       (first-beyond h.0 cursor cursor left refusal (omega (arith, ap length b.whole, length-append cursor.unread b.rest, long)) (subst HasNoNewline (sym cut) (stands-open is).line) at)
 
-  -- what is answered behind them
+  -- what is answered after them
   pub stands-first : (after : CursorState) (left_after : Option (List ℕ)) (result : Result FirstLine Fault) → cursor.bytes ≤ file_limit → ((text : List ℕ) → IsAhead text [] cursor left → IsFirst text cursor result after left_after) → (text : List ℕ) → IsAhead text [] before left_before → IsFirst text before result after left_after
   stands-first after left_after result small answers text a =
       let h = s.ahead text a in

@@ -30,7 +30,7 @@ judged_code n lines Memory is = tt
 judged_code n lines Read is = absurd is
 judged_code n lines Write is = absurd is
 
--- where a paragraph's lines stand in the buffer
+-- where a paragraph's lines are in the buffer
 module _ (mid : FileCursor) (buffer : List ℕ) (e : Extent) (from n : ℕ) (same : buffer ≡ buffer_of mid) (at : from ≡ start_of mid) (x : IsExtentOf e (cursor_state mid)) where
   abbrev pub standing : CurrentParagraph
   standing = record { from = from; to = from + e.end; first_line = n }
@@ -48,7 +48,7 @@ module _ (mid : FileCursor) (buffer : List ℕ) (e : Extent) (from n : ℕ) (sam
       = ap (λ k. record { first = k; lines = x.lines }) (sym is) ∙ ap (λ ls. record { first = n; lines = ls }) lines in
       record { more = next.more; next = next.next ∙ ap (λ p. p ∷ next.more) one }
 
--- behind what has passed, what was judged is the next paragraph
+-- after what has passed, what was judged is the next paragraph
 module _ (text passed ahead : List ℕ) (cursor : CursorState) (cut : IsCut text passed ahead cursor.bytes cursor.lines) (small : cursor.bytes ≤ file_limit) where
   next_found : (p : Paragraph) → IsFirstAhead ahead cursor p → slice_get (paragraphs_within text) (passed_count passed) ≡ Some p
   next_found p first =
@@ -81,6 +81,6 @@ shows_none text passed Write last none answer is = absurd is
 pub shows_end : (text passed : List ℕ) (last : Option Paragraph) → last ≡ None → next_answer text (passed_count passed) ≡ Ok None → ShowsJudged text (passed_count passed) (Ok None) last
 shows_end text passed last none answer = none ∙ sym (ap (λ a. judged_by a (slice_get (paragraphs_within text) (passed_count passed))) answer)
 
--- the same behind blank lines that have passed
+-- the same after blank lines that have passed
 pub shows_behind : (text passed passed_now : List ℕ) (answer : Result (Option Seen) Fault) (last : Option Paragraph) → paragraphs_of passed_now ≡ paragraphs_of passed → ShowsJudged text (passed_count passed_now) answer last → ShowsJudged text (passed_count passed) answer last
 shows_behind text passed passed_now answer last same shows = subst (λ n. ShowsJudged text n answer last) (ap length same) shows

@@ -20,7 +20,7 @@ push-append xs x ys = append_assoc xs (x ∷ []) ys
 pub bytes_eq-swap : (a b : List ℕ) → bytes_eq a b ≡ false → bytes_eq b a ≡ false
 bytes_eq-swap a b h = nat_list_eq_equiv.symm b a ∙ h
 
--- The lines of a field: its name and a colon with more behind it, and lines that begin with a blank.
+-- The lines of a field: its name and a colon with more after it, and lines that begin with a blank.
 record IsFieldLines (own : List Line) (name text : List ℕ) : Type 0 where
   pub more : List ℕ
   pub rest : List Line

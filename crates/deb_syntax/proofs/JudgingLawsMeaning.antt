@@ -1,4 +1,4 @@
--- A paragraph's meaning is what stands under each name: the order of the fields is no part of it.
+-- A paragraph's meaning is what is under each name: the order of the fields is no part of it.
 use Rattle.deb_syntax.proofs.Common.{◌≡◌, ℕ, zero, suc, Bool, true, false, cond, T, List, [], ◌∷◌, refl, sym, ap, ◌∙◌, subst, arith, Option, Some, None, Contains, IsPermutation, or_parts, or_from, same_from_decides, nat_list_cmp_total, Any-from_list_any, Contains-permutation, list_any-IsPermutation, is_eq-slice_cmp, bytes_eq-Decides, insert_entry, put, is_sorted, nat_cmp-IsAntisymmetric, slice_cmp-IsAntisymmetric, find-put, is_sorted-put, same_entries, by_order, list_any, eq_by_cmp, match_ordering, Ordering, Less, Equal, Greater, bytes_eq, folded, canonical_name, canonical_name-from_folded, folded-from_canonical_name, Field, has_name, AreDistinct, Entries, byte_order, entries_after, entries_of, body_at, body_of}
 pub use Rattle.deb_syntax.proofs.DistinctNames.{distinct-permutation}
 
@@ -26,7 +26,7 @@ entries_of-sorted fields = sorted-after fields [] tt
 pub entries_of-same : (fields others : List Field) → ((name : List ℕ) → body_at name (entries_of fields) ≡ body_at name (entries_of others)) → entries_of fields ≡ entries_of others
 entries_of-same fields others h = same_entries byte_order nat_list_cmp_total (slice_cmp-IsAntisymmetric nat_cmp-IsAntisymmetric) (entries_of fields) (entries_of others) (entries_of-sorted fields) (entries_of-sorted others) h
 
--- whether the field stands under the canonical name
+-- whether the field is under the canonical name
 abbrev stands_under : List ℕ → Field → Bool
 stands_under q field = eq_by_cmp byte_order q (canonical_name field.name)
 
@@ -57,7 +57,7 @@ stands_under-name name field =
     )
     (bytes_eq-Decides (folded field.name) (folded name))
 
--- where no field has the name of one, none stands where that one does
+-- where no field has the name of one, none is where that one does
 others_apart : (q : List ℕ) (field : Field) (fields : List Field) → stands_under q field ≡ true → has_name field.name fields ≡ false → list_any (stands_under q) fields ≡ false
 others_apart q field [] h none = refl
 others_apart q field (f ∷ fields) h none =
@@ -80,7 +80,7 @@ last_under-name name (f ∷ fields) d = go (bytes_eq (folded f.name) (folded nam
     go true e rest = rw e (last_under-none (canonical_name name) fields (Some f.body) (others_apart (canonical_name name) f fields e d.0))
     go false e rest = rw e rest
 
--- under the canonical spelling of a name stands the body of the field that has the name
+-- under the canonical spelling of a name is the body of the field that has the name
 pub body_at-entries_of : (fields : List Field) → AreDistinct fields → (name : List ℕ) → body_at (canonical_name name) (entries_of fields) ≡ body_of name fields
 body_at-entries_of fields d name = body_at-after fields [] (canonical_name name) ∙ last_under-name name fields d
 

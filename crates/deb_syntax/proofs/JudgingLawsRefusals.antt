@@ -36,7 +36,7 @@ same_fields a b r p q = cc
 pub spells-unique : (paragraph : Paragraph) (fields others : List Field) → AllByRecursion HasNoNewline paragraph.lines → SpellsParagraph paragraph fields → SpellsParagraph paragraph others → fields ≡ others
 spells-unique paragraph fields others none s t = same_fields fields others (judged paragraph.first paragraph.lines) (judged-complete paragraph.first paragraph.lines fields none s) (judged-complete paragraph.first paragraph.lines others none t)
 
--- a paragraph of which a line is refused is spelled by no fields
+-- the lines of a paragraph spell no fields if one of them is refused
 pub judged-refused : (n : ℕ) (lines : List Line) (refusal : Refusal) (fields : List Field) → AllByRecursion HasNoNewline lines → judged n lines ≡ Err refusal → SpellsParagraph (record { first = n; lines = lines }) fields → ⊥
 judged-refused n lines refusal fields none h s = let e = judged-complete n lines fields none s in cc
 

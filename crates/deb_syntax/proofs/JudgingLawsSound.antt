@@ -33,7 +33,7 @@ spells n line rest some good none all =
       body = body_shape-cut (joined (more ∷ rest)) _ c (subst (λ ls. AllByRecursion IsMore (drop 1 ls)) (sym pieces) all);
     }
 
--- The lines, of which the first has number n, are judged after the fields before them: some go on with the last of these, and
+-- The lines, the first with number n, are judged after the fields before them: some go on with the last of these, and
 -- the others spell the further ones.
 pub record IsSound (n : ℕ) (lines : List Line) (before result : List Field) : Type 0 where
   pub more : List Line

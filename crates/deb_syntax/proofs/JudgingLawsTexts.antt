@@ -23,7 +23,7 @@ all_blank-no_newline = each_from_list_all is_blank_byte (λ b. eqb b 10 ≡ fals
 pub name-no_newline : (name : List ℕ) → is_name name ≡ true → HasNoNewline name
 name-no_newline name h = each_from_list_all is_name_byte (λ b. eqb b 10 ≡ false) name_byte-no_newline name (each_name_byte name h)
 
--- the colon behind a name is the first one
+-- the colon after a name is the first one
 first_colon : (name more : List ℕ) → list_all is_name_byte name ≡ true → position_or_len (λ b. eqb b 58) (name ++ 58 ∷ more) ≡ length name
 first_colon [] more h = refl
 first_colon (b ∷ name) more h = let p = and_parts (is_name_byte b) (list_all is_name_byte name) h in rw (name_byte-no_colon b p.0, first_colon name more p.1) (omega arith)
@@ -35,7 +35,7 @@ begun-field n name more h =
     let body : drop (length name + 1) line ≡ more = sym (drop-drop 1 (length name) line) ∙ ap (drop 1) (drop_at name (colon ∷ more) (length name) refl) in
     ap field (first_colon name more (each_name_byte name h)) ∙ (λ i. record { name = take_at name (colon ∷ more) (length name) refl i; line = n; body = body i })
 
--- where a colon stands, the first one ends what is before it
+-- where a colon is, the first one ends what is before it
 some_colon : (line : Line) → has_colon line ≡ true → position_or_len (λ b. eqb b 58) line < length line
 some_colon [] h = absurd (true≢false (sym h))
 some_colon (b ∷ line) h =

@@ -1,4 +1,4 @@
--- The answer of a reader on the part of a file that hasn't passed, by what stands there.
+-- The answer of a reader on the part of a file that hasn't passed, by what is there.
 use Rattle.deb_syntax.proofs.Common.{◌≡◌, ℕ, ◌+◌, ◌-◌, ◌<◌, ◌≤◌, ◌==◌, ◌⊎◌, inl, inr, Bool, true, false, cond, List, [], ◌∷◌, ◌++◌, Option, Some, None, Ok, Err, length, drop, eqb, refl, sym, ap, ◌∙◌, arith, length-append, le-leb, lt-leb, append-nil, drop-append_seam, drop-length, ParagraphTooLong, FileTooLong, Line, line_length, paragraph_limit, is_blank, part_within, line_beyond, line_too_long, is_line, seen_from, paragraph_answer, answer_of_first, begin_of_first, paragraphs_within, next_answer, next_begin, left_answer, left_begin, AreBlank, AreNotBlank, judged, Paragraph, lines_of, begins_blank, paragraphs_from, paragraphs_of, total_length, file_limit, with_line, IsClosed}
 use Rattle.std.proofs.lemmas.List.{append_assoc}
 use Rattle.deb_syntax.proofs.Boundaries.{lines_of-append}
@@ -7,7 +7,7 @@ use Rattle.deb_syntax.proofs.Parts.{part_within-all, part_within-append, line_be
 use Rattle.deb_syntax.proofs.Passing.{IsBehind}
 use Rattle.deb_syntax.proofs.Runs.{joins, paragraphs_from-run}
 
--- behind closed lines
+-- after closed lines
 pub left-paragraphs : (n room : ℕ) (passed text : List ℕ) → IsClosed passed → length passed ≤ room → paragraphs_from n (lines_of (part_within room (passed ++ text))) ≡ paragraphs_from n (lines_of passed) ++ paragraphs_from (n + length (lines_of passed)) (lines_of (part_within (room - length passed) text))
 left-paragraphs n room passed text closed within =
     ap (λ t. paragraphs_from n (lines_of t)) (part_within-append room passed text closed.0 within)
@@ -24,7 +24,7 @@ left-pass f n room passed text closed within =
     ∙ ap (λ qs. f (line_beyond (n + length (lines_of passed)) (room - length passed) text) (drop (length ps) qs)) (left-paragraphs n room passed text closed within)
     ∙ ap (f (line_beyond (n + length (lines_of passed)) (room - length passed) text)) (drop-append_seam ps _)
 
--- nothing behind lines that all have passed
+-- nothing after lines that all have passed
 left-nothing : {A : Type 0} (f : Option ℕ → List Paragraph → A) → (room : ℕ) (passed : List ℕ) → length passed ≤ room
     → f (line_beyond 1 room (passed ++ [])) (drop (length (paragraphs_of passed)) (paragraphs_of (part_within room (passed ++ [])))) ≡ f None []
 left-nothing f room passed within =
@@ -48,7 +48,7 @@ left-behind f passed text (inr none) within =
     ∙ left-nothing f file_limit passed within ∙ sym (left-empty f (1 + length (lines_of passed)) (file_limit - length passed))
     ∙ ap (λ t. f (line_beyond (1 + length (lines_of passed)) (file_limit - length passed) t) (paragraphs_from (1 + length (lines_of passed)) (lines_of (part_within (file_limit - length passed) t)))) (sym none)
 
--- the answer behind what has passed is that on the text which hasn't
+-- the answer after what has passed is that on the text which hasn't
 pub next_answer-left : (passed text : List ℕ) → IsBehind passed text → length passed ≤ file_limit → next_answer (passed ++ text) (length (paragraphs_of passed)) ≡ left_answer (1 + length (lines_of passed)) (file_limit - length passed) text
 next_answer-left passed text behind within = left-behind answer_of_first passed text behind within
 
@@ -161,7 +161,7 @@ module _ (n room : ℕ) (text : List ℕ) where
           with_last [] h = (line_not, tt)
           with_last (l ∷ ls) h = (h.0, with_last ls h.1)
 
-  -- the file is too long, and no blank line behind the run is in sight
+  -- the file is too long, and no blank line after the run is in sight
   pub left-beyond : (run : List Line) → lines_of (part_within room text) ≡ run → room < length text → AreNotBlank run → total_length run ≤ paragraph_limit → left_answer n room text ≡ Err (record { code = FileTooLong; line = n + length run })
   left-beyond run is long not_blank short =
       let beyond : line_beyond n room text ≡ Some (n + length run) = line_beyond-some n room text long ∙ ap (λ ls. Some (n + length ls)) is in

@@ -23,12 +23,12 @@ length-ends_from start (line ∷ lines) = ap suc (length-ends_from (start + line
 pub few_ends : (text ends : List ℕ) (lines : List Line) → ends ≡ piece_ends text → pieces_of text ≡ lines → length ends ≡ length lines
 few_ends text ends lines is pieces = ap length is ∙ length-ends_from 0 (pieces_of text) ∙ ap length pieces
 
--- whole lines at the front of a text
+-- whole lines at the start of a text
 line_ends-front : (text : List ℕ) (lines : List Line) (rest : List ℕ) (n : ℕ) → StandInFront text lines rest → n ≡ length (with_newlines lines) → line_ends (take n text) ≡ ends_from 0 lines
 line_ends-front text lines rest n h e =
     ap (λ k. line_ends (take k text)) e ∙ ap line_ends (take-front text lines rest h) ∙ ap (ends_from 0) (lines_of-with_newlines lines h.lines)
 
--- the line behind a run joins it
+-- the line after a run joins it
 pub line_ends-step : (text : List ℕ) (run : LineRun) (ends : List ℕ) → Ended text run → ends ≡ line_ends (take run.bytes text) → ends ++ (run.bytes + run.partial.len) ∷ [] ≡ line_ends (take (run.bytes + (run.partial.len + 1)) text)
 line_ends-step text run ends e is =
     let h = e.stands in
@@ -39,11 +39,11 @@ line_ends-step text run ends e is =
     ∙ ap (λ n. ends_from 0 e.lines ++ n ∷ []) at ∙ sym (ends_from-push 0 e.lines e.seen)
     ∙ sym (line_ends-front text (e.lines ++ e.seen ∷ []) e.rest _ (front-step text e.lines e.seen e.rest h.front h.describes.line) bytes)
 
--- the front of what is seen is that of the text
+-- a prefix of what is seen is one of the text
 pub take-seen : (n room : ℕ) (text : List ℕ) → n ≤ length (take room text) → take n text ≡ take n (take room text)
 take-seen n room text le = ap (take n) (sym (take-append-drop room text)) ∙ take-append-le n (take room text) (drop room text) le
 
--- also where more comes behind it
+-- also where more comes after it
 pub take-more : (n : ℕ) (text after piece : List ℕ) → n ≤ length text → after ≡ text ++ piece → take n after ≡ take n text
 take-more n text after piece le is = ap (take n) is ∙ take-append-le n text piece le
 
@@ -58,14 +58,14 @@ pub take-less : (n : ℕ) (a b : List ℕ) → n ≤ length a → n ≤ length b
 take-less n a b la lb e =
     take-seen (n - 1) n a (omega (arith, length-take-le n a la)) ∙ ap (take (n - 1)) e ∙ sym (take-seen (n - 1) n b (omega (arith, length-take-le n b lb)))
 
--- also where the line behind them was dropped
+-- also where the line after them was dropped
 pub dropped-ends : (before after : CursorState) (run : LineRun) (s : Stops before.unread Open run) (dropped : DroppedLine) → DropsLine before run dropped after → (end : ℕ) → 0 < run.bytes → end ≡ run.bytes - 1 → line_ends (take run.bytes before.unread) ≡ piece_ends (take end after.unread)
 dropped-ends before after run s dropped d end some is =
     line_ends-closed before.unread run s.lines s.seen s.fresh s.stands some
     ∙ ap piece_ends (sym (take-less run.bytes after.unread before.unread d.within (omega (arith, open-length before.unread run s)) d.kept))
     ∙ ap (λ n. piece_ends (take n after.unread)) (sym is)
 
--- with a last line behind them that has no newline
+-- with a last line after them that has no newline
 pub line_ends-last : (text : List ℕ) (run : LineRun) (ends : List ℕ) → Stops text Open run → ends ≡ line_ends (take run.bytes text) → ends ++ (run.bytes + run.partial.len) ∷ [] ≡ piece_ends (take (run.bytes + run.partial.len) text)
 line_ends-last text run ends s is =
     let h = s.stands in
@@ -76,7 +76,7 @@ line_ends-last text run ends s is =
     ∙ ap (λ n. ends_from 0 s.lines ++ n ∷ []) at ∙ sym (ends_from-push 0 s.lines s.seen)
     ∙ ap (ends_from 0) (sym (ap pieces_of whole ∙ pieces_of-with_newlines_and s.lines s.seen front.lines h.describes.line))
 
--- the pieces of a text from a line's begin on, of which there are none after the last one
+-- the pieces of a text from a line's begin on: there are none after the last one
 abbrev pub pieces_from : List ℕ → ℕ → List Line
 pieces_from text start = cond (nat_le start (length text)) (pieces_of (drop start text)) []
 

@@ -2,7 +2,7 @@
 use Rattle.deb_syntax.proofs.Common.{◌≡◌, ℕ, Bool, true, false, cond, eqb, List, [], ◌∷◌, ◌++◌, refl, sym, ap, ◌∙◌, cond_both, join_with_byte-slice_split, AllByRecursion, Line, newline, with_byte, pieces_of, joined, HasNoNewline, slice_split-pieces_of}
 use Rattle.deb_syntax.proofs.Runs.{pieces_of-line, pieces_of-last}
 
--- a text before the first of the lines, and one behind the last
+-- a text before the first of the lines, and one after the last
 abbrev pub with_front : List ℕ → List Line → List Line
 with_front text [] = text ∷ []
 with_front text (line ∷ lines) = (text ++ line) ∷ lines
@@ -12,7 +12,7 @@ with_end [] text = []
 with_end (line ∷ []) text = (line ++ text) ∷ []
 with_end (line ∷ next ∷ lines) text = line ∷ with_end (next ∷ lines) text
 
--- lines of which there is a first one
+-- lines with a first one
 abbrev pub HasFirst : List Line → Type 0
 HasFirst lines = (first : Line) × (others : List Line) × (lines ≡ first ∷ others)
 
@@ -38,7 +38,7 @@ pub pieces_of-joined : (line : Line) (lines : List Line) → AllByRecursion HasN
 pieces_of-joined line [] none = pieces_of-last line none.0
 pieces_of-joined line (next ∷ lines) none = pieces_of-line line (joined (next ∷ lines)) none.0 ∙ ap (λ ls. line ∷ ls) (pieces_of-joined next lines none.1)
 
--- a text without newline behind another one
+-- a text without newline after another one
 pub pieces_of-end : (text line : List ℕ) → HasNoNewline line → pieces_of (text ++ line) ≡ with_end (pieces_of text) line
 pieces_of-end [] line none = pieces_of-last line none
 pieces_of-end (b ∷ bs) line none =

@@ -24,7 +24,7 @@ later n m front lines p e s =
       number = omega (arith, length-append front s.before);
     }
 
--- and stands among the lines
+-- and is among the lines
 pub runs-StandsAmong : (paragraphs : List Paragraph) (n : ℕ) (lines : List Line) → AreRuns n lines paragraphs → AllByRecursion (StandsAmong n lines) paragraphs
 runs-StandsAmong [] n lines r = tt
 runs-StandsAmong (p ∷ ps) n lines r =
@@ -40,7 +40,7 @@ runs-StandsAmong (p ∷ ps) n lines r =
 pub paragraphs_of-IsRun : (text : List ℕ) → AllByRecursion (λ p. IsRun p.lines) (paragraphs_of text)
 paragraphs_of-IsRun text = runs-IsRun (paragraphs_of text) 1 (lines_of text) (paragraphs_from-AreRuns (lines_of text) 1) (lines_of-no_newline text)
 
--- and stands among the lines of the text
+-- and is among the lines of the text
 pub paragraphs_of-StandsAmong : (text : List ℕ) → AllByRecursion (StandsAmong 1 (lines_of text)) (paragraphs_of text)
 paragraphs_of-StandsAmong text = runs-StandsAmong (paragraphs_of text) 1 (lines_of text) (paragraphs_from-AreRuns (lines_of text) 1)
 

@@ -6,14 +6,14 @@ use Rattle.deb_syntax.proofs.Runs.{paragraphs_from-blanks, paragraphs_from-run}
 abbrev AllBlank : List Line → Type 0
 AllBlank lines = AllByRecursion (λ line. is_blank line ≡ true) lines
 
--- one more blank line in front
+-- one more blank line before them
 runs-blank : (n : ℕ) (line : Line) (lines : List Line) (paragraphs : List Paragraph) → is_blank line ≡ true → AreRuns (n + 1) lines paragraphs → AreRuns n (line ∷ lines) paragraphs
 runs-blank n line lines [] e r = (e, r)
 runs-blank n line lines (p ∷ ps) e r =
     let k : n + 1 + length r.0 ≡ n + suc (length r.0) = omega arith in
     (line ∷ r.0, r.1, ap (λ ls. line ∷ ls) r.2, (e, r.3), r.4 ∙ k, r.5, r.6, r.7, subst (λ m. AreRuns (m + length p.lines) r.1 ps) k r.8)
 
--- one more line in front, which is a paragraph of its own
+-- one more line before them, which is a paragraph of its own
 runs-alone : (n : ℕ) (line : Line) (lines : List Line) (paragraphs : List Paragraph) → is_blank line ≡ false → begins_blank lines ≡ true → AreRuns (n + 1) lines paragraphs → AreRuns n (line ∷ lines) (record { first = n; lines = line ∷ [] } ∷ paragraphs)
 runs-alone n line lines ps e b r = (
   [],
@@ -27,7 +27,7 @@ runs-alone n line lines ps e b r = (
   subst (λ m. AreRuns m lines ps) (let k : n + 1 ≡ n + 0 + 1 = omega arith in k) r,
 )
 
--- one more line in front, which joins the paragraph of the next line
+-- one more line before them, which joins the paragraph of the next line
 runs-joins : (n : ℕ) (line next : Line) (lines : List Line) (paragraphs : List Paragraph) → is_blank line ≡ false → is_blank next ≡ false → AreRuns (n + 1) (next ∷ lines) paragraphs → AreRuns n (line ∷ next ∷ lines) (with_line n line false paragraphs)
 runs-joins n line next lines [] e f r = absurd (true≢false (sym r.0 ∙ f))
 runs-joins n line next lines (p ∷ ps) e f r = go r.0 r.2 r.3 r.8

@@ -1,4 +1,4 @@
--- The pieces of a text with a newline behind it are its lines.
+-- The pieces of a text with a newline after it are its lines.
 use Rattle.deb_syntax.proofs.Common.{◌≡◌, ℕ, ◌==◌, Bool, true, false, cond, List, [], ◌∷◌, ◌++◌, refl, sym, subst, Line, newline, pieces_of, lines_of}
 use Rattle.deb_syntax.proofs.LinesLaws.{pieces_of-some}
 
@@ -14,7 +14,7 @@ cond-append : (b : Bool) (xs ys zs : List Line) → cond b (xs ++ zs) (ys ++ zs)
 cond-append true xs ys zs = refl
 cond-append false xs ys zs = refl
 
--- with a newline behind a text, its pieces are lines
+-- with a newline after a text, its pieces are lines
 pub lines_of-pieces : (text rest : List ℕ) → lines_of (text ++ newline ∷ rest) ≡ pieces_of text ++ lines_of rest
 lines_of-pieces [] rest = refl
 lines_of-pieces (b ∷ bs) rest =

@@ -2,7 +2,7 @@
 use Rattle.deb_syntax.proofs.Common.{◌≡◌, ◌≢◌, ℕ, ◌+◌, ◌≤◌, Bool, true, false, cond, List, [], ◌∷◌, ◌++◌, length, refl, sym, ap, ◌∙◌, arith, append-nil, sum_by-append, Line, is_blank, line_length, Paragraph, begins_blank, ends_blank, with_line, paragraphs_from, total_length, AreBlank, AreNotBlank}
 use Rattle.deb_syntax.proofs.Runs.{paragraphs_from-blanks, paragraphs_from-run}
 
--- the length of lines, of which the first is taken apart
+-- the length of lines, with the first taken apart
 pub total-cons : (line : Line) (lines : List Line) → total_length (line ∷ lines) ≡ total_length (line ∷ []) + total_length lines
 total-cons line lines = sum_by-append line_length (line ∷ []) lines
 
@@ -12,7 +12,7 @@ some_paragraph n line true ps = (record { first = n; lines = line ∷ [] }, ps, 
 some_paragraph n line false [] = (record { first = n; lines = line ∷ [] }, [], refl, omega arith)
 some_paragraph n line false (p ∷ ps) = (record { first = n; lines = line ∷ p.lines }, ps, refl, omega (arith, total-cons line p.lines))
 
--- paragraphs behind a list of paragraphs to which the line is joined
+-- paragraphs after a list of paragraphs to which the line is joined
 with_line-append : (n : ℕ) (line : Line) (b : Bool) (ps qs : List Paragraph) → (b ≡ false → ps ≢ []) → with_line n line b (ps ++ qs) ≡ with_line n line b ps ++ qs
 with_line-append n line true ps qs some = refl
 with_line-append n line false [] qs some = absurd (some refl refl)
@@ -26,7 +26,7 @@ not_blank-some m line lines h =
     let s = some_paragraph m line (begins_blank lines) (paragraphs_from (m + 1) lines) in
     not_nil _ s.1 s.0 (rw h s.2)
 
--- paragraphs of lines behind lines of which the last is blank
+-- paragraphs of lines after a blank line
 pub paragraphs_from-append : (n : ℕ) (a b : List Line) → ends_blank a ≡ true → paragraphs_from n (a ++ b) ≡ paragraphs_from n a ++ paragraphs_from (n + length a) b
 paragraphs_from-append n [] b h = ap (λ k. paragraphs_from k b) (omega arith)
 paragraphs_from-append n (line ∷ []) b h = rw h refl

@@ -1,8 +1,8 @@
--- The part of a text that is looked at, behind whole lines of it.
+-- The part of a text that is looked at, after whole lines of it.
 use Rattle.deb_syntax.proofs.Common.{cond-true, cond-false, ◌≡◌, ℕ, ◌+◌, ◌-◌, ◌<◌, ◌≤◌, ◌==◌, inl, inr, true, List, [], ◌∷◌, ◌++◌, Some, None, length, take, leb, refl, sym, ap, ◌∙◌, arith, length-append, le-leb, lt-leb, cases_lt, take-append-add, newline, HasNoNewline, with_whole, whole_lines, part_within, line_beyond, lines_of, ends_line}
 use Rattle.deb_syntax.proofs.Boundaries.{lines_of-append}
 
--- a newline in front of whole lines is one
+-- a newline before whole lines is one
 newline-whole : (b : ℕ) (text : List ℕ) → (b == newline) ≡ true → with_whole b text ≡ b ∷ text
 newline-whole b [] is = cond-true (b == newline) (b ∷ []) [] is
 newline-whole b (c ∷ cs) is = refl
@@ -46,7 +46,7 @@ part_within-append room a b ends within =
           part_within-all room (a ++ b) short ∙ ap (λ t. a ++ t) (sym (part_within-all (room - length a) b l))
     ]
 
--- the line of the first byte beyond, behind whole lines
+-- the line of the first byte beyond, after whole lines
 pub line_beyond-append : (n room : ℕ) (a b : List ℕ) → ends_line a ≡ true → length a ≤ room → line_beyond n room (a ++ b) ≡ line_beyond (n + length (lines_of a)) (room - length a) b
 line_beyond-append n room a b ends within =
     elim (cases_lt (room - length a) (length b)) [

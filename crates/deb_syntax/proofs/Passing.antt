@@ -49,7 +49,7 @@ closed_more passed more a b = (ends_line-both passed more a.0 b.0, go (lines_of 
         ap ends_blank (lines_of-append passed more a.0 ∙ ap (λ ls. lines_of passed ++ ls) is) ∙ ends_blank-append (lines_of passed) (line ∷ lines) some (ap ends_blank (sym is) ∙ b.1)
 
 module _ (text passed ahead : List ℕ) (bytes lines : ℕ) (cut : IsCut text passed ahead bytes lines) where
-  -- a front of what hasn't passed has passed
+  -- a prefix of what hasn't passed has passed
   pub cut_more : (front more : List ℕ) → ahead ≡ front ++ more → (IsClosed front ⊎ (more ≡ [])) → IsCut text (passed ++ front) more (bytes + length front) (lines + length (lines_of front))
   cut_more front more is closed = record {
     whole = cut.whole ∙ ap (λ zs. passed ++ zs) is ∙ sym (append_assoc passed front more);
@@ -70,7 +70,7 @@ module _ (text passed ahead : List ℕ) (bytes lines : ℕ) (cut : IsCut text pa
   front_paragraphs front more is =
       paragraphs_behind passed front (elim cut.behind [ inl c ↦ inl c | inr none ↦ inr (nothing front more (sym is ∙ none)).0 ])
 
-  -- blank lines in front
+  -- blank lines before them
   pub cut_blanks : (blanks : List Line) (more : List ℕ) → StandInFront ahead blanks more → AreBlank blanks → IsCut text (passed ++ with_newlines blanks) more (bytes + length (with_newlines blanks)) (lines + length blanks) × (paragraphs_of (passed ++ with_newlines blanks) ≡ paragraphs_of passed)
   cut_blanks blanks more front blank =
       let is = lines_of-with_newlines blanks front.lines in
@@ -98,7 +98,7 @@ module _ (text passed ahead : List ℕ) (bytes lines : ℕ) (cut : IsCut text pa
             ∙ ap (λ ps. paragraphs_of passed ++ ps) (no_paragraph (1 + length (lines_of passed)) (lines_of ahead) blank) ∙ append-nil (paragraphs_of passed),
       )
 
-  -- a paragraph, and blank lines behind it
+  -- a paragraph, and blank lines after it
   pub paragraphs-passed : (front more : List ℕ) (line : Line) (run ending : List Line) → ahead ≡ front ++ more → lines_of front ≡ (line ∷ run) ++ ending → AreNotBlank (line ∷ run) → AreBlank ending → paragraphs_of (passed ++ front) ≡ paragraphs_of passed ++ record { first = lines + 1; lines = line ∷ run } ∷ []
   paragraphs-passed front more line run ending is front_lines not_blank blank =
       let number : 1 + length (lines_of passed) + 0 ≡ lines + 1 = omega (arith, cut.lines) in

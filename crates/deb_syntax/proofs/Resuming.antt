@@ -9,7 +9,7 @@ use Rattle.deb_syntax.proofs.Advancing.{ahead_of, fits_cut, ahead_fits, answer_a
 use Rattle.deb_syntax.proofs.JudgedLines.{standing, first_ahead}
 use Rattle.deb_syntax.proofs.Passing.{IsBehind, IsCut, cut_more, paragraphs-passed}
 
--- where the lines of the next paragraph stand in the buffer, what has passed with it
+-- where the lines of the next paragraph are in the buffer, what has passed with it
 pub passes_run : (mid : FileCursor) (buffer : List ℕ) (e : Extent) (from n : ℕ) (same : buffer ≡ buffer_of mid) (at : from ≡ start_of mid) (x : IsExtentOf e (cursor_state mid)) (text : List ℕ) (before after : CursorState) (left : Option (List ℕ)) → SameCounts before (cursor_state mid) → n ≡ before.lines + 1 → PassesParagraph text e (cursor_state mid) left x.lines → IsNextRun (before.lines + 1) (room_ahead before) text x.lines → PassesOn (cursor_state mid) e.skip e.bytes e.lines after → PassesRun text before (lines_standing buffer (standing mid buffer e from n same at x)) after left
 passes_run mid buffer e from n same at x text before after left counts number passes next on =
     let p = lines_standing buffer (standing mid buffer e from n same at x) in
@@ -34,13 +34,13 @@ passes_run mid buffer e from n same at x text before after left counts number pa
       counted = omega (arith, on.lines, counts.lines, passes.counted);
     }
 
--- what passed behind it is closed, where something follows
+-- what passed after it is closed, where something follows
 closed_before : (passed ahead fresh more : List ℕ) (line : Line) (run ending : List Line) → IsBehind passed ahead → ahead ≡ fresh ++ more → lines_of fresh ≡ (line ∷ run) ++ ending → Rattle.deb_syntax.specs.Lines.IsClosed passed
 closed_before passed ahead fresh more line run ending (inl closed) is lines = closed
 closed_before passed ahead [] more line run ending (inr none) is lines = absurd cc
 closed_before passed ahead (b ∷ fresh) more line run ending (inr none) is lines = absurd cc
 
--- told of the whole text
+-- said of the whole text
 module _ (text passed : List ℕ) (cursor : CursorState) (overlong_len : ℕ) (none_overlong : overlong_len ≡ 0) (finished : Bool) (current : Option Seen) (fault : Option Fault) (left : Option (List ℕ)) (fits : Fits text passed (state_from cursor overlong_len finished current fault) left) (small : cursor.bytes ≤ file_limit) where
   cut : IsCut text passed (ahead_of text passed (state_from cursor overlong_len finished current fault) left fits) cursor.bytes cursor.lines
   cut = fits_cut text passed (state_from cursor overlong_len finished current fault) left fits
@@ -77,12 +77,12 @@ module _ (text passed : List ℕ) (cursor : CursorState) (overlong_len : ℕ) (n
       front_closed [] is some = absurd (some refl)
       front_closed (line ∷ run) is some = closed_before passed _ r.passed r.ahead line run r.ending cut.behind r.whole is
 
-  -- the same of lines that stand in a buffer, if any were judged
+  -- the same of lines that are in a buffer, if any were judged
   pub tell_judged : (new : CursorState) (left_after : Option (List ℕ)) (buffer : List ℕ) (judged : Option CurrentParagraph) (finished_after : Bool) (current_after : Option Seen) (fault_after : Option Fault) → finished_after ≡ false → IfSome judged (λ at. PassesRun (ahead_of text passed (state_from cursor overlong_len finished current fault) left fits) cursor (lines_standing buffer at) new left_after) → IfSome judged (λ _. length new.unread ≤ piece_limit) → new.bytes ≤ file_limit → IfSome (option_map (lines_standing buffer) judged) (λ p. HasPassed text passed p (state_from new overlong_len finished_after current_after fault_after) left_after)
   tell_judged new left_after buffer None finished_after current_after fault_after unfinished r near small_after = tt
   tell_judged new left_after buffer (Some at) finished_after current_after fault_after unfinished r near small_after = tell_passed new left_after (lines_standing buffer at) finished_after current_after fault_after unfinished r near small_after
 
--- told of what had passed before blank lines
+-- said of what had passed before blank lines
 pub passed_behind : (text passed passed_now : List ℕ) (p : Paragraph) (new : State) (left : Option (List ℕ)) → paragraphs_of passed_now ≡ paragraphs_of passed → HasPassed text passed_now p new left → HasPassed text passed p new left
 passed_behind text passed passed_now p new left same h = record {
   more = h.more;

@@ -1,15 +1,15 @@
 -- Slices of a list: joined, and cut again.
 use Rattle.deb_syntax.proofs.Common.{◌≡◌, ℕ, ◌+◌, ◌-◌, ◌<◌, ◌≤◌, Bool, List, [], ◌∷◌, ◌++◌, length, take, drop, map, slice_index, slice_range, refl, ap, arith, rules, ◌||◌, list_any, same_lists, places}
 
--- a slice, an element and the slice behind it are one slice
+-- a slice, an element and the slice after it are one slice
 pub slice_range-join : (xs : List ℕ) (a b c : ℕ) → a ≤ b → b < c → c ≤ length xs → slice_range xs a b ++ slice_index xs b ∷ slice_range xs (b + 1) c ≡ slice_range xs a c
 slice_range-join xs a b c ab bc le = same_lists _ _ (search (rules, places)) (λ k d h. grind (arith, places))
 
--- the front of a slice
+-- a prefix of a slice
 pub take-slice_range : (xs : List ℕ) (a b n : ℕ) → n ≤ b - a → take n (slice_range xs a b) ≡ slice_range xs a (a + n)
 take-slice_range xs a b n le = same_lists _ _ (search (rules, places)) (λ k d h. grind (arith, places))
 
--- what stands behind it
+-- what follows it
 pub drop-slice_range : (xs : List ℕ) (a b n : ℕ) → drop n (slice_range xs a b) ≡ slice_range xs (a + n) b
 drop-slice_range xs a b n = same_lists _ _ (search (rules, places)) (λ k d h. grind (arith, places))
 

@@ -17,7 +17,7 @@ first_answer limit beyond p more stream (Some line) cut is_long is_cut = at_firs
 first_answer limit beyond p more stream None true is_long is_cut = at_first limit beyond p more ∙ ap (λ t. paragraph_answer t beyond p) is_long ∙ ap (λ t. cond t (Err (record { code = FileTooLong; line = p.first + length p.lines })) (seen_from p.first (judged p.first p.lines))) is_cut
 first_answer limit beyond p more stream None false is_long is_cut = at_first limit beyond p more ∙ ap (λ t. paragraph_answer t beyond p) is_long ∙ ap (λ t. cond t (Err (record { code = FileTooLong; line = p.first + length p.lines })) (seen_from p.first (judged p.first p.lines))) is_cut
 
--- behind the first item stands the stream that follows it
+-- after the first item is the stream that follows it
 later : (item : Rattle.deb_syntax.specs.Streams.Item) (end : Option Refusal) (stream : Stream) (count : ℕ) → suc count ≤ length (with_item item end stream).items → (count ≤ length stream.items) × (stream_answer (with_item item end stream) (suc count) ≡ stream_answer stream count)
 later item None stream count h = (omega (arith, h), refl)
 later item (Some refusal) stream count h = absurd (omega (arith, h))

@@ -22,7 +22,7 @@ comes_takes cursor after left left_after come =
     takes_then _ _ _ _ _ _ _ _ (takes_none (had cursor) (had cursor) left (omega arith)) (consumes_takes left left_after come.piece come.consumed)
     (omega (arith, come.bytes, ap length come.unread, length-append cursor.unread come.piece))
 
--- one piece came behind bytes that may be looked at
+-- one piece came after bytes that may be looked at
 pub more-reach : (cursor after : CursorState) (left left_after : Option (List ℕ)) → cursor.bytes ≤ file_limit → length cursor.unread ≤ room_of cursor 0 → Comes cursor left after left_after → had after ≤ file_limit + piece_limit
 more-reach cursor after left left_after small le come = omega (arith, small, le, come.bytes, ap length come.unread, length-append cursor.unread come.piece, come.short)
 

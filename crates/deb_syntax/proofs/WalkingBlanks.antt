@@ -1,10 +1,10 @@
--- Blank lines that are passed in pieces, and the line behind them.
+-- Blank lines that are passed in pieces, and the line after them.
 use Rattle.deb_syntax.proofs.Common.{false_from_ne_true, ◌≡◌, ℕ, suc, ◌+◌, ◌≤◌, ◌<◌, ◌⊎◌, inl, inr, Bool, true, false, List, [], ◌∷◌, ◌++◌, length, take, drop, slice_index, nat_le, refl, sym, ap, subst, ◌∙◌, append_assoc, arith, length-append, length-drop, and_parts, false≢true, take-append-drop, MatchBool, All-append, Line, newline, is_blank_byte, is_all_blank, is_blank, paragraph_limit, with_newlines, AreBlank, StandInFront, Describes, EndsIn, GoesAlong, GoesThroughBlanks, EndsNotBlank, SkipsBlanks, PartialLine, LineScan}
 use Rattle.std.proofs.lemmas.List.{get_or-drop}
 use Rattle.deb_syntax.proofs.WalkingLines.{drop-front, length-front, few_lines-with_newlines, front-step, length-with_newlines-step}
 use Rattle.deb_syntax.proofs.WalkingSteps.{newline_at, is_blank-longer, is_blank-other}
 
--- n bytes are blank lines, and what was seen of the line behind them
+-- n bytes are blank lines, and what was seen of the line after them
 pub record SkippedSoFar (text : List ℕ) (n count : ℕ) (partial : PartialLine) : Type 0 where
   pub lines : List Line
   pub rest : List ℕ
@@ -72,7 +72,7 @@ not_blank-behind line seen (b ∷ more) rest through (inr (inl other)) e = go se
         (ap is_blank_byte (sym (head_at line seen.len b (more ++ newline ∷ rest) e)) ∙ through.stopped is lt)
     go false is = is_blank-longer (take seen.len line) (b ∷ more) (is_blank-some_other _ (sym through.describes.blank ∙ is))
 
--- the line behind the blank ones
+-- the line after the blank ones
 pub skip-end : (text : List ℕ) (n count : ℕ) (partial seen : PartialLine) (next : LineScan) → SkippedSoFar text n count partial → GoesThroughBlanks (drop n text) seen → NoBlankEnds (drop n text) seen → GoesAlong (take seen.len (drop n text)) (drop seen.len (drop n text)) next → SkipsBlanks text (record { bytes = n; lines = count; partial = next.partial; ended = next.ended })
 skip-end text n count partial seen next s through stop went = record {
   lines = s.lines;

@@ -1,4 +1,4 @@
--- Lines at the front of a text, each with its newline, and what stands behind them.
+-- Lines at the start of a text, each with its newline, and what follows them.
 use Rattle.deb_syntax.proofs.Common.{◌==◌, true, false, cond, min, subst, is_blank, with_byte, AreBlank, ◌≡◌, ◌≢◌, ℕ, ◌+◌, ◌-◌, ◌≤◌, List, [], ◌∷◌, ◌++◌, length, take, drop, refl, sym, ap, ◌∙◌, append_assoc, arith, length-append, take-append_seam, drop-append_seam, sum_by-append, AllByRecursion, Line, newline, pieces_of, HasNoNewline, line_length, lines_of, with_newlines, total_length, StandInFront}
 use Rattle.deb_syntax.proofs.Runs.{lines_of-line, lines_of-last, pieces_of-line, pieces_of-last}
 
@@ -55,7 +55,7 @@ pub some_more : (lines : List Line) (line : Line) → lines ++ line ∷ [] ≢ [
 some_more [] line e = let l : length (line ∷ []) ≡ 0 = ap length e in absurd (omega arith)
 some_more (first ∷ lines) line e = let l : length (first ∷ (lines ++ line ∷ [])) ≡ 0 = ap length e in absurd (omega arith)
 
--- what stands behind whole lines
+-- what follows whole lines
 pub drop-front : (text : List ℕ) (lines : List Line) (rest : List ℕ) → StandInFront text lines rest → drop (length (with_newlines lines)) text ≡ rest
 drop-front text lines rest h = ap (drop (length (with_newlines lines))) h.text ∙ drop-append_seam (with_newlines lines) rest
 
@@ -67,7 +67,7 @@ take-front text lines rest h = ap (take (length (with_newlines lines))) h.text �
 pub length-front : (text : List ℕ) (lines : List Line) (rest : List ℕ) → StandInFront text lines rest → length text ≡ length (with_newlines lines) + length rest
 length-front text lines rest h = ap length h.text ∙ length-append (with_newlines lines) rest
 
--- one line more stands in front
+-- one line more before them
 pub front-step : (text : List ℕ) (lines : List Line) (line more : List ℕ) → StandInFront text lines (line ++ newline ∷ more) → HasNoNewline line → StandInFront text (lines ++ line ∷ []) more
 front-step text lines line more h k = record {
   text =

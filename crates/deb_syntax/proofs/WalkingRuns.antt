@@ -1,9 +1,9 @@
--- Lines that are taken in pieces: where the line behind them goes on, ends, and joins them.
+-- Lines that are taken in pieces: where the line after them goes on, ends, and joins them.
 use Rattle.deb_syntax.proofs.Common.{◌≡◌, ℕ, ◌+◌, ◌≤◌, inl, inr, true, false, List, [], ◌∷◌, ◌++◌, length, drop, refl, sym, ap, subst, ◌∙◌, append_assoc, arith, length-append, drop-append_seam, drop-append-add, append-nil, MatchBool-at_true, MatchBool-at_false, All-append, Line, newline, is_blank, paragraph_limit, with_newlines, Describes, EndsIn, GoesAlong, RunStands, CanGoOn, Stops, PartialLine, LineScan, LineRun, Open}
 use Rattle.deb_syntax.proofs.WalkingLines.{some_more, length-front, few_lines-with_newlines, front-step, length-with_newlines-step}
 use Rattle.deb_syntax.proofs.WalkingSteps.{CannotBeBlank-longer}
 
--- the bytes behind what was seen
+-- the bytes after what was seen
 pub fresh-is : (text : List ℕ) (run : LineRun) (lines : List Line) (seen fresh : List ℕ) → RunStands text run lines seen fresh → drop (run.bytes + run.partial.len) text ≡ fresh
 fresh-is text run lines seen fresh h =
     let count : run.bytes + run.partial.len ≡ length (with_newlines lines) + length seen = omega (arith, h.bytes, h.describes.len) in
@@ -39,7 +39,7 @@ run-seen text run next lines seen more fresh h described = record {
   begins = elim h.begins [ inl some ↦ inl some | inr cannot ↦ inr (CannotBeBlank-longer seen more cannot) ];
 }
 
--- the line behind a run, with its newline
+-- the line after a run, with its newline
 pub record Ended (text : List ℕ) (run : LineRun) : Type 0 where
   pub lines : List Line
   pub seen : List ℕ
@@ -64,7 +64,7 @@ run-step text run new e nothing blank short =
       },
     )
 
--- what going along the bytes behind a run finds: the line goes on through all of them, or has its newline
+-- what going along the bytes after a run finds: the line goes on through all of them, or has its newline
 pub run-open-from : (text : List ℕ) (run : LineRun) (next : LineScan) → CanGoOn text run → ((seen : List ℕ) → Describes run.partial seen → GoesAlong seen (drop (run.bytes + run.partial.len) text) next) → next.ended ≡ false → Stops text Open (record { bytes = run.bytes; lines = run.lines; partial = next.partial })
 run-open-from text run next (lines, seen, fresh, h) went unended = record {
   lines = lines;

@@ -11,7 +11,7 @@ use Rattle.deb_syntax.proofs.NextParagraph.{no_paragraph, blank-ends, total-cons
 use Rattle.deb_syntax.proofs.Parts.{part_within-all, line_beyond-none, line_beyond-append}
 use Rattle.deb_syntax.proofs.Passing.{IsBehind, lines_behind, paragraphs_behind, closed_more}
 
--- a space in place of each byte but newlines
+-- a space instead of each byte but newlines
 abbrev pub cleared : List ℕ → List ℕ
 cleared [] = []
 cleared (b ∷ bs) = cond (b == newline) newline 32 ∷ cleared bs
@@ -97,7 +97,7 @@ line_beyond-same a b more (inr none) hb bytes lines within =
 line_beyond-same a b more (inl ca) (inr none) bytes lines within =
     line_beyond-none 1 file_limit (b ++ more) (omega (arith, length-append b more, bytes, ap length none)) ∙ sym (line_beyond-none 1 file_limit (a ++ more) (omega (arith, length-append a more, ap length none)))
 
--- What fits the reader where the paragraph has passed, and has another text in its place.
+-- What fits the reader where the paragraph has passed, and another text replaces it.
 pub record FitsOther (text passed : List ℕ) (p : Paragraph) (new : State) (left : Option (List ℕ)) : Type 0 where
   pub other : List ℕ
   pub without : IsWithout text (passed_count passed) p other

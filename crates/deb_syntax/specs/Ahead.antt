@@ -1,4 +1,4 @@
--- The walk of a reader through the text ahead of it: blank lines that are passed, a line of which
+-- The walk of a reader through the text ahead of it: blank lines that are passed, a line whose
 -- nothing is kept, and where the next paragraph ends. Debian Policy 5.1; the limits are this
 -- project's own.
 use Rattle.std.specs.Prelude.{◌≡◌, ◌≢◌, ℕ, ◌+◌, ◌-◌, ◌<◌, ◌≤◌, ◌⊎◌, false, List, [], ◌∷◌, ◌++◌, length, take, drop, Option, Some, None, Result, Ok, Err, IsTrue, codes, refl}
@@ -24,7 +24,7 @@ use Rattle.deb_syntax.specs.declared.ending.Extent.{Extent}
 use Rattle.deb_syntax.specs.declared.first.FirstLine.{FirstLine}
 use Rattle.deb_syntax.specs.declared.first.FirstLine.TheVariants.{NoMore, Buffered, TooLong}
 
--- the answer on a text of which so many bytes may be looked at, and whose first line has number n
+-- the answer on a text where so many bytes may be looked at, and whose first line has number n
 abbrev pub left_answer : ℕ → ℕ → List ℕ → Result (Option Seen) Refusal
 left_answer n room text =
     answer_of_first (line_beyond n room text) (paragraphs_from n (lines_of (part_within room text)))
@@ -45,7 +45,7 @@ pub record IsAhead (text overlong : List ℕ) (cursor : CursorState)
   pub whole : text ≡ overlong ++ (cursor.unread ++ rest)
   pub ended : IsTrue cursor.ended → rest ≡ []
 
--- Behind each newline among these bytes stand no more than one piece.
+-- After each newline among these bytes are no more than one piece.
 abbrev pub IsNear : List ℕ → Type 0
 IsNear bytes = (front more : List ℕ) → bytes ≡ front ++ newline ∷ more → length more ≤ piece_limit
 
@@ -71,7 +71,7 @@ pub record KeepsLine (partial : PartialLine) (cursor : CursorState) : Type 0 whe
   pub ends : EndsInSight cursor.unread line cursor
   pub near : IsNear cursor.unread
 
--- A line that is longer than a paragraph may be, its newline counted, stands before the unread
+-- A line that is longer than a paragraph may be, its newline counted, is before the unread
 -- bytes, which begin with its newline or are none.
 pub record HidesLine (partial : PartialLine) (cursor : CursorState)
     (overlong : List ℕ) : Type 0 where
@@ -102,14 +102,14 @@ IsFirst text before (Err fault) after left =
     (left_answer (before.lines + 1) (room_ahead before) text ≡ Err refusal)
     × (left_begin (before.lines + 1) (room_ahead before) text ≡ Err refusal))
 
--- what an answer says of a cursor, whatever its source tells
+-- what an answer says of a cursor, for every source
 abbrev pub HasFirst : Result FirstLine Fault → CursorState → Type 0
 HasFirst (Ok NoMore) after = after.unread ≡ []
 HasFirst (Ok (Buffered partial)) after = KeepsLine partial after
 HasFirst (Ok (TooLong partial)) after = (overlong : List ℕ) × HidesLine partial after overlong
 HasFirst (Err fault) after = Unit {0}
 
--- The line behind the first `run.bytes` unread bytes came to its end, and none of its bytes but
+-- The line after the first `run.bytes` unread bytes came to its end, and none of its bytes but
 -- those at its end were kept.
 pub record DropsLine (before : CursorState) (run : LineRun) (dropped : DroppedLine)
     (after : CursorState) : Type 0 where
@@ -140,7 +140,7 @@ TextAfterLine text before run line at after left =
     × (text ≡ take run.bytes before.unread ++ (line ++ (drop at after.unread ++ rest)))
     × (IsTrue after.ended → rest ≡ [])
 
--- What is found behind a run where a line is dropped, and what of the text ahead it is. Refused:
+-- What is found after a run where a line is dropped, and what of the text ahead it is. Refused:
 -- the file is too long, and the line goes on beyond what may be looked at.
 abbrev pub IsDropped : CursorState → Option (List ℕ) → LineRun → Result DroppedLine Fault
     → CursorState → Option (List ℕ) → Type 0
@@ -156,7 +156,7 @@ IsDropped before left_before run (Err fault) after left =
     × ((line : List ℕ) × (take (room_ahead before) text ≡ take run.bytes before.unread ++ line)
     × HasNoNewline line))
 
--- The next paragraph ends at `end` of the unread bytes; with the blank line behind it, or the
+-- The next paragraph ends at `end` of the unread bytes; with the blank line after it, or the
 -- file's end, it is `bytes` bytes and `lines` lines of the file, and `skip` unread ones.
 pub record IsExtentOf (e : Extent) (cursor : CursorState) : Type 0 where
   pub lines : List Line
@@ -190,12 +190,12 @@ pub record PassesParagraph (text : List ℕ) (e : Extent) (cursor : CursorState)
   pub bytes : e.bytes ≡ length passed
   pub counted : e.lines ≡ length (lines_of passed)
 
--- What an extent says of a cursor, whatever its source tells.
+-- What an extent says of a cursor, for every source.
 abbrev pub HasExtent : Result Extent Fault → CursorState → Type 0
 HasExtent (Ok e) after = IsExtentOf e after
 HasExtent (Err fault) after = Unit {0}
 
--- These lines are the next paragraph of a text of which so many bytes may be looked at, and whose
+-- These lines are the next paragraph of a text where so many bytes may be looked at, and whose
 -- first line has number n, and what is judged of them is the answer.
 pub record IsNextRun (n room : ℕ) (text : List ℕ) (run : List Line) : Type 0 where
   pub more : List Paragraph

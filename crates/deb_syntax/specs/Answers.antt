@@ -1,5 +1,5 @@
 -- What a reader of paragraphs answers of a file: a function of its bytes. Debian Policy 5.1;
--- deb822(5). The limits, the order of the refusals and the lines at which they are told are this
+-- deb822(5). The limits, the order of the refusals and the lines that they report are this
 -- project's own.
 use Rattle.std.specs.Prelude.{◌≡◌, ℕ, ◌+◌, ◌-◌, ◌==◌, Bool, false, cond, List, [], ◌∷◌, length, take, drop, nat_le, Option, Some, None, Result, Ok, Err, codes, refl}
 use Rattle.std.specs.Str.{is_utf8, chars}
@@ -17,7 +17,7 @@ pub record Seen : Type 0 where
   pub first : ℕ
   pub fields : List Field
 
--- a byte in front of whole lines: it is one of theirs, or ends a line, or belongs to a line that is
+-- a byte before whole lines: it is one of theirs, or ends a line, or belongs to a line that is
 -- cut off
 abbrev pub with_whole : ℕ → List ℕ → List ℕ
 with_whole b [] = cond (b == newline) (b ∷ []) []
@@ -39,7 +39,7 @@ abbrev pub line_beyond : ℕ → ℕ → List ℕ → Option ℕ
 line_beyond n room text =
     cond (nat_le (length text) room) None (Some (n + length (lines_of (part_within room text))))
 
--- the first of the lines, of which the first has number n, with which their lengths pass so many
+-- the line, where the first has number n, with which the lengths of the lines pass so many
 -- bytes
 abbrev pub line_too_long : ℕ → ℕ → List Line → Option ℕ
 line_too_long n room [] = None
@@ -58,7 +58,7 @@ seen_from n (Ok fields) = Ok (Some (record { first = n; fields = fields }))
 seen_from n (Err refusal) = Err refusal
 
 -- What is answered of a paragraph that isn't too long: the file is too long and no blank line
--- behind the paragraph was seen before, or else what is judged of its lines.
+-- after the paragraph was seen before, or else what is judged of its lines.
 abbrev pub short_answer : Option ℕ → Paragraph → Result (Option Seen) Refusal
 short_answer beyond p =
     cond (is_line (p.first + length p.lines) beyond)
@@ -93,10 +93,10 @@ paragraphs_within_under limit most text =
 abbrev pub paragraphs_within : List ℕ → List Paragraph
 paragraphs_within text = paragraphs_within_under paragraph_limit file_limit text
 
--- The answer of a reader of paragraphs behind the first `count` paragraphs of a file: the next one,
+-- The answer of a reader of paragraphs after the first `count` paragraphs of a file: the next one,
 -- none, or why the file is refused there. The first that holds decides, of the paragraph's lines
--- being too long, the file being too long with no blank line behind the paragraph in sight, and a
--- line being refused; behind the last one, the file being too long.
+-- being too long, the file being too long with no blank line after the paragraph in sight, and a
+-- line being refused; after the last one, the file being too long.
 abbrev pub next_answer_under : ℕ → ℕ → List ℕ → ℕ → Result (Option Seen) Refusal
 next_answer_under limit most text count =
     answer_of_first_under limit (line_beyond 1 most text)
@@ -112,7 +112,7 @@ begin_of_first None [] = Ok None
 begin_of_first (Some line) [] = Err (record { code = FileTooLong; line = line })
 begin_of_first beyond (p ∷ more) = Ok (Some p.first)
 
--- The line at which the next paragraph begins behind the first `count` ones: none, or that the file
+-- The line at which the next paragraph begins after the first `count` ones: none, or that the file
 -- is too long. A line that is cut off begins none.
 abbrev pub next_begin_under : ℕ → ℕ → List ℕ → ℕ → Result (Option ℕ) Refusal
 next_begin_under limit most text count =
@@ -198,7 +198,7 @@ unfolding is_utf8 chars encode
 long_blank_line = (refl, refl, refl, refl, refl)
 
 -- a file is too long at the line of the first byte too many, which isn't looked at; a blank line
--- behind a paragraph saves it where its newline is still within
+-- after a paragraph saves it where its newline is still within
 long_file : (next_answer_under 99 8 (codes "a:1\n c\n# x") 0
     ≡ Err (record { code = FileTooLong; line = 3 }))
     × (next_answer_under 99 4 (codes "a:1\n\nb:2\n") 0

@@ -1,4 +1,4 @@
--- What stands in the buffer of a reader of paragraphs: the paragraph that was found last, and the
+-- What is in the buffer of a reader of paragraphs: the paragraph that was found last, and the
 -- line that is discarded.
 use Rattle.std.specs.Prelude.{◌≡◌, ◌≢◌, ◌⊎◌, ◌<◌, ◌≤◌, ◌++◌, Result, Ok, Err, ◌+◌, [], length, ℕ, ◌&&◌, Bool, true, nat_le, List, Option, Some, None, IsTrue, get_or, slice_range, false, ◌∷◌, codes, refl}
 use Rattle.std.specs.Str.{is_utf8, chars}
@@ -20,7 +20,7 @@ use Rattle.deb_syntax.specs.Fields.{are_fields, are_numbered}
 use Rattle.deb_syntax.specs.Lines.{lines_of, IsClosed, total_length, file_limit}
 use Rattle.deb_syntax.specs.FieldSpans.{fields_at, lies_within}
 
--- what stands in a buffer, with its fields in the spans
+-- what is in a buffer, with its fields in the spans
 abbrev pub current_of : List ℕ → List FieldSpan → CurrentParagraph → Seen
 current_of buffer spans at =
     record { first = at.first_line; fields = fields_at (slice_range buffer at.from at.to) spans }
@@ -35,7 +35,7 @@ stands_within buffer spans (Some at) =
     && (are_fields (current_of buffer spans at).fields
     && are_numbered at.first_line (current_of buffer spans at).fields)
 
--- so many bytes of the file are discarded, which end in front of the unread bytes: with a newline,
+-- so many bytes of the file are discarded, which end before the unread bytes: with a newline,
 -- or with the file
 abbrev pub EndsOverlong : ℕ → CursorState → Type 0
 EndsOverlong overlong_len cursor =
@@ -49,7 +49,7 @@ abbrev pub HidesLong : ℕ → CursorState → Type 0
 HidesLong overlong_len cursor = 0 < overlong_len
     → (paragraph_limit ≤ overlong_len) × EndsOverlong overlong_len cursor
 
--- what an answer shows that says where a paragraph stands
+-- what an answer shows that says where a paragraph is
 abbrev pub current_answer : List ℕ → List FieldSpan → Result CurrentParagraph Fault
     → Result Seen Fault
 current_answer buffer spans (Ok at) = Ok (current_of buffer spans at)
@@ -77,7 +77,7 @@ pub record PassesNext (text : List ℕ) (before : CursorState) (seen : Seen) (af
   pub bytes : after.bytes ≡ before.bytes + length passed
   pub counted : after.lines ≡ before.lines + length (lines_of passed)
 
--- What is told of the paragraph that begins the text ahead.
+-- What is reported of the paragraph that begins the text ahead.
 abbrev pub IsPassed : List ℕ → CursorState → Result Seen Fault → CursorState → Option (List ℕ)
     → Type 0
 IsPassed text before (Ok seen) after left = PassesNext text before seen after left

@@ -17,7 +17,7 @@ use Rattle.deb_syntax.specs.declared.file_cursor.End.TheVariants.{More, Eof, Lim
 abbrev pub unread_of : ReadBuffer → List ℕ
 unread_of buffer = slice_range buffer.buffer.items buffer.start buffer.filled
 
--- one piece of `count` bytes, which the reader had left and has no longer, came behind the unread
+-- one piece of `count` bytes, which the reader had left and has no longer, came after the unread
 -- bytes
 pub record Fills (before : ReadBuffer) (left : Option (List ℕ)) (count : ℕ) (after : ReadBuffer)
     (left_after : Option (List ℕ)) : Type 0 where
@@ -29,7 +29,7 @@ pub record Fills (before : ReadBuffer) (left : Option (List ℕ)) (count : ℕ) 
   pub at_end : count ≡ 0 → IsAtEnd left_after
 
 -- what has come of a file and hasn't passed; the length of the buffer, room included; how many
--- bytes and lines of the file have passed; whether a read has told its end
+-- bytes and lines of the file have passed; whether a read has returned its end
 pub record CursorState : Type 0 where
   pub unread : List ℕ
   pub held : ℕ
@@ -55,7 +55,7 @@ buffer_of cursor = cursor.buffer.buffer.items
 abbrev pub start_of : FileCursor → ℕ
 start_of cursor = cursor.buffer.start
 
--- One piece, which the reader had left and has no longer, came behind the unread bytes. It is empty
+-- One piece, which the reader had left and has no longer, came after the unread bytes. It is empty
 -- exactly at the end.
 pub record Comes (before : CursorState) (left : Option (List ℕ)) (after : CursorState)
     (left_after : Option (List ℕ)) : Type 0 where
@@ -86,7 +86,7 @@ pub record Takes (n : ℕ) (left : Option (List ℕ)) (m : ℕ) (left_after : Op
   pub shown : IsSome left → IsSome left_after
   pub few : n + left_count left ≤ m + left_count left_after
 
--- Nothing came, and nothing of the file has changed but the room behind it.
+-- Nothing came, and nothing of the file has changed but the room after it.
 pub record Stays (before : CursorState) (left : Option (List ℕ)) (after : CursorState)
     (left_after : Option (List ℕ)) : Type 0 where
   pub unread : after.unread ≡ before.unread
@@ -104,12 +104,12 @@ pub record TakesPiece (before : CursorState) (shown : Shown) {T : Type 0} (resul
   pub untouched : IsErrOf result Memory → shown_after ≡ shown
   pub counted : shown_after.failures ≡ read_failures_after shown.failures result
 
--- how many bytes of the unread ones and behind them may be looked at, where so many bytes of the
+-- how many bytes of the unread ones and after them may be looked at, where so many bytes of the
 -- file are discarded
 abbrev pub room_of : CursorState → ℕ → ℕ
 room_of state overlong_len = file_limit - state.bytes - overlong_len
 
--- what stands behind the unread bytes that may be looked at: the byte that the file has too many;
+-- what follows the unread bytes that may be looked at: the byte that the file has too many;
 -- nothing; or what the reader has left
 abbrev pub IsEnd : CursorState → ℕ → End → Type 0
 IsEnd state overlong_len Limit = room_of state overlong_len < length state.unread
@@ -118,7 +118,7 @@ IsEnd state overlong_len Eof = (length state.unread ≤ room_of state overlong_l
 IsEnd state overlong_len More = (length state.unread ≤ room_of state overlong_len)
     × IsFalse state.ended
 
--- what is seen of a file, of which so many bytes are discarded
+-- what is seen of a file, where so many bytes are discarded
 pub record Sees (state : CursorState) (overlong_len : ℕ) (visible : Visible) : Type 0 where
   pub seen : visible.bytes.now ≡ take (room_of state overlong_len) state.unread
   pub tail : IsEnd state overlong_len visible.ends
@@ -132,7 +132,7 @@ pub record PassesOn (before : CursorState) (skip more_bytes more_lines : ℕ)
   pub lines : after.lines ≡ before.lines + more_lines
   pub ended : after.ended ≡ before.ended
 
--- the unread bytes behind the first ones are forgotten
+-- the unread bytes after the first ones are forgotten
 pub record KeepsFirst (before : CursorState) (count : ℕ) (after : CursorState) : Type 0 where
   pub unread : after.unread ≡ take count before.unread
   pub held : after.held ≡ before.held

@@ -1,4 +1,4 @@
--- Lines of which all are blank, or none is. Debian Policy 5.1.
+-- Lines that are all blank, or none of them. Debian Policy 5.1.
 use Rattle.std.specs.Prelude.{◌≡◌, true, false, List}
 use Rattle.std.specs.List.{AllByRecursion}
 use Rattle.deb_base.specs.Bodies.{Line, is_blank}

@@ -1,4 +1,4 @@
--- Where the fields of a paragraph stand in its bytes, and what stands there. Debian Policy 5.1;
+-- Where the fields of a paragraph are in its bytes, and what is there. Debian Policy 5.1;
 -- deb822(5), "Syntax".
 use Rattle.std.specs.Prelude.{◌≡◌, ◌⊎◌, ℕ, ◌+◌, ◌<◌, ◌≤◌, ◌==◌, ◌&&◌, Bool, true, false, List, [], ◌∷◌, ◌++◌, length, map, nat_le, nat_lt, get_or, slice_range, IsTrue, Result, Err, codes, refl}
 use Rattle.std.specs.List.{list_all, list_any}
@@ -20,7 +20,7 @@ use Rattle.deb_syntax.specs.declared.field_span.FieldSpan.{FieldSpan}
 abbrev pub name_at : List ℕ → FieldSpan → List ℕ
 name_at text span = slice_range text span.start span.colon
 
--- the field in a span: its name, its line, and what stands behind its colon, trimmed
+-- the field in a span: its name, its line, and what follows its colon, trimmed
 abbrev pub field_at : List ℕ → FieldSpan → Field
 field_at text span =
     record {
@@ -38,7 +38,7 @@ lies_within text span =
     nat_le span.start span.colon && nat_lt span.colon span.end
     && nat_le span.end (length text) && (row_of span.id == known_row (name_at text span))
 
--- a field of which more lines may come: in place of its body, all that stands behind its colon so
+-- a field that may have more lines: instead of its body, all that is after its colon so
 -- far
 abbrev pub begun_at : List ℕ → FieldSpan → Field
 begun_at text span =
@@ -118,7 +118,7 @@ place_from line start colon end = record {
   id = other;
 }
 
--- a span of `Tag` and of three bytes behind the colon, with the id of a row
+-- a span of `Tag` and of three bytes after the colon, with the id of a row
 abbrev tag_in : ℕ → FieldSpan
 tag_in row = record (place_from 1 0 3 6) { id = record { 0 = row } }
 

@@ -24,14 +24,14 @@ pub record SpellsField (lines : List Line) (field : Field) : Type 0 where
   pub name : IsTrue (is_name field.name)
   pub body : IsTrue (is_body_shape field.body)
 
--- The lines, of which the first has number n, spell the fields one after another.
+-- The lines, the first with number n, spell the fields one after another.
 abbrev pub SpellsFields : ℕ → List Line → List Field → Type 0
 SpellsFields n lines [] = lines ≡ []
 SpellsFields n lines (field ∷ fields) =
     (own : List Line) × (rest : List Line) × (lines ≡ own ++ rest) × (field.line ≡ n)
     × SpellsField own field × SpellsFields (n + length own) rest fields
 
--- whether a field of the name stands among the fields, without ASCII case
+-- whether a field of the name is among the fields, without ASCII case
 abbrev pub has_name : List ℕ → List Field → Bool
 has_name name fields = list_any (λ field. bytes_eq (folded field.name) (folded name)) fields
 
@@ -84,7 +84,7 @@ description =
       body = refl;
     }
 
--- a body that begins behind a line's end
+-- a body that begins after a line's end
 files : SpellsField (codes "Files:" ∷ codes " aa" ∷ [])
     (record { name = codes "Files"; line = 1; body = codes "\n aa" })
 unfolding paragraph_limit

@@ -21,19 +21,19 @@ use Rattle.deb_syntax.specs.declared.paragraphs.CurrentParagraph.{CurrentParagra
 abbrev pub is_of_line : Code → Bool
 is_of_line code = nat_le (number_of code) 7
 
--- the next paragraph, where this answer tells what is judged of its lines: not that it, or the
+-- the next paragraph, where this answer is what is judged of its lines: not that it, or the
 -- file, is too long
 abbrev pub judged_by : Result (Option Seen) Refusal → Option Paragraph → Option Paragraph
 judged_by (Ok None) next = None
 judged_by (Ok (Some seen)) next = next
 judged_by (Err refusal) next = cond (is_of_line refusal.code) next None
 
--- the paragraph behind the first `count` ones of a text, where its lines are judged
+-- the paragraph after the first `count` ones of a text, where its lines are judged
 abbrev pub judged_behind : List ℕ → ℕ → Option Paragraph
 judged_behind text count =
     judged_by (next_answer text count) (slice_get (paragraphs_within text) count)
 
--- the lines that stand in a buffer
+-- the lines that are in a buffer
 abbrev pub lines_standing : List ℕ → CurrentParagraph → Paragraph
 lines_standing buffer at =
     record { first = at.first_line; lines = pieces_of (slice_range buffer at.from at.to) }
@@ -46,7 +46,7 @@ abbrev pub line_judged : ℕ → Option Paragraph → Option Line
 line_judged number None = None
 line_judged number (Some p) = line_among number p
 
--- behind the first `count` paragraphs of a text, an answer that tells of the text shows what was
+-- after the first `count` paragraphs of a text, an answer about the text shows what was
 -- judged
 abbrev pub ShowsJudged : List ℕ → ℕ → Result (Option Seen) Fault → Option Paragraph → Type 0
 ShowsJudged text count (Ok seen) last = last ≡ judged_behind text count
@@ -84,7 +84,7 @@ codes_of_lines : (is_of_line DuplicateField ≡ true) × (is_of_line NoColon ≡
     × (is_of_line ParagraphTooLong ≡ false) × (is_of_line FileTooLong ≡ false)
 codes_of_lines = (refl, refl, refl, refl)
 
--- for the worked cases: two paragraphs, of which the second has a line without colon
+-- for the worked cases: two paragraphs, where the second has a line without colon
 abbrev sample : List ℕ
 sample = codes "a:1\n\nb:2\nc\n"
 

@@ -12,7 +12,7 @@ use Rattle.deb_syntax.specs.Fields.{Field, has_name}
 use Rattle.deb_base.specs.FieldNames.{colon, is_name}
 use Rattle.deb_base.specs.Trimming.{trimmed}
 
--- a field of which more lines may come: in place of its body, all that stands behind its colon so
+-- a field that may have more lines: instead of its body, all that is after its colon so
 -- far
 abbrev pub with_text : Field → List ℕ → Field
 with_text field text = record field { body = text }
@@ -73,7 +73,7 @@ line_judged n fields line =
     cond (not (is_utf8 line)) (Err (record { code = NotUtf8; line = n }))
     (cond (begins_with_blank line) (continuation_line n fields line) (field_line n fields line))
 
--- what lines make of the fields before them, of which the first has number n
+-- what lines, the first with number n, make of the fields before them
 abbrev pub lines_judged : ℕ → Result (List Field) Refusal → List Line → Result (List Field) Refusal
 lines_judged n (Err refusal) lines = Err refusal
 lines_judged n (Ok fields) [] = Ok (map ended fields)
@@ -104,7 +104,7 @@ empty_first_line : judged 1 (lines_of (codes "A: \t\n  b\nX:"))
 unfolding is_utf8 chars encode
 empty_first_line = refl
 
--- a mark of a comment or an armour behind a space is a body's
+-- a mark of a comment or an armour after a space is a body's
 marks_within : judged 1 (lines_of (codes "A: #\n # x\n -----BEGIN PGP"))
     ≡ Ok (record { name = codes "A"; line = 1; body = codes "#\n # x\n -----BEGIN PGP" } ∷ [])
 unfolding is_utf8 chars encode
@@ -114,7 +114,7 @@ no_colon : judged 1 (codes "Package aa" ∷ []) ≡ Err (record { code = NoColon
 unfolding is_utf8 chars encode
 no_colon = refl
 
--- a space, nothing, a hyphen and a byte that is not ASCII in place of a name
+-- a space, nothing, a hyphen and a byte that is not ASCII instead of a name
 bad_name : judged 1 (codes "Package : aa" ∷ []) ≡ Err (record { code = BadFieldName; line = 1 })
 unfolding is_utf8 chars encode
 bad_name = refl
@@ -210,7 +210,7 @@ half_character : judged 1 (codes "A: 1" ∷ (88 ∷ 58 ∷ 32 ∷ 99 ∷ 97 ∷ 
 unfolding is_utf8 chars encode
 half_character = refl
 
--- the first line that is refused is told
+-- the first line that is refused is reported
 first_line_wins : judged 1 (codes "A: 1" ∷ codes "B" ∷ codes "A: 2" ∷ (255 ∷ []) ∷ [])
     ≡ Err (record { code = NoColon; line = 2 })
 unfolding is_utf8 chars encode

@@ -27,7 +27,7 @@ pub record IsLineRefusal (n : ℕ) (refusal : Refusal) : Type 0 where
   pub least : 1 ≤ number_of refusal.code
   pub most : number_of refusal.code ≤ 7
 
--- A refusal of one of the lines, of which the first has number n.
+-- A refusal of one of the lines, where the first has number n.
 pub record IsRefusalWithin (n : ℕ) (lines : List Line) (refusal : Refusal) : Type 0 where
   pub first : n ≤ refusal.line
   pub last : refusal.line < n + length lines
@@ -48,7 +48,7 @@ with_last_newline [] = []
 with_last_newline (b ∷ []) = cond (b == newline) (b ∷ []) (b ∷ newline ∷ [])
 with_last_newline (b ∷ c ∷ bs) = b ∷ with_last_newline (c ∷ bs)
 
--- Lines, of which the first has number n, are these paragraphs among blank lines: blank lines in
+-- Lines, the first with number n, are these paragraphs among blank lines: blank lines in
 -- any number, then the lines of a paragraph, at least one and none of them blank, then the end or a
 -- blank line, and so on.
 abbrev pub AreRuns : ℕ → List Line → List Paragraph → Type 0
@@ -60,7 +60,7 @@ AreRuns n lines (paragraph ∷ paragraphs) =
     × (begins_blank rest ≡ true) × AreRuns (n + length blanks + length paragraph.lines) rest
     paragraphs
 
--- The paragraph's lines stand among the lines, of which the first has number n, at the paragraph's
+-- The paragraph's lines are among the lines, the first with number n, at the paragraph's
 -- own number.
 pub record StandsAmong (n : ℕ) (lines : List Line) (paragraph : Paragraph) : Type 0 where
   pub before : List Line
@@ -68,7 +68,7 @@ pub record StandsAmong (n : ℕ) (lines : List Line) (paragraph : Paragraph) : T
   pub is : lines ≡ before ++ (paragraph.lines ++ behind)
   pub number : paragraph.first ≡ n + length before
 
--- what stands under a canonical name in a meaning
+-- what is under a canonical name in a meaning
 abbrev pub body_at : List ℕ → Entries → Option (List ℕ)
 body_at name entries = find byte_order name entries
 
@@ -101,7 +101,7 @@ SpelledIsJudged =
     (n : ℕ) (lines : List Line) (fields : List Field) → IsRun lines
     → SpellsParagraph (record { first = n; lines = lines }) fields → judged n lines ≡ Ok fields
 
--- A refusal is of one of the lines, and no fields are spelled by lines of which one is refused.
+-- A refusal is of one of the lines, and lines spell no fields if one of them is refused.
 abbrev pub RefusedIsNotSpelled : Type 0
 RefusedIsNotSpelled =
     (n : ℕ) (lines : List Line) (refusal : Refusal) → judged n lines ≡ Err refusal
@@ -137,7 +137,7 @@ ParagraphsAreRuns =
     (n : ℕ) (lines : List Line) (paragraphs : List Paragraph)
     → AreRuns n lines paragraphs ↔ (paragraphs ≡ paragraphs_from n lines)
 
--- Each paragraph of a text is a run of lines that stands among the lines of the text, at its own
+-- Each paragraph of a text is a run of lines that is among the lines of the text, at its own
 -- number.
 abbrev pub ParagraphsStandInText : Type 0
 ParagraphsStandInText =
@@ -160,14 +160,14 @@ TextGivesLinesBack =
 abbrev pub PiecesGiveTextBack : Type 0
 PiecesGiveTextBack = (text : List ℕ) → joined (pieces_of text) ≡ text
 
--- Two paragraphs mean the same where the same stands under each name.
+-- Two paragraphs mean the same where the same is under each name.
 abbrev pub MeaningIsItsBodies : Type 0
 MeaningIsItsBodies =
     (fields others : List Field) → ((name : List ℕ)
     → body_at name (entries_of fields) ≡ body_at name (entries_of others))
     → entries_of fields ≡ entries_of others
 
--- Under the canonical spelling of a name stands the body of the field that has the name.
+-- Under the canonical spelling of a name is the body of the field that has the name.
 abbrev pub MeaningHasBodies : Type 0
 MeaningHasBodies =
     (fields : List Field) → AreDistinct fields → (name : List ℕ)
@@ -197,7 +197,7 @@ RefusalIsOfText =
     (text : List ℕ) (count : ℕ) (refusal : Refusal) → next_answer text count ≡ Err refusal
     → IsTextRefusal text refusal
 
--- The answers end exactly behind the last paragraph of a text that isn't longer than a file may be.
+-- The answers end exactly after the last paragraph of a text that isn't longer than a file may be.
 abbrev pub AnswersEnd : Type 0
 AnswersEnd =
     (text : List ℕ) (count : ℕ) → (next_answer text count ≡ Ok None)

@@ -51,13 +51,13 @@ ends_blank lines = ends_blank_under paragraph_limit lines
 abbrev pub IsClosed : List ℕ → Type 0
 IsClosed passed = (ends_line passed ≡ true) × (ends_blank (lines_of passed) ≡ true)
 
--- line n before the paragraphs of the lines behind it, of which the first is blank or not
+-- line n before the paragraphs of the lines after it, where the first is blank or not
 abbrev pub with_line : ℕ → Line → Bool → List Paragraph → List Paragraph
 with_line n line false (p ∷ ps) = record { first = n; lines = line ∷ p.lines } ∷ ps
 with_line n line false [] = record { first = n; lines = line ∷ [] } ∷ []
 with_line n line true ps = record { first = n; lines = line ∷ [] } ∷ ps
 
--- the paragraphs of lines of which the first has number n: the maximal runs of lines that aren't
+-- the paragraphs of lines, the first with number n: the maximal runs of lines that aren't
 -- blank
 abbrev pub paragraphs_under : ℕ → ℕ → List Line → List Paragraph
 paragraphs_under limit n [] = []

@@ -9,7 +9,7 @@ use Rattle.deb_syntax.specs.Lines.{Paragraph, paragraphs_of, file_limit}
 use Rattle.std.specs.List.{AllByRecursion}
 use Rattle.deb_syntax.specs.Fields.{Field, IsShort, SpellsParagraph}
 
--- the order of bytes: the first byte that differs decides, and a front comes first
+-- the order of bytes: the first byte that differs decides, and a prefix comes first
 abbrev pub byte_order : List ℕ → List ℕ → Ordering
 byte_order = slice_cmp nat_cmp
 
@@ -40,7 +40,7 @@ HaveMeanings (paragraph ∷ paragraphs) (entries ∷ meaning) =
 abbrev pub Means : List ℕ → List Entries → Type 0
 Means text meaning = HaveMeanings (paragraphs_of text) meaning
 
--- The file is accepted, where all values are text and any number of paragraphs may stand: it and
+-- The file is accepted, where all values are text and any number of paragraphs may be: it and
 -- its paragraphs are no longer than they may be, and it has this meaning.
 pub record Accepted (text : List ℕ) (meaning : List Entries) : Type 0 where
   pub short : length text ≤ file_limit

@@ -43,8 +43,8 @@ abbrev pub end_answer : State → Result (Unit {0}) Fault → Result (Option See
 end_answer new (Ok done) = Ok new.current
 end_answer new (Err fault) = Err fault
 
--- what a cursor and the discarded bytes show of the first line ahead that isn't blank, whatever the
--- source tells
+-- what a cursor and the discarded bytes show of the first line ahead that isn't blank, for every
+-- source
 abbrev pub ShowsFirst : Result FirstLine Fault → ℕ → Bool → CursorState → Type 0
 ShowsFirst (Ok NoMore) overlong_len finished cursor = finished ≡ true
 ShowsFirst (Ok (Buffered partial)) overlong_len finished cursor =
@@ -53,7 +53,7 @@ ShowsFirst (Ok (TooLong partial)) overlong_len finished cursor = (0 < overlong_l
     × (finished ≡ false)
 ShowsFirst (Err fault) overlong_len finished cursor = finished ≡ false
 
--- a read has told the file's end, or it was answered that no paragraph follows, or there is an
+-- a read has returned the file's end, or it was answered that no paragraph follows, or there is an
 -- error: nothing is read
 abbrev pub IsQuiet : State → Type 0
 IsQuiet state = IsTrue state.ended ⊎ (IsTrue state.finished ⊎ IsSome state.fault)

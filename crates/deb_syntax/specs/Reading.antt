@@ -21,8 +21,8 @@ use Rattle.deb_syntax.specs.Lines.{lines_of, IsClosed, Paragraph, paragraphs_of,
 
 -- A reader of paragraphs: the bytes of its buffer that haven't passed, the buffer's length, how
 -- many bytes and lines have passed, how many bytes of the first line that hasn't passed aren't
--- kept, whether a read has told the file's end, whether it was answered that no paragraph follows,
--- the paragraph that was found last, and the error.
+-- kept, whether a read has returned the file's end, whether it was answered that no paragraph
+-- follows, the paragraph that was found last, and the error.
 pub record State : Type 0 where
   pub unread : List ℕ
   pub held : ℕ
@@ -68,8 +68,8 @@ pub record Fits (text passed : List ℕ) (state : State) (left : Option (List �
 abbrev pub passed_count : List ℕ → ℕ
 passed_count passed = length (paragraphs_of passed)
 
--- The answer is the next paragraph of the text behind those that have passed, which then has passed
--- too: it, and no more than one blank line behind it. At most one piece was taken beyond that.
+-- The answer is the next paragraph of the text after those that have passed, which then has passed
+-- too: it, and no more than one blank line after it. At most one piece was taken beyond that.
 pub record GivesNext (text passed : List ℕ) (seen : Seen) (new : State)
     (left : Option (List ℕ)) : Type 0 where
   pub answer : next_answer text (passed_count passed) ≡ Ok (Some seen)
@@ -104,7 +104,7 @@ pub record GivesLine (text passed : List ℕ) (line : ℕ) (new : State)
   pub at : line ≡ new.lines + 1
   pub near : IsNear new.unread
 
--- Only blank lines have passed, and a paragraph begins behind them.
+-- Only blank lines have passed, and a paragraph begins after them.
 pub record BeginsHere (text passed : List ℕ) (new : State) (left : Option (List ℕ)) : Type 0 where
   pub passed_now : List ℕ
   pub again : Fits text passed_now new left
@@ -120,7 +120,7 @@ Answers text passed (Ok (Some seen)) new left = GivesNext text passed seen new l
 Answers text passed (Err fault) new left =
     IsReadersFault fault (λ refusal. next_answer text (passed_count passed) ≡ Err refusal)
 
--- What is told of the first line ahead that isn't blank: it is there, or none is, or why the file
+-- What is shown of the first line ahead that isn't blank: it is there, or none is, or why the file
 -- is refused.
 abbrev pub FindsFirst : (text passed : List ℕ) → Result FirstLine Fault → State → Option (List ℕ)
     → Type 0
@@ -180,7 +180,7 @@ pub record Advances (before : Moment) (answer : Result (Option Seen) Fault)
   pub ended : IsTrue before.state.finished → answer ≡ Ok None
   pub no_overlong : IfOk answer (λ seen. IfSome seen (λ _. after.state.overlong_len ≡ 0))
 
--- The same of a call that tells where the next paragraph begins; afterwards none is current.
+-- The same of a call that returns where the next paragraph begins; afterwards none is current.
 pub record Begins (before : Moment) (answer : Result (Option ℕ) Fault)
     (after : Moment) : Type 0 where
   pub answers : (text passed : List ℕ) → Fits text passed before.state before.source.bytes
@@ -235,7 +235,7 @@ fits_new =
       finished = λ e. absurd (false≢true e);
     }
 
--- a paragraph has passed with the blank line behind it, and the last byte is the source's
+-- a paragraph has passed with the blank line after it, and the last byte is the source's
 fits_behind : Fits (codes "a\n \nb\n") (codes "a\n \n") (reader_of (codes "b") 4 2 0)
     (Some (codes "\n"))
 unfolding paragraph_limit
@@ -254,7 +254,7 @@ fits_behind =
       finished = λ e. absurd (false≢true e);
     }
 
--- three bytes of a line aren't kept: in their place any others but newlines may stand
+-- three bytes of a line aren't kept: they may be any but newlines
 fits_overlong : Fits (codes "\nxyz\n") (codes "\n") (reader_of (codes "\n") 1 1 3) (Some [])
 unfolding paragraph_limit
 fits_overlong =

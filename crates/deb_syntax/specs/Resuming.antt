@@ -1,4 +1,4 @@
--- How a reader of paragraphs goes on after a paragraph of which a line is refused. Debian Policy
+-- How a reader of paragraphs goes on after a paragraph with a refused line. Debian Policy
 -- 5.1; this project's own.
 use Rattle.std.specs.Prelude.{◌≡◌, ◌≢◌, ◌⊎◌, ℕ, ◌+◌, ◌≤◌, Bool, true, false, List, [], ◌∷◌, ◌++◌, length, Option, Some, None, codes, refl}
 use Rattle.deb_base.specs.Bodies.{Line, paragraph_limit}
@@ -48,7 +48,7 @@ pub record HasPassed (text passed : List ℕ) (p : Paragraph) (new : State)
   pub ends : new.lines ≤ p.first + length p.lines
   pub near : length new.unread ≤ piece_limit
 
--- A text without the paragraph behind the first `count` ones: it has as many bytes and lines, is
+-- A text without the paragraph after the first `count` ones: it has as many bytes and lines, is
 -- too long from the same line on, if it is, and has the other paragraphs, at their lines.
 pub record IsWithout (text : List ℕ) (count : ℕ) (p : Paragraph) (other : List ℕ) : Type 0 where
   pub before : List Paragraph
@@ -104,3 +104,8 @@ second_left_out =
       lines = refl;
       bytes = refl;
     }
+
+-- another text with the same bytes and paragraphs, but a line more
+a_line_more : IsWithout (codes "a\n\nbb") 1 (record { first = 3; lines = codes "bb" ∷ [] })
+    (codes "a\n\n\n ") → ◌≡◌ {A = ℕ} 4 3
+a_line_more is = is.lines

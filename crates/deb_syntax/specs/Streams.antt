@@ -19,7 +19,7 @@ pub record Item : Type 0 where
   pub lines : List Line
   pub fields : Result (List Field) Refusal
 
--- A stream: its items, and the refusal that ends it. None ends a file of which all is read.
+-- A stream: its items, and the refusal that ends it. None ends a file that is read to its end.
 pub record Stream : Type 0 where
   pub items : List Item
   pub end : Option Refusal
@@ -44,7 +44,7 @@ end_at_under limit beyond p =
     end_by (p.first + length p.lines) (line_too_long p.first limit p.lines)
     (is_line (p.first + length p.lines) beyond)
 
--- an item before a stream, or the end in its place
+-- an item before a stream, or the end instead of it
 abbrev pub with_item : Item → Option Refusal → Stream → Stream
 with_item item None more = record { items = item ∷ more.items; end = more.end }
 with_item item (Some refusal) more = record { items = []; end = Some refusal }
@@ -67,13 +67,13 @@ stream_under limit most text =
 abbrev pub stream_of : List ℕ → Stream
 stream_of text = stream_under paragraph_limit file_limit text
 
--- what a reader answers of the items that are left, and of the end behind them
+-- what a reader answers of the items that are left, and of the end after them
 abbrev pub answer_left : List Item → Option Refusal → Result (Option Seen) Refusal
 answer_left [] None = Ok None
 answer_left [] (Some refusal) = Err refusal
 answer_left (item ∷ items) end = seen_from item.first item.fields
 
--- and behind the first `count` items
+-- and after the first `count` items
 abbrev pub stream_answer : Stream → ℕ → Result (Option Seen) Refusal
 stream_answer stream count = answer_left (drop count stream.items) stream.end
 
@@ -87,7 +87,7 @@ abbrev pub first_refusal : List Item → Option Refusal → Option Refusal
 first_refusal [] end = end
 first_refusal (item ∷ items) end = refused_or item.fields (first_refusal items end)
 
--- Behind the first items of a file, the reader answers the next item or the end.
+-- After the first items of a file, the reader answers the next item or the end.
 abbrev pub AnswersAreOfStream : Type 0
 AnswersAreOfStream =
     (text : List ℕ) (count : ℕ) → count ≤ length (stream_of text).items
@@ -126,7 +126,7 @@ unfolding is_utf8 chars encode
 with_faults = (refl, refl, refl)
 
 -- a paragraph that is too long ends the stream, and so does a file, before a line that is refused;
--- behind a blank line in sight the last paragraph is an item
+-- after a blank line in sight the last paragraph is an item
 ended_early : (stream_under 4 99 (codes "b\n\na:12\n\nb\n")
     ≡ record {
       items = bad 1 ∷ [];

@@ -13,7 +13,7 @@ use Rattle.deb_syntax.specs.declared.line_run.LineRun.{LineRun}
 use Rattle.deb_syntax.specs.declared.line_run.RunEnd.{RunEnd}
 use Rattle.deb_syntax.specs.declared.line_run.RunEnd.TheVariants.{Open, Blank, OverLimit}
 
--- whole lines, each with its newline, stand at the front of a text, and this behind them
+-- whole lines, each with its newline, are at the start of a text, and this after them
 pub record StandInFront (whole : List ℕ) (passed : List Line) (rest : List ℕ) : Type 0 where
   pub text : whole ≡ with_newlines passed ++ rest
   pub lines : AllByRecursion HasNoNewline passed
@@ -37,14 +37,14 @@ GoesAlong seen fresh result =
     MatchBool result.ended (EndsIn seen fresh result.partial) (Describes result.partial
     (seen ++ fresh))
 
--- what was seen is the front of a text, and if it is blank, no blank byte follows
+-- what was seen is a prefix of a text, and if it is blank, no blank byte follows
 pub record GoesThroughBlanks (line : List ℕ) (partial : PartialLine) : Type 0 where
   pub within : partial.len ≤ length line
   pub describes : Describes partial (take partial.len line)
   pub stopped : partial.blank ≡ true → partial.len < length line
       → is_blank_byte (slice_index line partial.len) ≡ false
 
--- a line that isn't blank stands at the front of a text, and its newline behind it
+-- a line that isn't blank is at the start of a text, and its newline after it
 pub record EndsNotBlank (rest : List ℕ) (partial : PartialLine) : Type 0 where
   pub line : List ℕ
   pub more : List ℕ
@@ -52,7 +52,7 @@ pub record EndsNotBlank (rest : List ℕ) (partial : PartialLine) : Type 0 where
   pub describes : Describes partial line
   pub not_blank : is_blank line ≡ false
 
--- blank lines passed, and the line behind them
+-- blank lines passed, and the line after them
 pub record SkipsBlanks (text : List ℕ) (skipped : Skipped) : Type 0 where
   pub lines : List Line
   pub rest : List ℕ
@@ -67,7 +67,7 @@ pub record SkipsBlanks (text : List ℕ) (skipped : Skipped) : Type 0 where
 abbrev pub CannotBeBlank : List ℕ → Type 0
 CannotBeBlank seen = (is_all_blank seen ≡ false) ⊎ (paragraph_limit ≤ length seen)
 
--- lines of a paragraph at the front of a text, and what was seen of the line behind them
+-- lines of a paragraph at the start of a text, and what was seen of the line after them
 pub record RunStands (text : List ℕ) (run : LineRun) (lines : List Line)
     (seen fresh : List ℕ) : Type 0 where
   pub front : StandInFront text lines (seen ++ fresh)
@@ -78,7 +78,7 @@ pub record RunStands (text : List ℕ) (run : LineRun) (lines : List Line)
   pub describes : Describes run.partial seen
   pub begins : (lines ≢ []) ⊎ CannotBeBlank seen
 
--- lines can be taken from there on: the run stands at the text's front, and its first line isn't
+-- lines can be taken from there on: the run is at the text's start, and its first line isn't
 -- blank, however it goes on
 abbrev pub CanGoOn : List ℕ → LineRun → Type 0
 CanGoOn text run =

@@ -16,7 +16,7 @@ use crate::line_run::LineRun;
 use crate::partial_line::{PartialLine, scan_line};
 use deb_base::{Code, Fault, PARAGRAPH_LIMIT, Refusal, Source};
 
-/// A line of which no bytes are kept but those that came last.
+/// A line whose bytes aren't kept, except those that came last.
 #[derive(Clone, Copy, Debug)]
 pub(crate) struct DroppedLine {
     pub(crate) line: PartialLine,
@@ -24,8 +24,8 @@ pub(crate) struct DroppedLine {
     pub(crate) end: usize,
 }
 
-/// Goes to the end of the line behind a run of lines, and keeps none of its bytes but those that
-/// came last. The run's bytes stay; `run.partial` is all that is unread behind them.
+/// Goes to the end of the line after a run of lines, and keeps none of its bytes but those that
+/// came last. The run's bytes stay; `run.partial` is all that is unread after them.
 ///
 /// Refused: the line goes on beyond what a file may have (`FileTooLong`, at that line).
 pub(crate) fn drop_line<R: Source>(

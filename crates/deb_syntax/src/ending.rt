@@ -25,7 +25,7 @@ use deb_base::{Code, Fault, PARAGRAPH_LIMIT, Refusal, Source};
 pub(crate) struct Extent {
     /// Where its last line ends, without its newline.
     pub(crate) end: usize,
-    /// How many unread bytes pass with it and with the blank line behind it.
+    /// How many unread bytes pass with it and with the blank line after it.
     pub(crate) skip: usize,
     /// How many bytes of the file those are, with such as aren't kept.
     pub(crate) bytes: u64,
@@ -37,7 +37,7 @@ pub(crate) struct Extent {
 /// which isn't blank. After Ok `ends` holds where each of its lines ends, without its newline.
 ///
 /// Refused: with a line that isn't blank its lines are too long (`ParagraphTooLong`, at that line),
-/// or the file is too long and no blank line behind the paragraph is in sight (`FileTooLong`, at
+/// or the file is too long and no blank line after the paragraph is in sight (`FileTooLong`, at
 /// the line that is cut off). Memory: a growth of `ends`, or of the buffer, was refused.
 pub(crate) fn paragraph_extent<R: Source>(
     cursor: &mut FileCursor,
@@ -88,7 +88,7 @@ pub(crate) fn paragraph_extent<R: Source>(
     }
 }
 
-/// The refusal at the line behind a run.
+/// The refusal at the line after a run.
 fn refused(cursor: &FileCursor, code: Code, run: LineRun) -> Fault
     requires { (cursor_state cursor.now).lines + run.lines + 1 < 2 ^ 64 }
     ensures { result
@@ -100,7 +100,7 @@ fn refused(cursor: &FileCursor, code: Code, run: LineRun) -> Fault
     })
 }
 
-/// As `paragraph_extent`, where as much is unread as a paragraph may have, and the line behind the
+/// As `paragraph_extent`, where as much is unread as a paragraph may have, and the line after the
 /// run hasn't ended.
 fn extent_beyond<R: Source>(
     cursor: &mut FileCursor,
@@ -138,7 +138,7 @@ fn extent_beyond<R: Source>(
     Ok(ended_behind(ended, dropped.end, newline))
 }
 
-/// As `paragraph_extent`, where the file ends with the line behind the run, whose newline is
+/// As `paragraph_extent`, where the file ends with the line after the run, whose newline is
 /// missing.
 fn ended_by_file(cursor: &FileCursor, run: LineRun, ends: &mut Vec<u32>) -> Result<Extent, Fault>
     requires ended { IsTrue (cursor_state cursor.now).ended }
@@ -171,7 +171,7 @@ fn ended_by_file(cursor: &FileCursor, run: LineRun, ends: &mut Vec<u32>) -> Resu
     })
 }
 
-/// A run that is ended by the blank line behind it, or by the file's end. The line ends at `at` of
+/// A run that is ended by the blank line after it, or by the file's end. The line ends at `at` of
 /// the unread bytes, and has a newline of so many bytes: 1, or 0 if the file ends with it.
 fn ended_behind(run: LineRun, at: usize, newline: usize) -> Extent
     requires some { 0 < run.bytes }

@@ -4,7 +4,7 @@ ghost use Rattle.std.specs.Prelude.{◌≡◌, ◌≤◌, length, take, IsTrue};
 ghost use Rattle.std.specs.List.{list_all, prefix_len};
 ghost use Rattle.deb_base.specs.FieldNames.{is_name, is_name_byte, may_begin_name};
 
-/// How many bytes of a name stand at the front.
+/// How many bytes of a name the text begins with.
 pub(crate) fn name_bytes(text: &[u8]) -> usize
     ensures most { result ≡ prefix_len is_name_byte text.now }
     ensures all { IsTrue (list_all is_name_byte (take result text.now)) }
@@ -16,7 +16,7 @@ pub(crate) fn name_bytes(text: &[u8]) -> usize
     len
 }
 
-/// Whether the first `len` bytes, each of which is one of a name, are the name of a field (Debian
+/// Whether the first `len` bytes, which are all bytes of a name, are the name of a field (Debian
 /// Policy 5.1).
 pub(crate) fn is_name(text: &[u8], len: usize) -> bool
     requires within { len ≤ length text.now }

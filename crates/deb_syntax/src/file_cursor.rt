@@ -21,7 +21,7 @@ pub(crate) enum End {
     Limit,
 }
 
-/// The unread bytes that may be looked at, and what stands behind them.
+/// The unread bytes that may be looked at, and what follows them.
 #[derive(Clone, Copy)]
 pub(crate) struct Visible<'a> {
     pub(crate) bytes: &'a [u8],
@@ -35,7 +35,7 @@ pub(crate) struct FileCursor {
     /// How many bytes and lines of the file have passed.
     bytes: u64,
     lines: u64,
-    /// Whether a read has told the file's end.
+    /// Whether a read has returned the file's end.
     ended: bool,
     ghost few: { lines ≤ bytes },
     ghost small: { bytes < 2 ^ 32 },
@@ -46,7 +46,7 @@ impl FileCursor {
     ghost use Rattle.deb_syntax.specs.Cursors.{cursor_state, buffer_of, start_of, TakesPiece, Sees};
     ghost use Rattle.deb_syntax.specs.Cursors.{PassesOn, KeepsFirst};
 
-    /// A file of which nothing has been read. Takes no memory.
+    /// A file before its first read. Takes no memory.
     pub(crate) fn new(alloc: Global) -> FileCursor
         ensures { cursor_state result ≡ record {
           unread = [];
@@ -79,7 +79,7 @@ impl FileCursor {
         self.lines
     }
 
-    /// Whether a read has told the file's end.
+    /// Whether a read has returned the file's end.
     pub(crate) fn ended(&self) -> bool
         ensures { result ≡ (cursor_state self.now).ended }
     {
@@ -109,7 +109,7 @@ impl FileCursor {
         self.buffer.slice(from, to)
     }
 
-    /// The unread bytes that may be looked at, where `overlong_len` bytes of the file stand among
+    /// The unread bytes that may be looked at, where `overlong_len` bytes of the file are among
     /// them that aren't kept.
     #[tactic(auto, unfolding(crate::specs::Lines::file_limit))]
     pub(crate) fn visible(&self, overlong_len: u64) -> Visible<'_>
@@ -136,7 +136,7 @@ impl FileCursor {
         }
     }
 
-    /// Takes one piece of the reader behind the unread bytes, which don't end the file yet.
+    /// Takes one piece of the reader after the unread bytes, which don't end the file yet.
     pub(crate) fn fill<R: Source>(&mut self, reader: &mut R) -> Result<(), Fault>
         requires more { IsFalse (cursor_state self.old).ended }
         requires short { length (cursor_state self.old).unread ≤ PARAGRAPH_LIMIT }
@@ -167,7 +167,7 @@ impl FileCursor {
         self.lines += lines;
     }
 
-    /// Forgets the unread bytes behind the first `count`.
+    /// Forgets the unread bytes after the first `count`.
     pub(crate) fn truncate(&mut self, count: usize)
         requires { count ≤ length (cursor_state self.old).unread }
         ensures keeps { KeepsFirst (cursor_state self.old) count (cursor_state self.new) }

@@ -34,12 +34,12 @@ struct Line {
     end: usize,
 }
 
-/// Finds where the fields of a paragraph stand, or the first refusal of one of its lines (Debian
+/// Finds where the fields of a paragraph are, or the first refusal of one of its lines (Debian
 /// Policy 5.1; deb822(5), "Syntax").
 ///
 /// `text` is the paragraph's lines with a newline between two of them, `ends` is where each of them
 /// ends in it, and `first_line` is the number of the first. After Ok `spans` holds the spans of
-/// the fields in the text, and no others; after an error what it holds isn't told.
+/// the fields in the text, and no others; after an error it may hold anything.
 ///
 /// Refused: a line isn't UTF-8 (`NotUtf8`), begins an armoured message (`Armour`) or a comment
 /// (`Comment`), is a continuation line without a field above it (`StrayContinuation`), has no colon
@@ -214,7 +214,7 @@ fn name_of(content: &[u8], line: Line) -> Result<NameAtFront, Fault>
     }
 }
 
-/// The name at the front of a line, if it is one and a colon follows it.
+/// The name at the start of a line, if it is one and a colon follows it.
 #[tactic(auto, using(crate::proofs::FieldLines::naming))]
 fn name_at_front(content: &[u8]) -> Option<NameAtFront>
     ensures some { IfSome result (IsAtFront content.now) }
@@ -235,7 +235,7 @@ fn name_at_front(content: &[u8]) -> Option<NameAtFront>
     })
 }
 
-/// Whether the first bytes of a line, which are all the bytes of a name at its front, are a name
+/// Whether the first bytes of a line, which are all the bytes of a name at its start, are a name
 /// that a colon follows.
 fn is_named(content: &[u8], len: usize) -> bool
     requires { IsTrue (list_all is_name_byte (take len content.now)) }

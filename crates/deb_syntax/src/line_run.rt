@@ -7,25 +7,25 @@ ghost use Rattle.deb_syntax.specs.Walking.{CanGoOn, Stops};
 use crate::partial_line::{PartialLine, scan_line};
 use deb_base::{Fault, PARAGRAPH_LIMIT};
 
-/// Lines at the front of a text, of which none is blank, and the line behind them.
+/// Lines at the start of a text, none of them blank, and the line after them.
 #[derive(Clone, Copy, Debug)]
 pub(crate) struct LineRun {
     /// How many bytes the whole lines have, with their newlines.
     pub(crate) bytes: usize,
     /// How many they are.
     pub(crate) lines: u64,
-    /// What was seen of the line behind them.
+    /// What was seen of the line after them.
     pub(crate) partial: PartialLine,
 }
 
 /// Why no further line is taken.
 #[derive(Clone, Copy, Debug)]
 pub(crate) enum RunEnd {
-    /// The newline of the line behind them hasn't come.
+    /// The newline of the line after them hasn't come.
     Open,
-    /// The line behind them is blank.
+    /// The line after them is blank.
     Blank,
-    /// With the line behind them, which isn't blank, they are too long.
+    /// With the line after them, which isn't blank, they are too long.
     OverLimit,
 }
 

@@ -142,7 +142,7 @@ impl Paragraphs {
     }
 
     /// Returns the line of a number, counted from 1, without its newline, of the paragraph that the
-    /// last `advance` or `next` found, or of which it refused a line. `None` if that has no such
+    /// last `advance` or `next` found or refused a line of. `None` if that has no such
     /// line, or if there is no such paragraph.
     pub fn line(&self, number: u64) -> Option<&[u8]>
         ensures { option_map (λ line. line.now) result ≡ line_judged number (judged_last self.now) }
@@ -250,10 +250,11 @@ impl Paragraphs {
         answer
     }
 
-    /// Goes on after the paragraph of which `advance` or `next` refused a line: forgets that error,
-    /// so that the next call returns what follows that paragraph. Returns whether there was such an
-    /// error. Otherwise it changes nothing: an error of memory or of a read, and a paragraph or a
-    /// file that is too long, repeat. Reads nothing.
+    /// Forgets the error if `advance` or `next` refused a line of a paragraph, so that the next
+    /// call reads on. Returns whether there was such an error. After `advance` the next call
+    /// returns what follows that paragraph (`judged_passed` there); no clause of `next` says so.
+    /// Otherwise it changes nothing: an error of memory or of a read, and a paragraph or a file
+    /// that is too long, repeat. Reads nothing.
     pub fn resume(&mut self) -> bool
         ensures resumed { result ≡ is_resumable (state_of self.old).fault (judged_last self.old) }
         ensures goes_on { IsTrue result
@@ -274,7 +275,7 @@ impl Paragraphs {
     }
 
     /// Returns the number of the first line of the paragraph that the last `advance` or `next`
-    /// found, or of which it refused a line. `None` if there is no such paragraph.
+    /// found or refused a line of. `None` if there is no such paragraph.
     pub fn first_line(&self) -> Option<u64>
         ensures { result ≡ option_map (λ p. p.first) (judged_last self.now) }
     {

@@ -17,7 +17,7 @@ pub(crate) struct PartialLine {
 }
 
 impl PartialLine {
-    /// A line of which nothing was seen.
+    /// A line before any of its bytes was seen.
     pub(crate) fn nothing() -> PartialLine
         ensures { Describes result [] }
     {

@@ -65,7 +65,7 @@ impl<'a> Raw<'a> {
     ghost use Rattle.deb_syntax.specs.Raw.{field_of, fields_of, fields_left};
     ghost use Rattle.deb_syntax.specs.Raw.{first_line_of, field_named, has_field_in};
 
-    /// The paragraph of these bytes, whose fields stand in the spans.
+    /// The paragraph of these bytes, whose fields are in the spans.
     pub(crate) fn new(text: &'a [u8], spans: &'a [FieldSpan], first_line: u64) -> Raw<'a>
         requires within { IsTrue (list_all (lies_within text.now) spans.now) }
         requires fields { IsTrue (are_fields (fields_at text.now spans.now)) }

@@ -11,7 +11,7 @@ use std::alloc::Global;
 const MOST_HELD: usize = PARAGRAPH_LIMIT + PIECE_LIMIT;
 
 /// The part of a file that is in memory. `buffer[start..filled]` are its unread bytes. Those before
-/// them have passed; behind them is room: bytes of no meaning, which are written once, when the
+/// them have passed; after them is room: bytes of no meaning, which are written once, when the
 /// buffer grows, and are never cleared again.
 #[derive(Drop)]
 pub(crate) struct ReadBuffer {
@@ -83,7 +83,7 @@ impl ReadBuffer {
         self.start += count;
     }
 
-    /// Forgets the unread bytes behind the first `count`.
+    /// Forgets the unread bytes after the first `count`.
     pub(crate) fn truncate(&mut self, count: usize)
         requires { count ≤ length (unread_of self.old) }
         ensures unread { unread_of self.new ≡ take count (unread_of self.old) }
@@ -93,7 +93,7 @@ impl ReadBuffer {
         self.filled = self.start + count;
     }
 
-    /// Takes one piece of the reader behind the unread bytes, and says how many bytes came.
+    /// Takes one piece of the reader after the unread bytes, and says how many bytes came.
     pub(crate) fn fill<R: Source>(&mut self, reader: &mut R) -> Result<usize, Fault>
         requires { length (unread_of self.old) ≤ PARAGRAPH_LIMIT }
         ensures fills { IfOk result (λ count. Fills self.old (R.left reader.old) count self.new
@@ -116,7 +116,7 @@ impl ReadBuffer {
         }
     }
 
-    /// Makes room for at least one byte behind the unread bytes.
+    /// Makes room for at least one byte after the unread bytes.
     ///
     /// Bytes are moved only where others have passed before them, and these then make the room;
     /// else the buffer grows.
@@ -136,7 +136,7 @@ impl ReadBuffer {
         self.grow()
     }
 
-    /// Moves the unread bytes to the buffer's front.
+    /// Moves the unread bytes to the start of the buffer.
     fn move_to_front(&mut self)
         ensures unread { unread_of self.new ≡ unread_of self.old }
         ensures held { vec_len self.new.buffer ≡ vec_len self.old.buffer }
@@ -177,7 +177,7 @@ fn grown(buffer: &mut Vec<u8>, wanted: usize) -> bool
     buffer.try_reserve_exact(more).is_ok() && buffer.resize(wanted, 0).is_ok()
 }
 
-/// Reads one piece into the room behind the first `filled` bytes.
+/// Reads one piece into the room after the first `filled` bytes.
 fn read_behind<R: Source>(buffer: &mut [u8], filled: usize, reader: &mut R) -> Result<usize, Failed>
     requires { filled < length buffer.old }
     ensures kept { take filled buffer.new ≡ take filled buffer.old }

@@ -39,7 +39,7 @@ impl<'a> Names<'a> {
     }
 }
 
-/// Adds the name of a field behind those in the spans, and says whether it is new. Memory: a
+/// Adds the name of a field after those in the spans, and says whether it is new. Memory: a
 /// growth of the set was refused. Where it isn't new, or after out of memory, the set is of no
 /// further use.
 pub(crate) fn add<'a>(
@@ -82,7 +82,7 @@ fn add_known(known: &mut [bool; KNOWN_FIELDS], row: usize) -> bool
     !stood
 }
 
-/// Whether the name stands in one of the spans.
+/// Whether the name is in one of the spans.
 #[tactic(auto, using(crate::proofs::NameSets::standing))]
 fn stands_at(text: &[u8], spans: &[FieldSpan], name: &[u8]) -> bool
     requires { IsTrue (list_all (lies_within text.now) spans.now) }

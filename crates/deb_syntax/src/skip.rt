@@ -7,14 +7,14 @@ ghost use Rattle.deb_syntax.specs.Walking.{Describes, GoesThroughBlanks, SkipsBl
 use crate::partial_line::{PartialLine, scan_line};
 use deb_base::is_blank_byte;
 
-/// Blank lines at the front of a text, and the line behind them.
+/// Blank lines at the start of a text, and the line after them.
 #[derive(Clone, Copy, Debug)]
 pub(crate) struct Skipped {
     /// How many bytes the blank lines have, with their newlines.
     pub(crate) bytes: usize,
     /// How many they are.
     pub(crate) lines: u64,
-    /// What was seen of the line behind them.
+    /// What was seen of the line after them.
     pub(crate) partial: PartialLine,
     /// Whether its newline has come. Then it isn't blank.
     pub(crate) ended: bool,

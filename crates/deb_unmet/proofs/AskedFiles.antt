@@ -7,6 +7,7 @@ use Rattle.deb_base.specs.Devices.{AppendsFront}
 use Rattle.deb_base.specs.declared.fault.Fault.{Fault}
 use Rattle.deb_base.specs.declared.fault.Fault.TheVariants.{Refused, Memory, Read, Write}
 use Rattle.deb_base.proofs.Writes.{AppendsFront-then}
+use Rattle.deb_syntax.specs.Fields.{Field}
 use Rattle.deb_syntax.specs.Meaning.{Entries, entries_of}
 use Rattle.deb_field.specs.ValueLaws.{value_law}
 use Rattle.deb_field.specs.Values.{ValueMeaning, value_text, SpellsValue}
@@ -23,21 +24,24 @@ use Rattle.deb_control.proofs.FollowedParagraphs.{outcome-from_end, outcome-star
 use Rattle.deb_control.proofs.ReadAlone.{read-alone}
 use Rattle.deb_control.proofs.ValueBodies.{bodies_of-spelled, one_list}
 use Rattle.deb_unmet.specs.Asked.{doc_of}
-use Rattle.deb_unmet.specs.Asking.{PutsLines, lines_of}
-use Rattle.deb_unmet.specs.Files.{Asks, lines_from, file_lines, is_nothing, WritesLines, WritesUnmet, WritesRefused, WritesRead, WritesSome}
+use Rattle.deb_unmet.specs.Asking.{PutsLines}
+use Rattle.deb_unmet.specs.Files.{Asks, lines_of, lines_from, file_lines, is_nothing, WritesLines, WritesUnmet, WritesRefused, WritesRead, WritesSome}
+use Rattle.deb_unmet.specs.Spelled.{fields_after, fields_of_seen}
 use Rattle.deb_unmet.specs.declared.asking.Summary.{Summary}
 
 -- The first paragraphs of the file were given, so many, and exactly their lines were written.
 pub record HasAsked (asks : Asks) (text : List ℕ) (state : CheckedState) (left old new : Option (List ℕ)) (count : ℕ) (empty : Bool) : Type 0 where
   pub checked : HasChecked (doc_of asks.asked) text state left
-  pub lines : WritesLines asks checked.before old new
+  pub lines : WritesLines asks text checked.before old new
+  pub before_counted : length checked.before ≡ count
   pub counted : length lines.values ≡ count
-  pub empty_is : empty ≡ is_nothing (file_lines asks lines.values)
+  pub empty_is : empty ≡ is_nothing (file_lines asks text lines.values)
 
 pub none_asked : (asks : Asks) (text : List ℕ) (state : CheckedState) (left held : Option (List ℕ)) → FitsChecked (doc_of asks.asked) text [] state left → HasAsked asks text state left held held 0 true
 none_asked asks text state left held fits = record {
   checked = record { before = []; fits = fits };
   lines = record { values = []; are = tt; written = Appends-nil held };
+  before_counted = refl;
   counted = refl;
   empty_is = refl;
 }
@@ -52,17 +56,27 @@ nothing-both : (xs ys : List ℕ) → is_nothing (xs ++ ys) ≡ (is_nothing xs &
 nothing-both [] ys = refl
 nothing-both (x ∷ xs) ys = refl
 
-lines-push : (asks : Asks) (n : ℕ) (values : Meaning) (more : ValueEntries ValueMeaning) → lines_from asks n (values ++ more ∷ []) ≡ lines_from asks n values ++ lines_of asks (n + length values) more
-lines-push asks n [] more = append-nil (lines_of asks n more) ∙ ap (λ k. lines_of asks k more) (omega arith)
-lines-push asks n (first ∷ values) more =
-    ap (λ l. lines_of asks n first ++ l) (lines-push asks (n + 1) values more)
-    ∙ sym (append_assoc (lines_of asks n first) (lines_from asks (n + 1) values) (lines_of asks (n + 1 + length values) more))
-    ∙ ap (λ k. (lines_of asks n first ++ lines_from asks (n + 1) values) ++ lines_of asks k more) (omega arith)
+-- the lines of the paragraph after so many
+abbrev lines_at : Asks → List ℕ → ℕ → ValueEntries ValueMeaning → List ℕ
+lines_at asks text n values = lines_of asks (n + 1) (fields_after text n) values
+
+lines-push : (asks : Asks) (text : List ℕ) (n : ℕ) (values : Meaning) (more : ValueEntries ValueMeaning) → lines_from asks text n (values ++ more ∷ []) ≡ lines_from asks text n values ++ lines_at asks text (n + length values) more
+lines-push asks text n [] more = append-nil (lines_at asks text n more) ∙ ap (λ k. lines_at asks text k more) (omega arith)
+lines-push asks text n (first ∷ values) more =
+    ap (λ l. lines_at asks text n first ++ l) (lines-push asks text (n + 1) values more)
+    ∙ sym (append_assoc (lines_at asks text n first) (lines_from asks text (n + 1) values) (lines_at asks text (n + 1 + length values) more))
+    ∙ ap (λ k. (lines_at asks text n first ++ lines_from asks text (n + 1) values) ++ lines_at asks text k more) (omega arith)
 
 -- the lines of one more paragraph follow
-file_lines-push : (asks : Asks) (values : Meaning) (more : ValueEntries ValueMeaning) (count : ℕ) → length values ≡ count → file_lines asks (values ++ more ∷ []) ≡ file_lines asks values ++ lines_of asks (count + 1) more
-file_lines-push asks values more count counted =
-    lines-push asks 1 values more ∙ ap (λ k. file_lines asks values ++ lines_of asks k more) (omega (arith, counted))
+file_lines-push : (asks : Asks) (text : List ℕ) (values : Meaning) (more : ValueEntries ValueMeaning) (count : ℕ) (fields : List Field) → length values ≡ count → fields_after text count ≡ fields → file_lines asks text (values ++ more ∷ []) ≡ file_lines asks text values ++ lines_of asks (count + 1) fields more
+file_lines-push asks text values more count fields counted is =
+    lines-push asks text 0 values more ∙ ap (λ k. file_lines asks text values ++ lines_at asks text k more) (omega (arith, counted))
+    ∙ ap (λ f. file_lines asks text values ++ lines_of asks (count + 1) f more) is
+
+-- the fields of the paragraph that was given are those of the file's
+fields_given : (doc : Doc) (text : List ℕ) (before : List Entries) (given : Passing) (new : CheckedState) (left : Option (List ℕ)) (count : ℕ) (fields : List Field) → GivesPassing doc text before given new left → length before ≡ count → fields ≡ given.seen.fields → fields_after text count ≡ fields
+fields_given doc text before given new left count fields gives counted same =
+    ap (fields_after text) (sym counted) ∙ ap fields_of_seen gives.seen ∙ sym same
 
 -- the canonical bodies of a paragraph spell its values
 spelled : (doc : Doc) (text : List ℕ) (before : List Entries) (given : Passing) (new : CheckedState) (left : Option (List ℕ)) (values : ValueEntries ValueMeaning) → (gives : GivesPassing doc text before given new left) → AreValuesOf doc given.seen values → Pairwise (SpellsEntry (SpellsValue doc)) gives.entries values
@@ -73,23 +87,25 @@ spelled doc text before given new left values gives are =
     (bodies_of-spelled ValueMeaning (SpellsValue doc) value_text (value_law doc) (entries_of given.seen.fields ∷ []) (values ∷ []) (are.spelled, tt)).0
 
 -- one paragraph more
-pub one_asked : (asks : Asks) (text : List ℕ) (state new : CheckedState) (left after old held writes : Option (List ℕ)) (count : ℕ) (empty one all : Bool) (values : ValueEntries ValueMeaning) (given : Passing)
+pub one_asked : (asks : Asks) (text : List ℕ) (state new : CheckedState) (left after old held writes : Option (List ℕ)) (count : ℕ) (empty one all : Bool) (values : ValueEntries ValueMeaning) (given : Passing) (fields : List Field)
     → (has : HasAsked asks text state left old held count empty) → GivesPassing (doc_of asks.asked) text has.checked.before given new after → AreValuesOf (doc_of asks.asked) given.seen values
-    → Appends held writes (lines_of asks (count + 1) values) → one ≡ is_nothing (lines_of asks (count + 1) values) → all ≡ (empty && one)
+    → fields ≡ given.seen.fields → Appends held writes (lines_of asks (count + 1) fields values) → one ≡ is_nothing (lines_of asks (count + 1) fields values) → all ≡ (empty && one)
     → HasAsked asks text new after old writes (count + 1) all
-one_asked asks text state new left after old held writes count empty one all values given has gives are put one_is all_is =
+one_asked asks text state new left after old held writes count empty one all values given fields has gives are same put one_is all_is =
     let before = has.lines.values in
-    let lines = lines_of asks (count + 1) values in
-    let more : file_lines asks (before ++ values ∷ []) ≡ file_lines asks before ++ lines = file_lines-push asks before values count has.counted in
+    let lines = lines_of asks (count + 1) fields values in
+    let is = fields_given (doc_of asks.asked) text has.checked.before given new after count fields gives has.before_counted same in
+    let more : file_lines asks text (before ++ values ∷ []) ≡ file_lines asks text before ++ lines = file_lines-push asks text before values count fields has.counted is in
     record {
       checked = record { before = has.checked.before ++ gives.entries ∷ []; fits = gives.again };
       lines = record {
         values = before ++ values ∷ [];
         are = pairwise-push (Pairwise (SpellsEntry (SpellsValue (doc_of asks.asked)))) has.checked.before before gives.entries values has.lines.are (spelled (doc_of asks.asked) text has.checked.before given new after values gives are);
-        written = subst (Appends old writes) (sym more) (Appends-trans old held writes (file_lines asks before) lines has.lines.written put);
+        written = subst (Appends old writes) (sym more) (Appends-trans old held writes (file_lines asks text before) lines has.lines.written put);
       };
+      before_counted = omega (arith, length_push has.checked.before gives.entries, has.before_counted);
       counted = omega (arith, length_push before values, has.counted);
-      empty_is = all_is ∙ ap (λ b. b && one) has.empty_is ∙ ap (λ b. is_nothing (file_lines asks before) && b) one_is ∙ sym (nothing-both (file_lines asks before) lines) ∙ ap is_nothing (sym more);
+      empty_is = all_is ∙ ap (λ b. b && one) has.empty_is ∙ ap (λ b. is_nothing (file_lines asks text before) && b) one_is ∙ sym (nothing-both (file_lines asks text before) lines) ∙ ap is_nothing (sym more);
     }
 
 -- there is no further paragraph
@@ -105,19 +121,19 @@ all_asked asks text state new left after old held summary has end =
       meaning = all.meaning;
       accepted = all.accepted;
       count = ap length (sym same) ∙ has.counted;
-      written = subst (λ m. Appends old held (file_lines asks m)) same has.lines.written;
-      is_empty = has.empty_is ∙ ap (λ m. is_nothing (file_lines asks m)) same;
+      written = subst (λ m. Appends old held (file_lines asks text m)) same has.lines.written;
+      is_empty = has.empty_is ∙ ap (λ m. is_nothing (file_lines asks text m)) same;
     }
 
--- the file is refused behind them
+-- the file is refused after them
 pub asked_refused : (asks : Asks) (text : List ℕ) (state new : CheckedState) (left after old held : Option (List ℕ)) (count : ℕ) (empty : Bool) (fault : Fault) → (has : HasAsked asks text state left old held count empty) → AnswersChecked (doc_of asks.asked) text has.checked.before (Err fault) new after → IfRefused {T = Summary} (Err fault) (λ refusal. WritesRefused asks text refusal old held)
 asked_refused asks text state new left after old held count empty fault has answer =
     let doc = doc_of asks.asked in
     refused_then Summary (λ refusal. outcome (rules_of doc) text ≡ record { passed = has.checked.before; refusal = Some refusal }) (λ refusal. WritesRefused asks text refusal old held) fault
-    (λ refusal is. record { refused = ap (λ o. o.refusal) is; lines = subst (λ bodies. WritesLines asks bodies old held) (ap (λ o. o.passed) (sym is)) has.lines })
+    (λ refusal is. record { refused = ap (λ o. o.refusal) is; lines = subst (λ bodies. WritesLines asks text bodies old held) (ap (λ o. o.passed) (sym is)) has.lines })
     (refused_behind Summary doc text state new left after fault has.checked answer)
 
--- an error of another kind comes behind them
+-- an error of another kind comes after them
 pub asked_read : (asks : Asks) (text : List ℕ) (state : CheckedState) (left old held : Option (List ℕ)) (count : ℕ) (empty : Bool) → HasAsked asks text state left old held count empty → WritesRead asks text old held
 asked_read asks text state left old held count empty has =
     let fits = has.checked.fits in
@@ -138,12 +154,13 @@ asked_read asks text state left old held count empty has =
     }
 
 -- the write of the next one's lines fails
-pub asked_failed : (asks : Asks) (text : List ℕ) (state new : CheckedState) (left after old held writes : Option (List ℕ)) (count : ℕ) (empty : Bool) (values : ValueEntries ValueMeaning) (given : Passing)
+pub asked_failed : (asks : Asks) (text : List ℕ) (state new : CheckedState) (left after old held writes : Option (List ℕ)) (count : ℕ) (empty : Bool) (values : ValueEntries ValueMeaning) (given : Passing) (fields : List Field)
     → (has : HasAsked asks text state left old held count empty) → GivesPassing (doc_of asks.asked) text has.checked.before given new after → AreValuesOf (doc_of asks.asked) given.seen values
-    → AppendsFront held writes (lines_of asks (count + 1) values) → WritesSome asks text old writes
-asked_failed asks text state new left after old held writes count empty values given has gives are put =
+    → fields ≡ given.seen.fields → AppendsFront held writes (lines_of asks (count + 1) fields values) → WritesSome asks text old writes
+asked_failed asks text state new left after old held writes count empty values given fields has gives are same put =
     let before = has.lines.values in
-    let lines = lines_of asks (count + 1) values in
+    let lines = lines_of asks (count + 1) fields values in
+    let is = fields_given (doc_of asks.asked) text has.checked.before given new after count fields gives has.before_counted same in
     let first = has.checked.before ++ gives.entries ∷ [] in
     let starts = outcome-starts (rules_of (doc_of asks.asked)) text first gives.again.given in
     record {
@@ -153,21 +170,21 @@ asked_failed asks text state new left after old held writes count empty values g
       lines = record {
         values = before ++ values ∷ [];
         are = pairwise-push (Pairwise (SpellsEntry (SpellsValue (doc_of asks.asked)))) has.checked.before before gives.entries values has.lines.are (spelled (doc_of asks.asked) text has.checked.before given new after values gives are);
-        written = subst (AppendsFront old writes) (sym (file_lines-push asks before values count has.counted)) (AppendsFront-then old held writes (file_lines asks before) lines has.lines.written put);
+        written = subst (AppendsFront old writes) (sym (file_lines-push asks text before values count fields has.counted is)) (AppendsFront-then old held writes (file_lines asks text before) lines has.lines.written put);
       };
     }
 
 -- out of memory before anything of its lines was written
-pub cut_after : (asks : Asks) (text : List ℕ) (old held writes : Option (List ℕ)) (count : ℕ) (values : ValueEntries ValueMeaning) (fault : Fault) → PutsLines asks (count + 1) values (Err fault) held writes → WritesRead asks text old held → IfCutOff {T = Summary} (Err fault) (WritesRead asks text old writes)
-cut_after asks text old held writes count values (Refused refusal) puts read = tt
-cut_after asks text old held writes count values Memory puts read = subst (WritesRead asks text old) puts read
-cut_after asks text old held writes count values Read puts read = absurd puts
-cut_after asks text old held writes count values Write puts read = tt
+pub cut_after : (asks : Asks) (text : List ℕ) (old held writes : Option (List ℕ)) (count : ℕ) (fields : List Field) (values : ValueEntries ValueMeaning) (fault : Fault) → PutsLines asks (count + 1) fields values (Err fault) held writes → WritesRead asks text old held → IfCutOff {T = Summary} (Err fault) (WritesRead asks text old writes)
+cut_after asks text old held writes count fields values (Refused refusal) puts read = tt
+cut_after asks text old held writes count fields values Memory puts read = subst (WritesRead asks text old) puts read
+cut_after asks text old held writes count fields values Read puts read = absurd puts
+cut_after asks text old held writes count fields values Write puts read = tt
 
-pub failed_after : (asks : Asks) (text : List ℕ) (state new : CheckedState) (left after old held writes : Option (List ℕ)) (count : ℕ) (empty : Bool) (values : ValueEntries ValueMeaning) (given : Passing) (fault : Fault)
+pub failed_after : (asks : Asks) (text : List ℕ) (state new : CheckedState) (left after old held writes : Option (List ℕ)) (count : ℕ) (empty : Bool) (values : ValueEntries ValueMeaning) (given : Passing) (fields : List Field) (fault : Fault)
     → (has : HasAsked asks text state left old held count empty) → GivesPassing (doc_of asks.asked) text has.checked.before given new after → AreValuesOf (doc_of asks.asked) given.seen values
-    → PutsLines asks (count + 1) values (Err fault) held writes → IfWriteFailed {T = Summary} (Err fault) (WritesSome asks text old writes)
-failed_after asks text state new left after old held writes count empty values given (Refused refusal) has gives are puts = tt
-failed_after asks text state new left after old held writes count empty values given Memory has gives are puts = tt
-failed_after asks text state new left after old held writes count empty values given Read has gives are puts = tt
-failed_after asks text state new left after old held writes count empty values given Write has gives are puts = asked_failed asks text state new left after old held writes count empty values given has gives are puts
+    → fields ≡ given.seen.fields → PutsLines asks (count + 1) fields values (Err fault) held writes → IfWriteFailed {T = Summary} (Err fault) (WritesSome asks text old writes)
+failed_after asks text state new left after old held writes count empty values given fields (Refused refusal) has gives are same puts = tt
+failed_after asks text state new left after old held writes count empty values given fields Memory has gives are same puts = tt
+failed_after asks text state new left after old held writes count empty values given fields Read has gives are same puts = tt
+failed_after asks text state new left after old held writes count empty values given fields Write has gives are same puts = asked_failed asks text state new left after old held writes count empty values given fields has gives are same puts

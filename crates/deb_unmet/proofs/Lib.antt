@@ -5,3 +5,4 @@ pub mod Values
 pub mod Groups
 pub mod Decided
 pub mod Headings
+pub mod SpelledVersions

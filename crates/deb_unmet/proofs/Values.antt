@@ -18,7 +18,7 @@ use Rattle.deb_control.specs.declared.checked_view.CheckedView.{CheckedView}
 use Rattle.deb_control.proofs.PassingParagraphs.{values-passing}
 use Rattle.deb_control.proofs.ValueBodies.{one_paragraph}
 use Rattle.deb_unmet.specs.Fields.{value_under}
-use Rattle.deb_unmet.specs.Paragraphs.{HasValues}
+use Rattle.deb_unmet.specs.Paragraphs.{HasValues, fields_in}
 
 -- the value that is found under a name is that of any list of the paragraph's values
 pub value_found : {E : Type 0} (paragraph : CheckedView) (name : List ℕ) (found : Result (Option Value) E)
@@ -34,6 +34,7 @@ pub record GivenValues (paragraph : CheckedView) (doc : Doc) (given : Seen) : Ty
   pub values : ValueEntries ValueMeaning
   pub has : HasValues paragraph values
   pub are : AreValuesOf doc given values
+  pub fields : fields_in paragraph ≡ given.fields
 
 pub given_values : (paragraph : CheckedView) (doc : Doc) (given : Seen) (current : Option Seen) → Some (passing_judged paragraph).seen ≡ current → current ≡ Some given → doc_judged paragraph ≡ doc → GivenValues paragraph doc given
 given_values paragraph doc given current seen is same_doc =
@@ -44,4 +45,5 @@ given_values paragraph doc given current seen is same_doc =
       values = found.0;
       has = found.1;
       are = subst (λ d. AreValuesOf d given found.0) same_doc (subst (λ s. AreValuesOf (doc_judged paragraph) s found.0) same found.1);
+      fields = ap (λ s. s.fields) same;
     }

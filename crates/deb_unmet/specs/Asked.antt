@@ -2,10 +2,16 @@
 use Rattle.std.specs.Prelude.{◌≡◌, ℕ, Bool, true, false, List, [], ◌∷◌, map, codes, refl}
 use Rattle.deb_base.specs.declared.doc.Doc.{Doc}
 use Rattle.deb_base.specs.declared.doc.Doc.TheVariants as docs
+use Rattle.deb_base.specs.declared.version_text.VersionText.{VersionText}
 use Rattle.deb_unmet.specs.declared.asked.Asked.{Asked}
 use Rattle.deb_unmet.specs.declared.asked.Asked.TheVariants.{Packages, Binary, Sources, Source}
+use Rattle.deb_unmet.specs.declared.asked.Request.{Request}
 use Rattle.deb_unmet.specs.declared.asked.Strength.{Strength}
 use Rattle.deb_unmet.specs.declared.asked.Strength.TheVariants.{Depends, Recommends}
+
+-- these relations, with this text of each version
+abbrev pub request_for : Asked → VersionText → Request
+request_for asked versions = record { asked = asked; versions = versions }
 
 -- the kind of the file
 abbrev pub doc_of : Asked → Doc

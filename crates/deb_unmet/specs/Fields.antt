@@ -73,12 +73,11 @@ abbrev pub architecture_of : Asked → ValueEntries ValueMeaning → List ℕ
 architecture_of asked values =
     cond (is_binary asked) (word_under (codes "Architecture") values) (codes "source")
 
--- ` NUMBER PACKAGE VERSION ARCHITECTURE `
-abbrev pub heading : Asked → ℕ → ValueEntries ValueMeaning → List ℕ
-heading asked number values =
+-- ` NUMBER PACKAGE VERSION ARCHITECTURE `, with this text of the version
+abbrev pub heading : Asked → ℕ → List ℕ → ValueEntries ValueMeaning → List ℕ
+heading asked number version values =
     concat (codes " " ∷ decimal number ∷ codes " " ∷ word_under (name_field asked) values
-    ∷ codes " " ∷ word_under (codes "Version") values
-    ∷ codes " " ∷ architecture_of asked values ∷ codes " " ∷ [])
+    ∷ codes " " ∷ version ∷ codes " " ∷ architecture_of asked values ∷ codes " " ∷ [])
 
 -- The target of a binary package is its architecture if that can be a target, else the one that is
 -- asked for: for `all`. That of a source package is the one that is asked for.
@@ -108,12 +107,12 @@ fields_lines environment packages heading values fields =
     flat_map
     (λ field. field_lines environment packages heading field (value_under field values)) fields
 
--- the lines of the paragraph of this number
-abbrev pub paragraph_lines : Asked → Environment → List Listed → ℕ → ValueEntries ValueMeaning
-    → List ℕ
-paragraph_lines asked environment packages number values =
-    fields_lines (environment_for asked environment values) packages (heading asked number values)
-    values (fields_asked asked)
+-- the lines of the paragraph of this number, with this text of its version
+abbrev pub paragraph_lines : Asked → Environment → List Listed → ℕ → List ℕ
+    → ValueEntries ValueMeaning → List ℕ
+paragraph_lines asked environment packages number version values =
+    fields_lines (environment_for asked environment values) packages
+    (heading asked number version values) values (fields_asked asked)
 
 -- For amd64, over aa in version 1 for amd64 and bb for i386: a package with all fields.
 abbrev environment : Environment
@@ -147,21 +146,22 @@ binary architecture =
     ∷ (codes "Recommends", only (codes "dd"))
     ∷ (codes "Version", VersionMeans (version_in (codes "0:1.0"))) ∷ []
 
--- all is for amd64, where aa is; without Recommends and with it
-worked-all : paragraph_lines (Packages Depends) environment packages 7 (binary (codes "all"))
+-- all is for amd64, where aa is; without Recommends, and with it and another text of the version
+worked-all : paragraph_lines (Packages Depends) environment packages 7 (codes "1.0")
+    (binary (codes "all"))
     ≡ codes "unmet 7 xx 1.0 all Pre-Depends cc\nunmet 7 xx 1.0 all Depends bb\n"
 unfolding group_text digits
 worked-all = refl
 
-worked-recommends : paragraph_lines (Packages Recommends) environment packages 7
+worked-recommends : paragraph_lines (Packages Recommends) environment packages 7 (codes "01.0-0")
     (binary (codes "all"))
-    ≡ codes "unmet 7 xx 1.0 all Pre-Depends cc\nunmet 7 xx 1.0 all Depends bb\n"
-    ++ codes "unmet 7 xx 1.0 all Recommends dd\n"
+    ≡ codes "unmet 7 xx 01.0-0 all Pre-Depends cc\nunmet 7 xx 01.0-0 all Depends bb\n"
+    ++ codes "unmet 7 xx 01.0-0 all Recommends dd\n"
 unfolding group_text digits
 worked-recommends = refl
 
 -- a package for i386 is asked for i386, where bb is; one of a wildcard for amd64
-worked-foreign : paragraph_lines (Packages Depends) environment packages 12
+worked-foreign : paragraph_lines (Packages Depends) environment packages 12 (codes "1.0")
     (binary (codes "i386"))
     ≡ codes "unmet 12 xx 1.0 i386 Pre-Depends cc\nunmet 12 xx 1.0 i386 Depends aa\n"
 unfolding group_text digits
@@ -188,13 +188,13 @@ source =
     ∷ (codes "Source", SourceMeans (record { name = codes "yy"; version = None }))
     ∷ (codes "Version", VersionMeans (version_in (codes "2"))) ∷ []
 
-worked-sources : paragraph_lines Sources environment packages 1 source
+worked-sources : paragraph_lines Sources environment packages 1 (codes "2") source
     ≡ codes "unmet 1 xx 2 source Build-Depends bb\n"
     ++ codes "unsure 1 xx 2 source Build-Depends-Arch cc [linux-any]\n"
 unfolding group_text digits
 worked-sources = refl
 
-worked-source : paragraph_lines Source environment packages 1 source
+worked-source : paragraph_lines Source environment packages 1 (codes "2") source
     ≡ codes "unmet 1 yy 2 source Build-Depends bb\n"
     ++ codes "unsure 1 yy 2 source Build-Depends-Arch cc [linux-any]\n"
 unfolding group_text digits
@@ -204,5 +204,11 @@ worked-source = refl
 worked-values : (value_under (codes "pACKAGE") source ≡ Some (NameMeans (codes "xx")))
     × (groups_of (value_under (codes "Pre-Depends") source) ≡ [])
     × (word_under (codes "Priority") source ≡ [])
-    × (paragraph_lines Sources environment packages 1 [] ≡ [])
+    × (paragraph_lines Sources environment packages 1 [] [] ≡ [])
 worked-values = (refl, refl, refl, refl)
+
+-- the name of a source package with a version, as in `Source: ss (2)`: the name alone
+worked-source_name : word_in
+    (SourceMeans (record { name = codes "ss"; version = Some (version_in (codes "2")) }))
+    ≡ codes "ss"
+worked-source_name = refl

@@ -114,3 +114,16 @@ worked-meanings : (verdict_in (λ name. true) environment packages group ≡ Met
     × (list_applies_in (λ name. true) (Some (true, codes "linux-any" ∷ [])) ≡ false)
     × (list_applies_in (λ name. false) (Some (true, codes "linux-any" ∷ [])) ≡ true)
 worked-meanings = (refl, refl, refl, refl, refl)
+
+-- Two meanings of the names for amd64: only the target's own name is the target, and each open name
+-- is as well.
+worked-own_name : IsMeaning (codes "amd64") (λ name. bytes_eq name (codes "amd64"))
+worked-own_name = record { own = refl; closed = λ name e. refl }
+
+worked-open_names : IsMeaning (codes "amd64")
+    (λ name. cond (is_open name) true (bytes_eq name (codes "amd64")))
+worked-open_names =
+    record {
+      own = refl;
+      closed = λ name e i. cond (e i) true (bytes_eq name (codes "amd64"));
+    }

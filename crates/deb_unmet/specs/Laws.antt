@@ -1,21 +1,29 @@
--- Laws of lines: canonical text changes none, and a group has one by its readings. Debian Policy
--- 5.1, 7.1 and 11.1; the canonical text is this project's own.
-use Rattle.std.specs.Prelude.{◌≡◌, ℕ, Bool, true, false, List, [], ◌∷◌, map, Option, None, Some, codes, refl}
-use Rattle.std.specs.List.{list_any}
+-- Laws of lines: canonical text changes none, spelled versions are equal to canonical ones, and a
+-- group has a line by its readings. Debian Policy 5.1, 7.1 and 11.1; the canonical text is this
+-- project's own.
+use Rattle.std.specs.Prelude.{◌≡◌, ℕ, ◌+◌, Bool, true, false, List, [], ◌∷◌, ◌++◌, length, map, Option, None, Some, codes, refl}
+use Rattle.std.specs.List.{AllByRecursion, list_any}
 use Rattle.std.specs.Str.{bytes_eq}
 use Rattle.deb_relation.specs.Applying.{Environment}
 use Rattle.deb_relation.specs.Meaning.{Group}
 use Rattle.deb_base.specs.declared.doc.Doc.TheVariants.{Packages}
+use Rattle.deb_base.specs.declared.version_text.VersionText.TheVariants.{Canonical, Spelled}
+use Rattle.deb_version.specs.Canonical.{version_text}
+use Rattle.deb_version.specs.Faults.{first_fault}
+use Rattle.deb_version.specs.Places.{version_in}
 use Rattle.deb_control.specs.Documents.{Meaning, Accepted, canonical_text}
+use Rattle.deb_control.specs.ValueFiles.{ValueEntries}
+use Rattle.deb_field.specs.Values.{ValueMeaning}
 use Rattle.deb_index.specs.Alternatives.{alone, with_list}
 use Rattle.deb_index.specs.Listed.{Listed}
 use Rattle.deb_index.specs.Listing.{ListsAll}
 use Rattle.deb_index.specs.Reports.{group_verdict}
 use Rattle.deb_index.specs.declared.verdict.Verdict.{Verdict}
 use Rattle.deb_index.specs.declared.verdict.Verdict.TheVariants.{Ignored, Met, Unmet}
-use Rattle.deb_unmet.specs.Asked.{doc_of}
+use Rattle.deb_unmet.specs.Asked.{doc_of, request_for}
 use Rattle.deb_unmet.specs.Asking.{asks_of}
-use Rattle.deb_unmet.specs.Files.{file_lines}
+use Rattle.deb_unmet.specs.Fields.{paragraph_lines}
+use Rattle.deb_unmet.specs.Files.{Asks, file_lines}
 use Rattle.deb_unmet.specs.GroupReadings.{EachReading, IsMeaning, SomeReading, verdict_in}
 use Rattle.deb_unmet.specs.Readings.{applies_by}
 use Rattle.deb_unmet.specs.Troubles.{can_be_otherwise, can_be_unmet, trouble}
@@ -25,7 +33,8 @@ use Rattle.deb_unmet.specs.declared.asked.Asked.{Asked}
 use Rattle.deb_unmet.specs.declared.trouble.Trouble.{Trouble}
 use Rattle.deb_unmet.specs.declared.trouble.Trouble.TheVariants as troubles
 
--- The lines don't change if the index, the file or both are replaced by their canonical text.
+-- With canonical versions, the lines don't change if the index, the file or both are replaced by
+-- their canonical text.
 abbrev pub CanonicalTextChangesNoLine : Type 0
 CanonicalTextChangesNoLine =
     (asked : Asked) (environment : Environment) (index : List ℕ) (of_index : Meaning)
@@ -33,12 +42,45 @@ CanonicalTextChangesNoLine =
     → Accepted Packages index of_index → ListsAll index packages
     → ListsAll (canonical_text of_index) others → Accepted (doc_of asked) file meaning
     → Accepted (doc_of asked) (canonical_text meaning) other
-    → (file_lines (asks_of asked environment others) meaning
-    ≡ file_lines (asks_of asked environment packages) meaning)
-    × (file_lines (asks_of asked environment packages) other
-    ≡ file_lines (asks_of asked environment packages) meaning)
-    × (file_lines (asks_of asked environment others) other
-    ≡ file_lines (asks_of asked environment packages) meaning)
+    → (file_lines (asks_of (request_for asked Canonical) environment others) file meaning
+    ≡ file_lines (asks_of (request_for asked Canonical) environment packages) file meaning)
+    × (file_lines (asks_of (request_for asked Canonical) environment packages)
+    (canonical_text meaning) other
+    ≡ file_lines (asks_of (request_for asked Canonical) environment packages) file meaning)
+    × (file_lines (asks_of (request_for asked Canonical) environment others)
+    (canonical_text meaning) other
+    ≡ file_lines (asks_of (request_for asked Canonical) environment packages) file meaning)
+
+-- the lines of paragraphs that come after so many, with these texts of their versions
+abbrev pub lines_with : Asks → ℕ → List (List ℕ) → Meaning → List ℕ
+lines_with asks n words [] = []
+lines_with asks n [] (values ∷ more) = []
+lines_with asks n (word ∷ words) (values ∷ more) =
+    paragraph_lines asks.asked asks.environment asks.packages (n + 1) word values
+    ++ lines_with asks (n + 1) words more
+
+-- The texts of the versions of a file's paragraphs: each is a version. The file's lines with
+-- spelled versions have these texts, and those with canonical versions have the canonical text of
+-- each; they don't differ otherwise.
+pub record SpellsVersions (asked : Asked) (environment : Environment) (packages : List Listed)
+    (text : List ℕ) (meaning : Meaning) : Type 0 where
+  pub words : List (List ℕ)
+  pub each : length words ≡ length meaning
+  pub are_versions : AllByRecursion (λ word. first_fault word ≡ None) words
+  pub spelled : file_lines (asks_of (request_for asked Spelled) environment packages) text meaning
+      ≡ lines_with (asks_of (request_for asked Spelled) environment packages) 0 words meaning
+  pub canonical : file_lines (asks_of (request_for asked Canonical) environment packages) text
+      meaning
+      ≡ lines_with (asks_of (request_for asked Spelled) environment packages) 0
+      (map (λ word. version_text (version_in word)) words) meaning
+
+-- Whichever text of a version is chosen, the lines of an accepted file differ in that word alone,
+-- and the spelled word is an equal version.
+abbrev pub SpelledVersionsAreEqual : Type 0
+SpelledVersionsAreEqual =
+    (asked : Asked) (environment : Environment) (packages : List Listed) (text : List ℕ)
+    (meaning : Meaning) → Accepted (doc_of asked) text meaning
+    → SpellsVersions asked environment packages text meaning
 
 abbrev pub IsUnmet : Verdict → Type 0
 IsUnmet verdict = verdict ≡ Unmet
@@ -129,3 +171,10 @@ worked-groups = refl
 worked-verdicts : map unmet_alone (Ignored ∷ Met ∷ Unmet ∷ [])
     ≡ None ∷ None ∷ Some troubles.Unmet ∷ []
 worked-verdicts = refl
+
+-- no text, and one for the first of two paragraphs
+worked-lines_with : (asks : Asks) (values other : ValueEntries ValueMeaning)
+    → (lines_with asks 0 [] (values ∷ []) ≡ [])
+    × (lines_with asks 0 (codes "01" ∷ []) (values ∷ other ∷ [])
+    ≡ paragraph_lines asks.asked asks.environment asks.packages 1 (codes "01") values ++ [])
+worked-lines_with asks values other = (refl, refl)

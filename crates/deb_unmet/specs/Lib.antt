@@ -3,6 +3,7 @@ pub mod Troubles
 pub mod GroupReadings
 pub mod Asked
 pub mod Fields
+pub mod Spelled
 pub mod Paragraphs
 pub mod Files
 pub mod Asking

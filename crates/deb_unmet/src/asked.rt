@@ -4,6 +4,7 @@ ghost use Rattle.std.specs.Prelude.{◌≡◌};
 ghost use Rattle.deb_relation.specs.Views.{names_of};
 ghost use Rattle.deb_unmet.specs.Asked.{doc_of, fields_asked, fields_with, is_binary, name_field};
 
+use deb_base::VersionText;
 use deb_field::Doc;
 
 /// The kind of a file, and which of its relations are asked.
@@ -27,6 +28,15 @@ pub enum Strength {
     Depends,
     /// Pre-Depends, Depends and Recommends.
     Recommends,
+}
+
+/// What a file is asked, and which text of a version its lines have.
+#[derive(Clone, Copy, Debug, PartialEq, Eq)]
+pub struct Request {
+    /// The kind of the file, and which of its relations are asked.
+    pub asked: Asked,
+    /// Which text of its version the lines of a paragraph have.
+    pub versions: VersionText,
 }
 
 impl Asked {

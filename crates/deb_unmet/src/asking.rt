@@ -12,9 +12,9 @@ ghost use Rattle.deb_relation.specs.Environments.{environment_of};
 ghost use Rattle.deb_index.specs.Indexes.{packages_of};
 ghost use Rattle.deb_unmet.specs.Asking.{IsWritersFault, PutsLines, asks_of, asks_with};
 ghost use Rattle.deb_unmet.specs.Files.{WritesRead, WritesRefused, WritesSome, WritesUnmet};
-ghost use Rattle.deb_unmet.specs.Paragraphs.{HasValues};
+ghost use Rattle.deb_unmet.specs.Paragraphs.{HasValues, fields_in};
 
-use crate::asked::Asked;
+use crate::asked::Request;
 use crate::group::Question;
 use crate::paragraph::append_paragraph;
 use deb_base::{Fault, Sink, Source, put_all};
@@ -58,25 +58,25 @@ pub fn unmet<R: Source, W: Sink>(
     alloc: Global,
     index: &Index,
     environment: &Env,
-    asked: Asked,
+    request: Request,
     reader: &mut R,
     writer: &mut W,
 ) -> Result<Summary, Fault>
     ensures ok { (text : List ℕ) → R.left reader.old ≡ Some text
         → IfOk result (λ summary. WritesUnmet
-        (asks_of asked (environment_of environment.now) (packages_of index.now)) text summary
+        (asks_of request (environment_of environment.now) (packages_of index.now)) text summary
         (W.held writer.old) (W.held writer.new)) }
     ensures refused { (text : List ℕ) → R.left reader.old ≡ Some text
         → IfRefused result (λ refusal. WritesRefused
-        (asks_of asked (environment_of environment.now) (packages_of index.now)) text refusal
+        (asks_of request (environment_of environment.now) (packages_of index.now)) text refusal
         (W.held writer.old) (W.held writer.new)) }
     ensures cut_off { (text : List ℕ) → R.left reader.old ≡ Some text
         → IfCutOff result (WritesRead
-        (asks_of asked (environment_of environment.now) (packages_of index.now)) text
+        (asks_of request (environment_of environment.now) (packages_of index.now)) text
         (W.held writer.old) (W.held writer.new)) }
     ensures write { (text : List ℕ) → R.left reader.old ≡ Some text
         → IfWriteFailed result (WritesSome
-        (asks_of asked (environment_of environment.now) (packages_of index.now)) text
+        (asks_of request (environment_of environment.now) (packages_of index.now)) text
         (W.held writer.old) (W.held writer.new)) }
     ensures reads_at_most { (text : List ℕ) → R.left reader.old ≡ Some text
         → TakesNoMore text file_limit (R.left reader.new) }
@@ -93,7 +93,7 @@ pub fn unmet<R: Source, W: Sink>(
         (W.failures writer.new) result }
 {
     let question = Question { index, environment };
-    let mut checked = Checked::new(alloc, asked.doc());
+    let mut checked = Checked::new(alloc, request.asked.doc());
     let mut is_empty = true;
     for count in 0..u64::MAX {
         if !checked.advance(&mut NoVisitor, reader)? {
@@ -105,7 +105,7 @@ pub fn unmet<R: Source, W: Sink>(
         let Some(paragraph) = checked.current() else {
             unreachable!()
         };
-        let is_met = write_paragraph(alloc, &question, asked, count + 1, &paragraph, writer)?;
+        let is_met = write_paragraph(alloc, &question, request, count + 1, &paragraph, writer)?;
         is_empty = is_empty && is_met;
     }
     // No file has so many paragraphs.
@@ -120,20 +120,20 @@ pub fn unmet<R: Source, W: Sink>(
 fn write_paragraph<W: Sink>(
     alloc: Global,
     question: &Question<'_>,
-    asked: Asked,
+    request: Request,
     number: u64,
     paragraph: &CheckedView<'_>,
     writer: &mut W,
 ) -> Result<bool, Fault>
     ensures puts { (values : ValueEntries ValueMeaning) → HasValues paragraph.now values
-        → PutsLines (asks_with asked question.now) number values result (W.held writer.old)
-        (W.held writer.new) }
+        → PutsLines (asks_with request question.now) number (fields_in paragraph.now) values
+        result (W.held writer.old) (W.held writer.new) }
     ensures counts_failure { W.failures writer.new ≡ write_failures_after
         (W.failures writer.old) result }
     ensures fault { IsWritersFault result }
 {
     let mut lines = Vec::new(alloc);
-    append_paragraph(alloc, &mut lines, question, asked, number, paragraph)?;
+    append_paragraph(alloc, &mut lines, question, request, number, paragraph)?;
     put_all(writer, &lines)?;
     Ok(lines.is_empty())
 }

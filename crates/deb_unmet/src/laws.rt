@@ -1,11 +1,18 @@
 //! Laws of the lines of a file. Each function does nothing; its contract is the law.
 
-ghost use Rattle.deb_unmet.specs.Laws.{CanonicalTextChangesNoLine, DecidedAsQueried, LinesAreSound, LinesSayReadings, QueryReadsNames, ReadingsDecide};
+ghost use Rattle.deb_unmet.specs.Laws.{CanonicalTextChangesNoLine, DecidedAsQueried, LinesAreSound, LinesSayReadings, QueryReadsNames, ReadingsDecide, SpelledVersionsAreEqual};
 
-/// The lines of a file don't change if the index, the file or both are replaced by their canonical
-/// text.
+/// The lines of a file with canonical versions don't change if the index, the file or both are
+/// replaced by their canonical text.
 pub fn canonical_text_changes_no_line()
     ensures { CanonicalTextChangesNoLine }
+{}
+
+/// With spelled versions, the lines of an accepted file differ from those with canonical versions
+/// in the version alone; it is an equal one, whose canonical text is the word of the canonical
+/// line.
+pub fn spelled_versions_are_equal()
+    ensures { SpelledVersionsAreEqual }
 {}
 
 /// A group can be unmet exactly if some reading of its architecture lists makes it unmet, and it

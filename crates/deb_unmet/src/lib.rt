@@ -3,7 +3,8 @@
 //! ```text
 //! let index = Index::read(alloc, &mut packages)?;
 //! let environment = Env::new(alloc, b"amd64", &[])?;
-//! let summary = unmet(alloc, &index, &environment, Asked::Sources, &mut sources, &mut writer)?;
+//! let request = Request { asked: Asked::Sources, versions: VersionText::Canonical };
+//! let summary = unmet(alloc, &index, &environment, request, &mut sources, &mut writer)?;
 //! summary.is_empty; // no line was written
 //! ```
 //!
@@ -19,5 +20,5 @@ pub mod laws;
 mod paragraph;
 mod trouble;
 
-pub use asked::{Asked, Strength};
+pub use asked::{Asked, Request, Strength};
 pub use asking::{Summary, unmet};

@@ -9,10 +9,12 @@ ghost use Rattle.deb_relation.specs.Environments.{environment_of};
 ghost use Rattle.deb_relation.specs.Views.{names_of};
 ghost use Rattle.deb_index.specs.Indexes.{packages_of};
 ghost use Rattle.deb_unmet.specs.Fields.{architecture_of, field_lines, fields_lines, heading, own_environment, own_or, paragraph_lines, value_under, word_in, word_under};
-ghost use Rattle.deb_unmet.specs.Paragraphs.{HasValues};
+ghost use Rattle.deb_unmet.specs.Paragraphs.{HasValues, fields_in};
+ghost use Rattle.deb_unmet.specs.Spelled.{spelled_in, version_word};
 
-use crate::asked::Asked;
+use crate::asked::{Asked, Request};
 use crate::group::{Question, append_groups};
+use deb_base::VersionText;
 use deb_control::CheckedView;
 use deb_field::Value;
 use deb_relation::{Env, EnvFault, RelationFault};
@@ -25,26 +27,26 @@ pub(crate) fn append_paragraph(
     alloc: Global,
     out: &mut Vec<u8>,
     question: &Question<'_>,
-    asked: Asked,
+    request: Request,
     number: u64,
     paragraph: &CheckedView<'_>,
 ) -> Result<(), AllocError>
     ensures { (values : ValueEntries ValueMeaning) → HasValues paragraph.now values
-        → OnOk result (out.new.items ≡ out.old.items ++ paragraph_lines asked
+        → OnOk result (out.new.items ≡ out.old.items ++ paragraph_lines request.asked
         (environment_of question.now.environment.now) (packages_of question.now.index.now)
-        number values) }
+        number (version_word request.versions (fields_in paragraph.now) values) values) }
 {
-    let architecture = architecture_of(alloc, asked, paragraph)?;
-    let own = own_environment(alloc, asked, question.environment, &architecture)?;
+    let architecture = architecture_of(alloc, request.asked, paragraph)?;
+    let own = own_environment(alloc, request.asked, question.environment, &architecture)?;
     let own_question = Question {
         index: question.index,
         environment: own_or(own.as_ref(), question.environment),
     };
-    let fields = asked.fields();
+    let fields = request.asked.fields();
     if !some_line(alloc, &own_question, fields, paragraph)? {
         return Ok(());
     }
-    let heading = heading_of(alloc, asked, number, &architecture, paragraph)?;
+    let heading = heading_of(alloc, request, number, &architecture, paragraph)?;
     append_fields(alloc, out, &own_question, fields, &heading, paragraph)
 }
 
@@ -178,27 +180,56 @@ fn architecture_of(
 /// Returns the heading of a paragraph's lines.
 fn heading_of(
     alloc: Global,
-    asked: Asked,
+    request: Request,
     number: u64,
     architecture: &[u8],
     paragraph: &CheckedView<'_>,
 ) -> Result<Vec<u8>, AllocError>
     ensures { (values : ValueEntries ValueMeaning) → HasValues paragraph.now values
-        → architecture.now ≡ architecture_of asked values
-        → IfOk result (λ made. made.items ≡ heading asked number values) }
+        → architecture.now ≡ architecture_of request.asked values
+        → IfOk result (λ made. made.items ≡ heading request.asked number
+        (version_word request.versions (fields_in paragraph.now) values) values) }
 {
     let mut buffer = Buffer::new();
     let mut out = Vec::new(alloc);
     out.push(b' ')?;
     out.extend_from_slice(buffer.format(number).as_bytes())?;
     out.push(b' ')?;
-    append_word(alloc, &mut out, asked.name_field(), paragraph)?;
+    append_word(alloc, &mut out, request.asked.name_field(), paragraph)?;
     out.push(b' ')?;
-    append_word(alloc, &mut out, b"Version", paragraph)?;
+    append_version(alloc, &mut out, request.versions, paragraph)?;
     out.push(b' ')?;
     out.extend_from_slice(architecture)?;
     out.push(b' ')?;
     Ok(out)
+}
+
+/// Appends one of the two texts of the version.
+fn append_version(
+    alloc: Global,
+    out: &mut Vec<u8>,
+    versions: VersionText,
+    paragraph: &CheckedView<'_>,
+) -> Result<(), AllocError>
+    ensures { (values : ValueEntries ValueMeaning) → HasValues paragraph.now values
+        → OnOk result (out.new.items ≡ out.old.items
+        ++ version_word versions (fields_in paragraph.now) values) }
+{
+    match versions {
+        VersionText::Canonical => append_word(alloc, out, b"Version", paragraph),
+        VersionText::Spelled => append_spelled(out, paragraph),
+    }
+}
+
+/// Appends the text by which the file spells the version.
+fn append_spelled(out: &mut Vec<u8>, paragraph: &CheckedView<'_>) -> Result<(), AllocError>
+    ensures { OnOk result
+        (out.new.items ≡ out.old.items ++ spelled_in (fields_in paragraph.now)) }
+{
+    match paragraph.get(b"Version") {
+        Some(field) => out.extend_from_slice(field.body),
+        None => Ok(()),
+    }
 }
 
 /// Appends the name, the version or the architecture in a field.

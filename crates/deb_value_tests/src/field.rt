@@ -30,7 +30,7 @@ const ROWS: [Row; 14] = [
     Row(Doc::Packages, "Description", "short  \n .", "short  \n ."),
 ];
 
-/// Whether a body's value has this canonical text, behind what stands there; None where a call
+/// Whether a body's value has this canonical text, after what is there; None where a call
 /// fails.
 fn has_text(alloc: Global, doc: Doc, name: &str, body: &[u8], canonical: &[u8]) -> Option<bool> {
     if !is_body(body) {
@@ -57,7 +57,7 @@ fn one_value_of_each_kind(rt: HostRuntime) {
     }
 }
 
-/// A field, and the front, the piece that comes ten thousand times and the end of a body that is
+/// A field, and the start, the piece that comes ten thousand times and the end of a body that is
 /// its own canonical text.
 struct Long(Doc, &'static str, &'static str, &'static str, &'static str);
 
@@ -121,7 +121,7 @@ fn sorts_of_relationships(rt: HostRuntime) {
     }
 }
 
-/// What stands behind a text where it is there, else all bytes; None where it should be there and
+/// What follows a text where it is there, else all bytes; None where it should be there and
 /// isn't.
 fn behind<'a>(bytes: &'a [u8], text: &[u8], is_there: bool) -> Option<&'a [u8]> {
     if !is_there {

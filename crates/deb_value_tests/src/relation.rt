@@ -7,7 +7,7 @@ use std::alloc::Global;
 use std::process::Abort;
 use std::test::Fail;
 
-/// A text, and the reason and the place of the step that fails.
+/// A text, and the reason and the offset of the step that fails.
 struct Refused(&'static str, Reason, usize);
 
 const REFUSED: [Refused; 63] = [
@@ -84,7 +84,7 @@ const REFUSED: [Refused; 63] = [
     Refused("aa <!!x>", Reason::ItemBad, 4),
     Refused("aa <x", Reason::Unclosed, 5),
     Refused("aa < >", Reason::ListEmpty, 5),
-    // behind an alternative
+    // after an alternative
     Refused("aa bb", Reason::Trailing, 3),
     Refused("aa)", Reason::Trailing, 2),
     Refused("aa]", Reason::Trailing, 2),
@@ -128,7 +128,7 @@ fn prefix_fault(len: usize) -> Option<(Reason, usize)> {
     }
 }
 
-/// The reason and the place of the step that fails, or None.
+/// The reason and the offset of the step that fails, or None.
 fn fault_in(alloc: Global, text: &[u8]) -> Option<(Reason, usize)> {
     match Relation::parse(alloc, text) {
         Err(RelationFault::Bad { reason, at }) => Some((reason, at)),
@@ -144,7 +144,7 @@ fn prefixes_of_a_relation(rt: HostRuntime) {
     }
 }
 
-/// Whether a relation has this canonical text, behind what stands there; None where a call fails.
+/// Whether a relation has this canonical text, after what is there; None where a call fails.
 fn has_text(alloc: Global, text: &[u8], canonical: &[u8]) -> Option<bool> {
     let relation = Relation::parse(alloc, text).ok()?;
     let mut out = vec![in alloc; b'='; 2_000].ok()?;
@@ -239,7 +239,7 @@ fn tests_of_relations(rt: HostRuntime) -> Result<(), Fail> {
     Ok(())
 }
 
-/// All 17,576 names of three letters, each in the place of its distance from this number.
+/// All 17,576 names of three letters, each at the index of its distance from this number.
 fn names(alloc: Global, from: u32, between: &[u8]) -> Option<Vec<u8>> {
     let mut text = Vec::new(alloc);
     for n in 0..17_576u32 {
@@ -254,7 +254,7 @@ fn names(alloc: Global, from: u32, between: &[u8]) -> Option<Vec<u8>> {
     Some(text)
 }
 
-/// Each group stands twice, in descending order and then in ascending order.
+/// Each group is twice, in descending order and then in ascending order.
 #[test]
 fn many_groups(rt: HostRuntime) -> Result<(), Fail> {
     let canonical = names(rt.alloc(), 0, b", ").ok_or("memory")?;
@@ -359,7 +359,7 @@ fn has_all_or_none(alloc: Global, relation: &Relation<'_>) -> bool {
     out.as_slice() == text_of(first, second)
 }
 
-/// What a list has behind two calls, each of which appended the text or didn't.
+/// What a list has after two calls that each appended the text or didn't.
 fn text_of(first: bool, second: bool) -> &'static [u8] {
     match (first, second) {
         (true, true) => b"bb | aabb | aa",
@@ -368,7 +368,7 @@ fn text_of(first: bool, second: bool) -> &'static [u8] {
     }
 }
 
-/// Each growth behind the first ones is one of `canon_into`.
+/// Each growth after the first ones is one of `canon_into`.
 #[test]
 fn want_of_memory_leaves_what_stands_before_a_relation(rt: HostRuntime) -> Result<(), Fail> {
     let relation = Relation::parse(rt.alloc(), b"bb|aa")?;

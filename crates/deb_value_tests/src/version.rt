@@ -16,7 +16,7 @@ const REFUSED: [Refused; 20] = [
     Refused(":1", BadVersion::EpochEmpty),
     Refused("a:1", BadVersion::EpochNotNumber),
     Refused("+1:1", BadVersion::EpochNotNumber),
-    // an epoch may have any size, and a fault behind it is found
+    // an epoch may have any size, and a fault after it is found
     Refused("2147483648:", BadVersion::UpstreamEmpty),
     Refused("2147483648:1_", BadVersion::UpstreamByte { at: 12 }),
     Refused("1-", BadVersion::RevisionEmpty),
@@ -44,7 +44,7 @@ fn texts_that_are_no_versions(rt: HostRuntime) {
     }
 }
 
-/// Whether a version has this canonical text, behind what stands there; None where a call fails.
+/// Whether a version has this canonical text, after what is there; None where a call fails.
 fn has_text(alloc: Global, text: &[u8], canonical: &[u8]) -> Option<bool> {
     let version = Version::parse(text).ok()?;
     let mut out = vec![in alloc; b'='; 2_000].ok()?;
@@ -155,7 +155,7 @@ fn sorting(rt: HostRuntime) {
     assert!(rt; are_sorted(rt.alloc()) == Some(true));
 }
 
-/// So many zeros, and a million digits behind them.
+/// So many zeros, and a million digits after them.
 fn long_version(alloc: Global, zeros: usize, last: u8) -> Option<Vec<u8>> {
     let mut text = vec![in alloc; b'0'; zeros].ok()?;
     text.extend_from_slice(b"7:").ok()?;

@@ -16,7 +16,7 @@ fn words(alloc: Global, line: &str) -> Result<Vec<String>, AllocError> {
 }
 
 /// A command line, and the task or the fault that it has.
-const LINES: [(&str, &str); 33] = [
+const LINES: [(&str, &str); 38] = [
     (
         "check",
         "Ok(Run(Call { job: Check(Packages), first: None, second: None }))",
@@ -28,6 +28,23 @@ const LINES: [(&str, &str); 33] = [
     (
         "check --all -k any x",
         "Ok(Run(Call { job: CheckAll(Any), first: Some(\"x\"), second: None }))",
+    ),
+    (
+        "check -a x",
+        "Ok(Run(Call { job: CheckAll(Packages), first: Some(\"x\"), second: None }))",
+    ),
+    (
+        "check --complete --least 2 x",
+        "Ok(Run(Call { job: CheckWhole { doc: Packages, demands: Demands { complete: true, \
+        least: 2 } }, first: Some(\"x\"), second: None }))",
+    ),
+    (
+        "check --least 02 x",
+        "Err(Usage(\"usage: --least takes a number\"))",
+    ),
+    (
+        "audit --all --complete x",
+        "Err(Usage(\"usage: --all takes neither --complete nor --least\"))",
     ),
     (
         "normalise --kind source x",
@@ -106,22 +123,26 @@ const LINES: [(&str, &str); 33] = [
         "Ok(Explain(All { doc: Packages, path: Some(\"-\") }))",
     ),
     ("explain --code 18", "Ok(Explain(Rule(BadVersion)))"),
+    ("explain --code BadVersion", "Ok(Explain(Rule(BadVersion)))"),
     (
         "audit y --kind any - x",
         "Ok(Audit(Audit { doc: Any, files: Paths([\"y\", \"-\", \"x\"]), extent: First, \
-        end: Newline }))",
+        end: Newline, demands: Demands { complete: false, least: 0 } }))",
     ),
     (
         "audit --files0-from -",
-        "Ok(Audit(Audit { doc: Packages, files: Listed(\"-\"), extent: First, end: Newline }))",
+        "Ok(Audit(Audit { doc: Packages, files: Listed(\"-\"), extent: First, end: Newline, \
+        demands: Demands { complete: false, least: 0 } }))",
     ),
     (
         "audit -0 x",
-        "Ok(Audit(Audit { doc: Packages, files: Paths([\"x\"]), extent: First, end: Nul }))",
+        "Ok(Audit(Audit { doc: Packages, files: Paths([\"x\"]), extent: First, end: Nul, \
+        demands: Demands { complete: false, least: 0 } }))",
     ),
     (
         "audit --all x",
-        "Ok(Audit(Audit { doc: Packages, files: Paths([\"x\"]), extent: All, end: Newline }))",
+        "Ok(Audit(Audit { doc: Packages, files: Paths([\"x\"]), extent: All, end: Newline, \
+        demands: Demands { complete: false, least: 0 } }))",
     ),
     ("explain --relation aa|", "Ok(Explain(Relation(\"aa|\")))"),
     ("explain --version-text=1-", "Ok(Explain(Version(\"1-\")))"),

@@ -24,7 +24,7 @@ by_tests text epoch digits revision upstream byte other_byte =
     option_or (fault_if text Empty) (option_or (first_of (fault_if epoch EpochEmpty ∷ fault_if digits EpochNotNumber ∷ []))
     (first_of (fault_if revision RevisionEmpty ∷ fault_if upstream UpstreamEmpty ∷ byte ∷ other_byte ∷ [])))
 
--- there is none exactly where no test stands
+-- there is none exactly where no test is
 none_stands : (a b c d e : Bool) (f g : Option BadVersion) → by_tests a b c d e f g ≡ None
     → (b ≡ false) × (c ≡ false) × (d ≡ false) × (e ≡ false) × (f ≡ None) × (g ≡ None)
 none_stands true b c d e f g none = absurd cc
@@ -94,7 +94,7 @@ are_components-test c are =
     rw (empty-test (spelling c) (spelling_some c are.upstream_some), epoch.0, epoch.1, revision.0, empty-test c.upstream are.upstream_some, position_none-test (is_upstream_byte (is_some c.epoch)) c.upstream are.upstream_bytes, revision.1) refl in
     and_from _ _ (ap is_none none) (hyphen-test c.revision c.upstream are.upstream_hyphen)
 
--- the epoch of a version has digits alone, and so has what stands for an absent one
+-- the epoch of a version has digits alone, and so has what represents an absent one
 pub epoch_digits : (v : Version) (absent : Bor (List ℕ)) → absent.now ≡ [] → list_all is_ascii_digit (unwrap_or v.epoch absent).now ≡ true
 epoch_digits v absent none = of_epoch v.epoch (are_components-fact (components_of v) v.well_formed).epoch
   where

@@ -1,4 +1,4 @@
--- The places of bad bytes: what comes before one begins a version, and with the byte none does.
+-- The offsets of bad bytes: what comes before one begins a version, and with the byte none does.
 use Rattle.deb_version.proofs.Common.{◌≡◌, ◌≢◌, ℕ, ◌+◌, ◌==◌, ◌||◌, Bool, true, false, List, [], ◌∷◌, ◌++◌, length, Option, Some, None, is_some, IfSome, IsTrue, refl, sym, ap, ◌∙◌, subst, arith, append_assoc, length-append, list_any, list_any-append, position, position_from, AllByRecursion, option_map, option_and_then, eqb-true, ne_eqb, not-true, not-false, false≢true, UpstreamByte, RevisionByte, Meaning, SpellsVersion, Components, is_upstream_byte, is_revision_byte, is_bad_in_revision, epoch_text, revision_text, spelling, are_components, is_colon, is_hyphen, before_first, after_last, rest_in, epoch_in, revision_in, components_in, meaning_of_components, cons_not_nil, holds_hyphen, cond}
 use Rattle.std.proofs.lemmas.Bool.{cases_Bool, or_parts}
 use Rattle.std.proofs.Common.{inl, inr}
@@ -15,7 +15,7 @@ use Rattle.deb_version.proofs.Emptiness.{append_some}
 use Rattle.deb_version.proofs.MeaningLemmas.{spelled_components}
 use Rattle.deb_version.proofs.VersionBytes.{version_bytes}
 
--- the first element that passes, at a place counted from n
+-- the first element that passes, at an index counted from n
 record FoundFrom (p : ℕ → Bool) (n : ℕ) (xs : List ℕ) (k : ℕ) : Type 0 where
   front : List ℕ
   byte : ℕ
@@ -159,7 +159,7 @@ some_revision : (r : Option (List ℕ)) (k : ℕ) → option_and_then (position 
 some_revision None k e = absurd cc
 some_revision (Some s) k e = (s, refl, e)
 
--- an epoch, an upstream version, and a revision in which a byte follows a front
+-- an epoch, an upstream version, and a revision in which a byte follows a prefix
 module _ (epoch : Option (List ℕ)) (upstream front : List ℕ) (byte : ℕ) where
   abbrev before_byte : List ℕ
   before_byte = epoch_text epoch ++ (upstream ++ 45 ∷ front)

@@ -36,7 +36,7 @@ one_digit b m n d e p q =
     by_ranks Equal Greater h k = omega (arith, ap (λ i. i * b) h)
     by_ranks Greater s h k = less n m e d q h
 
--- digits of one length behind the numbers m and n: these decide first, and then the digits
+-- digits of one length after the numbers m and n: these decide first, and then the digits
 after_cmp : (b m n : ℕ) (ds es : List ℕ) → AllBelowBase b ds → AllBelowBase b es → length ds ≡ length es
     → nat_cmp (number_from_digits_after b m ds) (number_from_digits_after b n es) ≡ ordering_then (nat_cmp m n) (byte_order ds es)
 after_cmp b m n [] [] p q same = sym (before-Equal (nat_cmp m n))

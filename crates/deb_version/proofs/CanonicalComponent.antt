@@ -47,7 +47,7 @@ pub HasParts-component_text : (text : List ℕ) (parts : List Part) → HasParts
 HasParts-component_text text parts h =
     (canonical_cuts parts, subst (λ l. AreCuts (canonical_cuts l)) (sym h.3) (AreCuts-canonical_cuts h.0 h.1), sym (joined-canonical_cuts parts), sym (parts_of_cuts-canonical_cuts parts))
 
--- what holds of each byte of two texts, and of their bytes one behind the other
+-- what holds of each byte of two texts, and of their bytes one after the other
 pub All-append : (P : ℕ → Type 0) (xs ys : List ℕ) → AllByRecursion P xs → AllByRecursion P ys → AllByRecursion P (xs ++ ys)
 All-append P [] ys front back = back
 All-append P (x ∷ xs) ys front back = (front.0, All-append P xs ys front.1 back)

@@ -27,7 +27,7 @@ parts_some : (cuts : List Cut) → AreCuts cuts → parts_of_cuts cuts ≢ []
 parts_some [] are = absurd are
 parts_some (cut ∷ cuts) are = cons_not_nil (part_of cut) (parts_of_cuts cuts)
 
--- The canonical text of a component begins with its first text and the canonical number behind it.
+-- The canonical text of a component begins with its first text and the canonical number after it.
 pub component_text-first : (bytes after : List ℕ) (cut : Cut) → cuts_of bytes ≡ cut ∷ cuts_after after
     → component_text (parts_of bytes) ≡ cut.0 ++ (number_text cut (length after == 0) ++ rest_text after)
 component_text-first bytes [] cut e =
@@ -37,7 +37,7 @@ component_text-first bytes (b ∷ after) cut e =
     ∙ component_text-cons (part_of cut) (parts_of (b ∷ after)) (parts_some (cuts_of (b ∷ after)) (AreCuts-cuts_of (b ∷ after)))
     ∙ ap (λ v. cut.0 ++ (number_text cut v ++ component_text (parts_of (b ∷ after)))) (sym (ne_eqb (length (b ∷ after)) 0 (λ h. omega arith)))
 
--- what follows a cut is the text behind it, and so is its canonical text if it is its own
+-- what follows a cut is the text after it, and so is its canonical text if it is its own
 pub joined_after : (after : List ℕ) → joined (cuts_after after) ≡ after
 joined_after [] = refl
 joined_after (b ∷ after) = joined-cuts_of (b ∷ after)
@@ -135,7 +135,7 @@ never : (v : Bool) → false ≡ (v && false)
 never true = refl
 never false = refl
 
--- a byte in front of a component: the whole is the revision 0 only if the byte is a zero and the component is
+-- a byte before a component: the whole is the revision 0 only if the byte is a zero and the component is
 is_no_revision-with_digit : (b : ℕ) (text run : List ℕ) (cuts : List Cut) → IsTrue (is_ascii_digit b)
     → is_no_revision (parts_of_cuts (with_digit b text run cuts)) ≡ ((b == 48) && is_no_revision (parts_of_cuts ((text, run) ∷ cuts)))
 is_no_revision-with_digit b [] run [] digit = zero_value b run digit

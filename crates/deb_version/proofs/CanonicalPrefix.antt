@@ -85,7 +85,7 @@ itself_some : (text : List ℕ) → IsItself text → text ≢ []
 unfolding first_fault
 itself_some text is e = cc (sym (ap first_fault e) ∙ is.faultless)
 
--- So is a version without colon behind an epoch of such digits.
+-- So is a version without colon after an epoch of such digits.
 pub epoch_itself : (epoch rest : List ℕ) → IsItself epoch → IsDigits epoch → ((l : List ℕ) → epoch ≢ 48 ∷ l)
     → IsItself rest → AllByRecursion (λ b. IsTrue (is_upstream_byte false b)) rest → IsItself (epoch ++ 58 ∷ rest)
 epoch_itself epoch rest is_epoch digits other is bytes =

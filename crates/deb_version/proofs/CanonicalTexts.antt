@@ -9,7 +9,7 @@ use Rattle.deb_version.proofs.CanonicalComponent.{HasParts-component_text, All-w
 use Rattle.deb_version.proofs.MeaningLemmas.{one_version}
 use Rattle.deb_version.proofs.VersionBytes.{revision_digit, upstream_digit, or_more, upstream_with_epoch}
 
--- an upstream byte that is no colon may stand where there is no epoch
+-- an upstream byte that is no colon may be where there is no epoch
 upstream_without_epoch : (b : ℕ) → IsTrue (is_upstream_byte true b) × (b ≢ 58) → IsTrue (is_upstream_byte false b)
 upstream_without_epoch b h = or_more (is_revision_byte b || (b == 45)) (b == 58) false (λ e. absurd (h.1 ((Decides-eqb b 58).0 e))) h.0
 
@@ -55,7 +55,7 @@ module _ (text : List ℕ) (m : Meaning) (spells : SpellsVersion text m) where
   revision_means : (o : Option (List ℕ)) → spells.components.revision ≡ o → m.revision ≡ revision_parts o
   revision_means o e = ap (λ (n : Meaning). n.revision) spells.means ∙ ap revision_parts e
 
--- the epoch of canonical components is allowed, allows the bytes behind it, and has the same value
+-- the epoch of canonical components is allowed, allows the bytes after it, and has the same value
 abbrev EpochStays : Meaning → Option (List ℕ) → Type 0
 EpochStays m o =
     IfSome o IsEpoch × AllByRecursion (λ b. IsTrue (is_upstream_byte (is_some o) b)) (component_text m.upstream) × (m.epoch ≡ epoch_value o)

@@ -1,4 +1,4 @@
--- The names of specifications and of lower crates that the proofs cite, passed on from one place. Declares nothing.
+-- Passes on the names of specifications and of lower crates that the proofs cite. Declares nothing.
 pub use Rattle.std.proofs.Common.{All, Bool, Bor, IfNone, IfSome, IsFalse, IsTrue, List, None, Option, Some, [], ap, append_assoc, arith, cond, drop, false, fold, get_or, inl, inr, is_some, length, length-drop, length-take, map, nat_eq, nat_lt, not, one-add, option_and_then, option_copied, position, refl, replicate, reverse, rules, subst, suc, sym, take, tests, true, unwrap_or, zero, ℕ, ◌%◌, ◌&&◌, ◌*◌, ◌++◌, ◌+◌, ◌-◌, ◌/◌, ◌<◌, ◌==◌, ◌^◌, ◌||◌, ◌↔◌, ◌∙◌, ◌∷◌, ◌≡◌, ◌≢◌, ◌≤◌, ◌⊎◌}
 pub use Rattle.std.proofs.lemmas.Bool.{and_from, and_parts, cases_Bool, cases_lt, eqb-false, eqb-true, false≢true, ne_eqb, not-false, not-true, not_from_false, not_from_true, true≢false}
 pub use Rattle.std.proofs.lemmas.Bool.Decides.{Decides-eqb, nat_tests}

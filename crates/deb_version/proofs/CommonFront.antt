@@ -9,7 +9,7 @@ use Rattle.deb_version.proofs.Walks.{component_cmp-step}
 pub component_itself : (a b : List ℕ) → a ≡ b → component_cmp (parts_of a) (parts_of b) ≡ Equal
 component_itself a b same = ap (λ l. component_cmp (parts_of a) (parts_of l)) (sym same) ∙ tied_itself component_total (parts_of a)
 
--- a byte that is no digit, in front of both
+-- a byte that is no digit, before both
 other_in_front : (b : ℕ) (x y : List ℕ) → is_ascii_digit b ≡ false → component_cmp (parts_of (b ∷ x)) (parts_of (b ∷ y)) ≡ component_cmp (parts_of x) (parts_of y)
 other_in_front b x y other = shapes (cuts_of x) (cuts_of y) (AreCuts-cuts_of x) (AreCuts-cuts_of y)
   where
@@ -23,7 +23,7 @@ other_in_front b x y other = shapes (cuts_of x) (cuts_of y) (AreCuts-cuts_of x) 
         ∙ ap (λ o. ordering_then (ordering_then (ordering_then o (text_cmp c.0 d.0)) (nat_cmp (value_of c.1) (value_of d.1)))
         (component_cmp (parts_of_cuts cs) (parts_of_cuts ds))) (tied_itself nat_cmp_total (rank_of b))
 
--- a run of digits, and the byte behind it that is none
+-- a run of digits, and the byte after it that is none
 run_in_front : (run x y : List ℕ) (b : ℕ) → IsDigits run → is_ascii_digit b ≡ false
     → component_cmp (parts_of (run ++ b ∷ x)) (parts_of (run ++ b ∷ y)) ≡ component_cmp (parts_of x) (parts_of y)
 run_in_front [] x y b digits other = other_in_front b x y other
@@ -48,7 +48,7 @@ behind_other run (b ∷ front) x y c digits other = elim (cases_Bool (is_ascii_d
   | inr ends ↦ run_in_front run (front ++ c ∷ x) (front ++ c ∷ y) b digits ends ∙ behind_other [] front x y c tt other
 ]
 
--- Two components compare as what stands behind a front of theirs that is one, if it is empty or ends in a byte that is no digit.
+-- Two components with a common prefix compare as what follows it, if it is empty or ends in a byte that is no digit.
 pub front_passes : (a b : List ℕ) (same front : ℕ) → same ≤ length a → front ≤ same → take same a ≡ take same b
     → ((front ≢ 0) → IsFalse (is_ascii_digit (get_or (take same a) (front - 1) 0)))
     → component_cmp (parts_of a) (parts_of b) ≡ component_cmp (parts_of (drop front a)) (parts_of (drop front b))

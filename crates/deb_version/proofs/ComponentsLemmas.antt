@@ -33,7 +33,7 @@ spelling-components_in text = ap (λ l. epoch_text (epoch_in text) ++ l) (upstre
 no_colon : (rest : List ℕ) → list_any is_colon rest ≡ false → (epoch_in rest ≡ None) × (rest_in rest ≡ rest)
 no_colon rest none = (ap (λ v. cond v (Some (before_first is_colon rest)) None) none, ap (λ v. cond v (after_first is_colon rest) rest) none)
 
--- behind digits and a colon stands the rest
+-- after digits and a colon is the rest
 with_colon : (digits rest : List ℕ) → list_any is_colon digits ≡ false → (epoch_in (digits ++ 58 ∷ rest) ≡ Some digits) × (rest_in (digits ++ 58 ∷ rest) ≡ rest)
 with_colon digits rest none = (
   ap (λ v. cond v (Some (before_first is_colon (digits ++ 58 ∷ rest))) None) (list_any-at is_colon digits 58 rest refl) ∙ ap Some (before_first-at is_colon digits 58 rest none refl),
@@ -105,7 +105,7 @@ cut_at_hyphen rest = by_cases (list_any is_hyphen rest) refl
 none_at_all : (n : ℕ) (text : List ℕ) → All (λ b. b ≢ n) text → list_any (λ b. b == n) text ≡ false
 none_at_all n text none = list_any_none (λ b. b == n) text (All-weaker (λ b. b ≢ n) (λ b. (b == n) ≡ false) (λ b h. ne_eqb b n h) text none)
 
--- the epoch and the rest of a text, by the place of the first colon
+-- the epoch and the rest of a text, by the offset of the first colon
 pub epoch_at_colon : (text : List ℕ) (i : ℕ) → i < length text → get_or text i 0 ≡ 58 → ((k : ℕ) → k < i → get_or text k 0 ≢ 58)
     → (epoch_in text ≡ Some (take i text)) × (rest_in text ≡ drop (i + 1) text)
 epoch_at_colon text i inside here before =
@@ -117,7 +117,7 @@ epoch_at_colon text i inside here before =
 pub epoch_at_none : (text : List ℕ) → All (λ b. b ≢ 58) text → (epoch_in text ≡ None) × (rest_in text ≡ text)
 epoch_at_none text none = no_colon text (none_at_all 58 text none)
 
--- the upstream version and the revision of the rest, by the place of the last hyphen
+-- the upstream version and the revision of the rest, by the offset of the last hyphen
 pub revision_at_hyphen : (rest : List ℕ) (i : ℕ) → i < length rest → get_or rest i 0 ≡ 45 → ((k : ℕ) → i + 1 ≤ k → k < length rest → get_or rest k 0 ≢ 45)
     → (upstream_in rest ≡ take i rest) × (revision_in rest ≡ Some (drop (i + 1) rest))
 revision_at_hyphen rest i inside here after =

@@ -3,7 +3,7 @@ use Rattle.deb_version.proofs.Common.{◌≡◌, ℕ, suc, ◌+◌, ◌-◌, Boo
 use Rattle.std.proofs.lemmas.Bool.{or_parts}
 
 module _ {X : Type 0} (p : X → Bool) where
-  -- what stands behind an element that passes, and before one, where no element before it passes
+  -- what follows an element that passes, and before one, where no element before it passes
   position_or_len-at : (a : List X) (y : X) (b : List X) → list_any p a ≡ false → p y ≡ true → position_or_len p (a ++ y ∷ b) ≡ length a
   position_or_len-at [] y b none passes = ap (λ v. cond (not v) (1 + position_or_len p b) 0) passes
   position_or_len-at (x ∷ a) y b none passes =
@@ -75,7 +75,7 @@ module _ {X : Type 0} (p : X → Bool) where
       or_false true = refl
       or_false false = refl
 
-  -- a list is what stands before the first element that passes, that element, and what stands after it
+  -- a list is what precedes the first element that passes, that element, and what is after it
   pub join_first : (xs : List X) → list_any p xs ≡ true → (y : X) × (p y ≡ true) × (xs ≡ before_first p xs ++ y ∷ after_first p xs)
   join_first xs some =
       let s = split_first xs some in

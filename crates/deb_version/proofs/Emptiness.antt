@@ -9,7 +9,7 @@ pub some_length : (text : List ℕ) → text ≢ [] → 0 < length text
 some_length [] some = absurd (some refl)
 some_length (b ∷ text) some = omega arith
 
--- texts one behind the other, of which one isn't empty
+-- two texts one after the other, not both empty
 pub append_some : (xs ys : List ℕ) → ys ≢ [] → (xs ++ ys) ≢ []
 append_some [] ys some = some
 append_some (x ∷ xs) ys some = cons_not_nil x (xs ++ ys)

@@ -27,7 +27,7 @@ after_text bytes = drop (position_or_len is_ascii_digit bytes) bytes
 abbrev pub StartsWithOther : List ℕ → Type 0
 StartsWithOther bytes = Stops is_ascii_digit bytes
 
--- a text in front of cuts of which the first has none
+-- a text before cuts, if the first cut has none
 pub cuts_of-text : (text rest run : List ℕ) (cuts : List Cut) → HasNoDigit text → cuts_of rest ≡ ([], run) ∷ cuts → cuts_of (text ++ rest) ≡ (text, run) ∷ cuts
 cuts_of-text [] rest run cuts other e = e
 cuts_of-text (b ∷ text) rest run cuts other e =
@@ -41,7 +41,7 @@ first_text b bs other = shape (cuts_of bs) (AreCuts-cuts_of bs)
     shape [] are = absurd are
     shape (cut ∷ cuts) are = (cut.0, cut.1, cuts, ap (λ v. cond v (with_digit b cut.0 cut.1 cuts) ((b ∷ cut.0, cut.1) ∷ cuts)) other)
 
--- one digit in front of what begins with no digit
+-- one digit before what begins with no digit
 one_digit : (b : ℕ) (rest : List ℕ) → is_ascii_digit b ≡ true → StartsWithOther rest → cuts_of (b ∷ rest) ≡ ([], b ∷ []) ∷ cuts_after rest
 one_digit b [] digit other = ap (λ v. cond v (([], b ∷ []) ∷ []) ((b ∷ [], []) ∷ [])) digit
 one_digit b (c ∷ rest) digit other =
@@ -50,7 +50,7 @@ one_digit b (c ∷ rest) digit other =
     ∙ ap (λ v. cond v (([], b ∷ []) ∷ (c ∷ first.0, first.1) ∷ first.2) ((b ∷ c ∷ first.0, first.1) ∷ first.2)) digit
     ∙ ap (λ l. ([], b ∷ []) ∷ l) (sym first.3)
 
--- a run of digits in front of what begins with no digit
+-- a run of digits before what begins with no digit
 pub cuts_of-run : (run rest : List ℕ) → IsDigits run → StartsWithOther rest → (run ≡ [] → rest ≡ []) → cuts_of (run ++ rest) ≡ ([], run) ∷ cuts_after rest
 cuts_of-run [] [] digits other ends = refl
 cuts_of-run [] (b ∷ rest) digits other ends = cc (ends refl)

@@ -4,7 +4,7 @@ use Rattle.deb_version.proofs.CanonicalTexts.{canonical_text_spells}
 use Rattle.deb_version.proofs.FaultLemmas.{no_fault-from_spells}
 use Rattle.deb_version.proofs.MeaningLemmas.{spelled_components, version_spelled}
 
--- the version that a text spells is the one that stands in it
+-- the version that a text spells is the one that is in it
 pub version_in-spelled : (text : List ℕ) (m : Meaning) → SpellsVersion text m → version_in text ≡ m
 version_in-spelled text m s = sym (spelled_components text m s).1
 

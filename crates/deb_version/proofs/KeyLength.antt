@@ -74,7 +74,7 @@ length-more : (cut : Cut) (cuts : List Cut)
     → length (component_key (parts_of_cuts (cut ∷ cuts))) ≡ length cut.0 + (1 + length (number_key (value_of cut.1))) + length (component_key (parts_of_cuts cuts))
 length-more cut cuts = omega (arith, length-append (part_key (part_of cut)) (component_key (parts_of_cuts cuts)), length-part_key cut)
 
--- cuts of which each has a text
+-- cuts that each have a text
 length-rest : (cut : Cut) (cuts : List Cut) → AreCuts (cut ∷ cuts) → cut.0 ≢ [] → length (component_key (parts_of_cuts (cut ∷ cuts))) ≤ 2 * length (joined (cut ∷ cuts)) + 2
 length-rest cut [] are some = omega (arith, length-more cut [], length-joined cut [], length-some cut.0 some, (length-run cut.1 are.1).0)
 length-rest cut (next ∷ cuts) are some =

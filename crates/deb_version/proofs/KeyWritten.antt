@@ -60,7 +60,7 @@ AreAscii-upstream v =
     All-weaker (λ b. IsTrue (is_upstream_byte (is_some (option_copied v.epoch)) b)) (λ b. b < 128) (upstream_byte-ascii (is_some (option_copied v.epoch))) v.upstream.now
     (are_components-fact (components_of v) v.well_formed).upstream_bytes
 
--- the revision of a version, and what stands for an absent one
+-- the revision of a version, and what represents an absent one
 pub AreAscii-revision : (v : Version) (absent : Bor (List ℕ)) → absent.now ≡ [] → AreAscii (unwrap_or v.revision absent).now
 AreAscii-revision v absent none = of_revision v.revision (are_components-fact (components_of v) v.well_formed).revision
   where

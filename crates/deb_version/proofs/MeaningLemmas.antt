@@ -2,7 +2,7 @@
 use Rattle.deb_version.proofs.Common.{◌≡◌, ℕ, List, IsTrue, refl, sym, ap, ◌∙◌, subst, Version, Meaning, SpellsVersion, spelling, are_components, meaning_of_components, components_in, components_of, meaning_of}
 use Rattle.deb_version.proofs.ComponentsLemmas.{components_in-spelling}
 
--- what a text spells, it spells by the components that stand in it
+-- what a text spells, it spells by the components that are in it
 pub spelled_components : (text : List ℕ) (m : Meaning) → SpellsVersion text m → IsTrue (are_components (components_in text)) × (m ≡ meaning_of_components (components_in text))
 spelled_components text m s =
     let same = sym (components_in-spelling s.components s.allowed) ∙ ap components_in (sym s.spelt) in

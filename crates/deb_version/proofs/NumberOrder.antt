@@ -18,7 +18,7 @@ nat_cmp-digit n m a b p q =
     by_ranks Equal Greater h k = omega arith
     by_ranks Greater s h k = omega arith
 
--- two codes of digits stand in the order of the digits
+-- two codes of digits are in the order of the digits
 nat_cmp-code : (a b : ℕ) → 48 ≤ a → 48 ≤ b → nat_cmp (a - 48) (b - 48) ≡ nat_cmp a b
 nat_cmp-code a b p q =
     sym (nat_cmp_is _ _ (nat_cmp a b) (by_ranks (nat_cmp a b) (ranks a b)))
@@ -32,7 +32,7 @@ nat_cmp-code a b p q =
 pub digit_range : (b : ℕ) → IsTrue (is_ascii_digit b) → (48 ≤ b) × (b ≤ 57)
 digit_range b d = (grind (arith, nat_tests), grind (arith, nat_tests))
 
--- runs of one length behind digits of the values n and m: these decide first, and then the bytes
+-- runs of one length after digits of the values n and m: these decide first, and then the bytes
 value_after_cmp : (n m : ℕ) (r s : List ℕ) → IsDigits r → IsDigits s → length r ≡ length s
     → nat_cmp (value_after n r) (value_after m s) ≡ ordering_then (nat_cmp n m) (slice_cmp nat_cmp r s)
 value_after_cmp n m [] [] p q e = sym (before-Equal (nat_cmp n m))

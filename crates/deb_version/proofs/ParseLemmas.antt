@@ -1,4 +1,4 @@
--- What the components that stand in a text without fault are: allowed, and those that spell it.
+-- What the components that are in a text without fault are: allowed, and those that spell it.
 use Rattle.deb_version.proofs.Common.{◌≡◌, ◌<◌, ◌^◌, ℕ, List, Option, None, length, sym, ap, ◌∙◌, subst, true, BadVersion, Meaning, Components, SpellsVersion, spelling, meaning_of_components, are_components, fault_of, components_in}
 use Rattle.deb_version.specs.Faults.{first_fault}
 use Rattle.deb_version.proofs.ComponentsLemmas.{spelling-components_in}

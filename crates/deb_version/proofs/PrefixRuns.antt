@@ -1,4 +1,4 @@
--- A canonical version at the front of a text, by the runs of bytes that it is made of.
+-- A canonical version at the start of a text, by the runs of bytes that it is made of.
 use Rattle.deb_version.proofs.Common.{◌≡◌, ◌≢◌, ℕ, ◌+◌, ◌==◌, ◌||◌, true, false, List, ◌∷◌, ◌++◌, take, drop, refl, sym, ap, ◌∙◌, subst, ne_eqb, prefix_len, take-append-drop, IsDigits, parts_of, is_revision_byte, is_upstream_byte, component_text, is_no_revision}
 use Rattle.deb_version.proofs.CanonicalPrefix.{IsItself, IsComponent, upstream_bytes, revision_itself, epoch_itself}
 use Rattle.deb_version.proofs.VersionBytes.{upstream_with_epoch}

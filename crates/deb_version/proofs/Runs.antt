@@ -72,7 +72,7 @@ module _ (p q : ℕ → Bool) (weaker : (b : ℕ) → IsTrue (p b) → IsTrue (q
         let behind = none_behind xs (subst (λ k. (l : List ℕ) → drop k xs ≢ byte ∷ l) run none) in
         omega (arith, run, on, behind)
 
-    -- where it does, the run goes on behind it
+    -- where it does, the run goes on after it
     pub run_past : q byte ≡ true → (xs rest : List ℕ) (n m : ℕ) → n ≡ prefix_len p xs → drop n xs ≡ byte ∷ drop (n + 1) xs → rest ≡ drop (n + 1) xs → m ≡ prefix_len q rest
         → n + 1 + m ≡ prefix_len q xs
     run_past passes xs rest n m run here is run_behind =
@@ -80,7 +80,7 @@ module _ (p q : ℕ → Bool) (weaker : (b : ℕ) → IsTrue (p b) → IsTrue (q
         let at : prefix_len q (drop n xs) ≡ 1 + m = rw (here, passes) (omega (arith, run_behind, ap (prefix_len q) is)) in
         omega (arith, run, on, at, ap (λ k. prefix_len q (drop k xs)) run)
 
--- so much of a text, a byte behind it, and so much behind that byte
+-- so much of a text, a byte after it, and so much after that byte
 pub take_past : (xs rest : List ℕ) (n m byte : ℕ) → drop n xs ≡ byte ∷ drop (n + 1) xs → rest ≡ drop (n + 1) xs → take (n + 1 + m) xs ≡ take n xs ++ byte ∷ take m rest
 take_past xs rest n m byte here is =
     take-add (n + 1) m xs ∙ ap (λ l. l ++ take m (drop (n + 1) xs)) (take-add n 1 xs) ∙ append_assoc (take n xs) (take 1 (drop n xs)) (take m (drop (n + 1) xs))

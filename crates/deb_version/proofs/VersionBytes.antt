@@ -1,4 +1,4 @@
--- Each byte of a version is one that an upstream version may hold behind an epoch.
+-- Each byte of a version is one that an upstream version may hold after an epoch.
 use Rattle.deb_version.proofs.Common.{◌≡◌, ℕ, ◌==◌, ◌&&◌, ◌||◌, Bool, true, false, List, ◌∷◌, [], ◌++◌, Option, Some, None, is_some, IfSome, refl, sym, ap, subst, IsTrue, is_ascii_digit, AllByRecursion, false≢true, Meaning, is_revision_byte, is_upstream_byte, epoch_text, revision_text, spelling, Components, are_components, SpellsVersion}
 use Rattle.std.specs.Int.{is_in_range}
 use Rattle.deb_version.proofs.AllowedLemmas.{IsEpoch, IsRevision, are_components-fact}
@@ -10,7 +10,7 @@ revision_digit b d = ap (λ v. ((v || is_in_range 65 90 b) || is_in_range 97 122
 pub upstream_digit : (has_epoch : Bool) (b : ℕ) → IsTrue (is_ascii_digit b) → IsTrue (is_upstream_byte has_epoch b)
 upstream_digit has_epoch b d = ap (λ v. v || (b == 45) || (has_epoch && (b == 58))) (revision_digit b d)
 
--- an upstream byte may stand where there is an epoch
+-- an upstream byte may be where there is an epoch
 pub or_more : (x y z : Bool) → (y ≡ true → z ≡ true) → (x || y) ≡ true → (x || z) ≡ true
 or_more true y z more h = refl
 or_more false y z more h = more h

@@ -68,7 +68,7 @@ canonical_components m =
 abbrev pub version_text : Meaning → List ℕ
 version_text m = spelling (canonical_components m)
 
--- the bytes, with more behind them
+-- the bytes, with more after them
 abbrev pub Extends : List ℕ → List ℕ → Type 0
 Extends old new = (more : List ℕ) × (new ≡ old ++ more)
 
@@ -119,7 +119,7 @@ worked-letter = refl
 worked-letter_zeros : canonical_text_of None (codes "1a00") (Some (codes "0")) ≡ codes "1a"
 worked-letter_zeros = refl
 
--- `1A0`, with a capital letter; `1Z`, `1z`; after `@`, `[`, `` ` `` and `{`, which stand beside the
+-- `1A0`, with a capital letter; `1Z`, `1z`; after `@`, `[`, `` ` `` and `{`, which are beside the
 -- letters, the zero is written
 worked-capital : canonical_text_of None (codes "1A0") None ≡ codes "1A"
 worked-capital = refl
@@ -180,13 +180,13 @@ worked-digits : map (λ s. canonical_text_of None s None)
     (codes "0123" ∷ codes "0456" ∷ codes "0789" ∷ []) ≡ codes "123" ∷ codes "456" ∷ codes "789" ∷ []
 worked-digits = refl
 
--- an epoch without its zeros in front, and none of an epoch of zeros
+-- an epoch without its leading zeros, and none of an epoch of zeros
 worked-zeros_of_epochs : (canonical_text_of (Some (codes "00")) (codes "1") None ≡ codes "1")
     × (canonical_text_of (Some (codes "010")) (codes "1") None ≡ codes "10:1")
     × (canonical_text_of (Some (codes "000")) (codes "1-1") (Some (codes "1")) ≡ codes "1-1-1")
 worked-zeros_of_epochs = (refl, refl, refl)
 
--- a revision of several zeros is that of none, and zeros in front of a revision's number go
+-- a revision of several zeros is that of none, and zeros before a revision's number go
 worked-zeros_of_revisions : (canonical_text_of None (codes "1") (Some (codes "000")) ≡ codes "1")
     × (canonical_text_of None (codes "1") (Some (codes "00a00")) ≡ codes "1-0a")
     × (canonical_text_of None (codes "1") (Some (codes "~")) ≡ codes "1-~0")

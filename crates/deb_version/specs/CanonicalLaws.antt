@@ -1,4 +1,4 @@
--- What canonical text promises: it can be compared, hashed or signed in place of the version.
+-- What canonical text promises: it can be compared, hashed or signed instead of the version.
 -- Debian Policy 5.6.12; deb-version(7).
 use Rattle.std.specs.Prelude.{◌≡◌, ℕ, ◌*◌, ◌≤◌, ◌↔◌, List, length}
 use Rattle.std.specs.declared.cmp.Ordering.TheVariants.{Equal}

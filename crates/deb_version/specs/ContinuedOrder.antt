@@ -1,4 +1,4 @@
--- The order of two lists of which the shorter is continued by one value: it is total where the
+-- The order of two lists, where the shorter one is continued by one value: it is total where the
 -- order of the values is.
 use Rattle.std.proofs.Common.{◌≡◌, List, [], ◌∷◌, refl, sym, ap, ◌∙◌}
 use Rattle.std.specs.Ordering.{ordering_then, ordering_reverse}
@@ -21,7 +21,7 @@ then-Less Equal s e f g = g refl e
 then-Less Greater s e f g = cc e
 
 module _ {K : Type 0} {R : K → K → Ordering} (o : IsTotalOrder R) where
-  -- one place in front of two comparisons that are chained
+  -- one index before two comparisons that are chained
   step-trans : (a b c : K) (p q r : Ordering) → (p ≡ Less → q ≡ Less → r ≡ Less)
       → ordering_then (R a b) p ≡ Less → ordering_then (R b c) q ≡ Less
       → ordering_then (R a c) r ≡ Less

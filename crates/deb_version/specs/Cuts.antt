@@ -1,4 +1,4 @@
--- What a `Cut` of the code stands for: the text and the run of digits that its slices hold.
+-- What a `Cut` of the code represents: the text and the run of digits that its slices hold.
 -- deb-version(7), "Sorting algorithm".
 use Rattle.std.specs.Prelude.{◌≡◌, ℕ, List, [], ◌∷◌, codes, refl}
 use Rattle.deb_version.specs.declared.cut.Cut.{Cut as Slices}

@@ -1,5 +1,5 @@
--- Which fault of a text is answered, and at which byte: the first one of the components that stand
--- in it. Debian Policy 5.6.12; the order and the places are this project's.
+-- Which fault of a text is answered, and at which byte: the first one of the components that are
+-- in it. Debian Policy 5.6.12; the order and the offsets are this project's.
 use Rattle.std.specs.Prelude.{◌≡◌, ℕ, List, [], ◌∷◌, Option, Some, None, codes, refl}
 use Rattle.std.specs.List.{filter, range_with_len}
 use Rattle.std.specs.Option.{is_none}
@@ -144,7 +144,7 @@ worked-revision_bytes : filter (λ b. is_none (first_fault (49 ∷ 45 ∷ b ∷ 
 unfolding first_fault
 worked-revision_bytes = refl
 
--- An epoch may be zero, have zeros in front, and have digits alone.
+-- An epoch may be zero, have leading zeros, and have digits alone.
 worked-zero_epochs : (first_fault (codes "0:1") ≡ None) × (first_fault (codes "000:1") ≡ None)
     × (first_fault (codes "007:1-1") ≡ None) × (first_fault (codes "0:") ≡ Some UpstreamEmpty)
 unfolding first_fault

@@ -41,7 +41,7 @@ spelling c = epoch_text c.epoch ++ (c.upstream ++ revision_text c.revision)
 -- Components without fault are those of a version. One list of tests says so, in the order in which
 -- they are judged, and with the fault that each of them gives: those of an epoch, which may be
 -- absent, and then those of the rest. The tests are Debian Policy's 5.6.12; their order and the
--- places are this project's.
+-- offsets are this project's.
 
 abbrev pub is_empty : List ℕ → Bool
 is_empty text = length text == 0
@@ -98,7 +98,7 @@ fault_of c =
     option_or (fault_if (is_empty (spelling c)) Empty)
     (option_or (first_of (epoch_faults c.epoch)) (first_of (rest_faults c)))
 
--- the upstream version has no hyphen where there is no revision, which stands behind the last one
+-- the upstream version has no hyphen where there is no revision, which is after the last one
 abbrev pub is_cut_at_hyphen : Components → Bool
 is_cut_at_hyphen c = is_some c.revision || not (list_any (λ b. b == 45) c.upstream)
 
@@ -156,7 +156,7 @@ worked-colon : are_components (components_with None (codes "1:0") None) ≡ fals
 worked-colon = refl
 
 -- a-z, A-Z, 0-9 and `+ . ~` are allowed in a revision, and no other byte; `-` in an upstream
--- version, `:` behind an epoch
+-- version, `:` after an epoch
 worked-revision_bytes : list_all is_revision_byte (codes "09AZaz+.~") ≡ true
 worked-revision_bytes = refl
 

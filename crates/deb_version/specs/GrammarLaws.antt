@@ -24,7 +24,7 @@ abbrev pub HasOneListOfParts : Type 0
 HasOneListOfParts =
     (text : List ℕ) (parts : List Part) → HasParts text parts ↔ (parts ≡ parts_of text)
 
--- Every text is spelled by the components that stand in it, and allowed components stand in their
+-- Every text is spelled by the components that are in it, and allowed components are in their
 -- spelling.
 abbrev pub ComponentsSpell : Type 0
 ComponentsSpell = (text : List ℕ) → spelling (components_in text) ≡ text

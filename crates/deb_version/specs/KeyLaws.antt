@@ -1,4 +1,4 @@
--- What keys promise: they can be compared, sorted and indexed in place of the versions.
+-- What keys promise: they can be compared, sorted and indexed instead of the versions.
 -- deb-version(7), "Sorting algorithm".
 use Rattle.std.specs.Prelude.{◌≡◌, ℕ, ◌+◌, ◌*◌, ◌≤◌, ◌↔◌, List, ◌++◌, length}
 use Rattle.std.specs.Ordering.{ordering_then}

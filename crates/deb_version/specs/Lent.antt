@@ -1,4 +1,4 @@
--- A slice that shows bytes: worked cases of what the code's values stand for are made of it.
+-- A slice that shows bytes, for worked cases of what the values of the code represent.
 use Rattle.std.specs.Prelude.{ℕ, List}
 use denote.Ref.{Bor}
 

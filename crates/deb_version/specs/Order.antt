@@ -8,7 +8,7 @@ use Rattle.std.specs.declared.cmp.Ordering.{Ordering}
 use Rattle.std.specs.declared.cmp.Ordering.TheVariants.{Less, Equal, Greater}
 use Rattle.deb_version.specs.Parts.{Part, Meaning, no_revision, parts_of}
 
--- two lists: the first place at which they differ decides, where the shorter list is continued by
+-- two lists: the first index at which they differ decides, where the shorter list is continued by
 -- `rest` without end
 abbrev pub continued_cmp : {K : Type 0} → (K → K → Ordering) → K → List K → List K → Ordering
 continued_cmp cmp rest [] [] = Equal
@@ -25,7 +25,7 @@ end_rank = 1
 abbrev pub rank_of : ℕ → ℕ
 rank_of b = cond (b == 126) 0 (cond (is_ascii_alphabetic b) (b + 1) (b + 257))
 
--- two texts without digits: the first place whose ranks differ decides, where each place past the
+-- two texts without digits: the first offset whose ranks differ decides, where each one past the
 -- end has the end's rank
 abbrev pub text_cmp : List ℕ → List ℕ → Ordering
 text_cmp a b = continued_cmp nat_cmp end_rank (map rank_of a) (map rank_of b)
@@ -48,7 +48,7 @@ version_cmp a b =
     ordering_then (nat_cmp a.epoch b.epoch)
     (ordering_then (component_cmp a.upstream b.upstream) (component_cmp a.revision b.revision))
 
--- tilde stands before the end, the end before letters, letters before the rest
+-- tilde is before the end, the end before letters, letters before the rest
 worked-tilde : text_cmp (codes "~") [] ≡ Less
 worked-tilde = refl
 
@@ -65,7 +65,7 @@ worked-rest : text_cmp (codes "z") (codes "+") ≡ Less
 worked-rest = refl
 
 -- letters by their code, so capital ones first; bytes that are no letters by theirs; `:`, `@`, `[`,
--- `` ` `` and `{` stand beside the letters and are none
+-- `` ` `` and `{` are beside the letters and are none
 worked-capital : text_cmp (codes "Z") (codes "a") ≡ Less
 worked-capital = refl
 
@@ -156,7 +156,7 @@ worked-colon : version_cmp (meaning 0 (codes "1:02") (parts_of (codes "0")))
     (meaning 1 (codes "2") no_revision) ≡ Less
 worked-colon = refl
 
--- the number of a part goes behind its text, the revision behind the upstream version
+-- the number of a part goes after its text, the revision after the upstream version
 worked-text_first : version_cmp (meaning 0 (codes "a9") no_revision)
     (meaning 0 (codes "b1") no_revision) ≡ Less
 worked-text_first = refl

@@ -71,7 +71,7 @@ EqualVersionsHashEqually =
     (s t : List ℕ) (m n : Meaning) → SpellsVersion s m → SpellsVersion t n
     → version_cmp m n ≡ Equal → version_writes m ≡ version_writes n
 
--- Where two texts first differ, a tilde stands before all, also before the end of a text; then
+-- Where two texts first differ, a tilde is before all, also before the end of a text; then
 -- comes the end, then letters by their code, then all other bytes by their code.
 pub record FirstDifferenceDecides : Type 0 where
   pub tilde_before_end : (front s : List ℕ) → text_cmp (front ++ 126 ∷ s) front ≡ Less

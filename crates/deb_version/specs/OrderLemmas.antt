@@ -85,7 +85,7 @@ rank-other b other no_tilde = grind (arith, nat_tests)
 letter_code : (b : ℕ) → IsTrue (is_ascii_alphabetic b) → b < 123
 letter_code b letter = grind (arith, nat_tests)
 
--- a byte is told by its rank
+-- bytes with the same rank are the same
 rank-same : (a b : ℕ) → rank_of a ≡ rank_of b → a ≡ b
 rank-same a b e = grind (arith, nat_tests)
 

@@ -12,7 +12,7 @@ Cut = List ℕ × List ℕ
 abbrev pub Part : Type 0
 Part = List ℕ × ℕ
 
--- the value of a run of decimal digits behind digits of value n, the most significant first
+-- the value of a run of decimal digits after digits of value n, the most significant first
 abbrev pub value_after : ℕ → List ℕ → ℕ
 value_after n [] = n
 value_after n (digit ∷ digits) = value_after (10 * n + (digit - 48)) digits
@@ -53,17 +53,17 @@ abbrev pub HasParts : List ℕ → List Part → Type 0
 HasParts text parts =
     (cuts : List Cut) × AreCuts cuts × (text ≡ joined cuts) × (parts ≡ parts_of_cuts cuts)
 
--- The cuts of a text are found from its end: `cuts_of` puts its last byte in front of the cuts of
--- the empty text, and so on, up to its first byte. A digit in front of a cut, of a text and a run,
--- and of more cuts: where the cut's text is empty, the digit stands right before its run and joins
--- it (`1` before `2a` gives `12a`); else it stands before a text, and so is a run of its own behind
+-- The cuts of a text are found from its end: `cuts_of` puts its last byte before the cuts of
+-- the empty text, and so on, up to its first byte. A digit before a cut, of a text and a run,
+-- and of more cuts: where the cut's text is empty, the digit is right before its run and joins
+-- it (`1` before `2a` gives `12a`); else it is before a text, and so is a run of its own after
 -- an empty text (`1` before `a2`). `AreCuts` says what comes out, and the law that a text has one
 -- list of parts says that nothing else may.
 abbrev pub with_digit : ℕ → List ℕ → List ℕ → List Cut → List Cut
 with_digit b [] run cuts = ([], b ∷ run) ∷ cuts
 with_digit b (c ∷ text) run cuts = ([], b ∷ []) ∷ (c ∷ text, run) ∷ cuts
 
--- a byte in front of cuts: a digit as above; any other byte joins the text of the first cut
+-- a byte before cuts: a digit as above; any other byte joins the text of the first cut
 abbrev pub with_byte : ℕ → List Cut → List Cut
 with_byte b [] = (b ∷ [], []) ∷ []
 with_byte b (cut ∷ cuts) =

@@ -36,7 +36,7 @@ AreCuts-with_digit b (c ∷ text) run [] d are =
 AreCuts-with_digit b (c ∷ text) run (next ∷ cuts) d are =
     (tt, (d, tt), cons_not_nil b [], cons_not_nil c text, are)
 
--- a byte that isn't a digit may stand in front of the first text
+-- a byte that isn't a digit may be before the first text
 AreCuts-with_other : (b : ℕ) (text run : List ℕ) (cuts : List Cut) → IsFalse (is_ascii_digit b)
     → AreCuts ((text, run) ∷ cuts) → AreCuts ((b ∷ text, run) ∷ cuts)
 AreCuts-with_other b text run [] d are = ((d, are.0), are.1)
@@ -60,7 +60,7 @@ AreCuts-cuts_of (b ∷ bs) = AreCuts-with_byte b (cuts_of bs) (AreCuts-cuts_of b
 pub has_parts : (text : List ℕ) → HasParts text (parts_of text)
 has_parts text = (cuts_of text, AreCuts-cuts_of text, sym (joined-cuts_of text), refl)
 
--- cuts of a text that begins with a text without digits, if they are the cuts of the text behind it
+-- cuts of a text that begins with a text without digits, if they are the cuts of the text after it
 one_cut_by_text : (text run : List ℕ) (cuts : List Cut)
     → (AreCuts (([], run) ∷ cuts) → cuts_of (joined (([], run) ∷ cuts)) ≡ ([], run) ∷ cuts)
     → AreCuts ((text, run) ∷ cuts) → cuts_of (joined ((text, run) ∷ cuts)) ≡ (text, run) ∷ cuts
@@ -77,7 +77,7 @@ one_cut_by_text (b ∷ text) run cuts behind are =
     other [] a = a.0.0
     other (next ∷ cs) a = a.0.0
 
--- a digit in front of a cut whose text isn't empty makes a cut of its own
+-- a digit before a cut whose text isn't empty makes a cut of its own
 with_digit-text : (b : ℕ) (text run : List ℕ) (cuts : List Cut) → text ≢ []
     → with_digit b text run cuts ≡ ([], b ∷ []) ∷ (text, run) ∷ cuts
 with_digit-text b [] run cuts some = absurd (some refl)

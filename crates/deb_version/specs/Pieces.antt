@@ -1,4 +1,4 @@
--- What the pieces that a text is cut into are to their callers: the components that stand in it.
+-- What the pieces that a text is cut into are to their callers: the components that are in it.
 use Rattle.std.specs.Prelude.{◌≡◌, Some, None, codes, refl}
 use Rattle.std.specs.Option.{option_copied}
 use Rattle.deb_version.specs.declared.components.Pieces.{Pieces}

@@ -1,4 +1,4 @@
--- What the places of bad bytes are: what comes before one can be continued to a version, and with
+-- What the offsets of bad bytes are: what comes before one can be continued to a version, and with
 -- the byte it can't. Debian Policy 5.6.12.
 use Rattle.std.specs.Prelude.{◌≡◌, ℕ, List, ◌∷◌, ◌++◌, length, Some, IsTrue}
 use Rattle.deb_version.specs.declared.fault.BadVersion.TheVariants.{UpstreamByte, RevisionByte}
@@ -11,7 +11,7 @@ use Rattle.deb_version.specs.Parts.{Meaning}
 abbrev pub BeginsVersion : List ℕ → Type 0
 BeginsVersion text = (more : List ℕ) × (m : Meaning) × SpellsVersion (text ++ more) m
 
--- A byte of a text at a place. What comes before it begins a version. A version that begins with
+-- A byte of a text at an offset. What comes before it begins a version. A version that begins with
 -- that and the byte is an exception: a fact about the byte and the rest of the version.
 pub record IsBadByte (text : List ℕ) (at : ℕ) (Exception : ℕ → List ℕ → Type 0) : Type 0 where
   pub before : List ℕ

@@ -1,4 +1,4 @@
--- Where the epoch, the upstream version and the revision of a text stand, allowed or not.
+-- The offsets of the epoch, the upstream version and the revision of a text, allowed or not.
 -- Debian Policy 5.6.12: the epoch ends at the first colon; the revision follows the last hyphen
 -- after that.
 use Rattle.std.specs.Prelude.{◌≡◌, ℕ, ◌==◌, Bool, List, [], ◌∷◌, Option, Some, None, if◌then◌else◌, codes, refl}
@@ -12,7 +12,7 @@ is_colon b = b == 58
 abbrev pub is_hyphen : ℕ → Bool
 is_hyphen b = b == 45
 
--- the epoch is what stands before the first colon, if there is a colon
+-- the epoch is what precedes the first colon, if there is a colon
 abbrev pub epoch_in : List ℕ → Option (List ℕ)
 epoch_in text = if list_any is_colon text then Some (before_first is_colon text) else None
 
@@ -24,7 +24,7 @@ rest_in text = if list_any is_colon text then after_first is_colon text else tex
 abbrev pub revision_in : List ℕ → Option (List ℕ)
 revision_in rest = if list_any is_hyphen rest then Some (after_last is_hyphen rest) else None
 
--- and the upstream version is what stands before that hyphen
+-- and the upstream version is what precedes that hyphen
 abbrev pub upstream_in : List ℕ → List ℕ
 upstream_in rest = if list_any is_hyphen rest then before_last is_hyphen rest else rest
 
@@ -37,7 +37,7 @@ components_in text =
           (rest_in text);
     }
 
--- the version that a text spells, if it spells one: what the components that stand in it mean
+-- the version that a text spells, if it spells one: what the components that are in it mean
 abbrev pub version_in : List ℕ → Meaning
 version_in text = meaning_of_components (components_in text)
 
@@ -67,7 +67,7 @@ worked-version : version_in (codes "01:1.02-3")
     ≡ record { epoch = 1; upstream = ([], 1) ∷ (codes ".", 2) ∷ []; revision = ([], 3) ∷ [] }
 worked-version = refl
 
--- zeros in front of an epoch, and an epoch of zeros, which is that of a version without one
+-- zeros before an epoch, and an epoch of zeros, which is that of a version without one
 worked-zeros : (version_in (codes "000:1") ≡ version_in (codes "1"))
     × ((version_in (codes "010:1")).epoch ≡ 10) × ((version_in (codes "00100:0")).epoch ≡ 100)
 worked-zeros = (refl, refl, refl)

@@ -59,7 +59,7 @@ fn epoch_fault(epoch: Option<&[u8]>) -> Option<BadVersion>
     None
 }
 
-// Where the upstream version begins: behind the epoch and its colon.
+// Where the upstream version begins: after the epoch and its colon.
 fn upstream_at(epoch: Option<&[u8]>) -> usize
     requires { length (epoch_text (option_copied epoch)) < 2 ^ 64 }
     ensures { result ≡ length (epoch_text (option_copied epoch.entry)) }

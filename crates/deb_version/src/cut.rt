@@ -5,7 +5,7 @@ ghost use Rattle.std.specs.Char.{is_ascii_digit};
 ghost use Rattle.std.specs.List.{list_all, prefix_len};
 ghost use Rattle.deb_version.specs.Fronts.{is_text_byte, revision_front};
 
-// Each byte of a text has its own place, and a hyphen is at every other place.
+// Each byte of a text is at its own index, and a hyphen is at every other index.
 static TEXT_BYTES: [u8; 256] = *b"\
     --------------------------------\
     -----------+--.-----------------\
@@ -83,14 +83,14 @@ pub(crate) fn is_text_byte(byte: u8) -> bool
     TEXT_BYTES[byte as usize] != b'-'
 }
 
-/// The place of the first digit.
+/// The offset of the first digit.
 fn first_digit(bytes: &[u8]) -> Option<usize>
     ensures { result ≡ position is_ascii_digit bytes.now }
 {
     bytes.iter().position(|byte| byte.is_ascii_digit())
 }
 
-/// The place of the first byte that is no digit.
+/// The offset of the first byte that is no digit.
 fn first_other(bytes: &[u8]) -> Option<usize>
     ensures { result ≡ position (λ b. not (is_ascii_digit b)) bytes.now }
 {

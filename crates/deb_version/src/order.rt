@@ -74,7 +74,7 @@ impl Ord for Version<'_> {
     }
 }
 
-/// The epochs of two versions by their values, of which an absent one is 0.
+/// The epochs of two versions by their values. An absent epoch has the value 0.
 fn compare_epochs(a: &Version<'_>, b: &Version<'_>) -> Ordering
     ensures { result ≡ nat_cmp (meaning_of a.now).epoch (meaning_of b.now).epoch }
 {
@@ -150,7 +150,7 @@ fn compare_parts(a: Cut<'_>, b: Cut<'_>) -> Ordering
     compare_texts(a.text, b.text).then_with(|| compare_runs(a.run, b.run))
 }
 
-/// Two texts without digits: the first place whose ranks differ decides.
+/// Two texts without digits: the first offset whose ranks differ decides.
 fn compare_texts(a: &[u8], b: &[u8]) -> Ordering
     ensures { result ≡ text_cmp a.now b.now }
 {
@@ -163,7 +163,7 @@ fn compare_texts(a: &[u8], b: &[u8]) -> Ordering
     Ordering::Equal
 }
 
-/// The rank of a place in a text: tilde, then past the end, then letters by their code, then all
+/// The rank at an offset of a text: tilde, then past the end, then letters by their code, then all
 /// other bytes by theirs.
 fn rank_at(text: &[u8], place: usize) -> u16
     ensures { result ≡ slice_index_or (map rank_of text.now) place end_rank }

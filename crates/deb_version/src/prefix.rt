@@ -59,7 +59,7 @@ fn without_epoch(text: &[u8]) -> Option<usize>
     Some(upstream + 1 + revision)
 }
 
-/// Whether a text has this byte at this place.
+/// Whether a text has this byte at this offset.
 fn has_byte_at(text: &[u8], at: usize, byte: u8) -> bool
     ensures within { IsTrue result → at < length text.now }
     ensures here { IsTrue result → drop at text.now ≡ byte ∷ drop (at + 1) text.now }

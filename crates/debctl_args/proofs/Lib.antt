@@ -1,4 +1,5 @@
 pub mod Answering
+pub mod Numbers
 pub mod Shapes
 pub mod TakenArguments
 pub mod UnmixedKinds

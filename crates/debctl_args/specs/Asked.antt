@@ -1,7 +1,8 @@
 -- What the program's words ask, as a function of what `clap` makes of them. (The words are this
 -- project's own.)
-use Rattle.std.specs.Prelude.{◌≡◌, ◌⊎◌, ◌==◌, ◌&&◌, Bool, true, false, not, List, [], ◌∷◌, ◌||◌, is_some, find, nat_lt, count_by, map, Option, Some, None, unwrap_or, option_map, if◌then◌else◌, codes, string_bytes, bytes_eq, Result, Ok, Err}
+use Rattle.std.specs.Prelude.{◌≡◌, ◌⊎◌, ℕ, ◌^◌, ◌==◌, ◌&&◌, Bool, true, false, not, List, [], ◌∷◌, ◌||◌, is_some, find, nat_lt, count_by, map, Option, Some, None, unwrap_or, option_map, if◌then◌else◌, codes, string_bytes, bytes_eq, Result, Ok, Err}
 use Rattle.std.specs.Fmt.{decimal}
+use Rattle.std.specs.Str.Parse.{digits_value}
 use Rattle.std.specs.List.{list_any, slice_split}
 use Rattle.std.specs.Option.{option_map_or}
 use Rattle.clap.specs.Kinds.{Kinds}
@@ -9,15 +10,18 @@ use Rattle.clap.specs.Simple.{subcommand_of}
 use Rattle.clap.specs.Walk.{Row, Text, all_of, first_of}
 use Rattle.clap.specs.declared.error.kind.ErrorKind.{ErrorKind}
 use Rattle.clap.specs.declared.error.kind.ErrorKind.TheVariants.{DisplayHelp, DisplayVersion, OutOfMemory}
-use Rattle.debctl_args.specs.Commands.{debctl_app, audit_word, check_word, explain_word, normalise_word, same_word, diff_word, compare_word, canon_version_word, version_key_word, sort_word, query_word, unmet_word, help_word}
-use Rattle.deb_base.specs.Codes.{number_of}
+use Rattle.debctl_args.specs.Commands.{debctl_app, audit_word, check_word, explain_word, normalise_word, same_word, diff_word, compare_word, canon_version_word, version_key_word, sort_word, query_word, unmet_word, help_word, kinds_word}
+use Rattle.deb_base.specs.Codes.{name_of, number_of}
 use Rattle.deb_base.specs.declared.code.Code.{Code}
 use Rattle.deb_base.specs.declared.code.Code.TheVariants as code
 use Rattle.deb_base.specs.Docs.{doc_named}
 use Rattle.deb_base.specs.declared.doc.Doc.{Doc}
 use Rattle.deb_base.specs.declared.doc.Doc.TheVariants.{Packages, Binary, Sources, Source, Any}
+use Rattle.deb_base.specs.declared.version_text.VersionText.{VersionText}
+use Rattle.deb_base.specs.declared.version_text.VersionText.TheVariants.{Canonical, Spelled}
 use Rattle.debctl_args.specs.declared.jobs.Cmp.{Cmp}
 use Rattle.debctl_args.specs.declared.jobs.Cmp.TheVariants as cmp
+use Rattle.debctl_args.specs.declared.jobs.Demands.{Demands}
 use Rattle.debctl_args.specs.declared.jobs.Dependents.{Dependents}
 use Rattle.debctl_args.specs.declared.jobs.Dependents.TheVariants as dependents
 use Rattle.debctl_args.specs.declared.jobs.Detail.{Detail}
@@ -65,6 +69,13 @@ operator_named word =
     else if bytes_eq word (codes ">>") then Some cmp.Greater
     else None
 
+-- the number that a word is, in decimal and without zeros before it; below 2 ^ 64
+abbrev pub number_named : Text → Option ℕ
+number_named word =
+    if bytes_eq word (decimal (digits_value 10 word))
+    && nat_lt (digits_value 10 word) (2 ^ 64) then Some (digits_value 10 word)
+    else None
+
 -- the codes, by their numbers
 abbrev pub all_codes : List Code
 all_codes =
@@ -75,9 +86,19 @@ all_codes =
     ∷ code.BadRelation ∷ code.AlternativesNotAllowed ∷ code.ProvidesBound ∷ code.Wildcard
     ∷ code.BadEnvironment ∷ []
 
--- the code whose number a word is, in decimal as it is told
+-- a word is the number of a code, in decimal as it is printed, or its name
+abbrev pub names_code : Text → Code → Bool
+names_code word code =
+    bytes_eq word (decimal (number_of code)) || bytes_eq word (name_of code)
+
+-- the code that a word names so
 abbrev pub code_named : Text → Option Code
-code_named word = find (λ code. bytes_eq word (decimal (number_of code))) all_codes
+code_named word = find (names_code word) all_codes
+
+-- the fewest paragraphs that are demanded: 0 without a word
+abbrev pub least_asked : Option Text → Option ℕ
+least_asked None = Some 0
+least_asked (Some word) = number_named word
 
 -- what stands between the commas (44) of a text
 abbrev pub comma_pieces : Text → List Text
@@ -108,6 +129,11 @@ abbrev pub detail_asked : Bool → Detail
 detail_asked false = Verdicts
 detail_asked true = Reasons
 
+-- which text of each version is printed: the one of its file where that is asked for
+abbrev pub versions_asked : Bool → VersionText
+versions_asked false = Canonical
+versions_asked true = Spelled
+
 -- what `diff` prints of each paragraph that changed: values too if they are asked for
 abbrev pub diff_detail_asked : Bool → DiffDetail
 diff_detail_asked false = Fields
@@ -122,9 +148,9 @@ strength_asked true = Recommends
 abbrev pub texts_asked : Option (List Text) → List Text
 texts_asked given = unwrap_or given []
 
--- the word names a command
-abbrev pub is_command : Text → Bool
-is_command word =
+-- the word names a command, or the kinds of files, so that there is help on it
+abbrev pub has_help : Text → Bool
+has_help word =
     if bytes_eq word check_word then true
     else if bytes_eq word explain_word then true
     else if bytes_eq word audit_word then true
@@ -137,7 +163,8 @@ is_command word =
     else if bytes_eq word sort_word then true
     else if bytes_eq word query_word then true
     else if bytes_eq word unmet_word then true
-    else bytes_eq word help_word
+    else if bytes_eq word help_word then true
+    else bytes_eq word kinds_word
 
 -- ---- requests
 
@@ -150,22 +177,23 @@ pub data Audited : Type 0 where
 pub data Wanted : Type 0 where
   checks : Doc → Wanted
   checks_all : Doc → Wanted
+  checks_whole : Doc → Demands → Wanted
   normalises : Doc → Wanted
   compares_files : Doc → Wanted
-  finds_changes : DiffKind → DiffDetail → Wanted
+  finds_changes : DiffKind → DiffDetail → VersionText → Wanted
   compares : Text → Cmp → Text → Wanted
   canonicalises : Text → Wanted
   keys : List Text → Wanted
   sorts : Bool → Wanted
-  queries : Text → List Text → Text → Detail → Wanted
-  queries_from : Text → List Text → Detail → Wanted
-  finds_unmet : Text → List Text → Dependents → Wanted
+  queries : Text → List Text → Text → Detail → VersionText → Wanted
+  queries_from : Text → List Text → Detail → VersionText → Wanted
+  finds_unmet : Text → List Text → Dependents → VersionText → Wanted
   explains : Doc → Wanted
   explains_all : Doc → Wanted
   explains_rule : Code → Wanted
   explains_relation : Text → Wanted
   explains_version : Text → Wanted
-  audits : Doc → Audited → Extent → LineEnd → Wanted
+  audits : Doc → Audited → Extent → LineEnd → Demands → Wanted
 
 -- what is wanted, and the paths of the files, two at most, that it reads if it is no audit
 pub record Request : Type 0 where
@@ -176,20 +204,22 @@ pub record Request : Type 0 where
 abbrev pub wanted_of : Job → Wanted
 wanted_of (job.Check kind) = checks kind
 wanted_of (job.CheckAll kind) = checks_all kind
+wanted_of (job.CheckWhole kind demands) = checks_whole kind demands
 wanted_of (job.Normalise kind) = normalises kind
 wanted_of (job.Same kind) = compares_files kind
-wanted_of (job.Diff kind detail) = finds_changes kind detail
+wanted_of (job.Diff kind detail versions) = finds_changes kind detail versions
 wanted_of (job.Compare left operator right) =
     compares (string_bytes left) operator (string_bytes right)
 wanted_of (job.CanonVersion version) = canonicalises (string_bytes version)
 wanted_of (job.VersionKey versions) = keys (map string_bytes versions.items)
 wanted_of (job.Sort reverse) = sorts reverse
-wanted_of (job.Query arch profiles relation detail) =
+wanted_of (job.Query arch profiles relation detail versions) =
     queries (string_bytes arch) (map string_bytes profiles.items) (string_bytes relation) detail
-wanted_of (job.QueryFrom arch profiles detail) =
-    queries_from (string_bytes arch) (map string_bytes profiles.items) detail
-wanted_of (job.Unmet arch profiles dependents) =
-    finds_unmet (string_bytes arch) (map string_bytes profiles.items) dependents
+    versions
+wanted_of (job.QueryFrom arch profiles detail versions) =
+    queries_from (string_bytes arch) (map string_bytes profiles.items) detail versions
+wanted_of (job.Unmet arch profiles dependents versions) =
+    finds_unmet (string_bytes arch) (map string_bytes profiles.items) dependents versions
 
 abbrev pub audited_of : Files → Audited
 audited_of (files.Paths given) = paths (map string_bytes given.items)
@@ -214,7 +244,7 @@ request_of (task.Explain (explain.Version text)) =
     record { wanted = explains_version (string_bytes text); first = None; second = None }
 request_of (task.Audit audit) =
     record {
-      wanted = audits audit.doc (audited_of audit.files) audit.extent audit.end;
+      wanted = audits audit.doc (audited_of audit.files) audit.extent audit.end audit.demands;
       first = None;
       second = None;
     }
@@ -238,6 +268,8 @@ pub data Asked : Type 0 where
   no_relations : Asked
   no_recommends : Asked
   kind_of_path : Asked
+  no_number : Asked
+  first_or_whole : Asked
 
 -- a word that a command has to have; `clap` refuses words without it
 abbrev pub word_in : Text → List Row → Text
@@ -250,19 +282,41 @@ document_asked wanted rows = option_map_or
     { wanted = wanted kind; first = first_of (codes "path") rows; second = None }))
     (kind_asked (first_of (codes "kind") rows)) unknown_kind
 
--- what `check` wants of a file of some kind, and what `explain` does
-abbrev pub checks_to : Extent → Doc → Wanted
-checks_to First = checks
-checks_to All = checks_all
+-- something is demanded of an accepted file
+abbrev pub is_demanding : Demands → Bool
+is_demanding demands = demands.complete || nat_lt 0 demands.least
+
+-- what `check` wants of a file of some kind: every refusal, or one that meets the demands
+abbrev pub checks_to : Extent → Demands → Doc → Option Wanted
+checks_to First demands kind =
+    if is_demanding demands then Some (checks_whole kind demands) else Some (checks kind)
+checks_to All demands kind = if is_demanding demands then None else Some (checks_all kind)
+
+-- what `explain` wants of a file
 
 abbrev pub explains_to : Extent → Doc → Wanted
 explains_to First = explains
 explains_to All = explains_all
 
+-- what is demanded, with the fewest paragraphs
+abbrev pub demands_asked : List Row → ℕ → Demands
+demands_asked rows least =
+    record { complete = flag_asked (first_of (codes "complete") rows); least = least }
+
+-- `check` of a file of this kind
+abbrev pub check_of_kind : List Row → Doc → Asked
+check_of_kind rows kind = option_map_or
+    (λ least. option_map_or
+    (λ wanted. asks (record
+    { wanted = wanted; first = first_of (codes "path") rows; second = None }))
+    (checks_to (extent_asked (flag_asked (first_of (codes "all") rows)))
+    (demands_asked rows least) kind) first_or_whole)
+    (least_asked (first_of (codes "least") rows)) no_number
+
 -- `check`
 abbrev pub check_asked : List Row → Asked
 check_asked rows =
-    document_asked (checks_to (extent_asked (flag_asked (first_of (codes "all") rows)))) rows
+    option_map_or (check_of_kind rows) (kind_asked (first_of (codes "kind") rows)) unknown_kind
 
 -- the path stands for standard input
 abbrev pub is_standard_input : Text → Bool
@@ -287,7 +341,8 @@ diff_of_files rows kind =
     && is_standard_input (word_in (codes "new") rows) then standard_input_twice
     else asks (record {
       wanted = finds_changes kind
-          (diff_detail_asked (flag_asked (first_of (codes "values") rows)));
+          (diff_detail_asked (flag_asked (first_of (codes "values") rows)))
+          (versions_asked (flag_asked (first_of (codes "spelled") rows)));
       first = Some (word_in (codes "old") rows);
       second = Some (word_in (codes "new") rows);
     })
@@ -361,20 +416,33 @@ abbrev pub has_standard_input_twice : Audited → Bool
 has_standard_input_twice (paths given) = nat_lt 1 (count_by is_standard_input given)
 has_standard_input_twice (listed path) = false
 
--- an audit of files of this kind, with these of their refusals and this end of each record
-abbrev pub files_asked : Extent → LineEnd → Option Audited → Doc → Asked
-files_asked extent end None kind = paths_or_list
-files_asked extent end (Some audited) kind =
+-- an audit of files of this kind, with these of their refusals, this end of each record and these
+-- demands
+abbrev pub files_asked : Extent → LineEnd → Option Audited → Demands → Doc → Asked
+files_asked extent end None demands kind = paths_or_list
+files_asked extent end (Some audited) demands kind =
     if has_standard_input_twice audited then standard_input_twice
-    else asks (record { wanted = audits kind audited extent end; first = None; second = None })
+    else asks (record {
+      wanted = audits kind audited extent end demands;
+      first = None;
+      second = None;
+    })
+
+-- `audit` of files of this kind
+abbrev pub audit_of_kind : List Row → Doc → Asked
+audit_of_kind rows kind = option_map_or
+    (λ least. if flag_asked (first_of (codes "all") rows)
+    && is_demanding (demands_asked rows least) then first_or_whole
+    else files_asked (extent_asked (flag_asked (first_of (codes "all") rows)))
+    (end_asked (flag_asked (first_of (codes "null") rows)))
+    (audited_by (all_of (codes "path") rows) (first_of (codes "files0-from") rows))
+    (demands_asked rows least) kind)
+    (least_asked (first_of (codes "least") rows)) no_number
 
 -- `audit`
 abbrev pub audit_asked : List Row → Asked
-audit_asked rows = option_map_or
-    (files_asked (extent_asked (flag_asked (first_of (codes "all") rows)))
-    (end_asked (flag_asked (first_of (codes "null") rows)))
-    (audited_by (all_of (codes "path") rows) (first_of (codes "files0-from") rows)))
-    (kind_asked (first_of (codes "kind") rows)) unknown_kind
+audit_asked rows =
+    option_map_or (audit_of_kind rows) (kind_asked (first_of (codes "kind") rows)) unknown_kind
 
 abbrev pub compare_asked : List Row → Asked
 compare_asked rows = option_map_or
@@ -417,7 +485,8 @@ query_of_word rows relation =
     asks (record {
       wanted = queries (word_in (codes "arch") rows)
           (profiles_asked (first_of (codes "profiles") rows)) relation
-          (detail_asked (flag_asked (first_of (codes "why") rows)));
+          (detail_asked (flag_asked (first_of (codes "why") rows)))
+          (versions_asked (flag_asked (first_of (codes "spelled") rows)));
       first = first_of (codes "path") rows;
       second = None;
     })
@@ -436,7 +505,8 @@ query_of_file rows path =
     else asks (record {
       wanted = queries_from (word_in (codes "arch") rows)
           (profiles_asked (first_of (codes "profiles") rows))
-          (detail_asked (flag_asked (first_of (codes "why") rows)));
+          (detail_asked (flag_asked (first_of (codes "why") rows)))
+          (versions_asked (flag_asked (first_of (codes "spelled") rows)));
       first = Some path;
       second = Some (index_asked rows);
     })
@@ -458,7 +528,8 @@ unmet_of_files rows dependents =
     then standard_input_twice
     else asks (record {
       wanted = finds_unmet (word_in (codes "arch") rows)
-          (profiles_asked (first_of (codes "profiles") rows)) dependents;
+          (profiles_asked (first_of (codes "profiles") rows)) dependents
+          (versions_asked (flag_asked (first_of (codes "spelled") rows)));
       first = Some (word_in (codes "index") rows);
       second = Some (file_asked rows);
     })
@@ -500,7 +571,7 @@ unmet_asked rows =
 
 abbrev pub help_asked : Option Text → Asked
 help_asked None = asks_help
-help_asked (Some word) = if is_command word then asks_help else unknown_command
+help_asked (Some word) = if has_help word then asks_help else unknown_command
 
 -- what a command asks with its words
 abbrev pub asked_by : Text → List Row → Asked
@@ -545,6 +616,8 @@ IsUsage no_relations text = text ≡ codes "usage: unmet takes no --kind any"
 IsUsage no_recommends text = text ≡ codes "usage: unmet takes --recommends only for binary packages"
 IsUsage kind_of_path text =
     text ≡ codes "usage: unmet takes another --kind only with a second path"
+IsUsage no_number text = text ≡ codes "usage: --least takes a number"
+IsUsage first_or_whole text = text ≡ codes "usage: --all takes neither --complete nor --least"
 IsUsage (asks _) text = ⊥
 IsUsage asks_help text = ⊥
 
@@ -600,6 +673,12 @@ abbrev pub MeansKind : Option Doc → Result Doc UsageFault → Type 0
 MeansKind asked (Ok kind) = asked ≡ Some kind
 MeansKind (Some kind) (Err error) = error ≡ Memory
 MeansKind None (Err error) = AnswersError unknown_kind error
+
+-- the fewest paragraphs, or a fault that says that the word is no number
+abbrev pub MeansLeast : Option ℕ → Result ℕ UsageFault → Type 0
+MeansLeast asked (Ok least) = asked ≡ Some least
+MeansLeast (Some least) (Err error) = error ≡ Memory
+MeansLeast None (Err error) = AnswersError no_number error
 
 -- help, or out of memory
 abbrev pub IsHelp : UsageFault → Type 0

@@ -1,15 +1,16 @@
 -- Worked cases of what words ask: rows of words, with what `clap` and this project make of them.
 use Rattle.std.specs.Fmt.{digits}
-use Rattle.std.specs.Prelude.{◌≡◌, List, [], map, ◌∷◌, Option, Some, None, true, false, codes, refl}
+use Rattle.std.specs.Prelude.{◌≡◌, ℕ, Bool, List, [], map, ◌∷◌, Option, Some, None, true, false, codes, refl}
 use Rattle.clap.proofs.OnLiterals.{clap_on_literals}
 use Rattle.clap.specs.Faults.{fault_of}
 use Rattle.clap.specs.Takes.{takes}
 use Rattle.clap.specs.Walk.{Text}
 use Rattle.clap.specs.declared.error.kind.ErrorKind.TheVariants as kind
-use Rattle.debctl_args.specs.Asked.{asked_of, asks, asks_help, audits, code_named, explain_takes_one, explains, explains_all, explains_relation, explains_version, listed, paths, paths_or_list, explains_rule, unknown_code, canonicalises, checks, checks_all, comma_pieces, compares, finds_changes, finds_unmet, keys, kind_asked, kind_of_path, no_names, no_recommends, no_relations, normalises, profiles_asked, queries, queries_from, relation_or_file, sorts, compares_files, unknown_command, unknown_kind, unknown_operator, standard_input_twice, operator_named, Asked}
+use Rattle.debctl_args.specs.Asked.{asked_of, asks, asks_help, audits, code_named, explain_takes_one, explains, explains_all, explains_relation, explains_version, listed, paths, paths_or_list, explains_rule, unknown_code, canonicalises, checks, checks_all, checks_whole, comma_pieces, compares, finds_changes, finds_unmet, first_or_whole, keys, kind_asked, kind_of_path, no_names, no_number, no_recommends, no_relations, normalises, number_named, profiles_asked, queries, queries_from, relation_or_file, sorts, compares_files, unknown_command, unknown_kind, unknown_operator, standard_input_twice, operator_named, Asked}
 use Rattle.debctl_args.specs.Commands.{debctl_app}
 use Rattle.deb_base.specs.declared.code.Code.TheVariants as code
 use Rattle.deb_base.specs.declared.doc.Doc.TheVariants.{Any, Binary, Packages, Source, Sources}
+use Rattle.deb_base.specs.declared.version_text.VersionText.TheVariants.{Canonical, Spelled}
 use Rattle.debctl_args.specs.declared.jobs.Cmp.TheVariants as cmp
 use Rattle.debctl_args.specs.declared.jobs.Dependents.{Dependents}
 use Rattle.debctl_args.specs.declared.jobs.Dependents.TheVariants as dependents
@@ -18,6 +19,7 @@ use Rattle.debctl_args.specs.declared.jobs.DiffDetail.{DiffDetail}
 use Rattle.debctl_args.specs.declared.jobs.DiffDetail.TheVariants.{Fields, Values}
 use Rattle.debctl_args.specs.declared.jobs.DiffKind.{DiffKind}
 use Rattle.debctl_args.specs.declared.jobs.DiffKind.TheVariants as diffed
+use Rattle.debctl_args.specs.declared.jobs.Extent.{Extent}
 use Rattle.debctl_args.specs.declared.jobs.Extent.TheVariants.{First, All}
 use Rattle.debctl_args.specs.declared.jobs.LineEnd.TheVariants.{Newline, Nul}
 use Rattle.debctl_args.specs.declared.jobs.Strength.TheVariants.{Depends, Recommends}
@@ -66,6 +68,71 @@ ways_to_check_all : map (λ words. asked_of (line (codes "check" ∷ words)))
     ∷ Some unknown_kind ∷ []
 unfolding clap_on_literals kind_asked
 ways_to_check_all = refl
+
+short_all : map (λ words. asked_of (line (codes "check" ∷ words)))
+    ((codes "-a" ∷ []) ∷ (codes "-aksource" ∷ codes "x" ∷ []) ∷ [])
+    ≡ Some (asks (record { wanted = checks_all Packages; first = None; second = None }))
+    ∷ Some (asks (record { wanted = checks_all Source; first = Some (codes "x"); second = None }))
+    ∷ []
+unfolding clap_on_literals kind_asked
+short_all = refl
+
+-- ---- what is demanded of a file
+
+-- what is asked of standard input, as a list of packages
+abbrev demands : Bool → ℕ → Option Asked
+demands complete least =
+    Some (asks (record {
+      wanted = checks_whole Packages (record { complete = complete; least = least });
+      first = None;
+      second = None;
+    }))
+
+demands_of_check : map (λ words. asked_of (line (codes "check" ∷ words)))
+    ((codes "--complete" ∷ []) ∷ (codes "--least" ∷ codes "12" ∷ [])
+    ∷ (codes "--least=1" ∷ codes "--complete" ∷ []) ∷ [])
+    ≡ demands true 0 ∷ demands false 12 ∷ demands true 1 ∷ []
+unfolding clap_on_literals kind_asked digits
+demands_of_check = refl
+
+-- 0 demands nothing
+least_of_nothing : map (λ words. asked_of (line (codes "check" ∷ words)))
+    ((codes "--least=0" ∷ []) ∷ (codes "--least" ∷ codes "0" ∷ codes "-a" ∷ []) ∷ [])
+    ≡ Some (asks (record { wanted = checks Packages; first = None; second = None }))
+    ∷ Some (asks (record { wanted = checks_all Packages; first = None; second = None })) ∷ []
+unfolding clap_on_literals kind_asked digits
+least_of_nothing = refl
+
+-- nothing is demanded where every refusal is reported
+demands_with_all : map (λ words. asked_of (line words))
+    ((codes "check" ∷ codes "--all" ∷ codes "--complete" ∷ [])
+    ∷ (codes "check" ∷ codes "--least=1" ∷ codes "-a" ∷ [])
+    ∷ (codes "audit" ∷ codes "-a" ∷ codes "--complete" ∷ [])
+    ∷ (codes "audit" ∷ codes "-a" ∷ codes "--least=1" ∷ codes "x" ∷ []) ∷ [])
+    ≡ Some first_or_whole ∷ Some first_or_whole ∷ Some first_or_whole ∷ Some first_or_whole ∷ []
+unfolding clap_on_literals kind_asked digits
+demands_with_all = refl
+
+-- a number is in decimal, without zeros before it, and below 2 ^ 64
+numbers : map number_named
+    (codes "0" ∷ codes "7" ∷ codes "10" ∷ codes "18446744073709551615" ∷ [])
+    ≡ Some 0 ∷ Some 7 ∷ Some 10 ∷ Some 18446744073709551615 ∷ []
+unfolding digits
+numbers = refl
+
+no_numbers : map number_named
+    ([] ∷ codes "01" ∷ codes "+1" ∷ codes "-1" ∷ codes "1k" ∷ codes " 1" ∷ codes "1.0"
+    ∷ codes "18446744073709551616" ∷ [])
+    ≡ None ∷ None ∷ None ∷ None ∷ None ∷ None ∷ None ∷ None ∷ []
+unfolding digits
+no_numbers = refl
+
+-- an unknown kind goes before a word that is no number
+number_after_kind : map (λ words. asked_of (line (codes "check" ∷ words)))
+    ((codes "--least=x" ∷ []) ∷ (codes "--least=x" ∷ codes "-kfoo" ∷ []) ∷ [])
+    ≡ Some no_number ∷ Some unknown_kind ∷ []
+unfolding clap_on_literals kind_asked digits
+number_after_kind = refl
 
 unknown_kind_word : asked_of (line (codes "check" ∷ codes "--kind" ∷ codes "foo" ∷ []))
     ≡ Some unknown_kind
@@ -118,7 +185,7 @@ two_paths = refl
 abbrev asks_diff : DiffKind → DiffDetail → Option Asked
 asks_diff kind detail =
     Some (asks (record {
-      wanted = finds_changes kind detail;
+      wanted = finds_changes kind detail Canonical;
       first = Some (codes "x");
       second = Some (codes "y");
     }))
@@ -134,6 +201,16 @@ diff_with_values : asked_of
 unfolding clap_on_literals kind_asked
 diff_with_values = refl
 
+diff_with_spelled_versions : asked_of (line
+    (codes "diff" ∷ codes "x" ∷ codes "y" ∷ codes "--spelled" ∷ codes "--values" ∷ []))
+    ≡ Some (asks (record {
+      wanted = finds_changes diffed.Packages Values Spelled;
+      first = Some (codes "x");
+      second = Some (codes "y");
+    }))
+unfolding clap_on_literals kind_asked
+diff_with_spelled_versions = refl
+
 kinds_of_a_diff : map (λ kind. asked_of
     (line (codes "diff" ∷ codes "--kind" ∷ kind ∷ codes "x" ∷ codes "y" ∷ [])))
     (codes "packages" ∷ codes "binary" ∷ codes "sources" ∷ codes "source" ∷ codes "any"
@@ -148,12 +225,12 @@ standard_input_on_either_side : map (λ paths. asked_of (line (codes "diff" ∷ 
     ((codes "-" ∷ codes "x" ∷ []) ∷ (codes "x" ∷ codes "-" ∷ [])
     ∷ (codes "-" ∷ codes "-" ∷ []) ∷ [])
     ≡ Some (asks (record {
-      wanted = finds_changes diffed.Packages Fields;
+      wanted = finds_changes diffed.Packages Fields Canonical;
       first = Some (codes "-");
       second = Some (codes "x");
     }))
     ∷ Some (asks (record {
-      wanted = finds_changes diffed.Packages Fields;
+      wanted = finds_changes diffed.Packages Fields Canonical;
       first = Some (codes "x");
       second = Some (codes "-");
     }))
@@ -216,6 +293,11 @@ sort_in_reverse : asked_of (line (codes "sort" ∷ codes "--reverse" ∷ codes "
 unfolding clap_on_literals
 sort_in_reverse = refl
 
+short_reverse : asked_of (line (codes "sort" ∷ codes "-r" ∷ []))
+    ≡ Some (asks (record { wanted = sorts true; first = None; second = None }))
+unfolding clap_on_literals
+short_reverse = refl
+
 -- the pieces of a text between its commas, and the profiles where nothing names them
 two_pieces : comma_pieces (codes "a,b") ≡ codes "a" ∷ codes "b" ∷ []
 two_pieces = refl
@@ -237,7 +319,7 @@ query_line words = line (codes "query" ∷ codes "--arch" ∷ codes "amd64" ∷ 
 abbrev asks_of_aa : List Text → Option Text → Option Asked
 asks_of_aa profiles path =
     Some (asks (record {
-      wanted = queries (codes "amd64") profiles (codes "aa") Verdicts;
+      wanted = queries (codes "amd64") profiles (codes "aa") Verdicts Canonical;
       first = path;
       second = None;
     }))
@@ -270,7 +352,7 @@ query_without_path = refl
 abbrev asks_of_file : List Text → Text → Text → Option Asked
 asks_of_file profiles path index =
     Some (asks (record {
-      wanted = queries_from (codes "amd64") profiles Verdicts;
+      wanted = queries_from (codes "amd64") profiles Verdicts Canonical;
       first = Some path;
       second = Some index;
     }))
@@ -311,7 +393,7 @@ query_of_nothing = refl
 
 query_with_reasons : asked_of (query_line (codes "aa" ∷ codes "--why" ∷ []))
     ≡ Some (asks (record {
-      wanted = queries (codes "amd64") [] (codes "aa") Reasons;
+      wanted = queries (codes "amd64") [] (codes "aa") Reasons Canonical;
       first = None;
       second = None;
     }))
@@ -321,12 +403,31 @@ query_with_reasons = refl
 query_of_a_file_with_reasons : asked_of
     (query_line (codes "--why" ∷ codes "--relation-from" ∷ codes "f" ∷ codes "x" ∷ []))
     ≡ Some (asks (record {
-      wanted = queries_from (codes "amd64") [] Reasons;
+      wanted = queries_from (codes "amd64") [] Reasons Canonical;
       first = Some (codes "f");
       second = Some (codes "x");
     }))
 unfolding clap_on_literals
 query_of_a_file_with_reasons = refl
+
+query_with_spelled_versions : asked_of (query_line (codes "--spelled" ∷ codes "aa" ∷ []))
+    ≡ Some (asks (record {
+      wanted = queries (codes "amd64") [] (codes "aa") Verdicts Spelled;
+      first = None;
+      second = None;
+    }))
+unfolding clap_on_literals
+query_with_spelled_versions = refl
+
+query_of_a_file_with_spelled_versions : asked_of (query_line
+    (codes "--relation-from" ∷ codes "f" ∷ codes "--why" ∷ codes "x" ∷ codes "--spelled" ∷ []))
+    ≡ Some (asks (record {
+      wanted = queries_from (codes "amd64") [] Reasons Spelled;
+      first = Some (codes "f");
+      second = Some (codes "x");
+    }))
+unfolding clap_on_literals
+query_of_a_file_with_spelled_versions = refl
 
 -- ---- `unmet`
 
@@ -338,7 +439,7 @@ unmet_line words = line (codes "unmet" ∷ codes "--arch" ∷ codes "amd64" ∷ 
 abbrev asks_unmet : Dependents → Text → Option Asked
 asks_unmet dependents path =
     Some (asks (record {
-      wanted = finds_unmet (codes "amd64") [] dependents;
+      wanted = finds_unmet (codes "amd64") [] dependents Canonical;
       first = Some (codes "x");
       second = Some path;
     }))
@@ -374,12 +475,21 @@ unmet_with_profiles : asked_of
     (unmet_line (codes "--profiles" ∷ codes "a,b" ∷ codes "-" ∷ codes "y" ∷ []))
     ≡ Some (asks (record {
       wanted = finds_unmet (codes "amd64") (codes "a" ∷ codes "b" ∷ [])
-          (dependents.Packages Depends);
+          (dependents.Packages Depends) Canonical;
       first = Some (codes "-");
       second = Some (codes "y");
     }))
 unfolding clap_on_literals kind_asked
 unmet_with_profiles = refl
+
+unmet_with_spelled_versions : asked_of (unmet_line (codes "--spelled" ∷ codes "x" ∷ []))
+    ≡ Some (asks (record {
+      wanted = finds_unmet (codes "amd64") [] (dependents.Index Depends) Spelled;
+      first = Some (codes "x");
+      second = Some (codes "x");
+    }))
+unfolding clap_on_literals kind_asked
+unmet_with_spelled_versions = refl
 
 -- an index that is standard input can't be read twice
 standard_input_for_index_and_file : map (λ words. asked_of (unmet_line words))
@@ -397,6 +507,22 @@ kinds_of_an_index : map (λ kind. asked_of (unmet_line (codes "--kind" ∷ kind 
     ∷ Some kind_of_path ∷ Some no_relations ∷ Some unknown_kind ∷ []
 unfolding clap_on_literals kind_asked
 kinds_of_an_index = refl
+
+-- the index given again is another file, which is read as a file is
+unmet_of_the_index_as_a_file : asked_of (unmet_line (codes "x" ∷ codes "x" ∷ []))
+    ≡ asks_unmet (dependents.Packages Depends) (codes "x")
+unfolding clap_on_literals kind_asked
+unmet_of_the_index_as_a_file = refl
+
+-- without `--recommends` no kind has Recommends
+kinds_without_recommends : map (λ kind. asked_of
+    (unmet_line (codes "--kind" ∷ kind ∷ codes "x" ∷ codes "y" ∷ [])))
+    (codes "packages" ∷ codes "binary" ∷ codes "sources" ∷ codes "source" ∷ [])
+    ≡ asks_unmet (dependents.Packages Depends) (codes "y")
+    ∷ asks_unmet (dependents.Binary Depends) (codes "y")
+    ∷ asks_unmet dependents.Sources (codes "y") ∷ asks_unmet dependents.Source (codes "y") ∷ []
+unfolding clap_on_literals kind_asked
+kinds_without_recommends = refl
 
 -- source packages have no Recommends
 kinds_with_recommends : map (λ kind. asked_of
@@ -424,234 +550,6 @@ key_of_a_version_with_hyphen : asked_of
     ≡ Some (asks (record { wanted = keys (codes "-1-1" ∷ []); first = None; second = None }))
 unfolding clap_on_literals
 key_of_a_version_with_hyphen = refl
-
--- ---- `explain`
-
-explain_alone : asked_of (line (codes "explain" ∷ []))
-    ≡ Some (asks (record { wanted = explains Packages; first = None; second = None }))
-unfolding clap_on_literals kind_asked
-explain_alone = refl
-
-explain_a_file : asked_of
-    (line (codes "explain" ∷ codes "-k" ∷ codes "source" ∷ codes "x" ∷ []))
-    ≡ Some (asks (record { wanted = explains Source; first = Some (codes "x"); second = None }))
-unfolding clap_on_literals kind_asked
-explain_a_file = refl
-
-explain_all : map (λ words. asked_of (line (codes "explain" ∷ words)))
-    ((codes "--all" ∷ []) ∷ (codes "-k" ∷ codes "sources" ∷ codes "--all" ∷ codes "x" ∷ [])
-    ∷ (codes "--all" ∷ codes "--kind=foo" ∷ []) ∷ [])
-    ≡ Some (asks (record { wanted = explains_all Packages; first = None; second = None }))
-    ∷ Some (asks (record {
-      wanted = explains_all Sources;
-      first = Some (codes "x");
-      second = None;
-    }))
-    ∷ Some unknown_kind ∷ []
-unfolding clap_on_literals kind_asked
-explain_all = refl
-
-explain_of_no_kind : asked_of (line (codes "explain" ∷ codes "--kind" ∷ codes "foo" ∷ []))
-    ≡ Some unknown_kind
-unfolding clap_on_literals kind_asked
-explain_of_no_kind = refl
-
-explain_a_code : asked_of (line (codes "explain" ∷ codes "--code" ∷ codes "18" ∷ []))
-    ≡ Some (asks (record { wanted = explains_rule code.BadVersion; first = None; second = None }))
-unfolding clap_on_literals digits
-explain_a_code = refl
-
-codes_have_two_digits_at_most : map code_named
-    (codes "1" ∷ codes "9" ∷ codes "10" ∷ codes "23" ∷ [])
-    ≡ Some code.NotUtf8 ∷ Some code.FileTooLong ∷ Some code.NoParagraph ∷ Some code.BadEnvironment
-    ∷ []
-unfolding digits
-codes_have_two_digits_at_most = refl
-
-no_codes : map code_named
-    (codes "0" ∷ codes "24" ∷ codes "01" ∷ codes "+1" ∷ codes "BadVersion" ∷ codes "1 " ∷ [] ∷ [])
-    ≡ None ∷ None ∷ None ∷ None ∷ None ∷ None ∷ None ∷ []
-unfolding digits
-no_codes = refl
-
-unknown_code_word : asked_of (line (codes "explain" ∷ codes "--code=24" ∷ []))
-    ≡ Some unknown_code
-unfolding clap_on_literals digits
-unknown_code_word = refl
-
-code_beside_a_path : asked_of (line (codes "explain" ∷ codes "--code" ∷ codes "1" ∷ codes "-" ∷ []))
-    ≡ Some explain_takes_one
-unfolding clap_on_literals
-code_beside_a_path = refl
-
-code_beside_a_kind : asked_of
-    (line (codes "explain" ∷ codes "--kind=foo" ∷ codes "--code=24" ∷ []))
-    ≡ Some explain_takes_one
-unfolding clap_on_literals
-code_beside_a_kind = refl
-
-explain_a_relation : asked_of
-    (line (codes "explain" ∷ codes "--relation" ∷ codes "bb cc" ∷ []))
-    ≡ Some (asks (record {
-      wanted = explains_relation (codes "bb cc");
-      first = None;
-      second = None;
-    }))
-unfolding clap_on_literals
-explain_a_relation = refl
-
-explain_a_version : asked_of (line (codes "explain" ∷ codes "--version-text=-1" ∷ []))
-    ≡ Some (asks (record { wanted = explains_version (codes "-1"); first = None; second = None }))
-unfolding clap_on_literals
-explain_a_version = refl
-
--- each of the three is given alone
-relation_beside_a_path : asked_of
-    (line (codes "explain" ∷ codes "--relation" ∷ codes "aa" ∷ codes "-" ∷ []))
-    ≡ Some explain_takes_one
-unfolding clap_on_literals
-relation_beside_a_path = refl
-
-version_beside_a_kind : asked_of
-    (line (codes "explain" ∷ codes "-k" ∷ codes "any" ∷ codes "--version-text" ∷ codes "1" ∷ []))
-    ≡ Some explain_takes_one
-unfolding clap_on_literals
-version_beside_a_kind = refl
-
-version_beside_a_relation : asked_of
-    (line (codes "explain" ∷ codes "--version-text=1" ∷ codes "--relation=aa" ∷ []))
-    ≡ Some explain_takes_one
-unfolding clap_on_literals
-version_beside_a_relation = refl
-
-relation_beside_a_code : asked_of
-    (line (codes "explain" ∷ codes "--relation=aa" ∷ codes "--code=1" ∷ []))
-    ≡ Some explain_takes_one
-unfolding clap_on_literals
-relation_beside_a_code = refl
-
-version_beside_a_code : asked_of
-    (line (codes "explain" ∷ codes "--code=1" ∷ codes "--version-text=1" ∷ []))
-    ≡ Some explain_takes_one
-unfolding clap_on_literals
-version_beside_a_code = refl
-
--- all errors are those of a file
-all_beside_a_text : map (λ words. asked_of (line (codes "explain" ∷ codes "--all" ∷ words)))
-    ((codes "--code=1" ∷ []) ∷ (codes "--relation=aa" ∷ []) ∷ (codes "--version-text=1" ∷ []) ∷ [])
-    ≡ Some explain_takes_one ∷ Some explain_takes_one ∷ Some explain_takes_one ∷ []
-unfolding clap_on_literals
-all_beside_a_text = refl
-
--- ---- `audit`
-
--- the paths that an audit of packages is asked of
-abbrev audits_paths : List Text → Option Asked
-audits_paths given =
-    Some (asks (record {
-      wanted = audits Packages (paths given) First Newline;
-      first = None;
-      second = None;
-    }))
-
-audit_of_one : asked_of (line (codes "audit" ∷ codes "x" ∷ []))
-    ≡ audits_paths (codes "x" ∷ [])
-unfolding clap_on_literals kind_asked
-audit_of_one = refl
-
-audit_in_order : asked_of
-    (line (codes "audit" ∷ codes "y" ∷ codes "-" ∷ codes "x" ∷ codes "y" ∷ []))
-    ≡ audits_paths (codes "y" ∷ codes "-" ∷ codes "x" ∷ codes "y" ∷ [])
-unfolding clap_on_literals kind_asked
-audit_in_order = refl
-
-kind_between_paths : asked_of
-    (line (codes "audit" ∷ codes "x" ∷ codes "--kind" ∷ codes "any" ∷ codes "y" ∷ []))
-    ≡ Some (asks (record {
-      wanted = audits Any (paths (codes "x" ∷ codes "y" ∷ [])) First Newline;
-      first = None;
-      second = None;
-    }))
-unfolding clap_on_literals kind_asked
-kind_between_paths = refl
-
--- a path that begins with a hyphen comes after `--`
-path_with_hyphen : asked_of
-    (line (codes "audit" ∷ codes "x" ∷ codes "--" ∷ codes "--kind" ∷ codes "any" ∷ []))
-    ≡ audits_paths (codes "x" ∷ codes "--kind" ∷ codes "any" ∷ [])
-unfolding clap_on_literals kind_asked
-path_with_hyphen = refl
-
-audit_of_a_list : asked_of
-    (line (codes "audit" ∷ codes "-ksource" ∷ codes "--files0-from" ∷ codes "-" ∷ []))
-    ≡ Some (asks (record {
-      wanted = audits Source (listed (codes "-")) First Newline;
-      first = None;
-      second = None;
-    }))
-unfolding clap_on_literals kind_asked
-audit_of_a_list = refl
-
-audit_with_bytes_0 : asked_of
-    (line (codes "audit" ∷ codes "x" ∷ codes "--null" ∷ codes "y" ∷ []))
-    ≡ Some (asks (record {
-      wanted = audits Packages (paths (codes "x" ∷ codes "y" ∷ [])) First Nul;
-      first = None;
-      second = None;
-    }))
-unfolding clap_on_literals kind_asked
-audit_with_bytes_0 = refl
-
-short_null : asked_of
-    (line (codes "audit" ∷ codes "-0kany" ∷ codes "--files0-from" ∷ codes "x" ∷ []))
-    ≡ Some (asks (record {
-      wanted = audits Any (listed (codes "x")) First Nul;
-      first = None;
-      second = None;
-    }))
-unfolding clap_on_literals kind_asked
-short_null = refl
-
-audit_all : asked_of
-    (line (codes "audit" ∷ codes "x" ∷ codes "--all" ∷ codes "y" ∷ []))
-    ≡ Some (asks (record {
-      wanted = audits Packages (paths (codes "x" ∷ codes "y" ∷ [])) All Newline;
-      first = None;
-      second = None;
-    }))
-unfolding clap_on_literals kind_asked
-audit_all = refl
-
-audit_all_of_a_list : asked_of
-    (line (codes "audit" ∷ codes "--all" ∷ codes "-0ksources" ∷ codes "--files0-from=x" ∷ []))
-    ≡ Some (asks (record {
-      wanted = audits Sources (listed (codes "x")) All Nul;
-      first = None;
-      second = None;
-    }))
-unfolding clap_on_literals kind_asked
-audit_all_of_a_list = refl
-
-audit_of_nothing : asked_of (line (codes "audit" ∷ [])) ≡ Some paths_or_list
-unfolding clap_on_literals kind_asked
-audit_of_nothing = refl
-
-paths_beside_a_list : asked_of
-    (line (codes "audit" ∷ codes "--files0-from" ∷ codes "list" ∷ codes "-" ∷ codes "-" ∷ []))
-    ≡ Some paths_or_list
-unfolding clap_on_literals kind_asked
-paths_beside_a_list = refl
-
-standard_input_twice_among_paths : asked_of
-    (line (codes "audit" ∷ codes "-" ∷ codes "x" ∷ codes "-" ∷ []))
-    ≡ Some standard_input_twice
-unfolding clap_on_literals kind_asked
-standard_input_twice_among_paths = refl
-
-audit_of_no_kind : asked_of (line (codes "audit" ∷ codes "--kind" ∷ codes "foo" ∷ []))
-    ≡ Some unknown_kind
-unfolding clap_on_literals kind_asked
-audit_of_no_kind = refl
 
 -- ---- help, and words that `clap` refuses
 
@@ -722,10 +620,10 @@ all_twice : map (λ word. fault_of debctl_app (line (word ∷ codes "--all" ∷ 
 unfolding clap_on_literals
 all_twice = refl
 
--- other commands have no `--all`, and it has no short form
+-- other commands have no `--all`
 no_such_all : map (fault_of debctl_app)
     (line (codes "normalise" ∷ codes "--all" ∷ []) ∷ line (codes "sort" ∷ codes "--all" ∷ [])
-    ∷ line (codes "check" ∷ codes "-a" ∷ []) ∷ [])
+    ∷ line (codes "normalise" ∷ codes "-a" ∷ []) ∷ [])
     ≡ (kind.UnknownArgument ∷ []) ∷ (kind.UnknownArgument ∷ []) ∷ (kind.UnknownArgument ∷ []) ∷ []
 unfolding clap_on_literals
 no_such_all = refl
@@ -804,6 +702,10 @@ help_on_help : asked_of (line (codes "help" ∷ codes "help" ∷ [])) ≡ Some a
 unfolding clap_on_literals
 help_on_help = refl
 
+help_on_kinds : asked_of (line (codes "help" ∷ codes "kinds" ∷ [])) ≡ Some asks_help
+unfolding clap_on_literals
+help_on_kinds = refl
+
 help_on_each_command : map (λ word. asked_of (line (codes "help" ∷ word ∷ [])))
     (codes "normalise" ∷ codes "same" ∷ codes "compare" ∷ codes "canon-version" ∷ codes "sort"
     ∷ codes "version-key" ∷ codes "unmet" ∷ codes "diff" ∷ [])
@@ -836,7 +738,20 @@ third_file : fault_of debctl_app (unmet_line (codes "x" ∷ codes "y" ∷ codes 
 unfolding clap_on_literals
 third_file = refl
 
-no_short_reverse : fault_of debctl_app (line (codes "sort" ∷ codes "-r" ∷ []))
-    ≡ kind.UnknownArgument ∷ []
+-- only `sort` has `-r`
+no_other_reverse : map (fault_of debctl_app)
+    (line (codes "check" ∷ codes "-r" ∷ []) ∷ line (codes "audit" ∷ codes "-r" ∷ []) ∷ [])
+    ≡ (kind.UnknownArgument ∷ []) ∷ (kind.UnknownArgument ∷ []) ∷ []
 unfolding clap_on_literals
-no_short_reverse = refl
+no_other_reverse = refl
+
+-- only `check` and `audit` have demands, each once
+no_such_demand : map (fault_of debctl_app)
+    (line (codes "explain" ∷ codes "--complete" ∷ [])
+    ∷ line (codes "normalise" ∷ codes "--least=1" ∷ [])
+    ∷ line (codes "check" ∷ codes "--complete" ∷ codes "--complete" ∷ [])
+    ∷ line (codes "audit" ∷ codes "--least=1" ∷ codes "--least=1" ∷ []) ∷ [])
+    ≡ (kind.UnknownArgument ∷ []) ∷ (kind.UnknownArgument ∷ []) ∷ (kind.ArgumentConflict ∷ [])
+    ∷ (kind.ArgumentConflict ∷ []) ∷ []
+unfolding clap_on_literals
+no_such_demand = refl

@@ -14,9 +14,20 @@ kind_rule =
     record (new_rule (codes "kind"))
     { short = Some 107; long = Some (codes "kind"); value_names = 1 }
 
--- `--all`, which takes no value
+-- `--all`, or `-a` (a is 97), which takes no value
 abbrev pub all_rule : Rule
-all_rule = record (new_rule (codes "all")) { long = Some (codes "all"); action = Some SetTrue }
+all_rule =
+    record (new_rule (codes "all"))
+    { short = Some 97; long = Some (codes "all"); action = Some SetTrue }
+
+-- `--complete`, which takes no value
+abbrev pub complete_rule : Rule
+complete_rule =
+    record (new_rule (codes "complete")) { long = Some (codes "complete"); action = Some SetTrue }
+
+-- `--least N`
+abbrev pub least_rule : Rule
+least_rule = record (new_rule (codes "least")) { long = Some (codes "least"); value_names = 1 }
 
 -- `--arch A`, which has to be there
 abbrev pub arch_rule : Rule
@@ -32,6 +43,11 @@ profiles_rule =
 -- `--why`, which takes no value
 abbrev pub why_rule : Rule
 why_rule = record (new_rule (codes "why")) { long = Some (codes "why"); action = Some SetTrue }
+
+-- `--spelled`, which takes no value
+abbrev pub spelled_rule : Rule
+spelled_rule =
+    record (new_rule (codes "spelled")) { long = Some (codes "spelled"); action = Some SetTrue }
 
 -- `--values`, which takes no value
 abbrev pub values_rule : Rule
@@ -91,10 +107,11 @@ versions_rule = record (new_rule (codes "version")) {
   required = true;
 }
 
--- `--reverse`, which takes no value
+-- `--reverse`, or `-r` (r is 114), which takes no value
 abbrev pub reverse_rule : Rule
 reverse_rule =
-    record (new_rule (codes "reverse")) { long = Some (codes "reverse"); action = Some SetTrue }
+    record (new_rule (codes "reverse"))
+    { short = Some 114; long = Some (codes "reverse"); action = Some SetTrue }
 
 -- a word that may stand there, and one that has to
 abbrev pub optional_rule : Text → Rule
@@ -142,11 +159,15 @@ unmet_word = codes "unmet"
 abbrev pub help_word : Text
 help_word = codes "help"
 
--- `check [--kind K] [--all] [PATH]`
+-- what `help` also knows, besides the commands
+abbrev pub kinds_word : Text
+kinds_word = codes "kinds"
+
+-- `check [--kind K] [--all] [--complete] [--least N] [PATH]`
 abbrev pub check_app : App
 check_app =
-    with_rule (with_rule (with_rule (new_app check_word) kind_rule) all_rule)
-    (optional_rule (codes "path"))
+    with_rule (with_rule (with_rule (with_rule (with_rule (new_app check_word) kind_rule) all_rule)
+    complete_rule) least_rule) (optional_rule (codes "path"))
 
 -- `normalise [--kind K] [PATH]`
 abbrev pub normalise_app : App
@@ -160,12 +181,13 @@ explain_app =
     with_rule (with_rule (with_rule (with_rule (with_rule (with_rule (new_app explain_word)
     kind_rule) all_rule) code_rule) relation_rule) version_rule) (optional_rule (codes "path"))
 
--- `audit [--kind K] [--all] [--null] PATH ..` and
--- `audit [--kind K] [--all] [--null] --files0-from PATH`
+-- `audit [--kind K] [--all] [--complete] [--least N] [--null] PATH ..` and
+-- `audit [--kind K] [--all] [--complete] [--least N] [--null] --files0-from PATH`
 abbrev pub audit_app : App
 audit_app =
-    with_rule (with_rule (with_rule (with_rule (with_rule (new_app audit_word) kind_rule) all_rule)
-    list_rule) null_rule) paths_rule
+    with_rule (with_rule (with_rule (with_rule (with_rule (with_rule (with_rule
+    (new_app audit_word) kind_rule) all_rule) complete_rule) least_rule) list_rule) null_rule)
+    paths_rule
 
 -- `same [--kind K] PATH PATH`
 abbrev pub same_app : App
@@ -173,11 +195,11 @@ same_app =
     with_rule (with_rule (with_rule (new_app same_word) kind_rule)
     (required_rule (codes "first"))) (required_rule (codes "second"))
 
--- `diff [--kind K] [--values] OLD NEW`
+-- `diff [--kind K] [--values] [--spelled] OLD NEW`
 abbrev pub diff_app : App
 diff_app =
-    with_rule (with_rule (with_rule (with_rule (new_app diff_word) kind_rule) values_rule)
-    (required_rule (codes "old"))) (required_rule (codes "new"))
+    with_rule (with_rule (with_rule (with_rule (with_rule (new_app diff_word) kind_rule)
+    values_rule) spelled_rule) (required_rule (codes "old"))) (required_rule (codes "new"))
 
 -- `compare V OP V`
 abbrev pub compare_app : App
@@ -197,20 +219,20 @@ version_key_app = with_rule (new_app version_key_word) versions_rule
 abbrev pub sort_app : App
 sort_app = with_rule (with_rule (new_app sort_word) reverse_rule) (optional_rule (codes "path"))
 
--- `query --arch A [--profiles P,P] [--why] RELATION [PATH]` and
--- `query --arch A [--profiles P,P] [--why] --relation-from PATH [PATH]`
+-- `query --arch A [--profiles P,P] [--why] [--spelled] RELATION [PATH]` and
+-- `query --arch A [--profiles P,P] [--why] [--spelled] --relation-from PATH [PATH]`
 abbrev pub query_app : App
 query_app =
-    with_rule (with_rule (with_rule (with_rule (with_rule (with_rule (new_app query_word) arch_rule)
-    profiles_rule) why_rule) relation_file_rule) (optional_rule (codes "relation")))
-    (optional_rule (codes "path"))
+    with_rule (with_rule (with_rule (with_rule (with_rule (with_rule (with_rule (new_app query_word)
+    arch_rule) profiles_rule) why_rule) spelled_rule) relation_file_rule)
+    (optional_rule (codes "relation"))) (optional_rule (codes "path"))
 
--- `unmet --arch A [--profiles P,P] [--kind K] [--recommends] INDEX [PATH]`
+-- `unmet --arch A [--profiles P,P] [--kind K] [--recommends] [--spelled] INDEX [PATH]`
 abbrev pub unmet_app : App
 unmet_app =
-    with_rule (with_rule (with_rule (with_rule (with_rule (with_rule (new_app unmet_word) arch_rule)
-    profiles_rule) kind_rule) recommends_rule) (required_rule (codes "index")))
-    (optional_rule (codes "path"))
+    with_rule (with_rule (with_rule (with_rule (with_rule (with_rule (with_rule (new_app unmet_word)
+    arch_rule) profiles_rule) kind_rule) recommends_rule) spelled_rule)
+    (required_rule (codes "index"))) (optional_rule (codes "path"))
 
 -- `help [COMMAND]`
 abbrev pub help_app : App

@@ -1,4 +1,5 @@
 pub mod Asked
 pub mod AskedCases
 pub mod Commands
+pub mod ExplainAuditCases
 pub mod RequestCases

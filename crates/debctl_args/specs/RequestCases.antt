@@ -1,14 +1,16 @@
 -- Worked cases of tasks and of mistakes: the request that each task is, with the bytes of its
 -- words, whatever these are; and what each kind of `clap`'s error is.
-use Rattle.std.specs.Prelude.{◌≡◌, [], ◌∷◌, map, Option, Some, None, Ok, Err, true, false, String, Vec, codes, string_bytes, refl}
+use Rattle.std.specs.Prelude.{◌≡◌, ℕ, [], ◌∷◌, map, Option, Some, None, Ok, Err, true, false, String, Vec, codes, string_bytes, refl}
 use Rattle.std.specs.declared.alloc.Global.{Global}
 use Rattle.std.proofs.Common.{ap}
 use Rattle.clap.specs.declared.error.kind.ErrorKind.TheVariants as kind
 use Rattle.clap.specs.Walk.{Text}
 use Rattle.deb_base.specs.declared.code.Code.TheVariants as code
 use Rattle.deb_base.specs.declared.doc.Doc.{Doc}
-use Rattle.debctl_args.specs.Asked.{asks, asks_help, audited_of, audits, canonicalises, checks, checks_all, compares, explain_takes_one, explains, explains_all, explains_relation, explains_version, finds_changes, finds_unmet, has_mistake, has_request, is_request_kind, keys, kind_of_path, listed, no_names, no_recommends, no_relations, normalises, paths, paths_or_list, queries, queries_from, relation_or_file, request_of, sorts, standard_input_twice, explains_rule, compares_files, unknown_code, unknown_command, unknown_kind, unknown_operator, wanted_of, IsHelp, IsUsage, MeansKind, Request, FitsKind, UsesText}
+use Rattle.deb_base.specs.declared.version_text.VersionText.{VersionText}
+use Rattle.debctl_args.specs.Asked.{asks, asks_help, audited_of, audits, canonicalises, checks, checks_all, checks_whole, compares, explain_takes_one, explains, explains_all, explains_relation, explains_version, finds_changes, finds_unmet, first_or_whole, has_mistake, has_request, is_request_kind, keys, kind_of_path, listed, no_names, no_number, no_recommends, no_relations, normalises, paths, paths_or_list, queries, queries_from, relation_or_file, request_of, sorts, standard_input_twice, explains_rule, compares_files, unknown_code, unknown_command, unknown_kind, unknown_operator, wanted_of, IsHelp, IsUsage, MeansKind, MeansLeast, Request, FitsKind, UsesText}
 use Rattle.debctl_args.specs.declared.jobs.Cmp.{Cmp}
+use Rattle.debctl_args.specs.declared.jobs.Demands.{Demands}
 use Rattle.debctl_args.specs.declared.jobs.Dependents.{Dependents}
 use Rattle.debctl_args.specs.declared.jobs.Detail.{Detail}
 use Rattle.debctl_args.specs.declared.jobs.DiffDetail.{DiffDetail}
@@ -32,9 +34,13 @@ jobs_on_files : (doc : Doc) → (wanted_of (job.Check doc) ≡ checks doc)
     × (wanted_of (job.Same doc) ≡ compares_files doc)
 jobs_on_files doc = (refl, refl, refl, refl)
 
-changes_of_files : (kind : DiffKind) (detail : DiffDetail)
-    → wanted_of (job.Diff kind detail) ≡ finds_changes kind detail
-changes_of_files kind detail = refl
+demands_on_files : (doc : Doc) (demands : Demands)
+    → wanted_of (job.CheckWhole doc demands) ≡ checks_whole doc demands
+demands_on_files doc demands = refl
+
+changes_of_files : (kind : DiffKind) (detail : DiffDetail) (versions : VersionText)
+    → wanted_of (job.Diff kind detail versions) ≡ finds_changes kind detail versions
+changes_of_files kind detail versions = refl
 
 comparisons : (left right : String Global) (operator : Cmp)
     → wanted_of (job.Compare left operator right)
@@ -54,28 +60,31 @@ keys_of_versions : (one other : String Global) (versions : Vec (String Global) G
 keys_of_versions one other versions are = ap (λ named. keys (map string_bytes named)) are
 
 queries_with_profiles : (arch relation one other : String Global) (detail : Detail)
-    (profiles : Vec (String Global) Global) → profiles.items ≡ one ∷ other ∷ []
-    → wanted_of (job.Query arch profiles relation detail)
+    (versions : VersionText) (profiles : Vec (String Global) Global)
+    → profiles.items ≡ one ∷ other ∷ []
+    → wanted_of (job.Query arch profiles relation detail versions)
     ≡ queries (string_bytes arch) (string_bytes one ∷ string_bytes other ∷ [])
-    (string_bytes relation) detail
-queries_with_profiles arch relation one other detail profiles are =
+    (string_bytes relation) detail versions
+queries_with_profiles arch relation one other detail versions profiles are =
     ap
-    (λ named. queries (string_bytes arch) (map string_bytes named) (string_bytes relation) detail)
-    are
+    (λ named. queries (string_bytes arch) (map string_bytes named) (string_bytes relation) detail
+    versions) are
 
-queries_from_a_file : (arch one other : String Global) (detail : Detail)
+queries_from_a_file : (arch one other : String Global) (detail : Detail) (versions : VersionText)
     (profiles : Vec (String Global) Global) → profiles.items ≡ one ∷ other ∷ []
-    → wanted_of (job.QueryFrom arch profiles detail)
-    ≡ queries_from (string_bytes arch) (string_bytes one ∷ string_bytes other ∷ []) detail
-queries_from_a_file arch one other detail profiles are =
-    ap (λ named. queries_from (string_bytes arch) (map string_bytes named) detail) are
+    → wanted_of (job.QueryFrom arch profiles detail versions)
+    ≡ queries_from (string_bytes arch) (string_bytes one ∷ string_bytes other ∷ []) detail versions
+queries_from_a_file arch one other detail versions profiles are =
+    ap (λ named. queries_from (string_bytes arch) (map string_bytes named) detail versions) are
 
 groups_of_a_file : (arch one other : String Global) (dependents : Dependents)
-    (profiles : Vec (String Global) Global) → profiles.items ≡ one ∷ other ∷ []
-    → wanted_of (job.Unmet arch profiles dependents)
+    (versions : VersionText) (profiles : Vec (String Global) Global)
+    → profiles.items ≡ one ∷ other ∷ []
+    → wanted_of (job.Unmet arch profiles dependents versions)
     ≡ finds_unmet (string_bytes arch) (string_bytes one ∷ string_bytes other ∷ []) dependents
-groups_of_a_file arch one other dependents profiles are =
-    ap (λ named. finds_unmet (string_bytes arch) (map string_bytes named) dependents) are
+    versions
+groups_of_a_file arch one other dependents versions profiles are =
+    ap (λ named. finds_unmet (string_bytes arch) (map string_bytes named) dependents versions) are
 
 -- ---- the files of an audit
 
@@ -158,13 +167,20 @@ explanations_of_texts : (text : String Global)
 explanations_of_texts text = (refl, refl, refl)
 
 audits_of_files : (doc : Doc) (given : Files) (extent : Extent) (end : LineEnd)
-    → request_of (task.Audit (record { doc = doc; files = given; extent = extent; end = end }))
+    (demands : Demands)
+    → request_of (task.Audit (record {
+      doc = doc;
+      files = given;
+      extent = extent;
+      end = end;
+      demands = demands;
+    }))
     ≡ record {
-      wanted = audits doc (audited_of given) extent end;
+      wanted = audits doc (audited_of given) extent end demands;
       first = None;
       second = None;
     }
-audits_of_files doc given extent end = refl
+audits_of_files doc given extent end demands = refl
 
 -- ---- mistakes
 
@@ -207,7 +223,10 @@ texts_of_mistakes : IsUsage unknown_kind (codes "usage: unknown kind")
     × IsUsage no_relations (codes "usage: unmet takes no --kind any")
     × IsUsage no_recommends (codes "usage: unmet takes --recommends only for binary packages")
     × IsUsage kind_of_path (codes "usage: unmet takes another --kind only with a second path")
-texts_of_mistakes = (refl, refl, refl, refl, refl, refl, refl, refl, refl, refl, refl, refl)
+    × IsUsage no_number (codes "usage: --least takes a number")
+    × IsUsage first_or_whole (codes "usage: --all takes neither --complete nor --least")
+texts_of_mistakes =
+    (refl, refl, refl, refl, refl, refl, refl, refl, refl, refl, refl, refl, refl, refl)
 
 no_mistakes : (request : Request) (text : Text)
     → (IsUsage (asks request) text ≡ ⊥) × (IsUsage asks_help text ≡ ⊥)
@@ -218,6 +237,14 @@ no_mistakes request text = (refl, refl)
 help_or_memory : (text : String Global) → (IsHelp (Usage text) ≡ ⊥)
     × (IsHelp (Help text) ≡ Unit {0}) × (IsHelp Memory ≡ Unit {0})
 help_or_memory text = (refl, refl, refl)
+
+-- and neither is a number that is read
+numbers_told : (least other : ℕ) (text : String Global)
+    → (MeansLeast (Some least) (Ok other) ≡ (Some least ≡ Some other))
+    × (MeansLeast (Some least) (Err (Usage text)) ≡ (Usage text ≡ Memory))
+    × (MeansLeast None (Err (Usage text))
+    ≡ (string_bytes text ≡ codes "usage: --least takes a number"))
+numbers_told least other text = (refl, refl, refl)
 
 -- a known kind isn't reported as unknown
 kinds_told : (doc other : Doc) (text : String Global)

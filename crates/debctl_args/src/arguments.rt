@@ -1,8 +1,8 @@
 //! Parses the command-line arguments: which task they ask for, or why there is none.
 
-ghost use Rattle.std.specs.Prelude.{◌≡◌, [], Some, None, map, true, string_bytes, IfOk, IfErr, option_copied};
+ghost use Rattle.std.specs.Prelude.{◌≡◌, [], Some, None, map, true, string_bytes, IfOk, IfErr, option_copied, option_map};
 ghost use Rattle.clap.specs.Words.{fault_of, found_of, has_subcommand, kind_of, rows_of, subcommand_rows_of, takes};
-ghost use Rattle.debctl_args.specs.Asked.{asked_by, asked_in, asked_of, asks, audit_asked, canon_version_asked, check_asked, compare_asked, diff_asked, diff_of_files, document_asked, explain_asked, file_explained, help_asked, normalises, query_asked, query_of_file, query_of_word, relation_asked, request_of, rule_asked, same_asked, sort_asked, text_asked, unmet_asked, unmet_of_files, unmet_of_path, unmet_of_sources, version_asked, version_key_asked, word_in, Answers, AnswersError, AnswersMet, IsHelp, MeansError, Request, FitsKind, UsesText};
+ghost use Rattle.debctl_args.specs.Asked.{asked_by, asked_in, asked_of, asks, audit_asked, canon_version_asked, check_asked, checks_to, demands_asked, compare_asked, diff_asked, diff_of_files, document_asked, explain_asked, file_explained, help_asked, is_demanding, normalises, query_asked, query_of_file, query_of_word, relation_asked, request_of, rule_asked, same_asked, sort_asked, text_asked, unmet_asked, unmet_of_files, unmet_of_path, unmet_of_sources, version_asked, version_key_asked, wanted_of, word_in, Answers, AnswersError, AnswersMet, IsHelp, MeansError, Request, FitsKind, UsesText};
 ghost use Rattle.debctl_args.specs.Commands.{debctl_app};
 
 use crate::code_argument::code_named;
@@ -13,10 +13,10 @@ use crate::commands::{
 };
 use crate::found_arguments::{
     all_given, detail_in, diff_detail_in, end_in, extent_in, file_in, flag_in, given, index_in,
-    is_standard_input_twice, kind_in, names_file, owned_texts, packages_in, path_in, profiles_in,
-    strength_in, versions_in, word_in,
+    is_standard_input_twice, kind_in, least_in, names_file, owned_texts, packages_in, path_in,
+    profiles_in, strength_in, version_text_in, versions_in, word_in,
 };
-use crate::jobs::{Audit, Call, Dependents, DiffKind, Explain, Extent, Files, Job, Task};
+use crate::jobs::{Audit, Call, Demands, Dependents, DiffKind, Explain, Extent, Files, Job, Task};
 use crate::operator_argument::operator_named;
 use clap::error::{Error, ErrorKind};
 use clap::{ArgMatches, Command};
@@ -28,6 +28,9 @@ const EXPLAIN_ONE: &str = "usage: explain takes one file, code, relation or vers
 
 /// The text for an audit of neither paths nor a list, and for one of both.
 const PATHS_OR_LIST: &str = "usage: audit takes paths, or --files0-from";
+
+/// The text for `--all` with a demand on accepted files.
+const FIRST_OR_WHOLE: &str = "usage: --all takes neither --complete nor --least";
 
 /// The text for a query with neither a relation nor its file, and for one with both.
 const RELATION_OR_FILE: &str = "usage: query takes a relation, or --relation-from";
@@ -70,20 +73,22 @@ impl From<AllocError> for UsageFault {
 
 /// Returns the task that the arguments ask for; the first of `words` is the program's name.
 ///
-/// `check [--kind K] [--all] [PATH]`, `explain [--kind K] [--all] [PATH]`, `explain --code N`,
-/// `explain --relation TEXT`, `explain --version-text TEXT`, `normalise [--kind K] [PATH]`, `same
-/// [--kind K] PATH PATH`, `diff [--kind K] [--values] OLD NEW`, `compare V OP V`, `canon-version
-/// V`, `version-key V ..`, `sort [--reverse] [PATH]`, `query --arch A [--profiles P,P] [--why]
-/// RELATION [PATH]`, `query --arch A [--profiles P,P] [--why] --relation-from PATH [PATH]`, `unmet
-/// --arch A [--profiles P,P] [--kind K] [--recommends] INDEX [PATH]`, `audit [--kind K] [--all]
-/// [--null] PATH ..` and `audit [--kind K] [--all] [--null] --files0-from PATH` ask for a task.
-/// `help [COMMAND]`, `--help` and `--version` ask for help.
+/// `check [--kind K] [--all] [--complete] [--least N] [PATH]`, `explain [--kind K] [--all] [PATH]`,
+/// `explain --code N`, `explain --relation TEXT`, `explain --version-text TEXT`, `normalise [--kind
+/// K] [PATH]`, `same [--kind K] PATH PATH`, `diff [--kind K] [--values] [--spelled] OLD NEW`,
+/// `compare V OP V`, `canon-version V`, `version-key V ..`, `sort [--reverse] [PATH]`, `query
+/// --arch A [--profiles P,P] [--why] [--spelled] RELATION [PATH]`, `query --arch A [--profiles P,P]
+/// [--why] [--spelled] --relation-from PATH [PATH]`, `unmet --arch A [--profiles P,P] [--kind K]
+/// [--recommends] [--spelled] INDEX [PATH]`, `audit [--kind K] [--all] [--complete] [--least N]
+/// [--null] PATH ..` and `audit [--kind K] [--all] [--complete] [--least N] [--null] --files0-from
+/// PATH` ask for a task. `help [COMMAND]`, `help kinds`, `--help` and `--version` ask for help.
 ///
 /// The profiles of `query` and `unmet` are the texts between the commas of P,P; without the option
 /// there are none. A version, an architecture, a profile or a relation may be any text here: the
-/// job checks it. `-k` is short for `--kind`, and `-0` for `--null`. The path `-` is returned as it
-/// is; the program reads standard input for it. N is the number of an error code, from 1 to 23, in
-/// decimal.
+/// job checks it. `-k` is short for `--kind`, `-a` for `--all`, `-0` for `--null` and `-r` for
+/// `--reverse`. The path `-` is returned as it is; the program reads standard input for it. After
+/// `--code` N is the number of an error code, from 1 to 23, in decimal, or its name. After
+/// `--least` it is a number below 2^64, in decimal and without zeros before it.
 ///
 /// # Errors
 ///
@@ -98,8 +103,9 @@ impl From<AllocError> for UsageFault {
 ///   --relation-from` for a query with neither or with both; `usage: diff takes no --kind any`;
 ///   `usage: unmet takes no --kind any`; `usage: unmet takes --recommends only for binary packages`
 ///   for the kinds `sources` and `source` with `--recommends`; `usage: unmet takes another --kind
-///   only with a second path` for a kind other than `packages` without PATH; otherwise that of
-///   `clap`.
+///   only with a second path` for a kind other than `packages` without PATH; `usage: --least takes
+///   a number` for another N; `usage: --all takes neither --complete nor --least` for either with
+///   `--all`; otherwise that of `clap`.
 /// - `UsageFault::Help`: the arguments ask for help or for the version.
 /// - `UsageFault::Memory`: a growth of memory was refused.
 pub fn job_of(alloc: Global, words: &[String]) -> Result<Task, UsageFault>
@@ -185,15 +191,45 @@ fn task_by(alloc: Global, name: &str, found: &ArgMatches<'_>) -> Result<Task, Us
 fn check_task(alloc: Global, found: &ArgMatches<'_>) -> Result<Task, UsageFault>
     ensures { Answers (check_asked (rows_of (found_of found.now))) result }
 {
-    let kind = kind_in(alloc, found)?;
+    let doc = kind_in(alloc, found)?;
+    let least = least_in(alloc, found)?;
+    let Some(job) = check_job(doc, extent_in(found), demands_in(found, least)) else {
+        return Err(usage(alloc, FIRST_OR_WHOLE));
+    };
     Ok(Task::Run(Call {
-        job: match extent_in(found) {
-            Extent::First => Job::Check(kind),
-            Extent::All => Job::CheckAll(kind),
-        },
+        job,
         first: path_in(alloc, found)?,
         second: None,
     }))
+}
+
+/// The job of `check`, by what is demanded of an accepted file. With `--all` nothing can be.
+fn check_job(doc: Doc, extent: Extent, demands: Demands) -> Option<Job>
+    ensures { option_map wanted_of result ≡ checks_to extent demands doc }
+{
+    match (extent, is_demanding(demands)) {
+        (Extent::First, true) => Some(Job::CheckWhole { doc, demands }),
+        (Extent::First, false) => Some(Job::Check(doc)),
+        (Extent::All, true) => None,
+        (Extent::All, false) => Some(Job::CheckAll(doc)),
+    }
+}
+
+/// Whether something is demanded of an accepted file.
+fn is_demanding(demands: Demands) -> bool
+    ensures { result ≡ is_demanding demands }
+{
+    demands.complete || demands.least > 0
+}
+
+/// What is demanded of an accepted file, with the fewest paragraphs.
+fn demands_in(found: &ArgMatches<'_>, least: u64) -> Demands
+    ensures { result ≡ demands_asked (rows_of (found_of found.now)) least }
+{
+    Demands {
+        complete: flag_in(found, "complete"),
+        least,
+    }
 }
 
 fn explain_task(alloc: Global, found: &ArgMatches<'_>) -> Result<Task, UsageFault>
@@ -270,6 +306,10 @@ fn audit_task(alloc: Global, found: &ArgMatches<'_>) -> Result<Task, UsageFault>
     ensures { Answers (audit_asked (rows_of (found_of found.now))) result }
 {
     let doc = kind_in(alloc, found)?;
+    let demands = demands_in(found, least_in(alloc, found)?);
+    if flag_in(found, "all") && is_demanding(demands) {
+        return Err(usage(alloc, FIRST_OR_WHOLE));
+    }
     let files = match (all_given(found, "path"), given(found, "files0-from")) {
         (Some(paths), None) if is_standard_input_twice(paths) => {
             return Err(usage(alloc, "usage: standard input twice"));
@@ -284,6 +324,7 @@ fn audit_task(alloc: Global, found: &ArgMatches<'_>) -> Result<Task, UsageFault>
         files,
         extent: extent_in(found),
         end: end_in(found),
+        demands,
     }))
 }
 
@@ -341,6 +382,7 @@ fn diff_of_files(alloc: Global, found: &ArgMatches<'_>, kind: DiffKind) -> Resul
         job: Job::Diff {
             kind,
             detail: diff_detail_in(found),
+            versions: version_text_in(found),
         },
         first: Some(first),
         second: Some(second),
@@ -420,6 +462,7 @@ fn query_of_word(alloc: Global, found: &ArgMatches<'_>, relation: &str) -> Resul
             profiles,
             relation,
             detail: detail_in(found),
+            versions: version_text_in(found),
         },
         first: path_in(alloc, found)?,
         second: None,
@@ -446,6 +489,7 @@ fn query_of_file(alloc: Global, found: &ArgMatches<'_>, path: &str) -> Result<Ta
             arch,
             profiles,
             detail: detail_in(found),
+            versions: version_text_in(found),
         },
         first: Some(first),
         second: Some(second),
@@ -513,6 +557,7 @@ fn unmet_of_files(
             arch,
             profiles,
             dependents,
+            versions: version_text_in(found),
         },
         first: Some(first),
         second: Some(second),
@@ -552,7 +597,18 @@ fn help_with(alloc: Global, word: Option<&str>, kinds: &str) -> UsageFault
         Some("query") => help_of(alloc, query_command(alloc), "debctl query"),
         Some("unmet") => help_of(alloc, unmet_command(alloc), "debctl unmet"),
         Some("help") => help_of(alloc, help_command(alloc), "debctl help"),
+        Some("kinds") => kinds_table(alloc, kinds),
         Some(_) => usage(alloc, "usage: unknown command"),
+    }
+}
+
+/// The table of the kinds of files, which is the help of `--kind`.
+fn kinds_table(alloc: Global, kinds: &str) -> UsageFault
+    ensures { IsHelp result }
+{
+    match String::from_str(alloc, kinds) {
+        Ok(text) => UsageFault::Help(text),
+        Err(_) => UsageFault::Memory,
     }
 }
 

@@ -3,14 +3,14 @@
 ghost use Rattle.std.specs.Prelude.{◌≡◌, IfOk, false};
 ghost use Rattle.clap.specs.Simple.{App, with_subcommand};
 ghost use Rattle.clap.specs.Words.{rule_of};
-ghost use Rattle.debctl_args.specs.Commands.{all_rule, arch_rule, audit_app, bare_app, check_app, code_rule, explain_app, list_rule, paths_rule, canon_version_app, compare_app, debctl_app, diff_app, help_app, normalise_app, kind_rule, null_rule, optional_rule, profiles_rule, query_app, relation_file_rule, relation_rule, required_rule, reverse_rule, same_app, sort_app, recommends_rule, unmet_app, values_rule, version_key_app, version_rule, versions_rule, why_rule, IsShaped};
+ghost use Rattle.debctl_args.specs.Commands.{all_rule, arch_rule, audit_app, bare_app, check_app, code_rule, complete_rule, explain_app, least_rule, list_rule, paths_rule, canon_version_app, compare_app, debctl_app, diff_app, help_app, normalise_app, kind_rule, null_rule, optional_rule, profiles_rule, query_app, relation_file_rule, relation_rule, required_rule, reverse_rule, same_app, sort_app, spelled_rule, recommends_rule, unmet_app, values_rule, version_key_app, version_rule, versions_rule, why_rule, IsShaped};
 
 use crate::helps::{
     ALL_HELP, ARCH_HELP, AUDIT_HELP, CANON_VERSION_HELP, CHECK_HELP, CODE_HELP, COMPARE_HELP,
-    DEBCTL_HELP, DIFF_HELP, DIFF_KIND_HELP, EXPLAIN_HELP, FILES_HELP, NORMALISE_HELP,
-    OPERATORS_HELP, PROFILES_HELP, QUERY_HELP, RELATION_FILE_HELP, RELATION_HELP, SAME_HELP,
-    SORT_HELP, UNMET_HELP, UNMET_INDEX_HELP, UNMET_KIND_HELP, UNMET_PATH_HELP, VERSION_KEY_HELP,
-    WHY_HELP,
+    COMPLETE_HELP, DEBCTL_HELP, DIFF_HELP, DIFF_KIND_HELP, EXPLAIN_HELP, FILES_HELP, LEAST_HELP,
+    NORMALISE_HELP, OPERATORS_HELP, PROFILES_HELP, QUERY_HELP, RELATION_FILE_HELP, RELATION_HELP,
+    SAME_HELP, SORT_HELP, SPELLED_HELP, UNMET_HELP, UNMET_INDEX_HELP, UNMET_KIND_HELP,
+    UNMET_PATH_HELP, VERSION_KEY_HELP, WHY_HELP,
 };
 use clap::{Arg, ArgAction, Command};
 use deb_base::{Doc, is_single};
@@ -77,7 +77,7 @@ fn bare_command<'a>(alloc: Global) -> Command<'a>
         .disable_help_subcommand(true)
 }
 
-/// `check [--kind K] [--all] [PATH]`
+/// `check [--kind K] [--all] [--complete] [--least N] [PATH]`
 pub(crate) fn check_command<'a>(alloc: Global, kinds: &'a str) -> Result<Command<'a>, AllocError>
     ensures { IfOk result (IsShaped check_app) }
 {
@@ -86,6 +86,8 @@ pub(crate) fn check_command<'a>(alloc: Global, kinds: &'a str) -> Result<Command
         .after_help(CHECK_HELP)
         .arg(kind_option(alloc, kinds))?
         .arg(all_option(alloc))?
+        .arg(complete_option(alloc))?
+        .arg(least_option(alloc))?
         .arg(optional_word(
             alloc,
             "path",
@@ -100,7 +102,7 @@ pub(crate) fn explain_command<'a>(alloc: Global, kinds: &'a str) -> Result<Comma
     ensures { IfOk result (IsShaped explain_app) }
 {
     Command::new(alloc, "explain")
-        .about("Explains why a file is rejected")
+        .about("Explains why a file is refused")
         .after_help(EXPLAIN_HELP)
         .arg(kind_option(alloc, kinds))?
         .arg(all_option(alloc))?
@@ -115,8 +117,8 @@ pub(crate) fn explain_command<'a>(alloc: Global, kinds: &'a str) -> Result<Comma
         ))
 }
 
-/// `audit [--kind K] [--all] [--null] PATH ..` and
-/// `audit [--kind K] [--all] [--null] --files0-from PATH`
+/// `audit [--kind K] [--all] [--complete] [--least N] [--null] PATH ..` and
+/// `audit [--kind K] [--all] [--complete] [--least N] [--null] --files0-from PATH`
 pub(crate) fn audit_command<'a>(alloc: Global, kinds: &'a str) -> Result<Command<'a>, AllocError>
     ensures { IfOk result (IsShaped audit_app) }
 {
@@ -125,6 +127,8 @@ pub(crate) fn audit_command<'a>(alloc: Global, kinds: &'a str) -> Result<Command
         .after_help(AUDIT_HELP)
         .arg(kind_option(alloc, kinds))?
         .arg(all_option(alloc))?
+        .arg(complete_option(alloc))?
+        .arg(least_option(alloc))?
         .arg(list_option(alloc))?
         .arg(null_option(alloc))?
         .arg(paths(alloc))
@@ -180,6 +184,7 @@ pub(crate) fn diff_command<'a>(alloc: Global) -> Result<Command<'a>, AllocError>
         .after_help(DIFF_HELP)
         .arg(kind_option(alloc, DIFF_KIND_HELP))?
         .arg(values_option(alloc))?
+        .arg(spelled_option(alloc))?
         .arg(required_word(alloc, "old", "OLD", "The old file; `-` is standard input"))?
         .arg(required_word(alloc, "new", "NEW", "The new file; `-` is standard input"))
 }
@@ -243,6 +248,7 @@ pub(crate) fn query_command<'a>(alloc: Global) -> Result<Command<'a>, AllocError
         .arg(arch_option(alloc))?
         .arg(profiles_option(alloc))?
         .arg(why_option(alloc))?
+        .arg(spelled_option(alloc))?
         .arg(relation_file_option(alloc))?
         .arg(optional_word(alloc, "relation", "RELATION", RELATION_HELP))?
         .arg(optional_word(
@@ -264,6 +270,7 @@ pub(crate) fn unmet_command<'a>(alloc: Global) -> Result<Command<'a>, AllocError
         .arg(profiles_option(alloc))?
         .arg(kind_option(alloc, UNMET_KIND_HELP))?
         .arg(recommends_option(alloc))?
+        .arg(spelled_option(alloc))?
         .arg(required_word(alloc, "index", "INDEX", UNMET_INDEX_HELP))?
         .arg(optional_word(alloc, "path", "PATH", UNMET_PATH_HELP))
 }
@@ -294,15 +301,38 @@ fn kind_option<'a>(alloc: Global, help: &'a str) -> Arg<'a>
         .help(help)
 }
 
-/// `--all`
+/// `--all` or `-a`
 fn all_option<'a>(alloc: Global) -> Arg<'a>
     ensures rule { rule_of result ≡ all_rule }
     ensures local { result.global ≡ false }
 {
     Arg::new(alloc, "all")
+        .short('a')
         .long("all")
         .help(ALL_HELP)
         .action(ArgAction::SetTrue)
+}
+
+/// `--complete`
+fn complete_option<'a>(alloc: Global) -> Arg<'a>
+    ensures rule { rule_of result ≡ complete_rule }
+    ensures local { result.global ≡ false }
+{
+    Arg::new(alloc, "complete")
+        .long("complete")
+        .help(COMPLETE_HELP)
+        .action(ArgAction::SetTrue)
+}
+
+/// `--least N`
+fn least_option<'a>(alloc: Global) -> Arg<'a>
+    ensures rule { rule_of result ≡ least_rule }
+    ensures local { result.global ≡ false }
+{
+    Arg::new(alloc, "least")
+        .long("least")
+        .value_name("N")
+        .help(LEAST_HELP)
 }
 
 /// `--code N`
@@ -384,12 +414,13 @@ fn versions<'a>(alloc: Global) -> Arg<'a>
         .required(true)
 }
 
-/// `--reverse`
+/// `--reverse` or `-r`
 fn reverse_option<'a>(alloc: Global) -> Arg<'a>
     ensures rule { rule_of result ≡ reverse_rule }
     ensures local { result.global ≡ false }
 {
     Arg::new(alloc, "reverse")
+        .short('r')
         .long("reverse")
         .help("Sort the latest version first; lines of equal versions keep their order")
         .action(ArgAction::SetTrue)
@@ -426,6 +457,17 @@ fn why_option<'a>(alloc: Global) -> Arg<'a>
     Arg::new(alloc, "why")
         .long("why")
         .help(WHY_HELP)
+        .action(ArgAction::SetTrue)
+}
+
+/// `--spelled`
+fn spelled_option<'a>(alloc: Global) -> Arg<'a>
+    ensures rule { rule_of result ≡ spelled_rule }
+    ensures local { result.global ≡ false }
+{
+    Arg::new(alloc, "spelled")
+        .long("spelled")
+        .help(SPELLED_HELP)
         .action(ArgAction::SetTrue)
 }
 

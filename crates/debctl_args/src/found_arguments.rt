@@ -2,12 +2,13 @@
 
 ghost use Rattle.std.specs.Prelude.{◌≡◌, nat_lt, count_by, map, codes, string_bytes, option_map, IfOk, option_copied};
 ghost use Rattle.clap.specs.Words.{all_of, first_of, found_of, rows_of};
-ghost use Rattle.debctl_args.specs.Asked.{comma_pieces, detail_asked, diff_detail_asked, end_asked, extent_asked, file_asked, flag_asked, index_asked, is_standard_input, kind_asked, names_file, packages_in, profiles_asked, strength_in, texts_asked, word_in, MeansKind};
+ghost use Rattle.debctl_args.specs.Asked.{comma_pieces, detail_asked, diff_detail_asked, end_asked, extent_asked, file_asked, flag_asked, index_asked, is_standard_input, kind_asked, least_asked, names_file, packages_in, profiles_asked, strength_in, texts_asked, versions_asked, word_in, MeansKind, MeansLeast};
 
 use crate::arguments::{UsageFault, usage};
 use crate::jobs::{Dependents, Detail, DiffDetail, Extent, LineEnd, Strength};
+use crate::number_argument::number_named;
 use clap::ArgMatches;
-use deb_base::Doc;
+use deb_base::{Doc, VersionText};
 use std::alloc::{AllocError, Global};
 
 /// The kind of document that `--kind` names, or a list of packages without it.
@@ -22,6 +23,20 @@ pub(crate) fn kind_in(alloc: Global, found: &ArgMatches<'_>) -> Result<Doc, Usag
     match Doc::named(word) {
         Some(kind) => Ok(kind),
         None => Err(usage(alloc, "usage: unknown kind")),
+    }
+}
+
+/// The fewest paragraphs that `--least` demands, or 0 without it.
+pub(crate) fn least_in(alloc: Global, found: &ArgMatches<'_>) -> Result<u64, UsageFault>
+    ensures { MeansLeast (least_asked (first_of (codes "least") (rows_of (found_of found.now))))
+        result }
+{
+    let Some(word) = given(found, "least") else {
+        return Ok(0);
+    };
+    match number_named(word) {
+        Some(least) => Ok(least),
+        None => Err(usage(alloc, "usage: --least takes a number")),
     }
 }
 
@@ -68,6 +83,18 @@ pub(crate) fn detail_in(found: &ArgMatches<'_>) -> Detail
         Detail::Reasons
     } else {
         Detail::Verdicts
+    }
+}
+
+/// Which text of each version is printed: the spelled one if `--spelled` is given.
+pub(crate) fn version_text_in(found: &ArgMatches<'_>) -> VersionText
+    ensures { result ≡ versions_asked
+        (flag_asked (first_of (codes "spelled") (rows_of (found_of found.now)))) }
+{
+    if flag_in(found, "spelled") {
+        VersionText::Spelled
+    } else {
+        VersionText::Canonical
     }
 }
 

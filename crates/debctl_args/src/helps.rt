@@ -5,7 +5,7 @@ pub(crate) const DEBCTL_HELP: &str = "\
 Exit statuses:
   0  success, or the answer is yes
   1  the answer is no; for `query` and `unmet`: a group isn't met
-  2  a file, a version, a relation, an architecture or a profile is rejected:
+  2  a file, a version, a relation, an architecture or a profile is refused:
      standard error has `line N: CODE NAME`. Line 0 means a command-line
      argument. `same`, `diff` and `unmet` write `first: ` or `second: ` before
      the line of a file. `explain`, `audit` and `check --all` report errors on
@@ -16,9 +16,14 @@ Put `--` before a version or a path that begins with a hyphen:
   $ debctl canon-version -- -1-1
   -1-1
 
-`debctl help COMMAND` describes a command and has an example.";
+`debctl help COMMAND` describes a command and has an example, and `debctl help kinds`
+lists the kinds of files.";
 
 pub(crate) const ALL_HELP: &str = "Report every error, not only the first one";
+
+pub(crate) const COMPLETE_HELP: &str = "Refuse a file that doesn't end with a newline";
+
+pub(crate) const LEAST_HELP: &str = "Refuse a file of fewer than N paragraphs";
 
 pub(crate) const CHECK_HELP: &str = "\
 Prints `ok N` for a file of N paragraphs, or reports the first error.
@@ -28,15 +33,22 @@ error of each paragraph, and at the end `ok N, M refused`: N paragraphs are acce
 and M errors are printed. It stops after a paragraph whose lines are too long, after a
 file that is too long, and after any error with `--kind binary` or `--kind source`.
 
+With `--complete` and `--least` a file that would be accepted is refused if it was
+cut off. One line on standard error says why, and `ok N` isn't printed:
+  incomplete: no newline at the end         with `--complete`
+  incomplete: M of at least N paragraphs    with `--least N`, for fewer than N
+An empty file is complete: use `--least 1` against it. With `--complete` the whole file
+is held in memory.
+
 Use `--kind sources` for an index of source packages. As `packages`, `binary` or
-`source` it is usually rejected because of its Architecture or a missing field. Use
+`source` it is usually refused because of its Architecture or a missing field. Use
 `--kind any` for other control data, such as a `.changes`, `Release`, status or
 copyright file; its values aren't checked then.
 
 Exit statuses:
   0  accepted
-  2  rejected: standard error has `line N: CODE NAME` for the first error; with
-     `--all` the lines on standard output report the errors
+  2  refused: standard error has `line N: CODE NAME` for the first error; with
+     `--all` the lines on standard output report the errors. Or it is incomplete
   3  wrong arguments, out of memory, or a failed read or write
 
 Example:
@@ -46,11 +58,14 @@ Example:
   line 1: 12 MissingField
   line 3: 18 BadVersion
   ok 0, 2 refused
+  2
+  $ printf 'Package: aa\\nVersion: 1\\nArchitecture: al' | debctl check --complete; echo $?
+  incomplete: no newline at the end
   2";
 
 pub(crate) const EXPLAIN_HELP: &str = "\
 Checks a file as `check` does. For an accepted file of N paragraphs it prints
-`ok N`. For a rejected file it explains the first error on standard output, in
+`ok N`. For a refused file it explains the first error on standard output, in
 lines `KEY: VALUE`; keys that don't apply are left out:
   file     the path, with control characters escaped
   line     the line of the error, from 1
@@ -73,7 +88,7 @@ each explanation. At the end `ok N, M refused` is printed, as `check --all` does
 
 Exit statuses:
   0  accepted, or `--code` is given
-  2  rejected
+  2  refused
   3  wrong arguments, out of memory, or a failed read or write
 
 Example:
@@ -94,20 +109,23 @@ Example:
 pub(crate) const AUDIT_HELP: &str = "\
 Checks each file as `check` does, and prints one line for each, in the order given:
   PATH: ok N               accepted, with N paragraphs
-  PATH: line N: CODE NAME  rejected, with the first error
+  PATH: line N: CODE NAME  refused, with the first error
   PATH: fault: read        the file can't be read
   PATH: fault: read: WHY   the file can't be opened, for this reason
   PATH: fault: memory      out of memory for this file
 Newlines and other control characters in a path are escaped, as in `\\n`. With
 `--null` each line ends with a byte 0 instead of a newline, and paths are printed
-unchanged. `audit` continues after a file that is rejected or can't be read.
+unchanged. `audit` continues after a file that is refused or can't be read.
 
 With `--all` it prints `PATH: line N: CODE NAME` for the first error of each paragraph,
 and then `PATH: ok N, M refused`, as `check --all` does.
 
+With `--complete` and `--least` it prints `PATH: incomplete: ..` instead of `PATH: ok N`
+if the file was cut off, as `check` does.
+
 Exit statuses (the highest of all files):
   0  accepted
-  2  rejected
+  2  refused
   3  wrong arguments, out of memory, or a failed read or write
 
 Example:
@@ -133,7 +151,7 @@ the same. Each paragraph is written once it has been checked.
 
 Exit statuses:
   0  accepted: the canonical text of the file is written
-  2  rejected: standard error has `line N: CODE NAME` for the first error, and
+  2  refused: standard error has `line N: CODE NAME` for the first error, and
      the canonical text of the paragraphs before it is written
   3  wrong arguments, out of memory, or a failed read or write
 
@@ -151,8 +169,8 @@ relations don't matter.
 Exit statuses:
   0  the files mean the same: `same` is printed
   1  the files differ: `different` is printed
-  2  a file is rejected: standard error has `first: line N: CODE NAME` or
-     `second: line N: CODE NAME` for its first error. If both are rejected, the
+  2  a file is refused: standard error has `first: line N: CODE NAME` or
+     `second: line N: CODE NAME` for its first error. If both are refused, the
      error of the first file is reported
   3  wrong arguments, out of memory, or a failed read or write
 
@@ -168,17 +186,20 @@ Prints one line for each paragraph that changed in meaning:
   removed NUMBER PACKAGE VERSION ARCHITECTURE
   changed NUMBER PACKAGE VERSION ARCHITECTURE FIELD ..
   upgraded NUMBER PACKAGE OLD-VERSION NEW-VERSION ARCHITECTURE FIELD ..
+  downgraded NUMBER PACKAGE OLD-VERSION NEW-VERSION ARCHITECTURE FIELD ..
   added NUMBER PACKAGE VERSION ARCHITECTURE
 NUMBER is the position of the paragraph, from 1: in OLD for `removed`, else in NEW.
-VERSION is canonical. ARCHITECTURE is `source` for a source package. The FIELDs are
-those that differ or are in one paragraph only, in ascending order. The lines of the
-paragraphs of OLD are in its order. After them come those of the added ones, in the
-order of NEW.
+VERSION is canonical, or with `--spelled` as the file spells it. ARCHITECTURE is
+`source` for a source package. The FIELDs are those that differ or are in one
+paragraph only, in ascending order. The lines of the paragraphs of OLD are in its
+order. After them come those of the added ones, in the order of NEW.
 
-Paragraphs that are in both files have no line, in whatever order they are. Of the
-others, a paragraph of OLD is changed if NEW has one of the same package, version
-and architecture. It is upgraded if NEW has one of the same package and architecture
-with another version, earlier or later.
+Paragraphs that mean the same are taken away in pairs, the earliest first; in whatever
+order they are, they have no line. Of the others, those of the same package, version
+and architecture are paired, the first in OLD with the first in NEW: these are changed.
+What is left is paired by package and architecture, the latest version in OLD with the
+latest in NEW, the next one with the next one: these are upgraded, or downgraded if the
+version in NEW is the earlier one.
 
 With `--values` the values of these fields are printed below the line. Each line of
 the field's canonical text in OLD is printed after ` -`, then each line of that in
@@ -187,9 +208,9 @@ NEW after ` +`. A removed or added paragraph is printed whole.
 Exit statuses:
   0  nothing is printed: the files have the same paragraphs, in whatever order
   1  the files differ
-  2  a file is rejected: standard error has `first: line N: CODE NAME` for OLD or
+  2  a file is refused: standard error has `first: line N: CODE NAME` for OLD or
      `second: line N: CODE NAME` for NEW, and nothing is printed. If both are
-     rejected, the error of OLD is reported
+     refused, the error of OLD is reported
   3  wrong arguments, out of memory, or a failed read or write
 
 Example:
@@ -294,6 +315,10 @@ After each `met` line there is a line ` NUMBER PACKAGE VERSION ARCHITECTURE` for
 each package that meets the group; NUMBER is its position in the index, from 1.
 In a relation, the former operators `<` and `>` mean `<=` and `>=`.
 
+VERSION is canonical: the same text for all spellings of equal versions. apt looks for
+the text in its lists, so give it what `--spelled` prints: the version as the index
+spells it, here and among the reasons.
+
 With `--why` there are lines ` ALTERNATIVE: ..` below each `unmet` or `ignored` line.
 For an alternative that applies, they say why each package that has or provides its
 name doesn't meet it. For one that doesn't apply, they report each item of its list
@@ -311,7 +336,7 @@ apply to amd64.
 Exit statuses:
   0  no group is unmet
   1  a group is unmet
-  2  an argument or the index is rejected, or an architecture list of the relation
+  2  an argument or the index is refused, or an architecture list of the relation
      has a wildcard: standard error has `line N: CODE NAME`, and nothing is
      printed. Line 0 means an argument
   3  wrong arguments, out of memory, or a failed read or write
@@ -351,7 +376,8 @@ Build-Depends-Indep of source packages. It prints one line for each such group, 
 the order of the paragraphs, then of these fields, then of the groups' texts:
   unmet NUMBER PACKAGE VERSION ARCHITECTURE FIELD GROUP
   unsure NUMBER PACKAGE VERSION ARCHITECTURE FIELD GROUP
-NUMBER is the position of the paragraph in the file, from 1. ARCHITECTURE is `source`
+NUMBER is the position of the paragraph in the file, from 1. VERSION is canonical, or
+with `--spelled` as the file spells it, which apt asks for. ARCHITECTURE is `source`
 for a source package. `query` says when a package meets a group, and when a group is
 ignored. The target architecture of a binary package is its own, or A if its own is
 `all`; that of a source package is A.
@@ -361,19 +387,22 @@ name with a hyphen such as `linux-amd64`, may mean the target or not. `unsure` m
 that the group is unmet in one of these readings, but not in another; `unmet` means
 that it is unmet in each.
 
+Each group is tried by itself: a package without a line may still not be installable,
+because of what its dependencies depend on or conflict with.
+
 Without PATH the file is INDEX, which is opened and read twice. A pipe can't be read
 twice: INDEX can be `-` only if PATH is another file.
 
 Exit statuses:
   0  nothing is printed: each group is met or ignored
   1  a group is unmet or unsure
-  2  the architecture, a profile or a file is rejected: standard error has
+  2  the architecture, a profile or a file is refused: standard error has
      `line 0: 23 BadEnvironment`, `first: line N: CODE NAME` for INDEX or
      `second: line N: CODE NAME` for PATH. The lines of the paragraphs of PATH
      before the error are printed
   3  wrong arguments, out of memory, or a failed read or write
 
-Example: which packages of this index can't be installed from it?
+Example: which dependencies of this index does no package of it meet?
   $ printf 'Package: aa\\nVersion: 1\\nArchitecture: all\\nDepends: bb | cc, dd\\n' > index
   $ printf '\\nPackage: cc\\nVersion: 2\\nArchitecture: amd64\\n' >> index
   $ debctl unmet --arch amd64 index; echo $?
@@ -389,6 +418,8 @@ pub(crate) const UNMET_INDEX_HELP: &str =
 
 pub(crate) const UNMET_PATH_HELP: &str =
     "The file with the dependencies; INDEX if it is missing, standard input if it is `-`";
+
+pub(crate) const SPELLED_HELP: &str = "Print each version as its file spells it";
 
 pub(crate) const WHY_HELP: &str = "Say below each unmet or ignored group why it is";
 
@@ -406,4 +437,5 @@ pub(crate) const RELATION_FILE_HELP: &str =
 pub(crate) const FILES_HELP: &str =
     "A file that lists the paths, each followed by a byte 0; `-` is standard input";
 
-pub(crate) const CODE_HELP: &str = "Explain an error code, from 1 to 23, instead of a file";
+pub(crate) const CODE_HELP: &str =
+    "Explain an error code, from 1 to 23 or by its name, instead of a file";

@@ -1,6 +1,6 @@
 //! The types of a task: what the arguments ask the program to do.
 
-use deb_base::{Code, Doc};
+use deb_base::{Code, Doc, VersionText};
 
 /// What the program is asked to do.
 #[derive(Debug, PartialEq, Eq, Drop)]
@@ -37,6 +37,12 @@ pub enum Job {
     Check(Doc),
     /// `check --all`: write every refusal of a file of this kind.
     CheckAll(Doc),
+    /// `check --complete` or `check --least N`: check whether a file of this kind is accepted and
+    /// meets the demands.
+    CheckWhole {
+        doc: Doc,
+        demands: Demands,
+    },
     /// `normalise`: write the canonical text of a file of this kind.
     Normalise(Doc),
     /// `same`: check whether two files of this kind mean the same.
@@ -45,6 +51,7 @@ pub enum Job {
     Diff {
         kind: DiffKind,
         detail: DiffDetail,
+        versions: VersionText,
     },
     /// `compare`: check whether an operator holds between two versions.
     Compare(String, Cmp, String),
@@ -63,6 +70,7 @@ pub enum Job {
         profiles: Vec<String>,
         relation: String,
         detail: Detail,
+        versions: VersionText,
     },
     /// `query --relation-from`: the same, for the relation that the first file contains. The index
     /// is the second file.
@@ -70,6 +78,7 @@ pub enum Job {
         arch: String,
         profiles: Vec<String>,
         detail: Detail,
+        versions: VersionText,
     },
     /// `unmet`: find the groups of a whole file that no package of an index meets. The index is the
     /// first file, and the file with the groups is the second.
@@ -77,7 +86,17 @@ pub enum Job {
         arch: String,
         profiles: Vec<String>,
         dependents: Dependents,
+        versions: VersionText,
     },
+}
+
+/// What `check` and `audit` demand of a file that is accepted.
+#[derive(Clone, Copy, Debug, PartialEq, Eq)]
+pub struct Demands {
+    /// `--complete`: its last byte is a newline. An empty file has no last byte, and is complete.
+    pub complete: bool,
+    /// `--least N`: it has at least so many paragraphs. 0 demands nothing.
+    pub least: u64,
 }
 
 /// The kind of the files that `diff` compares. Their paragraphs are packages or sources.
@@ -164,14 +183,15 @@ pub enum Explain {
     Version(String),
 }
 
-/// The files that `audit` reads, each of this kind, which of their refusals it prints, and what
-/// ends each record.
+/// The files that `audit` reads, each of this kind, which of their refusals it prints, what ends
+/// each record, and what is demanded of each file: nothing, if it prints every refusal.
 #[derive(Debug, PartialEq, Eq, Drop)]
 pub struct Audit {
     pub doc: Doc,
     pub files: Files,
     pub extent: Extent,
     pub end: LineEnd,
+    pub demands: Demands,
 }
 
 /// Which refusals of a file a command reports.

@@ -15,3 +15,6 @@ pub mod SortReports
 pub mod FaultReports
 pub mod VersionReports
 pub mod UnmetReports
+pub mod Lacks
+pub mod LongFiles
+pub mod WholeReports

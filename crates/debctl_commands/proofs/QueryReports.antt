@@ -1,6 +1,7 @@
 -- From what the parts of a query answer to what the job answers and reports.
 use Rattle.std.proofs.Common.{◌≡◌, ℕ, Bool, List, Option, Some, Result, Ok, Err, inl, inr, refl, subst}
-use Rattle.deb_base.specs.Devices.{read_failures_after}
+use Rattle.std.specs.Io.KnownBytes.{Appends}
+use Rattle.deb_base.specs.Devices.{AppendsFront, read_failures_after}
 use Rattle.deb_base.specs.Faults.{IsReadersFault, RefusedOrMemory}
 use Rattle.deb_base.specs.declared.fault.Fault.{Fault}
 use Rattle.deb_base.specs.declared.fault.Fault.TheVariants.{Refused, Memory, Read, Write}
@@ -11,13 +12,14 @@ use Rattle.deb_control.specs.Documents.{refusal_of}
 use Rattle.deb_index.specs.Listed.{Listed}
 use Rattle.deb_index.specs.Listing.{ListsAll}
 use Rattle.deb_index.specs.Reports.{report}
+use Rattle.deb_index.specs.VersionSpellings.{version_spellings}
 use Rattle.deb_index.specs.declared.index.Index.{Index}
 use Rattle.deb_index.specs.Asked.{Asks, relation_asked}
 use Rattle.deb_index.specs.Questions.{IsGood, Question, RefusesWords, environment_in}
 use Rattle.deb_index.specs.declared.question.Question.{Question as Asked}
-use Rattle.debctl_args.specs.declared.jobs.Detail.{Detail}
-use Rattle.debctl_commands.specs.QueryJob.{AreRefused, QueriesFile, ReportsOver, ReportsQueryRefusal}
+use Rattle.debctl_commands.specs.QueryJob.{AreRefused, QueriesFile, ReportsOver, ReportsQueryRefusal, options_text}
 use Rattle.debctl_commands.specs.Reporting.{ReportsFault}
+use Rattle.debctl_commands.specs.declared.query_job.QueryOptions.{QueryOptions}
 use Rattle.debctl_commands.proofs.FaultReports.{two_is_refusal}
 
 -- the words of a question that was parsed are good
@@ -32,35 +34,35 @@ not_refused q good bad = elim bad [
 ]
 
 -- the words are refused, or out of memory: nothing was read or written
-pub words_refused : {W : Type 0} (detail : Detail) (q : Question) (left : Option (List ℕ)) (count : ℕ) (held : W → Option (List ℕ)) (failures : W → ℕ) (out : W) (fault : Fault)
-    → RefusedOrMemory fault (RefusesWords q) → QueriesFile detail q left count count held failures out out (Err fault)
-words_refused detail q left count held failures out (Refused refusal) is =
+pub words_refused : {W : Type 0} (options : QueryOptions) (q : Question) (left : Option (List ℕ)) (count : ℕ) (held : W → Option (List ℕ)) (failures : W → ℕ) (out : W) (fault : Fault)
+    → RefusedOrMemory fault (RefusesWords q) → QueriesFile options q left count count held failures out out (Err fault)
+words_refused options q left count held failures out (Refused refusal) is =
     record { ok = λ text known. tt; refused = λ text known. inl is; write = λ text known. tt; refusal = inl is; unwritten = refl; reads = refl; writes = refl }
-words_refused detail q left count held failures out Memory is =
+words_refused options q left count held failures out Memory is =
     record { ok = λ text known. tt; refused = λ text known. tt; write = λ text known. tt; refusal = tt; unwritten = refl; reads = refl; writes = refl }
-words_refused detail q left count held failures out Read is = absurd is
-words_refused detail q left count held failures out Write is = absurd is
+words_refused options q left count held failures out Read is = absurd is
+words_refused options q left count held failures out Write is = absurd is
 
 -- a fault of the index: nothing was written
-pub index_refused : {W : Type 0} (detail : Detail) (q : Question) (left : Option (List ℕ)) (count count_after : ℕ) (held : W → Option (List ℕ)) (failures : W → ℕ) (out : W) (fault : Fault)
+pub index_refused : {W : Type 0} (options : QueryOptions) (q : Question) (left : Option (List ℕ)) (count count_after : ℕ) (held : W → Option (List ℕ)) (failures : W → ℕ) (out : W) (fault : Fault)
     → IsGood q → ((text : List ℕ) → left ≡ Some text → IfRefused {T = Index} (Err fault) (λ refusal. refusal_of Packages text ≡ Some refusal)) → IsReadersFault fault IsRefusalOfDocument
-    → count_after ≡ read_failures_after {T = Index} count (Err fault) → QueriesFile detail q left count count_after held failures out out (Err fault)
-index_refused detail q left count count_after held failures out (Refused refusal) good refused is reads =
+    → count_after ≡ read_failures_after {T = Index} count (Err fault) → QueriesFile options q left count count_after held failures out out (Err fault)
+index_refused options q left count count_after held failures out (Refused refusal) good refused is reads =
     record { ok = λ text known. tt; refused = λ text known. inr (inl (record { good = good; refused = refused text known })); write = λ text known. tt; refusal = inr (good, inl is); unwritten = refl; reads = reads; writes = refl }
-index_refused detail q left count count_after held failures out Memory good refused is reads =
+index_refused options q left count count_after held failures out Memory good refused is reads =
     record { ok = λ text known. tt; refused = λ text known. tt; write = λ text known. tt; refusal = tt; unwritten = refl; reads = reads; writes = refl }
-index_refused detail q left count count_after held failures out Read good refused is reads =
+index_refused options q left count count_after held failures out Read good refused is reads =
     record { ok = λ text known. tt; refused = λ text known. tt; write = λ text known. tt; refusal = tt; unwritten = refl; reads = reads; writes = refl }
-index_refused detail q left count count_after held failures out Write good refused is reads = absurd is
+index_refused options q left count count_after held failures out Write good refused is reads = absurd is
 
 -- what is written over an index that was read
-pub queries_over : {W : Type 0} (detail : Detail) (q : Question) (left : Option (List ℕ)) (count count_after : ℕ) (held : W → Option (List ℕ)) (failures : W → ℕ) (out new : W) (answer : Result Bool Fault) (good : IsGood q) (packages : List Listed)
-    → ((text : List ℕ) → left ≡ Some text → ListsAll text packages) → count_after ≡ count → ReportsOver detail packages good.relation (environment_in q) held failures out new answer
-    → QueriesFile detail q left count count_after held failures out new answer
-queries_over detail q left count count_after held failures out new (Ok met) good packages lists reads over =
+pub queries_over : {W : Type 0} (options : QueryOptions) (q : Question) (left : Option (List ℕ)) (count count_after : ℕ) (held : W → Option (List ℕ)) (failures : W → ℕ) (out new : W) (answer : Result Bool Fault) (good : IsGood q) (spellings : List (List ℕ)) (packages : List Listed)
+    → ((text : List ℕ) → left ≡ Some text → ListsAll text packages) → ((text : List ℕ) → left ≡ Some text → spellings ≡ version_spellings text) → count_after ≡ count → ReportsOver options spellings packages good.relation (environment_in q) held failures out new answer
+    → QueriesFile options q left count count_after held failures out new answer
+queries_over options q left count count_after held failures out new (Ok met) good spellings packages lists spelled reads over =
     let answers = report packages good.relation (environment_in q) in
     record {
-      ok = λ text known. record { answers = answers; reported = record { good = good; packages = packages; lists = lists text known; plain = over.ok.0; is = refl }; met_is = over.ok.1; written = over.ok.2 };
+      ok = λ text known. record { answers = answers; reported = record { good = good; packages = packages; lists = lists text known; plain = over.ok.0; is = refl }; met_is = over.ok.1; written = subst (λ texts. Appends (held out) (held new) (options_text options texts packages good.relation (environment_in q))) (spelled text known) over.ok.2 };
       refused = λ text known. tt;
       write = λ text known. tt;
       refusal = tt;
@@ -68,7 +70,7 @@ queries_over detail q left count count_after held failures out new (Ok met) good
       reads = reads;
       writes = over.writes;
     }
-queries_over detail q left count count_after held failures out new (Err (Refused refusal)) good packages lists reads over =
+queries_over options q left count count_after held failures out new (Err (Refused refusal)) good spellings packages lists spelled reads over =
     record {
       ok = λ text known. tt;
       refused = λ text known. inr (inr (record { good = good; packages = packages; lists = lists text known; holds = over.fault.0; is = over.fault.1 }));
@@ -78,15 +80,15 @@ queries_over detail q left count count_after held failures out new (Err (Refused
       reads = reads;
       writes = over.writes;
     }
-queries_over detail q left count count_after held failures out new (Err Memory) good packages lists reads over =
+queries_over options q left count count_after held failures out new (Err Memory) good spellings packages lists spelled reads over =
     record { ok = λ text known. tt; refused = λ text known. tt; write = λ text known. tt; refusal = tt; unwritten = over.fault; reads = reads; writes = over.writes }
-queries_over detail q left count count_after held failures out new (Err Read) good packages lists reads over = absurd over.fault
-queries_over detail q left count count_after held failures out new (Err Write) good packages lists reads over =
+queries_over options q left count count_after held failures out new (Err Read) good spellings packages lists spelled reads over = absurd over.fault
+queries_over options q left count count_after held failures out new (Err Write) good spellings packages lists spelled reads over =
     let answers = report packages good.relation (environment_in q) in
     record {
       ok = λ text known. tt;
       refused = λ text known. tt;
-      write = λ text known. record { answers = answers; reported = record { good = good; packages = packages; lists = lists text known; plain = over.fault.0; is = refl }; written = over.fault.1 };
+      write = λ text known. record { answers = answers; reported = record { good = good; packages = packages; lists = lists text known; plain = over.fault.0; is = refl }; written = subst (λ texts. AppendsFront (held out) (held new) (options_text options texts packages good.relation (environment_in q))) (spelled text known) over.fault.1 };
       refusal = tt;
       unwritten = tt;
       reads = reads;
@@ -94,10 +96,10 @@ queries_over detail q left count count_after held failures out new (Err Write) g
     }
 
 -- status 2
-pub query_refused : {W E : Type 0} (detail : Detail) (q : Question) (left : Option (List ℕ)) (count count_after : ℕ) (held : W → Option (List ℕ)) (failures : W → ℕ) (out out_after : W) (held_err : E → Option (List ℕ)) (failures_err : E → ℕ) (err err_after : E) (status : ℕ) (fault : Fault)
-    → QueriesFile detail q left count count_after held failures out out_after (Err fault) → ReportsFault held_err failures_err err err_after fault status → status ≡ 2
+pub query_refused : {W E : Type 0} (options : QueryOptions) (q : Question) (left : Option (List ℕ)) (count count_after : ℕ) (held : W → Option (List ℕ)) (failures : W → ℕ) (out out_after : W) (held_err : E → Option (List ℕ)) (failures_err : E → ℕ) (err err_after : E) (status : ℕ) (fault : Fault)
+    → QueriesFile options q left count count_after held failures out out_after (Err fault) → ReportsFault held_err failures_err err err_after fault status → status ≡ 2
     → (out_after ≡ out) × ReportsQueryRefusal q left (held_err err) (held_err err_after)
-query_refused detail q left count count_after held failures out out_after held_err failures_err err err_after status fault queries reports is =
+query_refused options q left count count_after held failures out out_after held_err failures_err err err_after status fault queries reports is =
     let two = two_is_refusal held_err failures_err err err_after status fault reports is in
-    let refused : QueriesFile detail q left count count_after held failures out out_after (Err (Refused two.0)) = subst (λ f. QueriesFile detail q left count count_after held failures out out_after (Err f)) two.1 queries in
+    let refused : QueriesFile options q left count count_after held failures out out_after (Err (Refused two.0)) = subst (λ f. QueriesFile options q left count count_after held failures out out_after (Err f)) two.1 queries in
     (refused.unwritten, record { refusal = two.0; is_query_refusal = refused.refusal; refused = refused.refused; reported = two.2 })

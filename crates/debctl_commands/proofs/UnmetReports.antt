@@ -221,7 +221,7 @@ second_three err answer status reports (inr is) = elim (side_status err.held err
 
 module _ {W E : Type 0} (w : Words) (first second : ReaderOfJob) (out : WriterOfJob W) (err : WriterOfJob E) (status : ℕ) where
   -- an answer over an index that was read
-  written_over : (is_empty : Bool) → IsTrue (has_environment w) → (file : EndsAtFile w.dependents (environment_in w) first second out err status)
+  written_over : (is_empty : Bool) → IsTrue (has_environment w) → (file : EndsAtFile w.dependents w.versions (environment_in w) first second out err status)
       → answer_of w.dependents (length file.packages) file.ends.answer ≡ Ok is_empty → WritesUnmetOf w first.text second.text (out.held out.old) (out.held out.new) is_empty
   written_over is_empty environment file is index text knows_index knows_text =
       let s = summary_of w.dependents (length file.packages) file.ends.answer is_empty is in
@@ -268,7 +268,7 @@ module _ {W E : Type 0} (w : Words) (first second : ReaderOfJob) (out : WriterOf
         reported = r.2;
       }))
 
-  refused_file : IsTrue (has_environment w) → EndsAtFile w.dependents (environment_in w) first second out err status → status ≡ 2 → ReportsRefusalOfUnmet w first.text second.text out.held out.old out.new (err.held err.old) (err.held err.new)
+  refused_file : IsTrue (has_environment w) → EndsAtFile w.dependents w.versions (environment_in w) first second out err status → status ≡ 2 → ReportsRefusalOfUnmet w first.text second.text out.held out.old out.new (err.held err.old) (err.held err.new)
   refused_file environment file two =
       let r = second_refused err (answer_of w.dependents (length file.packages) file.ends.answer) status file.ends.reported two in
       let is = refusal_in w.dependents (length file.packages) file.ends.answer r.0 r.1 in

@@ -16,7 +16,7 @@ use Rattle.deb_base.specs.declared.fault.Fault.{Fault}
 use Rattle.deb_base.specs.declared.fault.Fault.TheVariants.{Refused, Memory, Read, Write}
 use Rattle.deb_base.specs.declared.refusal.Refusal.{Refusal}
 use Rattle.deb_explain.specs.Escapes.{escaped_byte}
-use Rattle.deb_explain.specs.Paths.{has_control, path_byte}
+use Rattle.deb_explain.specs.Paths.{is_hidden, path_byte}
 use Rattle.deb_refusals.specs.Lines.{passed_of, refusals_of, total_line}
 use Rattle.deb_refusals.specs.declared.summary.Summary.{Summary}
 use Rattle.debctl_commands.specs.AuditJob.{audit_path, audit_record, record_end}
@@ -173,7 +173,7 @@ records_of_totals :
     ≡ codes "a\nb: ok 0, 0 refused" ++ 0 ∷ [])
     × (total_record Newline [] (record { passed = 4; refused = 30 })
     ≡ codes ": " ++ total_line 4 30)
-unfolding digits is_utf8 chars encode has_control path_byte escaped_byte
+unfolding digits is_utf8 chars encode is_hidden path_byte escaped_byte
 records_of_totals = (refl, refl, refl)
 
 -- for the worked cases: a refusal of a line
@@ -191,7 +191,7 @@ records_of_files :
     × (report_records Newline (codes "b") (cut (bad 3 ∷ [])) ≡ codes "b: line 3: 6 NoColon\n")
     × (report_records Newline (codes "b") (unopened NotFound)
     ≡ codes "b: fault: read: no such file or directory\n")
-unfolding digits is_utf8 chars encode has_control path_byte escaped_byte
+unfolding digits is_utf8 chars encode is_hidden path_byte escaped_byte
 records_of_files = (refl, refl, refl, refl, refl)
 
 statuses_of_files : (n : ℕ) (summary : Summary)
@@ -245,6 +245,39 @@ steps_in_turn = (
   1,
   (refl, refl, refl),
   (7, codes "xabc", 1, 0, (refl, refl, refl), (refl, refl, refl), refl),
+  refl,
+)
+
+-- the highest status may be that of the last path, or of one in between
+highest_status_last : InTurn notes (codes "c" ∷ codes "ab" ∷ []) 7 (codes "x") (Ok 2) 7
+    (codes "xcab")
+highest_status_last = (
+  7,
+  codes "xc",
+  1,
+  2,
+  (refl, refl, refl),
+  (7, codes "xcab", 2, 0, (refl, refl, refl), (refl, refl, refl), refl),
+  refl,
+)
+
+highest_status_between : InTurn notes (codes "c" ∷ codes "abd" ∷ codes "ef" ∷ []) 7 (codes "x")
+    (Ok 3) 7 (codes "xcabdef")
+highest_status_between = (
+  7,
+  codes "xc",
+  1,
+  3,
+  (refl, refl, refl),
+  (
+    7,
+    codes "xcabd",
+    3,
+    2,
+    (refl, refl, refl),
+    (7, codes "xcabdef", 2, 0, (refl, refl, refl), (refl, refl, refl), refl),
+    refl,
+  ),
   refl,
 )
 

@@ -11,10 +11,14 @@ use Rattle.deb_control.specs.Documents.{refusal_of}
 use Rattle.deb_control.specs.Sides.{of_first, of_second}
 use Rattle.deb_control.specs.declared.side.Side.TheVariants.{Second}
 use Rattle.deb_control.specs.declared.side.SideFault.{SideFault}
+use Rattle.deb_base.specs.declared.version_text.VersionText.{VersionText}
+use Rattle.deb_base.specs.declared.version_text.VersionText.TheVariants.{Spelled}
 use Rattle.deb_diff.specs.Kinds.{doc_of}
+use Rattle.deb_diff.specs.Lines.{form_of}
 use Rattle.deb_diff.specs.Written.{IsDiffFault, KeepsHeld, WritesDiff, WritesSome}
 use Rattle.deb_diff.specs.declared.detail.Detail.{Detail}
 use Rattle.deb_diff.specs.declared.detail.Detail.TheVariants as details
+use Rattle.deb_diff.specs.declared.form.Form.{Form}
 use Rattle.deb_diff.specs.declared.kind.Kind.{Kind}
 use Rattle.deb_diff.specs.declared.kind.Kind.TheVariants as kinds
 use Rattle.debctl_args.specs.declared.jobs.DiffDetail.{DiffDetail}
@@ -39,22 +43,27 @@ abbrev pub detail_of : DiffDetail → Detail
 detail_of Fields = details.Fields
 detail_of Values = details.Values
 
+-- and which text of versions
+abbrev pub form_asked : DiffDetail → VersionText → Form
+form_asked detail versions = form_of (detail_of detail) versions
+
 -- ---- the answer
 
 -- What is answered of the old file and of the new one, and what was written: by their readers'
 -- texts, their counts of failed calls before and after, and the writer before and after.
-pub record FindsChanges {W : Type 0} (kind : DiffKind) (detail : DiffDetail)
+pub record FindsChanges {W : Type 0} (kind : DiffKind) (form : Form)
     (old_file new_file : ReaderOfJob) (out : WriterOfJob W) (answer : Result Bool SideFault)
     : Type 0 where
   pub ok : (text other : List ℕ) → old_file.text ≡ Some text → new_file.text ≡ Some other →
-      IfOk answer (WritesDiff (kind_of kind) (detail_of detail) text other
+      IfOk answer (WritesDiff (kind_of kind) form text other
       (out.held out.old) (out.held out.new))
   pub first : (text : List ℕ) → old_file.text ≡ Some text → IfRefused (of_first answer)
       (λ refusal. refusal_of (doc_of (kind_of kind)) text ≡ Some refusal)
   pub second : (text other : List ℕ) → old_file.text ≡ Some text → new_file.text ≡ Some other →
       IfRefused (of_second answer) (RefusesSecond (doc_of (kind_of kind)) text other)
   pub write : (text other : List ℕ) → old_file.text ≡ Some text → new_file.text ≡ Some other →
-      IfWriteFailed (of_second answer) (WritesSome (kind_of kind) (detail_of detail) text other
+      IfWriteFailed (of_second answer)
+      (WritesSome (kind_of kind) form text other
       (out.held out.old) (out.held out.new))
   pub fault : IfErr answer IsDiffFault
   pub unwritten : IfErr answer
@@ -68,11 +77,12 @@ pub record FindsChanges {W : Type 0} (kind : DiffKind) (detail : DiffDetail)
 
 -- If the texts of both readers are known, both files are accepted, exactly the lines that say what
 -- changed were written, and this is whether there is none.
-abbrev pub WritesChanges : DiffKind → DiffDetail → Option (List ℕ) → Option (List ℕ)
+abbrev pub WritesChanges : DiffKind → Form → Option (List ℕ) → Option (List ℕ)
     → Option (List ℕ) → Option (List ℕ) → Bool → Type 0
-WritesChanges kind detail left other old new is_empty =
+WritesChanges kind form left other old new is_empty =
     (text text_too : List ℕ) → left ≡ Some text → other ≡ Some text_too
-    → WritesDiff (kind_of kind) (detail_of detail) text text_too old new is_empty
+    → WritesDiff (kind_of kind) form text text_too old new
+    is_empty
 
 -- One of the files is refused: nothing was written but that line, after the side of the file.
 abbrev pub ReportsRefusalOfDiff : {W : Type 0} → DiffKind → Option (List ℕ) → Option (List ℕ)
@@ -96,10 +106,10 @@ ReportsChanges err (Err side_fault) status =
     ReportsSide err.held err.failures err.old err.new side_fault status
 
 -- There is an answer, and it is reported.
-abbrev pub ReportsDiff : {W E : Type 0} → DiffKind → DiffDetail → ReaderOfJob → ReaderOfJob
+abbrev pub ReportsDiff : {W E : Type 0} → DiffKind → Form → ReaderOfJob → ReaderOfJob
     → WriterOfJob W → WriterOfJob E → ℕ → Type 0
-ReportsDiff kind detail first second out err status =
-    (answer : Result Bool SideFault) × FindsChanges kind detail first second out answer
+ReportsDiff kind form first second out err status =
+    (answer : Result Bool SideFault) × FindsChanges kind form first second out answer
     × ReportsChanges err answer status
 
 -- ---- worked cases
@@ -107,7 +117,8 @@ ReportsDiff kind detail first second out err status =
 arguments_of_diff : (map kind_of (Packages ∷ Binary ∷ Sources ∷ Source ∷ [])
     ≡ kinds.Packages ∷ kinds.Binary ∷ kinds.Sources ∷ kinds.Source ∷ [])
     × (map detail_of (Fields ∷ Values ∷ []) ≡ details.Fields ∷ details.Values ∷ [])
-arguments_of_diff = (refl, refl)
+    × (form_asked Values Spelled ≡ record { detail = details.Values; versions = Spelled })
+arguments_of_diff = (refl, refl, refl)
 
 -- no line is the status 0, a line is 1
 statuses_of_answers : {E : Type 0} (held : E → Option (List ℕ)) (failures : E → ℕ) (old new : E)

@@ -17,7 +17,7 @@ use Rattle.deb_version.specs.declared.fault.BadVersion.TheVariants.{Empty, Upstr
 use Rattle.deb_explain.specs.Explanations.{WhyRefused, explanation_of}
 use Rattle.deb_explain.specs.Causes.{word_cause}
 use Rattle.deb_explain.specs.Escapes.{escaped_byte, front_of, shortened, shown_line}
-use Rattle.deb_explain.specs.Paths.{has_control, path_byte}
+use Rattle.deb_explain.specs.Paths.{is_hidden, path_byte}
 use Rattle.deb_explain.specs.Texts.{explanation_text, file_line, path_line, rule_text, word_text}
 use Rattle.deb_explain.specs.Texts.{code_lines, rule_lines, word_cause_text}
 use Rattle.deb_explain.specs.Texts.{place_of, place_within, reason_of, version_reason}
@@ -61,7 +61,7 @@ WritesFront doc path text old new =
     WritesFrontOfOk doc text old new ⊎ WritesFrontOfExplanation doc path text old new
 
 -- there is no other fault than out of memory, before which the one fact holds, and a write that
--- failed, behind which the other one does
+-- failed, after which the other one does
 abbrev pub IsMemoryOrWrite : Type 0 → Type 0 → Fault → Type 0
 IsMemoryOrWrite memory write fault = MatchFault fault (λ _. ⊥) memory ⊥ write
 
@@ -130,7 +130,7 @@ text_of_bad_word = refl
 
 text_of_unopened : unopened_text (codes "a\tb") NotFound
     ≡ codes "file: a\\tb\nfault: read\nreason: no such file or directory\n"
-unfolding path_line is_utf8 chars encode has_control path_byte escaped_byte
+unfolding path_line is_utf8 chars encode is_hidden path_byte escaped_byte
 text_of_unopened = refl
 
 -- other faults than two are none of these answers

@@ -17,5 +17,7 @@ pub mod Taking
 pub mod Reporting
 pub mod UnmetJob
 pub mod Unopened
+pub mod Verdicts
 pub mod VersionJobs
+pub mod WholeJob
 pub mod UsageReporting

@@ -2,11 +2,11 @@
 use Rattle.std.specs.Prelude.{◌≡◌, ◌==◌, ℕ, cond, List, [], ◌∷◌, ◌++◌, codes, refl}
 use Rattle.std.specs.List.{onto_first}
 
--- the byte behind a path
+-- the byte after a path
 abbrev pub path_end : ℕ
 path_end = 0
 
--- the paths of a list: each has the byte 0 behind it, which may be missing behind the last one
+-- the paths of a list: a byte 0 follows each, and may be missing after the last one
 abbrev pub paths_of : List ℕ → List (List ℕ)
 paths_of [] = []
 paths_of (b ∷ bs) = cond (b == path_end) ([] ∷ paths_of bs) (onto_first b (paths_of bs))

@@ -7,9 +7,11 @@ use Rattle.std.specs.Prelude.{refl}
 use Rattle.std.specs.declared.alloc.Global.{Global}
 use Rattle.deb_base.specs.declared.doc.Doc.TheVariants.{Source}
 use Rattle.deb_base.specs.declared.fault.Fault.TheVariants.{Read}
+use Rattle.deb_base.specs.declared.version_text.VersionText.{VersionText}
 use Rattle.debctl_commands.specs.JobDevices.{ReaderOfJob, WriterOfJob, reader_of}
 use Rattle.debctl_commands.specs.Running.{Reported}
 use Rattle.debctl_commands.specs.Reporting.{ReportsFault}
+use Rattle.debctl_commands.specs.Taking.{TakesFile}
 use Rattle.debctl_commands.specs.declared.file_or_nothing.FileOrNothing.{FileOrNothing}
 use Rattle.debctl_commands.specs.declared.file_or_nothing.FileOrNothing.TheVariants.{File, Nothing}
 use Rattle.debctl_commands.specs.declared.opening.Both.{Both}
@@ -18,7 +20,8 @@ use Rattle.debctl_commands.specs.declared.unopened.Unopened.TheVariants.{NotFoun
 use Rattle.debctl_args.specs.declared.jobs.Call.{Call}
 use Rattle.debctl_args.specs.declared.jobs.Cmp.TheVariants.{Less}
 use Rattle.debctl_args.specs.declared.jobs.Job.{Job}
-use Rattle.debctl_args.specs.declared.jobs.Job.TheVariants.{Check, CheckAll, Normalise, Same, Diff}
+use Rattle.debctl_args.specs.declared.jobs.Job.TheVariants.{Check, CheckAll, CheckWhole, Normalise, Same, Diff}
+use Rattle.debctl_args.specs.declared.jobs.Demands.{Demands}
 use Rattle.debctl_args.specs.declared.jobs.Dependents.{Dependents}
 use Rattle.debctl_args.specs.declared.jobs.Detail.{Detail}
 use Rattle.debctl_args.specs.declared.jobs.DiffDetail.{DiffDetail}
@@ -37,16 +40,18 @@ standard_input = codes "-"
 abbrev pub first_of_job : Job → Option (List ℕ) → Option (List ℕ)
 first_of_job (Check doc) path = Some (unwrap_or path standard_input)
 first_of_job (CheckAll doc) path = Some (unwrap_or path standard_input)
+first_of_job (CheckWhole doc demands) path = Some (unwrap_or path standard_input)
 first_of_job (Normalise doc) path = Some (unwrap_or path standard_input)
 first_of_job (Same doc) path = path
-first_of_job (Diff kind detail) path = path
+first_of_job (Diff kind detail versions) path = path
 first_of_job (Compare left operator right) path = None
 first_of_job (CanonVersion version) path = None
 first_of_job (VersionKey versions) path = None
 first_of_job (Sort reverse) path = Some (unwrap_or path standard_input)
-first_of_job (Query arch profiles relation detail) path = Some (unwrap_or path standard_input)
-first_of_job (QueryFrom arch profiles detail) path = path
-first_of_job (Unmet arch profiles dependents) path = path
+first_of_job (Query arch profiles relation detail versions) path =
+    Some (unwrap_or path standard_input)
+first_of_job (QueryFrom arch profiles detail versions) path = path
+first_of_job (Unmet arch profiles dependents versions) path = path
 
 -- the path of the first file of a call, and that of the second one, where it has one
 abbrev pub first_path : Call → Option (List ℕ)
@@ -107,12 +112,15 @@ file_of_job left failures old new =
     reader_of (left_of left old) (failures_of failures old) (failures_of failures new)
 
 -- A job is done over the files that were opened, the first one as its first and the second one as
--- its second, and its answer is reported; if one couldn't be opened, nothing is written on `out`,
--- and the fault of a failed read is reported.
+-- its second; of each it takes no more than a file may have, and one piece; and its answer is
+-- reported. If one couldn't be opened, nothing is written on `out`, and the fault of a failed read
+-- is reported.
 abbrev pub EndsCall : {R W E : Type 0} → (R → Option (List ℕ)) → (R → ℕ) → Job
     → Result (Both R) Unopened → WriterOfJob W → WriterOfJob E → ℕ → Type 0
 EndsCall {R} left failures job (Ok both) out err status =
-    (after : Both R) × Reported job (file_of_job left failures both.first after.first)
+    (after : Both R) × TakesFile (left_of left both.first) (left_of left after.first)
+    × TakesFile (left_of left both.second) (left_of left after.second)
+    × Reported job (file_of_job left failures both.first after.first)
     (file_of_job left failures both.second after.second) out err status
 EndsCall left failures job (Err why) out err status =
     (out.new ≡ out.old) × ReportsFault err.held err.failures err.old err.new Read status
@@ -127,6 +135,11 @@ first_of_jobs : (first_of_job (Check Source) None ≡ Some (codes "-"))
     × (first_of_job (Same Source) (Some (codes "a")) ≡ Some (codes "a"))
 first_of_jobs = (refl, refl, refl, refl, refl)
 
+first_of_check_whole : (demands : Demands)
+    → (first_of_job (CheckWhole Source demands) None ≡ Some (codes "-"))
+    × (first_of_job (CheckWhole Source demands) (Some (codes "a")) ≡ Some (codes "a"))
+first_of_check_whole demands = (refl, refl)
+
 first_of_check_all : (first_of_job (CheckAll Source) None ≡ Some (codes "-"))
     × (first_of_job (CheckAll Source) (Some (codes "a")) ≡ Some (codes "a"))
 first_of_check_all = (refl, refl)
@@ -139,27 +152,56 @@ first_of_versions : (version : String Global) (versions : Vec (String Global) Gl
 first_of_versions version versions path = (refl, refl, refl)
 
 first_of_query : (arch relation : String Global) (profiles : Vec (String Global) Global)
-    (detail : Detail)
-    → (first_of_job (Query arch profiles relation detail) None ≡ Some (codes "-"))
-    × (first_of_job (Query arch profiles relation detail) (Some (codes "a")) ≡ Some (codes "a"))
-first_of_query arch relation profiles detail = (refl, refl)
+    (detail : Detail) (versions : VersionText)
+    → (first_of_job (Query arch profiles relation detail versions) None ≡ Some (codes "-"))
+    × (first_of_job (Query arch profiles relation detail versions) (Some (codes "a"))
+    ≡ Some (codes "a"))
+first_of_query arch relation profiles detail versions = (refl, refl)
 
 -- the first file of a query with a relation from a file is that file
 first_of_query_from : (arch : String Global) (profiles : Vec (String Global) Global)
-    (detail : Detail)
-    → first_of_job (QueryFrom arch profiles detail) (Some (codes "a")) ≡ Some (codes "a")
-first_of_query_from arch profiles detail = refl
+    (detail : Detail) (versions : VersionText)
+    → first_of_job (QueryFrom arch profiles detail versions) (Some (codes "a")) ≡ Some (codes "a")
+first_of_query_from arch profiles detail versions = refl
 
 -- the first file of `unmet` is the index
 first_of_unmet : (arch : String Global) (profiles : Vec (String Global) Global)
-    (dependents : Dependents)
-    → first_of_job (Unmet arch profiles dependents) (Some (codes "a")) ≡ Some (codes "a")
-first_of_unmet arch profiles dependents = refl
+    (dependents : Dependents) (versions : VersionText)
+    → first_of_job (Unmet arch profiles dependents versions) (Some (codes "a")) ≡ Some (codes "a")
+first_of_unmet arch profiles dependents versions = refl
 
 -- the first file of `diff` is the old one
-first_of_diff : (kind : DiffKind) (detail : DiffDetail)
-    → first_of_job (Diff kind detail) (Some (codes "a")) ≡ Some (codes "a")
-first_of_diff kind detail = refl
+first_of_diff : (kind : DiffKind) (detail : DiffDetail) (versions : VersionText)
+    → first_of_job (Diff kind detail versions) (Some (codes "a")) ≡ Some (codes "a")
+first_of_diff kind detail versions = refl
+
+-- a job over two files reads no standard input in place of a path that it hasn't
+no_first_of_two_files : (arch : String Global) (profiles : Vec (String Global) Global)
+    (kind : DiffKind) (detail : DiffDetail) (shown : Detail) (dependents : Dependents)
+    (versions : VersionText)
+    → (first_of_job (Same Source) None ≡ None)
+    × (first_of_job (Diff kind detail versions) None ≡ None)
+    × (first_of_job (QueryFrom arch profiles shown versions) None ≡ None)
+    × (first_of_job (Unmet arch profiles dependents versions) None ≡ None)
+no_first_of_two_files arch profiles kind detail shown dependents versions =
+    (refl, refl, refl, refl)
+
+-- the second file is that of the second path, for a job over two files as for another
+second_of_unmet : (arch path path_too : String Global) (profiles : Vec (String Global) Global)
+    (dependents : Dependents) (versions : VersionText)
+    → (second_path (record {
+      job = Unmet arch profiles dependents versions;
+      first = Some path;
+      second = Some path_too;
+    })
+    ≡ Some (string_bytes path_too))
+    × (second_path (record {
+      job = Unmet arch profiles dependents versions;
+      first = Some path;
+      second = None;
+    })
+    ≡ None)
+second_of_unmet arch path path_too profiles dependents versions = (refl, refl)
 
 -- the paths of a call are those of its words, in their order
 paths_of_same : (path path_too : String Global)
@@ -192,7 +234,7 @@ opens_in_order : OpensBoth listed (Some (codes "a")) (Some (codes "b")) []
     (codes "a" ∷ codes "b" ∷ [])
 opens_in_order = (codes "a" ∷ [], (refl, refl), (refl, refl))
 
--- behind one that can't be opened none is
+-- after one that can't be opened none is
 stops_at_first : OpensBoth listed (Some (codes "a")) (Some (codes "b")) [] (Err NotFound)
     (codes "a" ∷ [])
 stops_at_first = inl refl

@@ -1,6 +1,7 @@
 -- What the job of `query --relation-from` answers and reports: that of `query`, for the relation
 -- that a file contains. The limit of that file, and its refusal, are this project's own.
-use Rattle.std.specs.Prelude.{◌≡◌, ◌⊎◌, ◌<◌, ◌≤◌, ℕ, ⊤, Bool, List, Option, Some, Result, Err}
+use Rattle.std.proofs.Common.{arith, inl, inr}
+use Rattle.std.specs.Prelude.{◌≡◌, ◌⊎◌, ◌+◌, ◌<◌, ◌≤◌, ℕ, ⊤, Bool, List, Option, Some, Result, Err}
 use Rattle.std.specs.Prelude.{length, codes, refl}
 use Rattle.std.specs.Fmt.{digits}
 use Rattle.std.specs.Io.KnownBytes.{Appends}
@@ -12,10 +13,10 @@ use Rattle.deb_base.specs.declared.code.Code.TheVariants.{ParagraphTooLong}
 use Rattle.deb_base.specs.declared.fault.Fault.{Fault}
 use Rattle.deb_base.specs.declared.refusal.Refusal.{Refusal}
 use Rattle.deb_index.specs.Questions.{Question, RefusesQuery}
-use Rattle.debctl_args.specs.declared.jobs.Detail.{Detail}
 use Rattle.debctl_commands.specs.JobDevices.{ReaderOfJob, WriterOfJob, ReportsFaultOn, ReportsOn}
 use Rattle.debctl_commands.specs.QueryJob.{AreRefused, IsQueryRefusal, QueriesFile, WritesReport}
 use Rattle.debctl_commands.specs.VersionJobs.{verdict_status}
+use Rattle.debctl_commands.specs.declared.query_job.QueryOptions.{QueryOptions}
 
 -- ---- the relation
 
@@ -42,11 +43,11 @@ pub record RefusesLong (left : Option (List ℕ)) (refusal : Refusal) : Type 0 w
 -- file, and `other` that of the index, where they are known.
 
 -- Exactly the report was written, and the answer is whether no group is unmet.
-abbrev pub WritesReportFrom : Detail → (List ℕ → Question) → Option (List ℕ) → Option (List ℕ)
+abbrev pub WritesReportFrom : QueryOptions → (List ℕ → Question) → Option (List ℕ) → Option (List ℕ)
     → Option (List ℕ) → Option (List ℕ) → Bool → Type 0
-WritesReportFrom detail ask left other old new met =
+WritesReportFrom options ask left other old new met =
     (relation text : List ℕ) → left ≡ Some relation → other ≡ Some text
-    → (length relation ≤ paragraph_limit) × WritesReport detail (ask relation) text old new met
+    → (length relation ≤ paragraph_limit) × WritesReport options (ask relation) text old new met
 
 -- The file of the relation is too long, or the query of its relation is refused.
 abbrev pub RefusesFrom : (List ℕ → Question) → List ℕ → List ℕ → Refusal → Type 0
@@ -76,14 +77,14 @@ pub record ReportsRefusalFrom (ask : List ℕ → Question) (left other : Option
   pub reported : Appends err err_after (refusal_line refusal)
 
 -- A relation was read, and the query of it has an answer, which is reported.
-pub record ReportsReadFrom {W E : Type 0} (detail : Detail) (ask : List ℕ → Question)
+pub record ReportsReadFrom {W E : Type 0} (options : QueryOptions) (ask : List ℕ → Question)
     (first second : ReaderOfJob) (out : WriterOfJob W) (err : WriterOfJob E) (status : ℕ)
     : Type 0 where
   pub relation : List ℕ
   pub read : IsRead first.text relation
   pub unfailed : first.failures_after ≡ first.failures
   pub answer : Result Bool Fault
-  pub queries : QueriesFile detail (ask relation) second.text second.failures
+  pub queries : QueriesFile options (ask relation) second.text second.failures
       second.failures_after out.held out.failures out.old out.new answer
   pub reported : ReportsOn err verdict_status answer status
 
@@ -98,10 +99,10 @@ pub record ReportsUnreadFrom {W E : Type 0} (first second : ReaderOfJob)
   pub unwritten : out.new ≡ out.old
   pub reported : ReportsFaultOn err fault ended
 
-abbrev pub ReportsFrom : {W E : Type 0} → Detail → (List ℕ → Question) → ReaderOfJob
+abbrev pub ReportsFrom : {W E : Type 0} → QueryOptions → (List ℕ → Question) → ReaderOfJob
     → ReaderOfJob → WriterOfJob W → WriterOfJob E → ℕ → Type 0
-ReportsFrom detail ask first second out err status =
-    ReportsReadFrom detail ask first second out err status
+ReportsFrom options ask first second out err status =
+    ReportsReadFrom options ask first second out err status
     ⊎ ReportsUnreadFrom first second out err status
 
 line_of_long_relation : refusal_line long_relation ≡ codes "line 0: 8 ParagraphTooLong\n"
@@ -111,3 +112,38 @@ line_of_long_relation = refl
 -- the length of a text is that of all its bytes, a last newline included
 long_texts : (text : List ℕ) → IsLong text ≡ (paragraph_limit < length text)
 long_texts text = refl
+
+-- a file of as many bytes as a paragraph may have isn't long, and one of one byte more is
+limit_of_relations : (text : List ℕ) → length text ≡ paragraph_limit → IsLong text → ⊥
+limit_of_relations text is long = omega (arith, is, long)
+
+beyond_the_limit : (text : List ℕ) → length text ≡ paragraph_limit + 1 → IsLong text
+beyond_the_limit text is = omega (arith, is)
+
+-- what was read is never longer than that, and a report is about no longer relation
+read_is_short : (left : Option (List ℕ)) (relation : List ℕ) → IsRead left relation
+    → length relation ≤ paragraph_limit
+read_is_short left relation read = read.short
+
+reported_is_short : (options : QueryOptions) (ask : List ℕ → Question) (relation text : List ℕ)
+    (old new : Option (List ℕ)) (met : Bool)
+    → WritesReportFrom options ask (Some relation) (Some text) old new met
+    → length relation ≤ paragraph_limit
+reported_is_short options ask relation text old new met writes = (writes relation text refl refl).0
+
+-- of a longer one only its length is refused, and a shorter one is refused by its query
+refused_at_the_limit : (ask : List ℕ → Question) (relation text : List ℕ) (refusal : Refusal)
+    → length relation ≡ paragraph_limit → RefusesFrom ask relation text refusal
+    → RefusesQuery (ask relation) text refusal
+refused_at_the_limit ask relation text refusal is refuses = elim refuses [
+  | inl long ↦ absurd (limit_of_relations relation is long.0)
+  | inr short ↦ short.1
+]
+
+refused_beyond : (ask : List ℕ → Question) (relation text : List ℕ) (refusal : Refusal)
+    → length relation ≡ paragraph_limit + 1 → RefusesFrom ask relation text refusal
+    → refusal ≡ long_relation
+refused_beyond ask relation text refusal is refuses = elim refuses [
+  | inl long ↦ long.1
+  | inr short ↦ absurd (omega (arith, is, short.0))
+]

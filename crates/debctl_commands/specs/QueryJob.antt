@@ -11,6 +11,8 @@ use Rattle.deb_base.specs.Faults.{MatchFault}
 use Rattle.deb_base.specs.Lines.{refusal_line}
 use Rattle.deb_base.specs.declared.fault.Fault.{Fault}
 use Rattle.deb_base.specs.declared.refusal.Refusal.{Refusal}
+use Rattle.deb_base.specs.declared.version_text.VersionText.{VersionText}
+use Rattle.deb_base.specs.declared.version_text.VersionText.TheVariants.{Canonical, Spelled}
 use Rattle.deb_relation.specs.Applying.{Environment}
 use Rattle.deb_relation.specs.Grammar.{SpellsRelation}
 use Rattle.deb_relation.specs.Meaning.{Relation}
@@ -22,11 +24,13 @@ use Rattle.deb_index.specs.Questions.{IsGood, IsReported, Question, RefusesQuery
 use Rattle.deb_index.specs.Questions.{bad_environment, bad_relation, environment_in}
 use Rattle.deb_index.specs.Questions.{has_environment, question, wildcard}
 use Rattle.deb_index.specs.Reports.{Answer, all_met, report}
-use Rattle.deb_index.specs.ReportText.{report_text}
-use Rattle.deb_index.specs.Why.{detailed_report, detailed_text}
+use Rattle.deb_index.specs.ReportText.{VersionShown, report_text, report_text_by, version_shown}
+use Rattle.deb_index.specs.VersionSpellings.{version_spellings}
+use Rattle.deb_index.specs.Why.{detailed_report, detailed_report_by, detailed_text, detailed_text_by}
 use Rattle.debctl_args.specs.declared.jobs.Detail.{Detail}
 use Rattle.debctl_args.specs.declared.jobs.Detail.TheVariants.{Reasons, Verdicts}
 use Rattle.debctl_commands.specs.DocumentJobs.{IfNotWritten}
+use Rattle.debctl_commands.specs.declared.query_job.QueryOptions.{QueryOptions}
 use Rattle.debctl_commands.specs.declared.query_job.QueryWords.{QueryWords}
 
 -- the question that the arguments which the code holds ask about a relation
@@ -49,44 +53,56 @@ IsQueryRefusal q refusal =
 
 -- ---- the answer
 
+abbrev pub query_options : Detail → VersionText → QueryOptions
+query_options detail versions = record { detail = detail; versions = versions }
+
 -- what is written of a relation over packages: the report, or with `--why` the report with reasons
-abbrev pub detail_text : Detail → List Listed → Relation → Environment → List ℕ
-detail_text Verdicts packages relation environment =
-    report_text (report packages relation environment)
-detail_text Reasons packages relation environment =
-    detailed_text (detailed_report packages relation environment)
+abbrev pub detail_text : Detail → VersionShown → List Listed → Relation → Environment → List ℕ
+detail_text Verdicts shown packages relation environment =
+    report_text_by shown (report packages relation environment)
+detail_text Reasons shown packages relation environment =
+    detailed_text_by shown (detailed_report_by shown packages relation environment)
+
+-- the same, where a file spells the versions of the packages by these texts, which are written with
+-- `--spelled`
+abbrev pub options_text : QueryOptions → List (List ℕ) → List Listed → Relation → Environment
+    → List ℕ
+options_text options spellings packages relation environment =
+    detail_text options.detail (version_shown options.versions spellings) packages relation
+    environment
 
 -- what is written for a question that has these answers
-abbrev pub text_reported : Detail → {q : Question} → {text : List ℕ} → {answers : List Answer}
+abbrev pub text_reported : QueryOptions → {q : Question} → {text : List ℕ} → {answers : List Answer}
     → IsReported q text answers → List ℕ
-text_reported detail {q} reported =
-    detail_text detail reported.packages reported.good.relation (environment_in q)
+text_reported options {q} {text} reported =
+    options_text options (version_spellings text) reported.packages reported.good.relation
+    (environment_in q)
 
 -- Exactly the report was written, and the answer is whether no group is unmet; or a prefix of it
 -- was, before a write failed.
-pub record WritesReport (detail : Detail) (q : Question) (text : List ℕ)
+pub record WritesReport (options : QueryOptions) (q : Question) (text : List ℕ)
     (old new : Option (List ℕ)) (met : Bool) : Type 0 where
   pub answers : List Answer
   pub reported : IsReported q text answers
   pub met_is : met ≡ all_met answers
-  pub written : Appends old new (text_reported detail reported)
+  pub written : Appends old new (text_reported options reported)
 
-pub record WritesFrontOfReport (detail : Detail) (q : Question) (text : List ℕ)
+pub record WritesFrontOfReport (options : QueryOptions) (q : Question) (text : List ℕ)
     (old new : Option (List ℕ)) : Type 0 where
   pub answers : List Answer
   pub reported : IsReported q text answers
-  pub written : AppendsFront old new (text_reported detail reported)
+  pub written : AppendsFront old new (text_reported options reported)
 
 -- The answer to `query`, and what it wrote: by the reader's text, its count of failed calls before
 -- and after, and the writer before and after.
-pub record QueriesFile {W : Type 0} (detail : Detail) (q : Question) (left : Option (List ℕ))
+pub record QueriesFile {W : Type 0} (options : QueryOptions) (q : Question) (left : Option (List ℕ))
     (count count_after : ℕ) (held : W → Option (List ℕ)) (failures : W → ℕ) (old new : W)
     (answer : Result Bool Fault) : Type 0 where
   pub ok : (text : List ℕ) → left ≡ Some text →
-      IfOk answer (WritesReport detail q text (held old) (held new))
+      IfOk answer (WritesReport options q text (held old) (held new))
   pub refused : (text : List ℕ) → left ≡ Some text → IfRefused answer (RefusesQuery q text)
   pub write : (text : List ℕ) → left ≡ Some text →
-      IfWriteFailed answer (WritesFrontOfReport detail q text (held old) (held new))
+      IfWriteFailed answer (WritesFrontOfReport options q text (held old) (held new))
   pub refusal : IfRefused answer (IsQueryRefusal q)
   pub unwritten : IfNotWritten answer (new ≡ old)
   pub reads : count_after ≡ read_failures_after count answer
@@ -94,19 +110,22 @@ pub record QueriesFile {W : Type 0} (detail : Detail) (q : Question) (left : Opt
 
 -- ---- the parts of the answer
 
--- What is written of a relation over the packages of an index: the report, or a prefix of it before
--- a write failed; nothing, where a list of the relation holds a wildcard or out of memory.
-pub record ReportsOver {W : Type 0} (detail : Detail) (packages : List Listed)
-    (relation : Relation) (environment : Environment) (held : W → Option (List ℕ))
-    (failures : W → ℕ) (old new : W) (answer : Result Bool Fault) : Type 0 where
+-- What is written of a relation over the packages of an index, whose file spells their versions by
+-- these texts: the report, or a prefix of it before a write failed; nothing, where a list of the
+-- relation holds a wildcard or out of memory.
+pub record ReportsOver {W : Type 0} (options : QueryOptions) (spellings : List (List ℕ))
+    (packages : List Listed) (relation : Relation) (environment : Environment)
+    (held : W → Option (List ℕ)) (failures : W → ℕ) (old new : W) (answer : Result Bool Fault)
+    : Type 0 where
   pub ok : IfOk answer (λ met. IsFalse (some_wildcard relation)
       × (met ≡ all_met (report packages relation environment))
-      × Appends (held old) (held new) (detail_text detail packages relation environment))
+      × Appends (held old) (held new)
+      (options_text options spellings packages relation environment))
   pub fault : IfErr answer (λ fault. MatchFault fault
       (λ refusal. IsTrue (some_wildcard relation) × (refusal ≡ wildcard) × (new ≡ old))
       (new ≡ old) ⊥
       (IsFalse (some_wildcard relation) × AppendsFront (held old) (held new)
-      (detail_text detail packages relation environment)))
+      (options_text options spellings packages relation environment)))
   pub writes : failures new ≡ write_failures_after (failures old) answer
 
 -- ---- reporting
@@ -130,19 +149,39 @@ line_of_wildcard : refusal_line wildcard ≡ codes "line 0: 22 Wildcard\n"
 unfolding digits
 line_of_wildcard = refl
 
--- with reasons and without
-worked-texts : (packages : List Listed) (relation : Relation) (environment : Environment)
-    → (detail_text Verdicts packages relation environment
+-- with reasons and without; the texts by which the file spells versions change nothing
+worked-texts : (spellings : List (List ℕ)) (packages : List Listed) (relation : Relation)
+    (environment : Environment)
+    → (options_text (query_options Verdicts Canonical) spellings packages relation environment
     ≡ report_text (report packages relation environment))
-    × (detail_text Reasons packages relation environment
+    × (options_text (query_options Reasons Canonical) spellings packages relation environment
     ≡ detailed_text (detailed_report packages relation environment))
-worked-texts packages relation environment = (refl, refl)
+worked-texts spellings packages relation environment = (refl, refl)
+
+-- with these texts
+worked-spelled : (spellings : List (List ℕ)) (packages : List Listed) (relation : Relation)
+    (environment : Environment)
+    → (options_text (query_options Verdicts Spelled) spellings packages relation environment
+    ≡ report_text_by (version_shown Spelled spellings) (report packages relation environment))
+    × (options_text (query_options Reasons Spelled) spellings packages relation environment
+    ≡ detailed_text_by (version_shown Spelled spellings)
+    (detailed_report_by (version_shown Spelled spellings) packages relation environment))
+worked-spelled spellings packages relation environment = (refl, refl)
 
 -- of the relation and the environment that are asked
 worked-reported : (q : Question) (text : List ℕ) (answers : List Answer)
-    (reported : IsReported q text answers) → text_reported Verdicts reported
+    (reported : IsReported q text answers)
+    → text_reported (query_options Verdicts Canonical) reported
     ≡ report_text (report reported.packages reported.good.relation (environment_in q))
 worked-reported q text answers reported = refl
+
+-- and the texts are those of the file
+worked-reported_as_spelled : (q : Question) (text : List ℕ) (answers : List Answer)
+    (reported : IsReported q text answers)
+    → text_reported (query_options Verdicts Spelled) reported
+    ≡ report_text_by (version_shown Spelled (version_spellings text))
+    (report reported.packages reported.good.relation (environment_in q))
+worked-reported_as_spelled q text answers reported = refl
 
 -- the arguments that the code holds are those of the question
 question_of_arguments : (given : QueryWords) (relation : List ℕ) (one other : String Global)

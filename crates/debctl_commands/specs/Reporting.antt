@@ -56,7 +56,7 @@ Reports wanted held failures old new (Ok answer) status = (status ≡ wanted ans
 Reports wanted held failures old new (Err fault) status =
     ReportsFault held failures old new fault status
 
--- the fault that is reported behind the lines of a path that can't be opened
+-- the fault that is reported after the lines of a path that can't be opened
 abbrev pub fault_behind : Result ⊤ Fault → Fault
 fault_behind (Ok _) = Read
 fault_behind (Err fault) = fault

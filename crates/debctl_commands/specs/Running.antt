@@ -7,6 +7,7 @@ use Rattle.std.specs.declared.alloc.Global.{Global}
 use Rattle.deb_base.specs.Lines.{refusal_line}
 use Rattle.deb_base.specs.declared.doc.Doc.{Doc}
 use Rattle.deb_base.specs.declared.fault.Fault.{Fault}
+use Rattle.deb_base.specs.declared.version_text.VersionText.{VersionText}
 use Rattle.deb_control.specs.Calls.{WritesCanonical}
 use Rattle.deb_control.specs.declared.side.SideFault.{SideFault}
 use Rattle.deb_sort.specs.Files.{SortsFile, WritesSorted}
@@ -14,7 +15,7 @@ use Rattle.deb_refusals.specs.Lines.{file_lines}
 use Rattle.deb_refusals.specs.declared.summary.Summary.{Summary}
 use Rattle.debctl_commands.specs.AllJobs.{ChecksAll, WritesRefusals, WritesUnrefused, summary_status}
 use Rattle.debctl_commands.specs.DiffJob.{IsRefusedOld, ReportsDiff, ReportsRefusalOfDiff}
-use Rattle.debctl_commands.specs.DiffJob.{WritesChanges}
+use Rattle.debctl_commands.specs.DiffJob.{WritesChanges, form_asked}
 use Rattle.debctl_commands.specs.DocumentJobs.{ChecksFile, NormalisesFile, ReportsRefusal}
 use Rattle.debctl_commands.specs.DocumentJobs.{ReportsRefusalBehind, WritesOk}
 use Rattle.deb_index.specs.Questions.{Question, question}
@@ -22,7 +23,7 @@ use Rattle.debctl_commands.specs.KeyJob.{Keys, ReportsNoVersion, WritesKeys}
 use Rattle.debctl_commands.specs.QueryFrom.{AreRefusedFrom, ReportsFrom, ReportsRefusalFrom}
 use Rattle.debctl_commands.specs.QueryFrom.{WritesReportFrom}
 use Rattle.debctl_commands.specs.QueryJob.{AreRefused, QueriesFile, ReportsQueryRefusal}
-use Rattle.debctl_commands.specs.QueryJob.{WritesReport}
+use Rattle.debctl_commands.specs.QueryJob.{WritesReport, query_options}
 use Rattle.debctl_commands.specs.SameJob.{ComparesFiles, ReportsComparison, ReportsRefusedSide}
 use Rattle.debctl_commands.specs.SameJob.{WritesSame}
 use Rattle.debctl_commands.specs.SortJob.{ReportsLineRefusal}
@@ -30,11 +31,14 @@ use Rattle.debctl_commands.specs.UnmetJob.{AreRefusedBefore, ReportsRefusalOfUnm
 use Rattle.debctl_commands.specs.UnmetJob.{Words, WritesUnmetOf, has_environment, words}
 use Rattle.debctl_commands.specs.JobDevices.{ReaderOfJob, WriterOfJob, ReportsOn}
 use Rattle.debctl_commands.specs.Reporting.{done_status}
+use Rattle.debctl_commands.specs.WholeJob.{ChecksWhole, ReportsAnswered, ReportsLack, WritesWhole}
+use Rattle.debctl_commands.specs.declared.verdict.Verdict.{Verdict}
 use Rattle.debctl_commands.specs.VersionJobs.{bad_version, verdict_status, Canonicalises, Compared}
 use Rattle.debctl_commands.specs.VersionJobs.{Compares, IsNoVersion, WritesLine}
 use Rattle.debctl_args.specs.declared.jobs.Cmp.{Cmp}
 use Rattle.debctl_args.specs.declared.jobs.Job.{Job}
-use Rattle.debctl_args.specs.declared.jobs.Job.TheVariants.{Check, CheckAll, Normalise, Same, Diff}
+use Rattle.debctl_args.specs.declared.jobs.Demands.{Demands}
+use Rattle.debctl_args.specs.declared.jobs.Job.TheVariants.{Check, CheckAll, CheckWhole, Normalise, Same, Diff}
 use Rattle.debctl_args.specs.declared.jobs.Dependents.{Dependents}
 use Rattle.debctl_args.specs.declared.jobs.Detail.{Detail}
 use Rattle.debctl_args.specs.declared.jobs.DiffDetail.{DiffDetail}
@@ -53,9 +57,10 @@ asked_of_file arch profiles relation =
     question (string_bytes arch) (map string_bytes profiles.items) relation
 
 -- the words of `unmet`
-abbrev pub words_of_unmet : String Global → Vec (String Global) Global → Dependents → Words
-words_of_unmet arch profiles dependents =
-    words (string_bytes arch) (map string_bytes profiles.items) dependents
+abbrev pub words_of_unmet : String Global → Vec (String Global) Global → Dependents → VersionText
+    → Words
+words_of_unmet arch profiles dependents versions =
+    words (string_bytes arch) (map string_bytes profiles.items) dependents versions
 
 -- Of the readers of the first file and of the second, `left` and `other` are the texts, where
 -- they are known.
@@ -70,12 +75,14 @@ Done (Check doc) left other held failures out new =
 Done (CheckAll doc) left other held failures out new =
     (text : List ℕ) → left ≡ Some text
     → WritesUnrefused doc text (file_lines doc text) (held out) (held new)
+Done (CheckWhole doc demands) left other held failures out new =
+    (text : List ℕ) → left ≡ Some text → WritesWhole doc demands text (held out) (held new)
 Done (Normalise doc) left other held failures out new =
     (text : List ℕ) → left ≡ Some text → (n : ℕ) × WritesCanonical doc text n (held out) (held new)
 Done (Same doc) left other held failures out new =
     WritesSame doc left other (held out) (held new) true
-Done (Diff kind detail) left other held failures out new =
-    WritesChanges kind detail left other (held out) (held new) true
+Done (Diff kind detail versions) left other held failures out new =
+    WritesChanges kind (form_asked detail versions) left other (held out) (held new) true
 Done (Compare former operator latter) left other held failures out new =
     (new ≡ out) × Compared (string_bytes former) operator (string_bytes latter) true
 Done (CanonVersion version) left other held failures out new =
@@ -84,13 +91,16 @@ Done (VersionKey versions) left other held failures out new =
     WritesKeys (map string_bytes versions.items) held failures out new
 Done (Sort reverse) left other held failures out new =
     (text : List ℕ) → left ≡ Some text → WritesSorted reverse text (held out) (held new)
-Done (Query arch profiles relation detail) left other held failures out new =
+Done (Query arch profiles relation detail versions) left other held failures out new =
     (text : List ℕ) → left ≡ Some text
-    → WritesReport detail (asked arch profiles relation) text (held out) (held new) true
-Done (QueryFrom arch profiles detail) left other held failures out new =
-    WritesReportFrom detail (asked_of_file arch profiles) left other (held out) (held new) true
-Done (Unmet arch profiles dependents) left other held failures out new =
-    WritesUnmetOf (words_of_unmet arch profiles dependents) left other (held out) (held new) true
+    → WritesReport (query_options detail versions) (asked arch profiles relation) text
+    (held out) (held new) true
+Done (QueryFrom arch profiles detail versions) left other held failures out new =
+    WritesReportFrom (query_options detail versions) (asked_of_file arch profiles) left other
+    (held out) (held new) true
+Done (Unmet arch profiles dependents versions) left other held failures out new =
+    WritesUnmetOf (words_of_unmet arch profiles dependents versions) left other (held out)
+    (held new) true
 
 -- Status 1: `different`, the lines of `diff`, no, for which nothing was written, a report with an
 -- unmet group, and the lines of `unmet`.
@@ -98,27 +108,32 @@ abbrev pub SaysNo : {W : Type 0} → Job → Option (List ℕ) → Option (List 
     (W → Option (List ℕ)) → W → W → Type 0
 SaysNo (Check doc) left other held out new = ⊥
 SaysNo (CheckAll doc) left other held out new = ⊥
+SaysNo (CheckWhole doc demands) left other held out new = ⊥
 SaysNo (Normalise doc) left other held out new = ⊥
 SaysNo (Same doc) left other held out new = WritesSame doc left other (held out) (held new) false
-SaysNo (Diff kind detail) left other held out new =
-    WritesChanges kind detail left other (held out) (held new) false
+SaysNo (Diff kind detail versions) left other held out new =
+    WritesChanges kind (form_asked detail versions) left other (held out) (held new) false
 SaysNo (Compare former operator latter) left other held out new =
     (new ≡ out) × Compared (string_bytes former) operator (string_bytes latter) false
 SaysNo (CanonVersion version) left other held out new = ⊥
 SaysNo (VersionKey versions) left other held out new = ⊥
 SaysNo (Sort reverse) left other held out new = ⊥
-SaysNo (Query arch profiles relation detail) left other held out new =
+SaysNo (Query arch profiles relation detail versions) left other held out new =
     (text : List ℕ) → left ≡ Some text
-    → WritesReport detail (asked arch profiles relation) text (held out) (held new) false
-SaysNo (QueryFrom arch profiles detail) left other held out new =
-    WritesReportFrom detail (asked_of_file arch profiles) left other (held out) (held new) false
-SaysNo (Unmet arch profiles dependents) left other held out new =
-    WritesUnmetOf (words_of_unmet arch profiles dependents) left other (held out) (held new) false
+    → WritesReport (query_options detail versions) (asked arch profiles relation) text
+    (held out) (held new) false
+SaysNo (QueryFrom arch profiles detail versions) left other held out new =
+    WritesReportFrom (query_options detail versions) (asked_of_file arch profiles) left other
+    (held out) (held new) false
+SaysNo (Unmet arch profiles dependents versions) left other held out new =
+    WritesUnmetOf (words_of_unmet arch profiles dependents versions) left other (held out)
+    (held new) false
 
 -- Status 2: a file or a version is refused, exactly the refusal's line was written on `err`, by
 -- `same`, `diff` and `unmet` after the side of the file, and nothing on `out` but the canonical
 -- text or the lines of the paragraphs before the first that fails, by `normalise` and `unmet`; or,
--- by `check --all`, all lines of the file were written on `out`, and nothing on `err`.
+-- by `check --all`, all lines of the file were written on `out`, and nothing on `err`; or, by
+-- `check` with demands, the file doesn't meet them, and the line that says so was written on `err`.
 abbrev pub IsRefused : {W : Type 0} → Job → Option (List ℕ) → Option (List ℕ) →
     (W → Option (List ℕ)) → W → W → Option (List ℕ) → Option (List ℕ) → Type 0
 IsRefused (Check doc) left other held out new err err_after =
@@ -126,11 +141,13 @@ IsRefused (Check doc) left other held out new err err_after =
 IsRefused (CheckAll doc) left other held out new err err_after =
     (err_after ≡ err) × ((text : List ℕ) → left ≡ Some text
     → WritesRefusals doc text (file_lines doc text) (held out) (held new))
+IsRefused (CheckWhole doc demands) left other held out new err err_after =
+    (new ≡ out) × ReportsLack doc demands left err err_after
 IsRefused (Normalise doc) left other held out new err err_after =
     ReportsRefusalBehind doc left (held out) (held new) err err_after
 IsRefused (Same doc) left other held out new err err_after =
     (new ≡ out) × ReportsRefusedSide doc left other err err_after
-IsRefused (Diff kind detail) left other held out new err err_after =
+IsRefused (Diff kind detail versions) left other held out new err err_after =
     ReportsRefusalOfDiff kind left other held out new err err_after
 IsRefused (Compare former operator latter) left other held out new err err_after =
     (new ≡ out) × (IsNoVersion (string_bytes former) ⊎ IsNoVersion (string_bytes latter))
@@ -142,13 +159,13 @@ IsRefused (VersionKey versions) left other held out new err err_after =
     (new ≡ out) × ReportsNoVersion (map string_bytes versions.items) err err_after
 IsRefused (Sort reverse) left other held out new err err_after =
     (new ≡ out) × ReportsLineRefusal left err err_after
-IsRefused (Query arch profiles relation detail) left other held out new err err_after =
+IsRefused (Query arch profiles relation detail versions) left other held out new err err_after =
     (new ≡ out) × ReportsQueryRefusal (asked arch profiles relation) left err err_after
-IsRefused (QueryFrom arch profiles detail) left other held out new err err_after =
+IsRefused (QueryFrom arch profiles detail versions) left other held out new err err_after =
     (new ≡ out) × ReportsRefusalFrom (asked_of_file arch profiles) left other err err_after
-IsRefused (Unmet arch profiles dependents) left other held out new err err_after =
-    ReportsRefusalOfUnmet (words_of_unmet arch profiles dependents) left other held out new err
-    err_after
+IsRefused (Unmet arch profiles dependents versions) left other held out new err err_after =
+    ReportsRefusalOfUnmet (words_of_unmet arch profiles dependents versions) left other held out new
+    err err_after
 
 -- Whatever the status: there is an answer to the job, and it is reported.
 abbrev pub Reported : {W E : Type 0} → Job → ReaderOfJob → ReaderOfJob → WriterOfJob W
@@ -163,6 +180,11 @@ Reported (CheckAll doc) first second out err status =
     × ChecksAll doc first.text first.failures first.failures_after
     out.held out.failures out.old out.new answer
     × ReportsOn err summary_status answer status
+Reported (CheckWhole doc demands) first second out err status =
+    (answer : Result Verdict Fault)
+    × ChecksWhole doc demands first.text first.failures first.failures_after
+    out.held out.failures out.old out.new answer
+    × ReportsAnswered err.held err.failures err.old err.new answer status
 Reported (Normalise doc) first second out err status =
     (answer : Result ℕ Fault)
     × NormalisesFile doc first.text first.failures first.failures_after
@@ -174,8 +196,8 @@ Reported (Same doc) first second out err status =
     first.failures first.failures_after second.failures second.failures_after answer
     × ReportsComparison out.held out.failures out.old out.new err.held err.failures err.old err.new
     answer status
-Reported (Diff kind detail) first second out err status =
-    ReportsDiff kind detail first second out err status
+Reported (Diff kind detail versions) first second out err status =
+    ReportsDiff kind (form_asked detail versions) first second out err status
 Reported (Compare left operator right) first second out err status =
     (answer : Result Bool Fault)
     × Compares (string_bytes left) operator (string_bytes right) answer × (out.new ≡ out.old)
@@ -193,88 +215,94 @@ Reported (Sort reverse) first second out err status =
     × SortsFile reverse first.text first.failures first.failures_after
     out.held out.failures out.old out.new answer
     × ReportsOn err done_status answer status
-Reported (Query arch profiles relation detail) first second out err status =
+Reported (Query arch profiles relation detail versions) first second out err status =
     (answer : Result Bool Fault)
-    × QueriesFile detail (asked arch profiles relation) first.text first.failures
+    × QueriesFile (query_options detail versions) (asked arch profiles relation) first.text
+    first.failures
     first.failures_after out.held out.failures out.old out.new answer
     × ReportsOn err verdict_status answer status
-Reported (QueryFrom arch profiles detail) first second out err status =
-    ReportsFrom detail (asked_of_file arch profiles) first second out err status
-Reported (Unmet arch profiles dependents) first second out err status =
-    ReportsUnmet (words_of_unmet arch profiles dependents) first second out err status
+Reported (QueryFrom arch profiles detail versions) first second out err status =
+    ReportsFrom (query_options detail versions) (asked_of_file arch profiles) first second
+    out err status
+Reported (Unmet arch profiles dependents versions) first second out err status =
+    ReportsUnmet (words_of_unmet arch profiles dependents versions) first second out err status
 
 -- A job that reads no file leaves the first reader as it was.
 abbrev pub IfUnread : Job → Type 0 → Type 0
 IfUnread (Check doc) P = Unit {0}
 IfUnread (CheckAll doc) P = Unit {0}
+IfUnread (CheckWhole doc demands) P = Unit {0}
 IfUnread (Normalise doc) P = Unit {0}
 IfUnread (Same doc) P = Unit {0}
-IfUnread (Diff kind detail) P = Unit {0}
+IfUnread (Diff kind detail versions) P = Unit {0}
 IfUnread (Compare former operator latter) P = P
 IfUnread (CanonVersion version) P = P
 IfUnread (VersionKey versions) P = P
 IfUnread (Sort reverse) P = Unit {0}
-IfUnread (Query arch profiles relation detail) P = Unit {0}
-IfUnread (QueryFrom arch profiles detail) P = Unit {0}
-IfUnread (Unmet arch profiles dependents) P = Unit {0}
+IfUnread (Query arch profiles relation detail versions) P = Unit {0}
+IfUnread (QueryFrom arch profiles detail versions) P = Unit {0}
+IfUnread (Unmet arch profiles dependents versions) P = Unit {0}
 
 -- Comparing two versions takes no memory.
 abbrev pub IfCompare : Job → Type 0 → Type 0
 IfCompare (Check doc) P = Unit {0}
 IfCompare (CheckAll doc) P = Unit {0}
+IfCompare (CheckWhole doc demands) P = Unit {0}
 IfCompare (Normalise doc) P = Unit {0}
 IfCompare (Same doc) P = Unit {0}
-IfCompare (Diff kind detail) P = Unit {0}
+IfCompare (Diff kind detail versions) P = Unit {0}
 IfCompare (Compare former operator latter) P = P
 IfCompare (CanonVersion version) P = Unit {0}
 IfCompare (VersionKey versions) P = Unit {0}
 IfCompare (Sort reverse) P = Unit {0}
-IfCompare (Query arch profiles relation detail) P = Unit {0}
-IfCompare (QueryFrom arch profiles detail) P = Unit {0}
-IfCompare (Unmet arch profiles dependents) P = Unit {0}
+IfCompare (Query arch profiles relation detail versions) P = Unit {0}
+IfCompare (QueryFrom arch profiles detail versions) P = Unit {0}
+IfCompare (Unmet arch profiles dependents versions) P = Unit {0}
 
 -- Every job but `same`, `diff`, `query --relation-from` and `unmet` leaves the second reader as it
 -- was.
 abbrev pub IfSecondUnread : Job → Type 0 → Type 0
 IfSecondUnread (Check doc) P = P
 IfSecondUnread (CheckAll doc) P = P
+IfSecondUnread (CheckWhole doc demands) P = P
 IfSecondUnread (Normalise doc) P = P
 IfSecondUnread (Same doc) P = Unit {0}
-IfSecondUnread (Diff kind detail) P = Unit {0}
+IfSecondUnread (Diff kind detail versions) P = Unit {0}
 IfSecondUnread (Compare former operator latter) P = P
 IfSecondUnread (CanonVersion version) P = P
 IfSecondUnread (VersionKey versions) P = P
 IfSecondUnread (Sort reverse) P = P
-IfSecondUnread (Query arch profiles relation detail) P = P
-IfSecondUnread (QueryFrom arch profiles detail) P = Unit {0}
-IfSecondUnread (Unmet arch profiles dependents) P = Unit {0}
+IfSecondUnread (Query arch profiles relation detail versions) P = P
+IfSecondUnread (QueryFrom arch profiles detail versions) P = Unit {0}
+IfSecondUnread (Unmet arch profiles dependents versions) P = Unit {0}
 
 -- A query or `unmet` whose words are refused leaves the first reader as it was.
 abbrev pub IfRefusedWords : Job → Type 0 → Type 0
 IfRefusedWords (Check doc) P = Unit {0}
 IfRefusedWords (CheckAll doc) P = Unit {0}
+IfRefusedWords (CheckWhole doc demands) P = Unit {0}
 IfRefusedWords (Normalise doc) P = Unit {0}
 IfRefusedWords (Same doc) P = Unit {0}
-IfRefusedWords (Diff kind detail) P = Unit {0}
+IfRefusedWords (Diff kind detail versions) P = Unit {0}
 IfRefusedWords (Compare former operator latter) P = Unit {0}
 IfRefusedWords (CanonVersion version) P = Unit {0}
 IfRefusedWords (VersionKey versions) P = Unit {0}
 IfRefusedWords (Sort reverse) P = Unit {0}
-IfRefusedWords (Query arch profiles relation detail) P =
+IfRefusedWords (Query arch profiles relation detail versions) P =
     AreRefused (asked arch profiles relation) → P
-IfRefusedWords (QueryFrom arch profiles detail) P = Unit {0}
-IfRefusedWords (Unmet arch profiles dependents) P =
-    IsFalse (has_environment (words_of_unmet arch profiles dependents)) → P
+IfRefusedWords (QueryFrom arch profiles detail versions) P = Unit {0}
+IfRefusedWords (Unmet arch profiles dependents versions) P =
+    IsFalse (has_environment (words_of_unmet arch profiles dependents versions)) → P
 
 -- A query whose relation is that of a file leaves the second reader, which is that of the index, as
 -- it was, if the words with that relation are refused; `unmet`, if its words or the index are; and
 -- `diff`, if the old file is.
 abbrev pub IfRefusedRelation : Job → Option (List ℕ) → Type 0 → Type 0
-IfRefusedRelation (QueryFrom arch profiles detail) left P =
+IfRefusedRelation (QueryFrom arch profiles detail versions) left P =
     AreRefusedFrom (asked_of_file arch profiles) left → P
-IfRefusedRelation (Unmet arch profiles dependents) left P =
-    AreRefusedBefore (words_of_unmet arch profiles dependents) left → P
-IfRefusedRelation (Diff kind detail) left P = IsRefusedOld kind left → P
+IfRefusedRelation (Unmet arch profiles dependents versions) left P =
+    AreRefusedBefore (words_of_unmet arch profiles dependents versions) left → P
+IfRefusedRelation (Diff kind detail versions) left P = IsRefusedOld kind left → P
 IfRefusedRelation _ left P = Unit {0}
 
 -- the words of a query are asked in their places
@@ -312,6 +340,24 @@ said_of_check_all : {W : Type 0} (doc : Doc) (text : List ℕ) (other err err_af
 said_of_check_all doc text other err err_after held failures out new P =
     (refl, refl, refl, refl, refl, refl, refl, refl)
 
+-- what is said of a check with demands: it reads the first file alone
+said_of_check_whole : {W : Type 0} (doc : Doc) (demands : Demands) (text : List ℕ)
+    (other err err_after : Option (List ℕ)) (held : W → Option (List ℕ)) (failures : W → ℕ)
+    (out new : W) (P : Type 0)
+    → (Done (CheckWhole doc demands) (Some text) other held failures out new
+    ≡ ((read : List ℕ) → Some text ≡ Some read
+    → WritesWhole doc demands read (held out) (held new)))
+    × (SaysNo (CheckWhole doc demands) (Some text) other held out new ≡ ⊥)
+    × (IsRefused (CheckWhole doc demands) (Some text) other held out new err err_after
+    ≡ ((new ≡ out) × ReportsLack doc demands (Some text) err err_after))
+    × (IfUnread (CheckWhole doc demands) P ≡ Unit {0})
+    × (IfSecondUnread (CheckWhole doc demands) P ≡ P)
+    × (IfCompare (CheckWhole doc demands) P ≡ Unit {0})
+    × (IfRefusedWords (CheckWhole doc demands) P ≡ Unit {0})
+    × (IfRefusedRelation (CheckWhole doc demands) other P ≡ Unit {0})
+said_of_check_whole doc demands text other err err_after held failures out new P =
+    (refl, refl, refl, refl, refl, refl, refl, refl)
+
 -- statuses 0 and 1 of the jobs that answer a question
 answers_of_same : {W : Type 0} (doc : Doc) (left other : Option (List ℕ))
     (held : W → Option (List ℕ)) (failures : W → ℕ) (out new : W)
@@ -330,15 +376,19 @@ answers_of_compare : {W : Type 0} (one another : String Global) (operator : Cmp)
 answers_of_compare one another operator left other held failures out new = (refl, refl)
 
 answers_of_query : {W : Type 0} (arch relation : String Global) (detail : Detail)
+    (versions : VersionText)
     (profiles : Vec (String Global) Global) (text : List ℕ) (other : Option (List ℕ))
     (held : W → Option (List ℕ)) (failures : W → ℕ) (out new : W)
-    → (Done (Query arch profiles relation detail) (Some text) other held failures out new
+    → (Done (Query arch profiles relation detail versions) (Some text) other held failures out new
     ≡ ((read : List ℕ) → Some text ≡ Some read
-    → WritesReport detail (asked arch profiles relation) read (held out) (held new) true))
-    × (SaysNo (Query arch profiles relation detail) (Some text) other held out new
+    → WritesReport (query_options detail versions) (asked arch profiles relation) read
+    (held out) (held new) true))
+    × (SaysNo (Query arch profiles relation detail versions) (Some text) other held out new
     ≡ ((read : List ℕ) → Some text ≡ Some read
-    → WritesReport detail (asked arch profiles relation) read (held out) (held new) false))
-answers_of_query arch relation detail profiles text other held failures out new = (refl, refl)
+    → WritesReport (query_options detail versions) (asked arch profiles relation) read
+    (held out) (held new) false))
+answers_of_query arch relation detail versions profiles text other held failures out new =
+    (refl, refl)
 
 -- which jobs leave a reader as it was: the first, and the second
 unread : (doc : Doc) (one another : String Global) (operator : Cmp) (reverse : Bool) (P : Type 0)
@@ -356,71 +406,76 @@ second_unread : (doc : Doc) (one another : String Global) (operator : Cmp) (reve
 second_unread doc one another operator reverse P = (refl, refl, refl, refl, refl, refl)
 
 -- what is said of a query alone, and of a comparison alone
-said_of_query : (arch relation : String Global) (detail : Detail)
+said_of_query : (arch relation : String Global) (detail : Detail) (versions : VersionText)
     (profiles : Vec (String Global) Global) (P : Type 0)
-    → (IfUnread (Query arch profiles relation detail) P ≡ Unit {0})
-    × (IfSecondUnread (Query arch profiles relation detail) P ≡ P)
-    × (IfCompare (Query arch profiles relation detail) P ≡ Unit {0})
-    × (IfRefusedWords (Query arch profiles relation detail) P
+    → (IfUnread (Query arch profiles relation detail versions) P ≡ Unit {0})
+    × (IfSecondUnread (Query arch profiles relation detail versions) P ≡ P)
+    × (IfCompare (Query arch profiles relation detail versions) P ≡ Unit {0})
+    × (IfRefusedWords (Query arch profiles relation detail versions) P
     ≡ (AreRefused (asked arch profiles relation) → P))
-said_of_query arch relation detail profiles P = (refl, refl, refl, refl)
+said_of_query arch relation detail versions profiles P = (refl, refl, refl, refl)
 
 answers_of_query_from : {W : Type 0} (arch : String Global) (detail : Detail)
+    (versions : VersionText)
     (profiles : Vec (String Global) Global) (left other : Option (List ℕ))
     (held : W → Option (List ℕ)) (failures : W → ℕ) (out new : W)
-    → (Done (QueryFrom arch profiles detail) left other held failures out new
-    ≡ WritesReportFrom detail (λ relation. question (string_bytes arch)
+    → (Done (QueryFrom arch profiles detail versions) left other held failures out new
+    ≡ WritesReportFrom (query_options detail versions) (λ relation. question (string_bytes arch)
     (map string_bytes profiles.items) relation) left other (held out) (held new) true)
-    × (SaysNo (QueryFrom arch profiles detail) left other held out new
-    ≡ WritesReportFrom detail (λ relation. question (string_bytes arch)
+    × (SaysNo (QueryFrom arch profiles detail versions) left other held out new
+    ≡ WritesReportFrom (query_options detail versions) (λ relation. question (string_bytes arch)
     (map string_bytes profiles.items) relation) left other (held out) (held new) false)
-answers_of_query_from arch detail profiles left other held failures out new = (refl, refl)
+answers_of_query_from arch detail versions profiles left other held failures out new = (refl, refl)
 
-said_of_query_from : (doc : Doc) (arch : String Global) (detail : Detail)
+said_of_query_from : (doc : Doc) (arch : String Global) (detail : Detail) (versions : VersionText)
     (profiles : Vec (String Global) Global) (left : Option (List ℕ)) (P : Type 0)
-    → (IfUnread (QueryFrom arch profiles detail) P ≡ Unit {0})
-    × (IfSecondUnread (QueryFrom arch profiles detail) P ≡ Unit {0})
-    × (IfCompare (QueryFrom arch profiles detail) P ≡ Unit {0})
-    × (IfRefusedWords (QueryFrom arch profiles detail) P ≡ Unit {0})
-    × (IfRefusedRelation (QueryFrom arch profiles detail) left P
+    → (IfUnread (QueryFrom arch profiles detail versions) P ≡ Unit {0})
+    × (IfSecondUnread (QueryFrom arch profiles detail versions) P ≡ Unit {0})
+    × (IfCompare (QueryFrom arch profiles detail versions) P ≡ Unit {0})
+    × (IfRefusedWords (QueryFrom arch profiles detail versions) P ≡ Unit {0})
+    × (IfRefusedRelation (QueryFrom arch profiles detail versions) left P
     ≡ (AreRefusedFrom (asked_of_file arch profiles) left → P))
     × (IfRefusedRelation (Same doc) left P ≡ Unit {0})
-said_of_query_from doc arch detail profiles left P = (refl, refl, refl, refl, refl, refl)
+said_of_query_from doc arch detail versions profiles left P = (refl, refl, refl, refl, refl, refl)
 
 -- what is said of `unmet`: it reads both files, the second after the words and the index
 said_of_unmet : (arch : String Global) (profiles : Vec (String Global) Global)
-    (dependents : Dependents) (left : Option (List ℕ)) (P : Type 0)
-    → (IfUnread (Unmet arch profiles dependents) P ≡ Unit {0})
-    × (IfSecondUnread (Unmet arch profiles dependents) P ≡ Unit {0})
-    × (IfCompare (Unmet arch profiles dependents) P ≡ Unit {0})
-    × (IfRefusedWords (Unmet arch profiles dependents) P
-    ≡ (IsFalse (has_environment (words_of_unmet arch profiles dependents)) → P))
-    × (IfRefusedRelation (Unmet arch profiles dependents) left P
-    ≡ (AreRefusedBefore (words_of_unmet arch profiles dependents) left → P))
-said_of_unmet arch profiles dependents left P = (refl, refl, refl, refl, refl)
+    (dependents : Dependents) (versions : VersionText) (left : Option (List ℕ)) (P : Type 0)
+    → (IfUnread (Unmet arch profiles dependents versions) P ≡ Unit {0})
+    × (IfSecondUnread (Unmet arch profiles dependents versions) P ≡ Unit {0})
+    × (IfCompare (Unmet arch profiles dependents versions) P ≡ Unit {0})
+    × (IfRefusedWords (Unmet arch profiles dependents versions) P
+    ≡ (IsFalse (has_environment (words_of_unmet arch profiles dependents versions)) → P))
+    × (IfRefusedRelation (Unmet arch profiles dependents versions) left P
+    ≡ (AreRefusedBefore (words_of_unmet arch profiles dependents versions) left → P))
+said_of_unmet arch profiles dependents versions left P = (refl, refl, refl, refl, refl)
 
 answers_of_unmet : {W : Type 0} (arch : String Global) (profiles : Vec (String Global) Global)
-    (dependents : Dependents) (left other : Option (List ℕ)) (held : W → Option (List ℕ))
-    (failures : W → ℕ) (out new : W)
-    → (Done (Unmet arch profiles dependents) left other held failures out new
-    ≡ WritesUnmetOf (words (string_bytes arch) (map string_bytes profiles.items) dependents) left
-    other (held out) (held new) true)
-    × (SaysNo (Unmet arch profiles dependents) left other held out new
-    ≡ WritesUnmetOf (words (string_bytes arch) (map string_bytes profiles.items) dependents) left
-    other (held out) (held new) false)
-answers_of_unmet arch profiles dependents left other held failures out new = (refl, refl)
+    (dependents : Dependents) (versions : VersionText) (left other : Option (List ℕ))
+    (held : W → Option (List ℕ)) (failures : W → ℕ) (out new : W)
+    → (Done (Unmet arch profiles dependents versions) left other held failures out new
+    ≡ WritesUnmetOf
+    (words (string_bytes arch) (map string_bytes profiles.items) dependents versions) left other
+    (held out) (held new) true)
+    × (SaysNo (Unmet arch profiles dependents versions) left other held out new
+    ≡ WritesUnmetOf
+    (words (string_bytes arch) (map string_bytes profiles.items) dependents versions) left other
+    (held out) (held new) false)
+answers_of_unmet arch profiles dependents versions left other held failures out new = (refl, refl)
 
 -- what is said of `diff`: it reads both files, and its answer is whether there is no line
-said_of_diff : {W : Type 0} (kind : DiffKind) (detail : DiffDetail) (left other : Option (List ℕ))
-    (held : W → Option (List ℕ)) (failures : W → ℕ) (out new : W) (P : Type 0)
-    → (Done (Diff kind detail) left other held failures out new
-    ≡ WritesChanges kind detail left other (held out) (held new) true)
-    × (SaysNo (Diff kind detail) left other held out new
-    ≡ WritesChanges kind detail left other (held out) (held new) false)
-    × (IfUnread (Diff kind detail) P ≡ Unit {0}) × (IfSecondUnread (Diff kind detail) P ≡ Unit {0})
-    × (IfCompare (Diff kind detail) P ≡ Unit {0})
-    × (IfRefusedRelation (Diff kind detail) left P ≡ (IsRefusedOld kind left → P))
-said_of_diff kind detail left other held failures out new P =
+said_of_diff : {W : Type 0} (kind : DiffKind) (detail : DiffDetail) (versions : VersionText)
+    (left other : Option (List ℕ)) (held : W → Option (List ℕ)) (failures : W → ℕ) (out new : W)
+    (P : Type 0)
+    → (Done (Diff kind detail versions) left other held failures out new
+    ≡ WritesChanges kind (form_asked detail versions) left other (held out) (held new) true)
+    × (SaysNo (Diff kind detail versions) left other held out new
+    ≡ WritesChanges kind (form_asked detail versions) left other (held out) (held new) false)
+    × (IfUnread (Diff kind detail versions) P ≡ Unit {0})
+    × (IfSecondUnread (Diff kind detail versions) P ≡ Unit {0})
+    × (IfCompare (Diff kind detail versions) P ≡ Unit {0})
+    × (IfRefusedRelation (Diff kind detail versions) left P ≡ (IsRefusedOld kind left → P))
+said_of_diff kind detail versions left other held failures out new P =
     (refl, refl, refl, refl, refl, refl)
 
 -- what is said of keys: no file is read, and status 0 is the only answer

@@ -29,12 +29,12 @@ use Rattle.debctl_commands.specs.VersionJobs.{verdict_status}
 abbrev pub same_line : Bool → List ℕ
 same_line same = if same then codes "same\n" else codes "different\n"
 
--- what stands before the line of a file's refusal
+-- the text before the line of a file's refusal
 abbrev pub side_word : Side → List ℕ
 side_word First = codes "first: "
 side_word Second = codes "second: "
 
--- what stands before the line of a fault: one that is no refusal is reported without its side
+-- the text before the line of a fault: one that is no refusal is reported without its side
 abbrev pub word_before : Side → Fault → List ℕ
 word_before side (Refused _) = side_word side
 word_before side Memory = []

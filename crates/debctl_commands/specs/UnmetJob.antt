@@ -15,6 +15,8 @@ use Rattle.deb_base.specs.declared.doc.Doc.TheVariants as docs
 use Rattle.deb_base.specs.declared.fault.Fault.{Fault}
 use Rattle.deb_base.specs.declared.fault.Fault.TheVariants as faults
 use Rattle.deb_base.specs.declared.refusal.Refusal.{Refusal}
+use Rattle.deb_base.specs.declared.version_text.VersionText.{VersionText}
+use Rattle.deb_base.specs.declared.version_text.VersionText.TheVariants.{Spelled}
 use Rattle.deb_relation.specs.Applying.{Environment}
 use Rattle.deb_relation.specs.Environments.{environment_with}
 use Rattle.deb_relation.specs.Targets.{is_environment}
@@ -25,10 +27,12 @@ use Rattle.deb_control.specs.declared.side.Side.TheVariants.{First, Second}
 use Rattle.deb_index.specs.Listed.{Listed}
 use Rattle.deb_index.specs.Listing.{ListsAll}
 use Rattle.deb_index.specs.Questions.{bad_environment}
+use Rattle.deb_unmet.specs.Asked.{request_for}
 use Rattle.deb_unmet.specs.Asking.{asks_of}
 use Rattle.deb_unmet.specs.Files.{Asks, WritesRead, WritesRefused, WritesSome, WritesUnmet}
 use Rattle.deb_unmet.specs.declared.asked.Asked.{Asked}
 use Rattle.deb_unmet.specs.declared.asked.Asked.TheVariants as fields
+use Rattle.deb_unmet.specs.declared.asked.Request.{Request}
 use Rattle.deb_unmet.specs.declared.asked.Strength.{Strength as Fields}
 use Rattle.deb_unmet.specs.declared.asked.Strength.TheVariants as fields_of
 use Rattle.deb_unmet.specs.declared.asking.Summary.{Summary}
@@ -44,15 +48,22 @@ use Rattle.debctl_commands.specs.VersionJobs.{verdict_status}
 
 -- ---- the arguments
 
--- a target architecture, the profiles that are active, and the file whose groups are tried
+-- a target architecture, the profiles that are active, the file whose groups are tried, and which
+-- text of versions its lines have
 pub record Words : Type 0 where
   pub target : List ℕ
   pub profiles : List (List ℕ)
   pub dependents : Dependents
+  pub versions : VersionText
 
-abbrev pub words : List ℕ → List (List ℕ) → Dependents → Words
-words target profiles dependents =
-    record { target = target; profiles = profiles; dependents = dependents }
+abbrev pub words : List ℕ → List (List ℕ) → Dependents → VersionText → Words
+words target profiles dependents versions =
+    record {
+      target = target;
+      profiles = profiles;
+      dependents = dependents;
+      versions = versions;
+    }
 
 abbrev pub has_environment : Words → Bool
 has_environment w = is_environment w.target w.profiles
@@ -69,6 +80,10 @@ asked_of (Binary strength) = fields.Binary (fields_tried strength)
 asked_of Sources = fields.Sources
 asked_of Source = fields.Source
 
+-- and which text of versions lines have
+abbrev pub request_of : Dependents → VersionText → Request
+request_of dependents versions = request_for (asked_of dependents) versions
+
 -- the file is the index itself
 abbrev pub is_index : Dependents → Bool
 is_index (Index strength) = true
@@ -82,11 +97,12 @@ abbrev pub environment_in : Words → Environment
 environment_in w = environment_with w.target w.profiles
 
 abbrev pub asks_over : Words → List Listed → Asks
-asks_over w packages = asks_of (asked_of w.dependents) (environment_in w) packages
+asks_over w packages = asks_of (request_of w.dependents w.versions) (environment_in w) packages
 
 -- the arguments that the code holds
 abbrev pub words_of : UnmetWords → Words
-words_of given = words given.target.now (map string_bytes given.profiles.now) given.dependents
+words_of given =
+    words given.target.now (map string_bytes given.profiles.now) given.dependents given.versions
 
 -- ---- the answer
 
@@ -232,35 +248,36 @@ pub record EndsAtIndex {W E : Type 0} (first second : ReaderOfJob) (out : Writer
       (record { side = First; fault = fault }) ended
 
 -- The second file has an answer over these packages, which is reported.
-pub record EndsOver {W E : Type 0} (dependents : Dependents) (environment : Environment)
-    (packages : List Listed) (second : ReaderOfJob) (out : WriterOfJob W) (err : WriterOfJob E)
-    (ended : ℕ) : Type 0 where
+pub record EndsOver {W E : Type 0} (dependents : Dependents) (versions : VersionText)
+    (environment : Environment) (packages : List Listed) (second : ReaderOfJob)
+    (out : WriterOfJob W) (err : WriterOfJob E) (ended : ℕ) : Type 0 where
   pub answer : Result Summary Fault
-  pub asks_file : AsksFile (asks_of (asked_of dependents) environment packages) second.text
-      second.failures second.failures_after out.held out.failures out.old out.new answer
+  pub asks_file : AsksFile (asks_of (request_of dependents versions) environment packages)
+      second.text second.failures second.failures_after out.held out.failures out.old out.new answer
   pub reported : ReportsSecond err (answer_of dependents (length packages) answer) ended
 
 -- The index was read, and the second file has an answer over its packages.
-pub record EndsAtFile {W E : Type 0} (dependents : Dependents) (environment : Environment)
-    (first second : ReaderOfJob) (out : WriterOfJob W) (err : WriterOfJob E) (ended : ℕ) : Type 0
+pub record EndsAtFile {W E : Type 0} (dependents : Dependents) (versions : VersionText)
+    (environment : Environment) (first second : ReaderOfJob) (out : WriterOfJob W)
+    (err : WriterOfJob E) (ended : ℕ) : Type 0
   where
     pub packages : List Listed
     pub lists : (text : List ℕ) → first.text ≡ Some text → ListsAll text packages
     pub unfailed : first.failures_after ≡ first.failures
-    pub ends : EndsOver dependents environment packages second out err ended
+    pub ends : EndsOver dependents versions environment packages second out err ended
 
-abbrev pub EndsInEnvironment : {W E : Type 0} → Dependents → Environment → ReaderOfJob
-    → ReaderOfJob → WriterOfJob W → WriterOfJob E → ℕ → Type 0
-EndsInEnvironment dependents environment first second out err status =
+abbrev pub EndsInEnvironment : {W E : Type 0} → Dependents → VersionText → Environment
+    → ReaderOfJob → ReaderOfJob → WriterOfJob W → WriterOfJob E → ℕ → Type 0
+EndsInEnvironment dependents versions environment first second out err status =
     EndsAtIndex first second out err status
-    ⊎ EndsAtFile dependents environment first second out err status
+    ⊎ EndsAtFile dependents versions environment first second out err status
 
 abbrev pub ReportsUnmet : {W E : Type 0} → Words → ReaderOfJob → ReaderOfJob → WriterOfJob W
     → WriterOfJob E → ℕ → Type 0
 ReportsUnmet w first second out err status =
     EndsAtEnvironment w first second out err status
     ⊎ (IsTrue (has_environment w)
-    × EndsInEnvironment w.dependents (environment_in w) first second out err status)
+    × EndsInEnvironment w.dependents w.versions (environment_in w) first second out err status)
 
 -- ---- worked cases
 
@@ -269,7 +286,8 @@ kinds_tried : (asked_of (Index Recommends) ≡ fields.Packages fields_of.Recomme
     × (asked_of (Packages Depends) ≡ fields.Packages fields_of.Depends)
     × (asked_of (Binary Depends) ≡ fields.Binary fields_of.Depends)
     × (asked_of Sources ≡ fields.Sources) × (asked_of Source ≡ fields.Source)
-kinds_tried = (refl, refl, refl, refl, refl)
+    × (request_of Sources Spelled ≡ record { asked = fields.Sources; versions = Spelled })
+kinds_tried = (refl, refl, refl, refl, refl, refl)
 
 -- the index read again: the same number of paragraphs, another, and none, as of a pipe
 readings_of_an_index : (answer_of (Index Depends) 3
@@ -288,8 +306,13 @@ readings_of_another_file : (answer_of Sources 3
     ≡ Err (faults.Refused (record { code = NoParagraph; line = 1 })))
 readings_of_another_file = (refl, refl)
 
-words_in_order : words (codes "amd64") (codes "nocheck" ∷ []) Source
-    ≡ record { target = codes "amd64"; profiles = codes "nocheck" ∷ []; dependents = Source }
+words_in_order : words (codes "amd64") (codes "nocheck" ∷ []) Source Spelled
+    ≡ record {
+      target = codes "amd64";
+      profiles = codes "nocheck" ∷ [];
+      dependents = Source;
+      versions = Spelled;
+    }
 words_in_order = refl
 
 -- the arguments that the code holds are those words
@@ -297,5 +320,7 @@ words_of_arguments : (given : UnmetWords) (one other : String Global)
     → given.profiles.now ≡ one ∷ other ∷ []
     → words_of given
     ≡ words given.target.now (string_bytes one ∷ string_bytes other ∷ []) given.dependents
+    given.versions
 words_of_arguments given one other are =
-    ap (λ named. words given.target.now (map string_bytes named) given.dependents) are
+    ap (λ named. words given.target.now (map string_bytes named) given.dependents given.versions)
+    are

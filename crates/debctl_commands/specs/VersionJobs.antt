@@ -1,5 +1,5 @@
 -- What the jobs on versions answer: Debian Policy 5.6.12 and deb-version(7). The statuses, the line
--- of a refusal and the newline behind a canonical version are this project's own.
+-- of a refusal and the newline after a canonical version are this project's own.
 use Rattle.std.specs.Prelude.{◌≡◌, ◌⊎◌, ℕ, Bool, true, false, not, List, [], ◌∷◌, ◌++◌, Option}
 use Rattle.std.specs.Prelude.{Result, Ok, Err, if◌then◌else◌, codes, refl}
 use Rattle.std.specs.Fmt.{digits}

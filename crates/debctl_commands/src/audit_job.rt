@@ -12,11 +12,12 @@ ghost use Rattle.debctl_commands.specs.declared.unopened.Unopened.{Unopened};
 use crate::opens::Opens;
 use crate::reporting::{FAULT_STATUS, report_fault, report_unopened, status_of};
 use crate::unopened::Unopened;
+use crate::verdict::Verdict;
+use crate::whole_job::check_whole;
 use deb_base::{Fault, Sink, Source, put_all, put_pieces};
-use deb_control::check;
 use deb_explain::write_path;
 use deb_field::Doc;
-use debctl_args::LineEnd;
+use debctl_args::{Demands, LineEnd};
 use itoa::Buffer;
 use std::alloc::Global;
 
@@ -27,18 +28,21 @@ pub struct AuditOptions {
     pub doc: Doc,
     /// The end of each record, and with it how the path is written.
     pub end: LineEnd,
+    /// What is demanded of an accepted file.
+    pub demands: Demands,
 }
 
 /// Writes to `out` for each file, in the order of the paths, whether it is accepted as a document
 /// of a kind, and returns the highest status.
 ///
 /// The record of a file is its path as `deb_explain::write_path` writes it, `: `, and `ok N` for
-/// its N paragraphs, the refusal or the fault, and a newline. With `LineEnd::Nul` it has the path
-/// unchanged, and a byte 0 instead of the newline. A file that can't be opened has the fault of a
-/// failed read, followed by the reason. A refused file, or a fault of a file, doesn't end the job.
+/// its N paragraphs, what it lacks of the demands, the refusal or the fault, and a newline. With
+/// `LineEnd::Nul` it has the path unchanged, and a byte 0 instead of the newline. A file that can't
+/// be opened has the fault of a failed read, followed by the reason. A refused file, or a fault of
+/// a file, doesn't end the job.
 ///
-/// - 0: each file is accepted.
-/// - 2: a file is refused, and none has a fault.
+/// - 0: each file is accepted and meets the demands.
+/// - 2: a file is refused or doesn't meet the demands, and none has a fault.
 /// - 3: a file has a fault: out of memory, a failed read, or it couldn't be opened. Or a write
 ///   failed: then no later file was opened, and `err` has `fault: write`, or a prefix of it if a
 ///   write to `err` failed. In all other cases nothing was written to `err`.
@@ -52,7 +56,8 @@ pub fn run_audit<F: Opens, W: Sink, E: Sink>(
 ) -> u8
     // Below 3: each file was reported, and nothing on `err`.
     ensures reports_each_file { result < 3 → (err.new ≡ err.old)
-        × Audits F.Reader.left F.Reader.failures F.opens options.doc options.end (F.text files.old)
+        × Audits F.Reader.left F.Reader.failures F.opens options.doc options.demands options.end
+        (F.text files.old)
         files.old files.new (F.failures files.old) (F.failures files.new) (W.held out.old)
         (W.held out.new) (W.failures out.old) (W.failures out.new)
         (map (λ path. path.now) paths.now) (Ok result) }
@@ -63,7 +68,8 @@ pub fn run_audit<F: Opens, W: Sink, E: Sink>(
 
     // Whatever the status: there is an answer, and that is reported.
     ensures reports_answer { (answer : Result ℕ Fault)
-        × Audits F.Reader.left F.Reader.failures F.opens options.doc options.end (F.text files.old)
+        × Audits F.Reader.left F.Reader.failures F.opens options.doc options.demands options.end
+        (F.text files.old)
         files.old files.new (F.failures files.old) (F.failures files.new) (W.held out.old)
         (W.held out.new) (W.failures out.old) (W.failures out.new)
         (map (λ path. path.now) paths.now) answer
@@ -93,8 +99,8 @@ pub(crate) fn run_without_list<W: Sink, E: Sink>(
     report_unopened(&written, err)
 }
 
-/// Checks the files of some paths one after the other, and writes the line of each. Answers the
-/// worst of their statuses, or the fault of a write.
+/// Checks the files of some paths one after the other, and writes the line of each. Returns the
+/// highest of their statuses, or the fault of a write.
 fn audit<F: Opens, W: Sink>(
     alloc: Global,
     options: AuditOptions,
@@ -102,7 +108,7 @@ fn audit<F: Opens, W: Sink>(
     files: &mut F,
     out: &mut W,
 ) -> Result<u8, Fault>
-    ensures { Audits F.Reader.left F.Reader.failures F.opens options.doc options.end
+    ensures { Audits F.Reader.left F.Reader.failures F.opens options.doc options.demands options.end
         (F.text files.old) files.old files.new (F.failures files.old) (F.failures files.new)
         (W.held out.old) (W.held out.new) (W.failures out.old) (W.failures out.new)
         (map (λ path. path.now) paths.now) result }
@@ -114,7 +120,7 @@ fn audit<F: Opens, W: Sink>(
     Ok(status)
 }
 
-/// Checks the file of a path, and writes its line. Answers its status, or the fault of a write.
+/// Checks the file of a path, and writes its line. Returns its status, or the fault of a write.
 fn audit_file<F: Opens, W: Sink>(
     alloc: Global,
     options: AuditOptions,
@@ -122,13 +128,14 @@ fn audit_file<F: Opens, W: Sink>(
     files: &mut F,
     out: &mut W,
 ) -> Result<u8, Fault>
-    ensures audits { Audits F.Reader.left F.Reader.failures F.opens options.doc options.end
+    ensures audits { Audits F.Reader.left F.Reader.failures F.opens options.doc options.demands
+        options.end
         (F.text files.old) files.old files.new (F.failures files.old) (F.failures files.new)
         (W.held out.old) (W.held out.new) (W.failures out.old) (W.failures out.new)
         (path.now ∷ []) result }
     ensures unchanged { F.text files.new ≡ F.text files.old }
 {
-    let outcome = check_path(alloc, options.doc, path, files);
+    let outcome = check_path(alloc, options, path, files);
     put_audit_record(options.end, path, &outcome, out)?;
     Ok(outcome_status(&outcome))
 }
@@ -136,36 +143,38 @@ fn audit_file<F: Opens, W: Sink>(
 /// Opens the file of a path, and checks it, or answers why it can't be opened.
 fn check_path<F: Opens>(
     alloc: Global,
-    doc: Doc,
+    options: AuditOptions,
     path: &[u8],
     files: &mut F,
-) -> Result<Result<u64, Fault>, Unopened>
+) -> Result<Result<Verdict, Fault>, Unopened>
     ensures answers { (opened after : Result F.Reader Unopened)
         × IfOk opened (λ reader. F.Reader.left reader ≡ F.text files.old path.now)
-        × AnswersOpened F.Reader.left F.Reader.failures doc opened after result
+        × AnswersOpened F.Reader.left F.Reader.failures options.doc options.demands opened after
+        result
         × F.opens files.old path.now opened files.new
         × (F.failures files.new ≡ failures_after (F.failures files.old) opened) }
     ensures unchanged { F.text files.new ≡ F.text files.old }
 {
-    check_opened(alloc, doc, &mut files.open(path))
+    check_opened(alloc, options, &mut files.open(path))
 }
 
 /// Checks a file that was opened, and then reads no more of it, or answers why it can't be opened.
 fn check_opened<R: Source>(
     alloc: Global,
-    doc: Doc,
+    options: AuditOptions,
     opened: &mut Result<R, Unopened>,
-) -> Result<Result<u64, Fault>, Unopened>
-    ensures { AnswersOpened R.left R.failures doc opened.old opened.new result }
+) -> Result<Result<Verdict, Fault>, Unopened>
+    ensures { AnswersOpened R.left R.failures options.doc options.demands opened.old opened.new
+        result }
 {
     match opened {
-        Ok(reader) => Ok(check(alloc, doc, reader)),
+        Ok(reader) => Ok(check_whole(alloc, options.doc, options.demands, reader)),
         Err(why) => Err(*why),
     }
 }
 
 /// The status of what became of a file.
-fn outcome_status(outcome: &Result<Result<u64, Fault>, Unopened>) -> u8
+fn outcome_status(outcome: &Result<Result<Verdict, Fault>, Unopened>) -> u8
     ensures { result ≡ outcome_status outcome.now }
 {
     match outcome {
@@ -175,11 +184,11 @@ fn outcome_status(outcome: &Result<Result<u64, Fault>, Unopened>) -> u8
 }
 
 /// The status of what is answered of a file.
-fn answer_status(answer: &Result<u64, Fault>) -> u8
+fn answer_status(answer: &Result<Verdict, Fault>) -> u8
     ensures { result ≡ answer_status answer.now }
 {
     match answer {
-        Ok(_) => 0,
+        Ok(verdict) => verdict.status(),
         Err(fault) => status_of(fault),
     }
 }
@@ -189,7 +198,7 @@ fn answer_status(answer: &Result<u64, Fault>) -> u8
 pub(crate) fn put_audit_record<W: Sink>(
     end: LineEnd,
     path: &[u8],
-    outcome: &Result<Result<u64, Fault>, Unopened>,
+    outcome: &Result<Result<Verdict, Fault>, Unopened>,
     out: &mut W,
 ) -> Result<(), Fault>
     ensures written { Puts (W.held out.old) (W.held out.new) result
@@ -205,7 +214,7 @@ pub(crate) fn put_audit_record<W: Sink>(
 #[tactic(auto, using(deb_base::proofs::Writes::puts))]
 fn put_after_path<W: Sink>(
     colon: &[u8],
-    outcome: &Result<Result<u64, Fault>, Unopened>,
+    outcome: &Result<Result<Verdict, Fault>, Unopened>,
     end: LineEnd,
     out: &mut W,
 ) -> Result<(), Fault>
@@ -243,7 +252,7 @@ pub(crate) fn record_end(end: LineEnd) -> u8
 
 /// Writes what became of a file.
 fn put_outcome<W: Sink>(
-    outcome: &Result<Result<u64, Fault>, Unopened>,
+    outcome: &Result<Result<Verdict, Fault>, Unopened>,
     out: &mut W,
 ) -> Result<(), Fault>
     ensures written { Puts (W.held out.old) (W.held out.new) result (outcome_words outcome.now) }
@@ -257,15 +266,13 @@ fn put_outcome<W: Sink>(
 }
 
 /// Writes what is answered of a file.
-fn put_answer<W: Sink>(answer: &Result<u64, Fault>, out: &mut W) -> Result<(), Fault>
+fn put_answer<W: Sink>(answer: &Result<Verdict, Fault>, out: &mut W) -> Result<(), Fault>
     ensures written { Puts (W.held out.old) (W.held out.new) result (answer_words answer.now) }
     ensures fault { IfErr result (λ fault. fault ≡ Fault.Write) }
     ensures counts_failure { W.failures out.new ≡ write_failures_after (W.failures out.old) result }
 {
     match answer {
-        Ok(paragraphs) => {
-            put_pieces(out, &[b"ok ", Buffer::new().format(*paragraphs).as_bytes()])
-        }
+        Ok(verdict) => verdict.write_words(out),
         Err(fault) => put_fault(fault, out),
     }
 }

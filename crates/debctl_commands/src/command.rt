@@ -5,19 +5,22 @@ ghost use Rattle.deb_base.specs.Devices.{one_more};
 ghost use Rattle.debctl_commands.specs.Running.{Done, IfCompare, IfRefusedWords, IfSecondUnread};
 ghost use Rattle.debctl_commands.specs.Running.{IfRefusedRelation, IfUnread, IsRefused, SaysNo};
 ghost use Rattle.debctl_commands.specs.Running.{Reported};
+ghost use Rattle.debctl_commands.specs.DiffJob.{form_asked};
 ghost use Rattle.debctl_commands.specs.JobDevices.{reader_of, writer_of};
+ghost use Rattle.debctl_commands.specs.QueryJob.{query_options};
 ghost use Rattle.debctl_commands.specs.Taking.{TakesFile};
 
 use crate::all_jobs::run_check_all;
-use crate::diff_job::{DiffOptions, run_diff};
+use crate::diff_job::{DiffOptions, form_asked, run_diff};
 use crate::document_jobs::{run_check, run_normalise};
 use crate::query_from::run_query_from;
-use crate::query_job::{QueryWords, run_query};
+use crate::query_job::{QueryOptions, QueryWords, run_query};
 use crate::same_job::run_same;
 use crate::sort_job::run_sort;
 use crate::unmet_job::{UnmetWords, run_unmet};
 use crate::version_jobs::{run_canon_version, run_compare, run_version_key};
-use deb_base::{Sink, Source};
+use crate::whole_job::run_check_whole;
+use deb_base::{Sink, Source, VersionText};
 use debctl_args::{Dependents, Detail, DiffDetail, DiffKind, Job};
 use std::alloc::Global;
 
@@ -42,7 +45,9 @@ use std::alloc::Global;
 /// - 2: a file or an argument is refused. `err` has the refusal's line, after `first: ` or `second:
 ///   ` for a file of `same`, `diff` or `unmet`. `out` has nothing, except for `normalise` and
 ///   `unmet`: the canonical text, or the lines, of the paragraphs before the first that fails. For
-///   `check --all` `out` has all lines of the file instead, and nothing was written to `err`.
+///   `check --all` `out` has all lines of the file instead, and nothing was written to `err`. For
+///   `check` with demands also: the file is accepted and doesn't meet them, and `err` has the line
+///   that says so.
 /// - 3: out of memory, or a read or a write failed; for `compare` only a write to `err`. `err` has
 ///   `fault: memory`, `fault: read` or `fault: write`; if a write to `err` failed, a prefix of its
 ///   line. For an `unmet` of the index itself also: its second reading has another number of
@@ -95,10 +100,18 @@ pub fn run<R: Source, S: Source, W: Sink, E: Sink>(
     match job {
         Job::Check(doc) => run_check(alloc, *doc, first, out, err),
         Job::CheckAll(doc) => run_check_all(alloc, *doc, first, out, err),
+        Job::CheckWhole { doc, demands } => {
+            run_check_whole(alloc, *doc, *demands, first, out, err)
+        }
         Job::Normalise(doc) => run_normalise(alloc, *doc, first, out, err),
         Job::Same(doc) => run_same(alloc, *doc, first, second, out, err),
-        Job::Diff { kind, detail } => {
-            run_diff(alloc, diff_options(*kind, *detail), first, second, out, err)
+        Job::Diff {
+            kind,
+            detail,
+            versions,
+        } => {
+            let options = diff_options(*kind, *detail, *versions);
+            run_diff(alloc, options, first, second, out, err)
         }
         Job::Compare(left, op, right) => run_compare(left.as_str(), *op, right.as_str(), err),
         Job::CanonVersion(version) => run_canon_version(alloc, version.as_str(), out, err),
@@ -109,44 +122,62 @@ pub fn run<R: Source, S: Source, W: Sink, E: Sink>(
             profiles,
             relation,
             detail,
+            versions,
         } => {
-            let words = query_words(arch, profiles, *detail);
+            let options = query_options(*detail, *versions);
+            let words = query_words(arch, profiles, options);
             run_query(alloc, &words, relation.as_bytes(), first, out, err)
         }
         Job::QueryFrom {
             arch,
             profiles,
             detail,
+            versions,
         } => {
-            let words = query_words(arch, profiles, *detail);
+            let options = query_options(*detail, *versions);
+            let words = query_words(arch, profiles, options);
             run_query_from(alloc, &words, first, second, out, err)
         }
         Job::Unmet {
             arch,
             profiles,
             dependents,
+            versions,
         } => {
-            let words = unmet_words(arch, profiles, *dependents);
+            let words = unmet_words(arch, profiles, *dependents, *versions);
             run_unmet(alloc, &words, first, second, out, err)
         }
     }
 }
 
-fn diff_options(kind: DiffKind, detail: DiffDetail) -> DiffOptions
-    ensures { result ≡ record { kind = kind; detail = detail } }
+fn diff_options(kind: DiffKind, detail: DiffDetail, versions: VersionText) -> DiffOptions
+    ensures { result ≡ record { kind = kind; form = form_asked detail versions } }
 {
-    DiffOptions { kind, detail }
+    DiffOptions {
+        kind,
+        form: form_asked(detail, versions),
+    }
 }
 
-fn query_words<'a>(arch: &'a String, profiles: &'a [String], detail: Detail) -> QueryWords<'a>
+fn query_options(detail: Detail, versions: VersionText) -> QueryOptions
+    ensures { result ≡ query_options detail versions }
+{
+    QueryOptions { detail, versions }
+}
+
+fn query_words<'a>(
+    arch: &'a String,
+    profiles: &'a [String],
+    options: QueryOptions,
+) -> QueryWords<'a>
     ensures target { result.target.now ≡ string_bytes arch.entry.now }
     ensures profiles { result.profiles.now ≡ profiles.entry.now }
-    ensures detail { result.detail ≡ detail }
+    ensures options { result.options ≡ options }
 {
     QueryWords {
         target: arch.as_str(),
         profiles,
-        detail,
+        options,
     }
 }
 
@@ -154,14 +185,17 @@ fn unmet_words<'a>(
     arch: &'a String,
     profiles: &'a [String],
     dependents: Dependents,
+    versions: VersionText,
 ) -> UnmetWords<'a>
     ensures target { result.target.now ≡ string_bytes arch.entry.now }
     ensures profiles { result.profiles.now ≡ profiles.entry.now }
     ensures dependents { result.dependents ≡ dependents }
+    ensures versions { result.versions ≡ versions }
 {
     UnmetWords {
         target: arch.as_str(),
         profiles,
         dependents,
+        versions,
     }
 }

@@ -1,14 +1,14 @@
 //! The job on an old file and a new one: `diff`.
 
 ghost use Rattle.std.specs.Prelude.{◌≡◌, ◌<◌, true, false};
-ghost use Rattle.debctl_commands.specs.DiffJob.{IsRefusedOld, detail_of, kind_of};
+ghost use Rattle.debctl_commands.specs.DiffJob.{IsRefusedOld, detail_of, form_asked, kind_of};
 ghost use Rattle.debctl_commands.specs.DiffJob.{ReportsDiff, ReportsRefusalOfDiff, WritesChanges};
 ghost use Rattle.debctl_commands.specs.JobDevices.{reader_of, writer_of};
 ghost use Rattle.debctl_commands.specs.Taking.{TakesFile};
 
 use crate::reporting::report_side;
-use deb_base::{Sink, Source};
-use deb_diff::{Detail, Kind, diff};
+use deb_base::{Sink, Source, VersionText};
+use deb_diff::{Detail, Form, Kind, diff};
 use debctl_args::{DiffDetail, DiffKind};
 use std::alloc::Global;
 
@@ -16,7 +16,7 @@ use std::alloc::Global;
 #[derive(Clone, Copy)]
 pub(crate) struct DiffOptions {
     pub kind: DiffKind,
-    pub detail: DiffDetail,
+    pub form: Form,
 }
 
 /// Writes to `out` a line for each paragraph that changed between two files of a kind, with the
@@ -37,10 +37,10 @@ pub(crate) fn run_diff<R: Source, S: Source, W: Sink, E: Sink>(
     err: &mut E,
 ) -> u8
     ensures yes { result ≡ 0 → (err.new ≡ err.old)
-        × WritesChanges options.kind options.detail (R.left first.old) (S.left second.old)
+        × WritesChanges options.kind options.form (R.left first.old) (S.left second.old)
         (W.held out.old) (W.held out.new) true }
     ensures no { result ≡ 1 → (err.new ≡ err.old)
-        × WritesChanges options.kind options.detail (R.left first.old) (S.left second.old)
+        × WritesChanges options.kind options.form (R.left first.old) (S.left second.old)
         (W.held out.old) (W.held out.new) false }
     ensures refused { result ≡ 2
         → ReportsRefusalOfDiff options.kind (R.left first.old) (S.left second.old)
@@ -58,15 +58,14 @@ pub(crate) fn run_diff<R: Source, S: Source, W: Sink, E: Sink>(
     ensures status_3_if_err_failed { E.failures err.old < E.failures err.new → result ≡ 3 }
 
     // Whatever the status: there is an answer, and that is reported.
-    ensures reports_answer { ReportsDiff options.kind options.detail
+    ensures reports_answer { ReportsDiff options.kind options.form
         (reader_of (R.left first.old) (R.failures first.old) (R.failures first.new))
         (reader_of (S.left second.old) (S.failures second.old) (S.failures second.new))
         (writer_of W.held W.failures out.old out.new)
         (writer_of E.held E.failures err.old err.new) result }
 {
     let kind = kind_of(options.kind);
-    let detail = detail_of(options.detail);
-    match diff(alloc, kind, detail, first, second, out) {
+    match diff(alloc, kind, options.form, first, second, out) {
         Ok(true) => 0,
         Ok(false) => 1,
         Err(side_fault) => report_side(side_fault, err),
@@ -81,6 +80,16 @@ fn kind_of(kind: DiffKind) -> Kind
         DiffKind::Binary => Kind::Binary,
         DiffKind::Sources => Kind::Sources,
         DiffKind::Source => Kind::Source,
+    }
+}
+
+/// Which lines are written, and which text of versions they have.
+pub(crate) fn form_asked(detail: DiffDetail, versions: VersionText) -> Form
+    ensures { result ≡ form_asked detail versions }
+{
+    Form {
+        detail: detail_of(detail),
+        versions,
     }
 }
 

@@ -5,8 +5,7 @@ ghost use Rattle.debctl_commands.specs.ListedPaths.{paths_of};
 
 use std::alloc::{AllocError, Global};
 
-/// The paths of a list, of which each has the byte 0 behind it; it may be missing behind the last
-/// one.
+/// Returns the paths of a list. A byte 0 follows each; it may be missing after the last one.
 pub(crate) fn listed_paths<'a>(alloc: Global, list: &'a [u8]) -> Result<Vec<&'a [u8]>, AllocError>
     ensures { IfOk result (λ paths. map (λ path. path.now) paths.items ≡ paths_of list.now) }
 {

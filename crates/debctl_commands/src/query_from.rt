@@ -29,11 +29,11 @@ pub(crate) fn run_query_from<R: Source, S: Source, W: Sink, E: Sink>(
     err: &mut E,
 ) -> u8
     ensures yes { result ≡ 0 → (err.new ≡ err.old)
-        × WritesReportFrom words.now.detail
+        × WritesReportFrom words.now.options
         (question_of words.now)
         (R.left first.old) (S.left second.old) (W.held out.old) (W.held out.new) true }
     ensures no { result ≡ 1 → (err.new ≡ err.old)
-        × WritesReportFrom words.now.detail
+        × WritesReportFrom words.now.options
         (question_of words.now)
         (R.left first.old) (S.left second.old) (W.held out.old) (W.held out.new) false }
     ensures refused { result ≡ 2 → (out.new ≡ out.old)
@@ -54,7 +54,7 @@ pub(crate) fn run_query_from<R: Source, S: Source, W: Sink, E: Sink>(
     ensures status_3_if_err_failed { E.failures err.old < E.failures err.new → result ≡ 3 }
 
     // Whatever the status: there is an answer, and that is reported.
-    ensures reports_answer { ReportsFrom words.now.detail
+    ensures reports_answer { ReportsFrom words.now.options
         (question_of words.now)
         (reader_of (R.left first.old) (R.failures first.old) (R.failures first.new))
         (reader_of (S.left second.old) (S.failures second.old) (S.failures second.new))

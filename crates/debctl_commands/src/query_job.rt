@@ -6,16 +6,16 @@ ghost use Rattle.deb_base.specs.Faults.{RefusedOrMemory};
 ghost use Rattle.deb_base.specs.declared.fault.Fault.{Fault};
 ghost use Rattle.deb_relation.specs.Views.{names_of};
 ghost use Rattle.deb_index.specs.Asked.{environment_asked, relation_asked, Asks};
-ghost use Rattle.deb_index.specs.Indexes.{packages_of};
+ghost use Rattle.deb_index.specs.Indexes.{packages_of, spellings_of};
 ghost use Rattle.deb_index.specs.Questions.{Question as Words, RefusesWords};
 ghost use Rattle.debctl_commands.specs.QueryJob.{AreRefused, QueriesFile, ReportsOver};
-ghost use Rattle.debctl_commands.specs.QueryJob.{ReportsQueryRefusal, WritesReport, question_of};
+ghost use Rattle.debctl_commands.specs.QueryJob.{ReportsQueryRefusal, WritesReport, query_options, question_of};
 ghost use Rattle.debctl_commands.specs.Reporting.{Reports};
 ghost use Rattle.debctl_commands.specs.Taking.{TakesFile};
 ghost use Rattle.debctl_commands.specs.VersionJobs.{verdict_status};
 
 use crate::reporting::report_fault;
-use deb_base::{Fault, Sink, Source};
+use deb_base::{Fault, Sink, Source, VersionText};
 use deb_index::{Index, Question};
 use debctl_args::Detail;
 use std::alloc::{AllocError, Global};
@@ -25,7 +25,14 @@ use std::alloc::{AllocError, Global};
 pub(crate) struct QueryWords<'a> {
     pub target: &'a str,
     pub profiles: &'a [String],
+    pub options: QueryOptions,
+}
+
+/// What is written of each group, and which text of each version.
+#[derive(Clone, Copy)]
+pub(crate) struct QueryOptions {
     pub detail: Detail,
+    pub versions: VersionText,
 }
 
 /// Writes to `out` which packages of an index meet a relation, with reasons if these are asked for,
@@ -47,11 +54,11 @@ pub(crate) fn run_query<R: Source, W: Sink, E: Sink>(
 ) -> u8
     ensures yes { result ≡ 0 → (err.new ≡ err.old)
         × ((text : List ℕ) → R.left first.old ≡ Some text
-        → WritesReport words.now.detail (question_of words.now relation.now) text
+        → WritesReport words.now.options (question_of words.now relation.now) text
         (W.held out.old) (W.held out.new) true) }
     ensures no { result ≡ 1 → (err.new ≡ err.old)
         × ((text : List ℕ) → R.left first.old ≡ Some text
-        → WritesReport words.now.detail (question_of words.now relation.now) text
+        → WritesReport words.now.options (question_of words.now relation.now) text
         (W.held out.old) (W.held out.new) false) }
     ensures refused { result ≡ 2 → (out.new ≡ out.old)
         × ReportsQueryRefusal (question_of words.now relation.now)
@@ -68,7 +75,7 @@ pub(crate) fn run_query<R: Source, W: Sink, E: Sink>(
 
     // Whatever the status: there is an answer, and that is reported.
     ensures reports_answer { (answer : Result Bool Fault)
-        × QueriesFile words.now.detail (question_of words.now relation.now)
+        × QueriesFile words.now.options (question_of words.now relation.now)
         (R.left first.old) (R.failures first.old) (R.failures first.new)
         W.held W.failures out.old out.new answer
         × Reports verdict_status E.held E.failures err.old err.new answer result }
@@ -88,7 +95,7 @@ fn write_report<R: Source, W: Sink>(
     first: &mut R,
     out: &mut W,
 ) -> Result<bool, Fault>
-    ensures queries { QueriesFile words.now.detail
+    ensures queries { QueriesFile words.now.options
         (question_of words.now relation.now)
         (R.left first.old) (R.failures first.old) (R.failures first.new)
         W.held W.failures out.old out.new result }
@@ -98,7 +105,7 @@ fn write_report<R: Source, W: Sink>(
         → first.new ≡ first.old }
 {
     let question = parse_question(alloc, words, relation)?;
-    write_answer(alloc, &question, words.detail, first, out)
+    write_answer(alloc, &question, words.options, first, out)
 }
 
 /// Parses the question that the command-line arguments ask.
@@ -133,17 +140,17 @@ pub(crate) fn names_of<'a>(alloc: Global, words: &'a [String]) -> Result<Vec<&'a
 fn write_answer<R: Source, W: Sink>(
     alloc: Global,
     question: &Question<'_>,
-    detail: Detail,
+    options: QueryOptions,
     first: &mut R,
     out: &mut W,
 ) -> Result<bool, Fault>
     ensures queries { (words : Words) → Asks words question.now
-        → QueriesFile detail words (R.left first.old) (R.failures first.old) (R.failures first.new)
+        → QueriesFile options words (R.left first.old) (R.failures first.old) (R.failures first.new)
         W.held W.failures out.old out.new result }
     ensures reads_at_most { TakesFile (R.left first.old) (R.left first.new) }
 {
     let index = Index::read(alloc, first)?;
-    write_over(alloc, &index, question, detail, out)
+    write_over(alloc, &index, question, options, out)
 }
 
 /// Writes the report of a question to an index, with or without reasons, and returns whether no
@@ -152,15 +159,17 @@ fn write_over<W: Sink>(
     alloc: Global,
     index: &Index,
     question: &Question<'_>,
-    detail: Detail,
+    options: QueryOptions,
     out: &mut W,
 ) -> Result<bool, Fault>
-    ensures { ReportsOver detail (packages_of index.now) (relation_asked question.now)
-        (environment_asked question.now) W.held W.failures out.old out.new result }
+    ensures { ReportsOver options (spellings_of index.now) (packages_of index.now)
+        (relation_asked question.now) (environment_asked question.now)
+        W.held W.failures out.old out.new result }
 {
-    match detail {
-        Detail::Verdicts => write_verdicts(alloc, index, question, out),
-        Detail::Reasons => write_reasons(alloc, index, question, out),
+    let versions = options.versions;
+    match options.detail {
+        Detail::Verdicts => write_verdicts(alloc, index, question, versions, out),
+        Detail::Reasons => write_reasons(alloc, index, question, versions, out),
     }
 }
 
@@ -169,28 +178,32 @@ fn write_verdicts<W: Sink>(
     alloc: Global,
     index: &Index,
     question: &Question<'_>,
+    versions: VersionText,
     out: &mut W,
 ) -> Result<bool, Fault>
-    ensures { ReportsOver Detail.Verdicts (packages_of index.now) (relation_asked question.now)
+    ensures { ReportsOver (query_options Detail.Verdicts versions) (spellings_of index.now)
+        (packages_of index.now) (relation_asked question.now)
         (environment_asked question.now) W.held W.failures out.old out.new result }
 {
     let report = index.ask(alloc, question)?;
-    report.write(out)?;
+    report.write_with(versions, out)?;
     Ok(report.all_met())
 }
 
 /// Writes the report with reasons, and returns whether no group is unmet.
-#[tactic(auto, using(deb_index::proofs::Reasoned::change_no_answer))]
+#[tactic(auto, using(deb_index::proofs::Reasoned::changes_no_answer))]
 fn write_reasons<W: Sink>(
     alloc: Global,
     index: &Index,
     question: &Question<'_>,
+    versions: VersionText,
     out: &mut W,
 ) -> Result<bool, Fault>
-    ensures { ReportsOver Detail.Reasons (packages_of index.now) (relation_asked question.now)
+    ensures { ReportsOver (query_options Detail.Reasons versions) (spellings_of index.now)
+        (packages_of index.now) (relation_asked question.now)
         (environment_asked question.now) W.held W.failures out.old out.new result }
 {
-    let report = index.ask_why(alloc, question)?;
-    report.write(out)?;
+    let report = index.ask_why_with(alloc, question, versions)?;
+    report.write_with(versions, out)?;
     Ok(report.all_met())
 }

@@ -67,6 +67,10 @@ pub(crate) struct SystemFiles<'a> {
     failures: u64,
     /// Whether standard input was opened before.
     was_input_opened: bool,
+    /// How many openings were tried, up to the last number.
+    tried: u64,
+    /// Why the last opening that failed did.
+    unopened: Option<Unopened>,
 }
 
 impl<'a> SystemFiles<'a> {
@@ -78,6 +82,8 @@ impl<'a> SystemFiles<'a> {
             rt,
             failures: 0,
             was_input_opened: false,
+            tried: 0,
+            unopened: None,
         }
     }
 
@@ -87,7 +93,19 @@ impl<'a> SystemFiles<'a> {
             rt,
             failures: 0,
             was_input_opened: path == "-",
+            tried: 0,
+            unopened: None,
         }
+    }
+
+    /// Returns how many openings were tried.
+    pub(crate) fn tried(&self) -> u64 {
+        self.tried
+    }
+
+    /// Returns why the last opening that failed did, if one has.
+    pub(crate) fn unopened(&self) -> Option<Unopened> {
+        self.unopened
     }
 
     /// Opens the file of a path.
@@ -120,10 +138,12 @@ impl Opens for SystemFiles<'_> {
         if self.failures == u64::MAX {
             return Err(Unopened::Other);
         }
+        self.tried = self.tried.saturating_add(1);
         match self.reader(path) {
             Ok(reader) => Ok(Input::new(reader)),
             Err(why) => {
                 self.failures += 1;
+                self.unopened = Some(why);
                 Err(why)
             }
         }

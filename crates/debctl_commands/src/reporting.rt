@@ -79,7 +79,7 @@ pub(crate) fn status_of(fault: &Fault) -> u8
     }
 }
 
-/// Tells why words ask for no job, or the help that they ask for, and returns the status.
+/// Writes why the arguments ask for no job, or the help that they ask for. Returns the status.
 ///
 /// - 0: the help was written to `out`.
 /// - 3: the arguments are wrong, and `err` has the text that says so; or out of memory, or the

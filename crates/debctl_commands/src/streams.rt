@@ -4,11 +4,13 @@ use crate::all_jobs::run_explain_all;
 use crate::audit_all_job::run_audit_all;
 use crate::audit_job::{AuditOptions, record_end, run_audit, run_without_list};
 use crate::explain_job::{run_explain, run_rule, run_unopened, run_word};
+use crate::hints::{put_hint, subject_of, wants_hints};
 use crate::listed::listed_paths;
 use crate::opening::run_call;
 use crate::reader::{SystemFiles, opened};
 use crate::reporting::{report_fault, report_usage};
 use crate::unopened::Unopened;
+use crate::usage_hints::{put_usage_hint, usage_hint};
 use crate::writer::{Records, Streams, write_out};
 use deb_base::{Fault, Input, Output, Sink, read_text};
 use deb_explain::Word;
@@ -61,13 +63,19 @@ fn task_of(rt: &HostRuntime) -> Result<Task, UsageFault> {
     job_of(rt.alloc(), words.as_slice())
 }
 
-/// Tells why the words ask for no job, or the help that they ask for, and returns the status.
+/// Writes why the arguments ask for no job, or the help that they ask for, with a hint if one is
+/// wanted. Returns the status.
 fn report_no_task(rt: &HostRuntime, fault: &UsageFault) -> u8 {
-    report_usage(
-        fault,
-        &mut Output::new(rt.stdout()),
-        &mut Output::new(rt.stderr()),
-    )
+    let mut err = Output::new(rt.stderr());
+    let status = report_usage(fault, &mut Output::new(rt.stdout()), &mut err);
+    if let UsageFault::Usage(text) = fault {
+        if let Some(hint) = usage_hint(text.as_str()) {
+            if wants_hints(rt) {
+                let _ = put_usage_hint(rt, hint, &mut err);
+            }
+        }
+    }
+    status
 }
 
 /// Does the task, and returns the status.
@@ -86,13 +94,18 @@ fn answer(rt: &HostRuntime, task: &Task) -> u8 {
 /// Does the job of a call over the files of the system, and writes out what it has written.
 fn run_on_streams(rt: &HostRuntime, call: &Call) -> Result<u8, Fault> {
     let Streams { mut out, mut err } = Streams::new(rt)?;
+    let mut files = SystemFiles::new(rt);
     let status = run_call(
         rt.alloc(),
         call,
-        &mut SystemFiles::new(rt),
+        &mut files,
         &mut Output::new(&mut out),
         &mut Output::new(&mut err),
     );
+    if status > 1 && wants_hints(rt) {
+        let about = subject_of(err.buffer());
+        let _ = put_hint(call, &files, about, &mut Output::new(&mut err));
+    }
     write_out(out, err, status)
 }
 
@@ -108,7 +121,7 @@ fn explain_on_streams(rt: &HostRuntime, wanted: &Explain) -> Result<u8, Fault> {
     write_out(out, err, status)
 }
 
-/// Tells that on two sinks, and returns the status.
+/// Writes that to two sinks, and returns the status.
 fn explain_by<W: Sink, E: Sink>(
     rt: &HostRuntime,
     wanted: &Explain,
@@ -230,6 +243,7 @@ fn audit_paths(
     let options = AuditOptions {
         doc: audit.doc,
         end: audit.end,
+        demands: audit.demands,
     };
     let status = match audit.extent {
         Extent::First => run_audit(

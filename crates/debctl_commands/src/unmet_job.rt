@@ -10,17 +10,17 @@ ghost use Rattle.deb_unmet.specs.Asking.{asks_of};
 ghost use Rattle.deb_unmet.specs.declared.asking.Summary.{Summary};
 ghost use Rattle.debctl_commands.specs.JobDevices.{reader_of, writer_of};
 ghost use Rattle.debctl_commands.specs.Taking.{TakesFile};
-ghost use Rattle.debctl_commands.specs.UnmetJob.{again, answer_of, asked_of, fields_tried, has_environment, is_empty_in};
+ghost use Rattle.debctl_commands.specs.UnmetJob.{again, answer_of, asked_of, fields_tried, has_environment, is_empty_in, request_of};
 ghost use Rattle.debctl_commands.specs.UnmetJob.{AreRefusedBefore, AsksFile, EndsInEnvironment, EndsOver, IsRefusedIndex};
 ghost use Rattle.debctl_commands.specs.UnmetJob.{ReportsRefusalOfUnmet, ReportsUnmet, WritesUnmetOf, words_of};
 
 use crate::query_job::names_of;
 use crate::reporting::{report_fault, report_side};
-use deb_base::{Code, Fault, Refusal, Sink, Source};
+use deb_base::{Code, Fault, Refusal, Sink, Source, VersionText};
 use deb_control::{Side, SideFault};
 use deb_index::Index;
 use deb_relation::{Env, EnvFault};
-use deb_unmet::{Asked, Summary, unmet};
+use deb_unmet::{Asked, Request, Summary, unmet};
 use debctl_args::{Dependents, Strength};
 use std::alloc::Global;
 
@@ -30,13 +30,15 @@ pub(crate) struct UnmetWords<'a> {
     pub target: &'a str,
     pub profiles: &'a [String],
     pub dependents: Dependents,
+    pub versions: VersionText,
 }
 
-/// What they ask: for which environment, and of which file.
+/// What they ask: for which environment, of which file, and which text of versions.
 #[derive(Clone, Copy)]
 struct Asking<'a> {
     environment: &'a Env,
     dependents: Dependents,
+    versions: VersionText,
 }
 
 /// Writes to `out` a line for each group of a file that no package of an index meets, or may not
@@ -94,6 +96,7 @@ pub(crate) fn run_unmet<R: Source, S: Source, W: Sink, E: Sink>(
             &Asking {
                 environment: &environment,
                 dependents: words.dependents,
+                versions: words.versions,
             },
             first,
             second,
@@ -128,7 +131,7 @@ fn run_in_environment<R: Source, S: Source, W: Sink, E: Sink>(
     out: &mut W,
     err: &mut E,
 ) -> u8
-    ensures ends { EndsInEnvironment asking.now.dependents
+    ensures ends { EndsInEnvironment asking.now.dependents asking.now.versions
         (environment_of asking.now.environment.now)
         (reader_of (R.left first.old) (R.failures first.old) (R.failures first.new))
         (reader_of (S.left second.old) (S.failures second.old) (S.failures second.new))
@@ -160,7 +163,8 @@ fn run_over<S: Source, W: Sink, E: Sink>(
     out: &mut W,
     err: &mut E,
 ) -> u8
-    ensures ends { EndsOver asking.now.dependents (environment_of asking.now.environment.now)
+    ensures ends { EndsOver asking.now.dependents asking.now.versions
+        (environment_of asking.now.environment.now)
         (packages_of index.now)
         (reader_of (S.left second.old) (S.failures second.old) (S.failures second.new))
         (writer_of W.held W.failures out.old out.new)
@@ -189,16 +193,26 @@ fn write_unmet<S: Source, W: Sink>(
     out: &mut W,
 ) -> Result<bool, Fault>
     ensures answers { (answer : Result Summary Fault)
-        × AsksFile (asks_of (asked_of asking.now.dependents)
+        × AsksFile (asks_of (request_of asking.now.dependents asking.now.versions)
         (environment_of asking.now.environment.now) (packages_of index.now))
         (S.left second.old) (S.failures second.old) (S.failures second.new)
         W.held W.failures out.old out.new answer
         × (result ≡ answer_of asking.now.dependents (length (packages_of index.now)) answer) }
     ensures reads_at_most { TakesFile (S.left second.old) (S.left second.new) }
 {
-    let asked = asked_of(asking.dependents);
-    let answer = unmet(alloc, index, asking.environment, asked, second, out);
+    let request = request_of(asking.dependents, asking.versions);
+    let answer = unmet(alloc, index, asking.environment, request, second, out);
     answer_of(asking.dependents, index.len(), answer)
+}
+
+/// Which fields of which kind of file are tried, and which text of versions lines have.
+fn request_of(dependents: Dependents, versions: VersionText) -> Request
+    ensures { result ≡ request_of dependents versions }
+{
+    Request {
+        asked: asked_of(dependents),
+        versions,
+    }
 }
 
 /// Which fields of which kind of file are tried.

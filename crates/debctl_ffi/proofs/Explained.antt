@@ -15,7 +15,7 @@ refusal_back : (doc : Doc) (lines : Option Paragraph) (seen : Option Seen) (foun
 refusal_back doc lines seen None = refl
 refusal_back doc lines seen (Some refusal) = refl
 
--- it is the one that the explanation tells
+-- it is the one that the explanation is of
 pub refusal_explained : (doc : Doc) (text : List ℕ) (why : WhyRefused) → explanation_of doc text ≡ Some why → refusal_of doc text ≡ Some why.refusal
 refusal_explained doc text why explained =
     let come = outcome (rules_of doc) text in

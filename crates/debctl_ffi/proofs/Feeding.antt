@@ -19,13 +19,13 @@ use Rattle.deb_control.proofs.Passing.{answer-from_passes, answer_of_first-cons,
 use Rattle.debctl_ffi.specs.Fields.{AreNext}
 use Rattle.debctl_ffi.specs.Feeds.{HasRead}
 
--- an element, and what is behind it, whatever follows
+-- an element, and what is after it, whatever follows
 split : {X : Type 0} (Q : X → Type 0) (k : ℕ) (xs : List X) → k < length xs → AllByRecursion Q xs → (x : X) × (rest : List X) × Q x × ((ys : List X) → drop k (xs ++ ys) ≡ x ∷ (rest ++ ys))
 split Q k [] few all = absurd (omega (arith, few))
 split Q zero (x ∷ xs) few all = (x, xs, all.0, λ ys. refl)
 split Q (suc k) (x ∷ xs) few all = split Q k xs (omega (arith, few)) all.1
 
--- a paragraph begins at line n or behind it, and the line behind it is before another one
+-- a paragraph begins at line n or later, and the line after it is before another one
 abbrev EndsBefore : ℕ → ℕ → Paragraph → Type 0
 EndsBefore n end p = (n ≤ p.first) × (p.first + length p.lines < end)
 
@@ -38,7 +38,7 @@ with_line-ends n end line true ps room all = ((omega arith, omega (arith, room))
 with_line-ends n end line false [] room all = ((omega arith, omega (arith, room)), tt)
 with_line-ends n end line false (p ∷ ps) room all = ((omega arith, omega (arith, all.0.0, all.0.1)), earlier n end ps all.1)
 
--- behind each paragraph of lines of which the last is blank there is a line
+-- after each paragraph of lines of which the last is blank there is a line
 ends-before : (n : ℕ) (lines : List Line) → ends_blank lines ≡ true → AllByRecursion (EndsBefore n (n + length lines)) (paragraphs_from n lines)
 ends-before n [] h = tt
 ends-before n (line ∷ []) h = rw h tt
@@ -72,7 +72,7 @@ later-than : (k n : ℕ) (o : Option ℕ) → k < n → IfSome o (λ line. n ≤
 later-than k n None less at = tt
 later-than k n (Some line) less at = omega (arith, less, at)
 
--- What passes behind a closed text and some bytes also passes behind it and others.
+-- What passes of a closed text and some bytes after it also passes of it and others.
 module _ (rules : Rules) (passed behind other : List ℕ) (closed : IsClosed passed) (short : length passed ≤ file_limit) where
   abbrev pub paragraphs : List Paragraph
   paragraphs = paragraphs_from 1 (lines_of passed)

@@ -70,7 +70,7 @@ all_shown doc text state new left after tables has end = record {
   has = has.has;
 }
 
--- the file is refused behind them
+-- the file is refused after them
 pub shown_refused : (doc : Doc) (text : List ℕ) (state new : CheckedState) (left after : Option (List ℕ)) (tables : Tables) (fault : Fault) → (has : HasShown doc text state left tables) → AnswersChecked doc text has.checked.before (Err fault) new after → IfRefused {T = ℕ} (Err fault) (λ refusal. ShowFields doc text tables)
 shown_refused doc text state new left after tables fault has answer =
     refused_then ℕ (λ refusal. outcome (rules_of doc) text ≡ record { passed = has.checked.before; refusal = Some refusal }) (λ refusal. ShowFields doc text tables) fault

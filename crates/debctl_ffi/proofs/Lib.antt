@@ -12,5 +12,10 @@ mod ReadTexts
 mod Reports
 mod AskedNumbers
 mod Feeding
+mod BlankTexts
+mod AlikeTexts
+mod ChangedLines
+mod LongTexts
+mod KeptLines
 mod Readings
 pub mod HandsOn

@@ -1,11 +1,11 @@
 -- What is said of a loaded index holds of the index in it.
-use Rattle.std.proofs.Common.{◌≡◌, ◌∙◌, ℕ, List, None, Some, ap, subst, sym}
+use Rattle.std.proofs.Common.{◌≡◌, ◌∙◌, ℕ, List, Some, ap, subst, sym}
 use Rattle.std.specs.Option.{option_map_or}
 use Rattle.deb_index.specs.Indexes.{lines_of, packages_of}
 use Rattle.deb_index.specs.Listed.{Listed}
 use Rattle.deb_index.specs.Listing.{ListsAll}
 use Rattle.deb_index.specs.declared.index.Index.{Index}
-use Rattle.debctl_ffi.specs.Loads.{HasLines, HasPackages, HoldsIndex, HoldsNone}
+use Rattle.debctl_ffi.specs.Loads.{HasLines, HasPackages, HoldsIndex}
 use Rattle.debctl_ffi.specs.declared.loaded.Loaded.{Loaded}
 
 -- there is one index
@@ -22,13 +22,6 @@ pub packages_held : (loaded : Loaded) (index : Index) (packages : List Listed)
     → loaded.index ≡ Some index → HasPackages loaded packages → packages ≡ packages_of index
 packages_held loaded index packages is has =
     has.packages_are ∙ ap packages_of (one_index loaded has.index index has.is is)
-
--- an index is held, or there is none
-pub holds_one : (loaded : Loaded) (index : Index) → loaded.index ≡ Some index → HoldsNone loaded → ⊥
-holds_one loaded index is none = some_not_none (sym is ∙ none)
-  where
-    some_not_none : Some index ≡ None → ⊥
-    some_not_none e = cc
 
 pub lines_held : (loaded : Loaded) (index : Index) (lines : List ℕ)
     → loaded.index ≡ Some index → HasLines loaded lines → lines ≡ lines_of index

@@ -1,5 +1,5 @@
--- What is known of the paragraphs that were read behind others, and of the tables of their fields.
-use Rattle.std.proofs.Common.{◌≡◌, ℕ, ◌+◌, ◌-◌, ◌^◌, ◌<◌, ◌≤◌, ◌==◌, min, Bool, true, false, List, [], ◌∷◌, ◌++◌, length, Option, None, Some, IfOk, Result, Ok, Err, refl, sym, ap, ◌∙◌, subst, append_assoc, append-nil, arith}
+-- What is known of the paragraphs that were read after others, and of the tables of their fields.
+use Rattle.std.proofs.Common.{◌≡◌, ℕ, ◌+◌, ◌-◌, ◌^◌, ◌<◌, ◌≤◌, ◌==◌, ◌⊎◌, inl, inr, min, Bool, true, false, List, [], ◌∷◌, ◌++◌, length, Option, None, Some, IfOk, Result, Ok, Err, refl, sym, ap, ◌∙◌, subst, append_assoc, append-nil, arith}
 use Rattle.std.proofs.lemmas.List.{length-append, length_push}
 use Rattle.deb_base.specs.declared.doc.Doc.{Doc}
 use Rattle.deb_base.specs.declared.fault.Fault.{Fault}
@@ -13,6 +13,13 @@ use Rattle.deb_control.specs.Refusals.{outcome}
 use Rattle.deb_control.proofs.CheckedSoFar.{all_checked, refused_behind, refused_then}
 use Rattle.deb_control.proofs.FollowedParagraphs.{outcome-from_end}
 use Rattle.debctl_ffi.proofs.FieldsSoFar.{next-push, numbered_from-push}
+use Rattle.debctl_ffi.specs.Blanks.{DropsBlanks}
+use Rattle.debctl_ffi.specs.KeptTexts.{kept_text}
+use Rattle.debctl_ffi.specs.declared.kept.Kept.{Kept}
+use Rattle.debctl_ffi.proofs.AlikeTexts.{alike-more, alike-then, drops-alike, drops-some, has_read-alike}
+use Rattle.debctl_ffi.proofs.LongTexts.{changes-alike, changes-some}
+use Rattle.debctl_ffi.specs.LongLines.{ChangesLongLine}
+use Rattle.debctl_ffi.specs.Alike.{AnswerAlike}
 use Rattle.debctl_ffi.specs.Feeds.{Feeds, HasRead, IsFed, Reading, ReadsAll, ReadsOn, Refuses, RefusesOn, ShowNext, TakesLast, TakesPiece}
 use Rattle.debctl_ffi.specs.Answers.{counting, plain, refusing}
 use Rattle.debctl_ffi.specs.declared.answer.Answer.{Answer}
@@ -70,7 +77,7 @@ module _ (doc : Doc) (text : List ℕ) (given fresh : List Seen) (state new : Ch
     counted = reading.counted;
   }
 
-  -- the file is refused behind these
+  -- the file is refused after these
   pub refuses : (fault : Fault) → AnswersChecked doc text reading.read.checked.before (Err fault) new after → IfRefused {T = Bool} (Err fault) (λ refusal. Refuses doc text given fresh refusal tables)
   refuses fault answer =
       refused_then Bool (λ refusal. outcome (rules_of doc) text ≡ record { passed = reading.read.checked.before; refusal = Some refusal }) (λ refusal. Refuses doc text given fresh refusal tables) fault
@@ -88,24 +95,33 @@ unfolding file_limit
 count_more doc text given fresh before after tables count reading checks =
     omega (arith, checks.count, checks.few, reading.counted, reading.read.counted, reading.read.checked.fits.counted)
 
--- behind some
+-- after some
 pub refuses-on : (doc : Doc) (text : List ℕ) (given fresh : List Seen) (tables : Tables) (fault : Fault) → IfRefused {T = Bool} (Err fault) (λ refusal. Refuses doc text given fresh refusal tables) → IfRefused {T = Bool} (Err fault) (λ refusal. RefusesOn doc text given refusal tables)
 refuses-on doc text given fresh tables fault refused =
     refused_then Bool (λ refusal. Refuses doc text given fresh refusal tables) (λ refusal. RefusesOn doc text given refusal tables) fault (λ refusal is. record { fresh = fresh; refuses = is }) refused
 
+-- the text that a reader reads in place of the one that it was fed
+abbrev pub other_of : (doc : Doc) (text : List ℕ) (given : List Seen) (reader : Reader) → IsFed doc text given reader → List ℕ
+other_of doc text given reader fed = fed.front ++ kept_text reader.kept
+
 -- What a reader was fed, and a piece: nothing of it was read.
-pub starts-reading : (doc : Doc) (text piece : List ℕ) (given : List Seen) (reader : Reader) → IsFed doc text given reader → ShowNext (length given) [] reader.tables → Reading (doc_read reader.checked) (text ++ piece) given [] (checked_state reader.checked) (Some (reader.kept.items ++ piece)) reader.tables reader.count
+pub starts-reading : (doc : Doc) (text piece : List ℕ) (given : List Seen) (reader : Reader) (fed : IsFed doc text given reader) → ShowNext (length given) [] reader.tables → Reading (doc_read reader.checked) (other_of doc text given reader fed ++ piece) given [] (checked_state reader.checked) (Some (kept_text reader.kept ++ piece)) reader.tables reader.count
 starts-reading doc text piece given reader fed shows =
     let same : given ≡ given ++ [] = sym (append-nil given) in
+    let other = other_of doc text given reader fed in
     record {
       sound = fed.sound;
-      read = subst (λ d. HasRead d (text ++ piece) (given ++ []) (checked_state reader.checked) (Some (reader.kept.items ++ piece))) (sym fed.is_doc)
-          (subst (λ all. HasRead doc (text ++ piece) all (checked_state reader.checked) (Some (reader.kept.items ++ piece))) same (fed.reads piece));
+      read = subst (λ d. HasRead d (other ++ piece) (given ++ []) (checked_state reader.checked) (Some (kept_text reader.kept ++ piece))) (sym fed.is_doc)
+          (subst (λ all. HasRead doc (other ++ piece) all (checked_state reader.checked) (Some (kept_text reader.kept ++ piece))) same (fed.reads piece));
       shows = shows;
       counted = fed.count ∙ ap length same;
     }
 
-pub ok-then : (r : Result (Unit {0}) Fault) (P Q : Type 0) → (P → Q) → IfOk r (λ _. P) → IfOk r (λ _. Q)
+pub refused-then : (r : Result (Unit {0}) Fault) (P Q : Refusal → Type 0) → ((refusal : Refusal) → P refusal → Q refusal) → IfRefused r P → IfRefused r Q
+refused-then (Ok x) P Q then p = tt
+refused-then (Err fault) P Q then p = refused_then (Unit {0}) P Q fault then p
+
+pub ok-then : {E : Type 0} (r : Result (Unit {0}) E) (P Q : Type 0) → (P → Q) → IfOk r (λ _. P) → IfOk r (λ _. Q)
 ok-then (Ok x) P Q then p = then p
 ok-then (Err fault) P Q then p = tt
 
@@ -139,10 +155,13 @@ none-fresh given = sym (append-nil given)
 
 -- A piece in which no paragraph ends is kept.
 pub keeps-piece : (doc : Doc) (text piece : List ℕ) (given : List Seen) (old new : Reader) → IsFed doc text given old → ShowNext (length given) [] new.tables
-    → min (old.fed + length piece) (2 ^ 64 - 1) ≤ file_limit → new.fed ≡ min (old.fed + length piece) (2 ^ 64 - 1) → new.answer ≡ old.answer → new.ended ≡ old.ended → new.checked ≡ old.checked → new.count ≡ old.count → new.kept.items ≡ old.kept.items ++ piece
+    → min (old.fed + length piece) (2 ^ 64 - 1) ≤ file_limit → new.fed ≡ min (old.fed + length piece) (2 ^ 64 - 1) → new.answer ≡ old.answer → new.ended ≡ old.ended → new.checked ≡ old.checked → new.count ≡ old.count → kept_text new.kept ≡ kept_text old.kept ++ piece
     → TakesPiece doc text given piece new
 keeps-piece doc text piece given old new is shows short fed answer ended checked count kept =
     let more = fed-more text piece old.fed is.fed short in
+    let was = kept_text old.kept in
+    let now = kept_text new.kept in
+    let all : (is.front ++ was) ++ piece ≡ is.front ++ now = append_assoc is.front was piece ∙ ap (λ k. is.front ++ k) (sym kept) in
     record {
       fresh = [];
       fed = record {
@@ -153,25 +172,39 @@ keeps-piece doc text piece given old new is shows short fed answer ended checked
         count = count ∙ is.count ∙ ap length (none-fresh given);
         fed = fed ∙ more.0;
         short = more.1;
+        front = is.front;
+        alike = subst (λ t. AnswerAlike (text ++ piece) t) all (alike-more text (is.front ++ was) piece is.alike);
         reads = λ bytes.
-            let whole : text ++ (piece ++ bytes) ≡ (text ++ piece) ++ bytes = sym (append_assoc text piece bytes) in
-            let left : old.kept.items ++ (piece ++ bytes) ≡ new.kept.items ++ bytes = sym (append_assoc old.kept.items piece bytes) ∙ ap (λ k. k ++ bytes) (sym kept) in
-            subst (λ t. HasRead doc t (given ++ []) (checked_state new.checked) (Some (new.kept.items ++ bytes))) whole
-            (subst (λ l. HasRead doc (text ++ (piece ++ bytes)) (given ++ []) (checked_state new.checked) (Some l)) left
-            (subst (λ c. HasRead doc (text ++ (piece ++ bytes)) (given ++ []) (checked_state c) (Some (old.kept.items ++ (piece ++ bytes)))) (sym checked)
-            (subst (λ g. HasRead doc (text ++ (piece ++ bytes)) g (checked_state old.checked) (Some (old.kept.items ++ (piece ++ bytes)))) (none-fresh given) (is.reads (piece ++ bytes)))));
+            let whole : (is.front ++ was) ++ (piece ++ bytes) ≡ (is.front ++ now) ++ bytes = sym (append_assoc (is.front ++ was) piece bytes) ∙ ap (λ t. t ++ bytes) all in
+            let left : was ++ (piece ++ bytes) ≡ now ++ bytes = sym (append_assoc was piece bytes) ∙ ap (λ k. k ++ bytes) (sym kept) in
+            subst (λ t. HasRead doc t (given ++ []) (checked_state new.checked) (Some (now ++ bytes))) whole
+            (subst (λ l. HasRead doc ((is.front ++ was) ++ (piece ++ bytes)) (given ++ []) (checked_state new.checked) (Some l)) left
+            (subst (λ c. HasRead doc ((is.front ++ was) ++ (piece ++ bytes)) (given ++ []) (checked_state c) (Some (was ++ (piece ++ bytes)))) (sym checked)
+            (subst (λ g. HasRead doc ((is.front ++ was) ++ (piece ++ bytes)) g (checked_state old.checked) (Some (was ++ (piece ++ bytes)))) (none-fresh given) (is.reads (piece ++ bytes)))));
       };
       shows = shows;
     }
 
+some_bytes : (a b : List ℕ) → Some a ≡ Some b → a ≡ b
+some_bytes a b e = cc
+
 -- Paragraphs of it were read, and some bytes are kept.
-pub reads-piece : (doc : Doc) (text piece : List ℕ) (given : List Seen) (old new : Reader) → IsFed doc text given old
+pub reads-piece : (doc : Doc) (text piece rest : List ℕ) (given : List Seen) (old new : Reader) (is : IsFed doc text given old)
     → min (old.fed + length piece) (2 ^ 64 - 1) ≤ file_limit → new.fed ≡ min (old.fed + length piece) (2 ^ 64 - 1) → new.answer ≡ old.answer → new.ended ≡ old.ended → doc_read new.checked ≡ doc
-    → 0 < length new.kept.items → ReadsOn doc (text ++ piece) given (checked_state new.checked) (Some new.kept.items) new.tables new.count
+    → 0 < length rest → kept_text new.kept ≡ rest → ReadsOn doc (other_of doc text given old is ++ piece) given (checked_state new.checked) (Some rest) new.tables new.count
     → TakesPiece doc text given piece new
-reads-piece doc text piece given old new is short fed answer ended is_doc some reads =
+reads-piece doc text piece rest given old new is short fed answer ended is_doc some kept reads =
     let more = fed-more text piece old.fed is.fed short in
     let reading = reads.reading in
+    let checked = reading.read.checked.fits in
+    let fits = checked.fits in
+    let other = other_of doc text given old is in
+    let unread = (checked_state new.checked).reader.unread in
+    let front = checked.passed ++ (fits.overlong ++ unread) in
+    let whole : other ++ piece ≡ front ++ kept_text new.kept =
+    fits.whole ∙ ap (λ t. checked.passed ++ (fits.overlong ++ (unread ++ t))) (sym (some_bytes rest fits.rest fits.told) ∙ sym kept)
+    ∙ ap (λ t. checked.passed ++ t) (sym (append_assoc fits.overlong unread (kept_text new.kept))) ∙ sym (append_assoc checked.passed (fits.overlong ++ unread) (kept_text new.kept)) in
+    let within : length (other ++ piece) ≤ file_limit = omega (arith, more.1, is.alike.bytes, length-append text piece, length-append other piece) in
     record {
       fresh = reads.fresh;
       fed = record {
@@ -182,10 +215,62 @@ reads-piece doc text piece given old new is short fed answer ended is_doc some r
         count = reading.counted;
         fed = fed ∙ more.0;
         short = more.1;
-        reads = λ bytes. has_read-more doc (text ++ piece) bytes (given ++ reads.fresh) (checked_state new.checked) new.kept.items some more.1 reading.read;
+        front = front;
+        alike = subst (λ t. AnswerAlike (text ++ piece) t) whole (alike-more text other piece is.alike);
+        reads = λ bytes.
+            subst (λ t. HasRead doc (t ++ bytes) (given ++ reads.fresh) (checked_state new.checked) (Some (kept_text new.kept ++ bytes))) whole
+            (subst (λ r. HasRead doc ((other ++ piece) ++ bytes) (given ++ reads.fresh) (checked_state new.checked) (Some (r ++ bytes))) (sym kept)
+            (has_read-more doc (other ++ piece) bytes (given ++ reads.fresh) (checked_state new.checked) rest some within reading.read));
       };
       shows = reading.shows;
     }
+
+-- Bytes that are kept are in the place of others.
+keeps-same : (doc : Doc) (text : List ℕ) (given : List Seen) (reader : Reader) (kept : Kept) → IsFed doc text given reader → kept_text kept ≡ kept_text reader.kept → IsFed doc text given (record reader { kept = kept })
+keeps-same doc text given reader kept is same = record {
+  status = is.status;
+  goes_on = is.goes_on;
+  is_doc = is.is_doc;
+  sound = is.sound;
+  count = is.count;
+  fed = is.fed;
+  short = is.short;
+  front = is.front;
+  alike = subst (λ k. AnswerAlike text (is.front ++ k)) (sym same) is.alike;
+  reads = λ more. subst (λ k. HasRead doc ((is.front ++ k) ++ more) given (checked_state reader.checked) (Some (k ++ more))) (sym same) (is.reads more);
+}
+
+keeps-alike : (doc : Doc) (text : List ℕ) (given : List Seen) (reader : Reader) (kept : Kept) (is : IsFed doc text given reader) → AnswerAlike (is.front ++ kept_text reader.kept) (is.front ++ kept_text kept) → 0 < length (kept_text reader.kept) → IsFed doc text given (record reader { kept = kept })
+keeps-alike doc text given reader kept is alike some = record {
+  status = is.status;
+  goes_on = is.goes_on;
+  is_doc = is.is_doc;
+  sound = is.sound;
+  count = is.count;
+  fed = is.fed;
+  short = is.short;
+  front = is.front;
+  alike = alike-then text (is.front ++ kept_text reader.kept) (is.front ++ kept_text kept) is.alike alike;
+  reads = λ more. has_read-alike doc is.front (kept_text reader.kept) (kept_text kept) more given (checked_state reader.checked) alike some (is.reads more);
+}
+
+short_other : (doc : Doc) (text : List ℕ) (given : List Seen) (reader : Reader) (is : IsFed doc text given reader) → length (is.front ++ kept_text reader.kept) ≤ file_limit
+short_other doc text given reader is = omega (arith, is.short, is.alike.bytes)
+
+-- Blank lines among the bytes that are kept are only counted.
+pub drops-blanks : (doc : Doc) (text : List ℕ) (given : List Seen) (reader : Reader) (kept : Kept) → IsFed doc text given reader → (kept_text kept ≡ kept_text reader.kept) ⊎ DropsBlanks (kept_text reader.kept) (kept_text kept) → IsFed doc text given (record reader { kept = kept })
+drops-blanks doc text given reader kept is (inl same) = keeps-same doc text given reader kept is same
+drops-blanks doc text given reader kept is (inr drops) =
+    let short = short_other doc text given reader is in
+    keeps-alike doc text given reader kept is (drops-alike is.front (kept_text reader.kept) (kept_text kept) drops short)
+    (drops-some is.front (kept_text reader.kept) (kept_text kept) drops short)
+
+-- Bytes of a line that is longer than a paragraph may be are only counted.
+pub drops-line : (doc : Doc) (text : List ℕ) (given : List Seen) (reader : Reader) (kept : Kept) → IsFed doc text given reader → (kept_text kept ≡ kept_text reader.kept) ⊎ ChangesLongLine (kept_text reader.kept) (kept_text kept) → IsFed doc text given (record reader { kept = kept })
+drops-line doc text given reader kept is (inl same) = keeps-same doc text given reader kept is same
+drops-line doc text given reader kept is (inr changes) =
+    keeps-alike doc text given reader kept is (changes-alike (kept_text reader.kept) (kept_text kept) changes is.front (short_other doc text given reader is))
+    (changes-some (kept_text reader.kept) (kept_text kept) changes)
 
 -- The answer doesn't matter to what was read.
 pub fed-answered : (doc : Doc) (text : List ℕ) (given : List Seen) (reader : Reader) (answer : Answer) → answer.status ≡ 0 → IsFed doc text given reader → IsFed doc text given (record reader { answer = answer })
@@ -197,6 +282,8 @@ fed-answered doc text given reader answer status is = record {
   count = is.count;
   fed = is.fed;
   short = is.short;
+  front = is.front;
+  alike = is.alike;
   reads = is.reads;
 }
 
@@ -209,6 +296,8 @@ fed-cleared doc text given reader tables is = record {
   count = is.count;
   fed = is.fed;
   short = is.short;
+  front = is.front;
+  alike = is.alike;
   reads = is.reads;
 }
 

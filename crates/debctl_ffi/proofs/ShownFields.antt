@@ -20,7 +20,7 @@ front-grows front text rest =
 grown-length : (front text : List ℕ) (n : ℕ) → n ≡ length front → n + length text + 1 ≡ length (front ++ (text ++ 0 ∷ []))
 grown-length front text n at = omega (arith, at, length-append front (text ++ 0 ∷ []), length-append text (0 ∷ []))
 
--- behind other names and values
+-- after other names and values
 shows-from : (names values : List ℕ) (n v : ℕ) (shown : List Numbered) → n ≡ length names → v ≡ length values
     → map (field_shown (names ++ names_text shown) (values ++ values_text shown)) (spans_from n v shown) ≡ shown
 shows-from names values n v [] at_name at_value = refl

@@ -9,13 +9,13 @@ pub record Gives {T : Type 0} (items before after : List T) (len : ℕ) : Type 0
   pub is : after ≡ items ++ drop (length items) before
   pub counted : len ≡ length items
 
--- The buffer is too short for the items, and as it was, and their number is told.
+-- The buffer is too short for the items, and as it was; their number is returned.
 pub record LacksRoom {T : Type 0} (items before after : List T) (len : ℕ) : Type 0 where
   pub short : length before < length items
   pub kept : after ≡ before
   pub counted : len ≡ length items
 
--- The buffer is as it was, and no length is told.
+-- The buffer is as it was, and the length is 0.
 pub record GivesNothing {T : Type 0} (before after : List T) (len : ℕ) : Type 0 where
   pub kept : after ≡ before
   pub none : len ≡ 0

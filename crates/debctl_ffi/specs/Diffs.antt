@@ -8,7 +8,8 @@ use Rattle.deb_control.specs.Documents.{Accepted, Meaning, refusal_of}
 use Rattle.deb_control.specs.declared.side.SideFault.{SideFault}
 use Rattle.deb_base.specs.declared.doc.Doc.{Doc}
 use Rattle.deb_diff.specs.Kinds.{doc_of}
-use Rattle.deb_diff.specs.Lines.{diff_text}
+use Rattle.deb_base.specs.declared.version_text.VersionText.TheVariants.{Canonical}
+use Rattle.deb_diff.specs.Lines.{diff_text, form_of}
 use Rattle.deb_diff.specs.declared.detail.Detail.{Detail}
 use Rattle.deb_diff.specs.declared.detail.Detail.TheVariants.{Fields, Values}
 use Rattle.deb_diff.specs.declared.kind.Kind.{Kind}
@@ -48,13 +49,15 @@ pub record HasDiff (of : Kind) (how : Detail) (text other : List ℕ) (is_empty 
   pub new_meaning : Meaning
   pub accepted : Accepted (doc_of of) text old_meaning
   pub other_accepted : Accepted (doc_of of) other new_meaning
-  pub is : bytes ≡ diff_text of how old_meaning new_meaning
-  pub no_line : IsTrue is_empty ↔ (diff_text of how old_meaning new_meaning ≡ [])
+  pub is : bytes ≡ diff_text of (form_of how Canonical) text other old_meaning new_meaning
+  pub no_line : IsTrue is_empty
+      ↔ (diff_text of (form_of how Canonical) text other old_meaning new_meaning ≡ [])
 
 -- A refusal is that of the file of the side.
 abbrev pub IsDiffRefusal : Doc → List ℕ → List ℕ → SideFault → Type 0
-IsDiffRefusal doc text other told =
-    MatchFault told.fault (RefusesSide told.side doc text other) (Unit {0}) (Unit {0}) (Unit {0})
+IsDiffRefusal doc text other failed =
+    MatchFault failed.fault (RefusesSide failed.side doc text other) (Unit {0}) (Unit {0})
+    (Unit {0})
 
 -- ---- answers
 

@@ -27,16 +27,16 @@ explanation_lines why =
     ++ (code_lines why.refusal.code
     ++ (subject_text why.refusal.line why.about ++ rule_lines why.refusal.code))
 
--- they are those that stand behind the line of a path, whatever it is
-behind_a_path : (path : List ℕ) (why : WhyRefused)
+-- the program prints them after the line of a path, whichever path it is
+after_a_path : (path : List ℕ) (why : WhyRefused)
     → explanation_text path why ≡ file_line path ++ explanation_lines why
-behind_a_path path why = refl
+after_a_path path why = refl
 
 lines_of_accepted_files : (ok_line 0 ≡ codes "ok 0\n") × (ok_line 120 ≡ codes "ok 120\n")
 unfolding digits
 lines_of_accepted_files = (refl, refl)
 
--- ---- what is told of a file
+-- ---- the explanation of a file
 
 -- The file is accepted, and these are its answer and its line.
 pub record AcceptedText (doc : Doc) (text : List ℕ) (answer : Answer) (bytes : List ℕ)
@@ -61,7 +61,7 @@ ExplainedText doc text answer bytes =
 -- ---- answers
 
 -- The file is accepted, and its line is given; or it is refused, and its lines are; or there is no
--- room for what is told of it.
+-- room for that text.
 pub record ExplainsAccepted (kind : ℕ) (text before after : List ℕ) (len : ℕ) (answer : Answer)
     : Type 0 where
   pub doc : Doc

@@ -13,9 +13,11 @@ use Rattle.deb_control.specs.CheckedStates.{checked_state, doc_read}
 use Rattle.deb_control.specs.Calls.{HasParagraphs}
 use Rattle.deb_control.specs.Documents.{refusal_of, rules_of}
 use Rattle.deb_control.specs.Refusals.{outcome}
+use Rattle.debctl_ffi.specs.Alike.{AnswerAlike}
 use Rattle.debctl_ffi.specs.Answers.{HasStatus, counting, plain, refusing}
 use Rattle.debctl_ffi.specs.Documents.{IsNoKind, kind_number}
 use Rattle.debctl_ffi.specs.Fields.{AreNext, numbered_from}
+use Rattle.debctl_ffi.specs.KeptTexts.{kept_text}
 use Rattle.debctl_ffi.specs.Tables.{HasTables}
 use Rattle.debctl_ffi.specs.declared.answer.Answer.{Answer}
 use Rattle.debctl_ffi.specs.declared.field.Tables.{Tables}
@@ -24,7 +26,7 @@ use Rattle.debctl_ffi.specs.contracts.reader.Reader.{the_row}
 
 -- ---- memory
 
--- What a call that asks for the tables is lent: a lifetime, a share of the right to its being
+-- What a call that asks for the tables borrows: a lifetime, a share of the right to its being
 -- alive, and the reader at the pointer.
 abbrev pub Loan : Type 0
 Loan = Lft × (Share × Reader)
@@ -36,7 +38,7 @@ reader_of loan = loan.1.1
 abbrev pub share_of : Loan → Fml
 share_of loan = flft loan.0 loan.1.0
 
--- A reader lies at the pointer, and is lent for the lifetime, as by `&`.
+-- A reader is at the pointer, and is borrowed for the lifetime, as by `&`.
 abbrev pub lies_lent : Ptr → Loan → Fml
 lies_lent at loan = lent_at the_row at (reader_of loan) loan.0
 
@@ -60,7 +62,7 @@ ShowNext n fresh tables = HasTables tables (numbered_from (n + 1) fresh)
 
 -- The reader was fed these bytes, which aren't the end of the file, and has read these paragraphs
 -- of it: whichever bytes follow, they are the first of the whole file, and it is read on after
--- them.
+-- them. In place of blank lines it may read others, which change no answer.
 pub record IsFed (doc : Doc) (text : List ℕ) (given : List Seen) (reader : Reader) : Type 0 where
   pub status : reader.answer.status ≡ 0
   pub goes_on : reader.ended ≡ false
@@ -69,12 +71,14 @@ pub record IsFed (doc : Doc) (text : List ℕ) (given : List Seen) (reader : Rea
   pub count : reader.count ≡ length given
   pub fed : reader.fed ≡ length text
   pub short : length text ≤ file_limit
-  pub reads : (more : List ℕ) → HasRead doc (text ++ more) given (checked_state reader.checked)
-      (Some (reader.kept.items ++ more))
+  pub front : List ℕ
+  pub alike : AnswerAlike text (front ++ kept_text reader.kept)
+  pub reads : (more : List ℕ) → HasRead doc ((front ++ kept_text reader.kept) ++ more) given
+      (checked_state reader.checked) (Some (kept_text reader.kept ++ more))
 
 -- ---- reading on
 
--- Behind `given` these further paragraphs were read, and the tables have their fields.
+-- After `given` these further paragraphs were read, and the tables have their fields.
 pub record Reading (doc : Doc) (text : List ℕ) (given fresh : List Seen) (state : CheckedState)
     (left : Option (List ℕ)) (tables : Tables) (count : ℕ) : Type 0 where
   pub sound : state.fault ≡ None
@@ -89,7 +93,7 @@ pub record ReadsAll (doc : Doc) (text : List ℕ) (given fresh : List Seen) (tab
   pub all : ArePassing doc text (given ++ fresh)
   pub shows : ShowNext (length given) fresh tables
 
--- The file is refused behind these.
+-- The file is refused after these.
 pub record Refuses (doc : Doc) (text : List ℕ) (given fresh : List Seen) (refusal : Refusal)
     (tables : Tables) : Type 0 where
   pub refused : refusal_of doc text ≡ Some refusal
@@ -104,7 +108,7 @@ pub record ReadsNext (doc : Doc) (text : List ℕ) (given fresh : List Seen) (so
   pub none : some ≡ false → Reading doc text given fresh state left tables count
       × ReadsAll doc text given fresh tables count
 
--- Some more were read; or all; or the file is refused behind some more.
+-- Some more were read; or all; or the file is refused after some more.
 pub record ReadsOn (doc : Doc) (text : List ℕ) (given : List Seen) (state : CheckedState)
     (left : Option (List ℕ)) (tables : Tables) (count : ℕ) : Type 0 where
   pub fresh : List Seen

@@ -28,6 +28,10 @@ abbrev pub numbered_from : ℕ → List Seen → List Numbered
 numbered_from n [] = []
 numbered_from n (seen ∷ more) = numbered n seen.fields ++ numbered_from (n + 1) more
 
+-- the fields of the first paragraphs of a file, which are numbered from 1
+abbrev pub file_fields : List Seen → List Numbered
+file_fields paragraphs = numbered_from 1 paragraphs
+
 -- These are the answers after the first `n` paragraphs: each is the next paragraph of the file.
 abbrev pub AreNext : List ℕ → ℕ → List Seen → Type 0
 AreNext text n [] = Unit {0}
@@ -40,7 +44,7 @@ pub record AreFields (doc : Doc) (text : List ℕ) (shown : List Numbered) : Typ
   pub paragraphs : List Seen
   pub next : AreNext text 0 paragraphs
   pub passed : length paragraphs ≡ length (outcome (rules_of doc) text).passed
-  pub fields : shown ≡ numbered_from 1 paragraphs
+  pub fields : shown ≡ file_fields paragraphs
 
 -- ---- the tables
 
@@ -182,7 +186,7 @@ other_seen = record {
 }
 
 abbrev two_shown : List Numbered
-two_shown = numbered_from 1 (one_seen ∷ other_seen ∷ [])
+two_shown = file_fields (one_seen ∷ other_seen ∷ [])
 
 worked-fields : two_shown
     ≡ (1, record { name = codes "A"; line = 1; body = codes "xy" })

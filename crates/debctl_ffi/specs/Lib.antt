@@ -18,4 +18,9 @@ pub mod FieldLaws
 pub mod Loads
 pub mod Details
 pub mod Diffs
+pub mod LongLines
+pub mod Alike
+pub mod Blanks
+pub mod BlankCases
+pub mod KeptTexts
 pub mod Feeds

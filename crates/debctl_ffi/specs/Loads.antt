@@ -1,5 +1,5 @@
--- What is told to a program in C of an index that it reads once and asks often: where it lies, and
--- what the calls owe of its memory. The statuses are this project's own.
+-- An index that a program in C reads once and asks often: where it is, who owns its memory when,
+-- and what the calls return of it. The statuses are this project's own.
 use Rattle.std.specs.Prelude.{◌≡◌, ℕ, List, [], ◌∷◌, None, Some, codes, length, refl}
 use Rattle.std.specs.List.{concat}
 use base.Fml.{Fml, Lft, Share, flft}
@@ -24,7 +24,7 @@ use Rattle.debctl_ffi.specs.contracts.loaded.Loaded.{the_row}
 
 -- ---- memory
 
--- What a call that asks is lent: a lifetime, a share of the right to its being alive, and what lies
+-- What a call that asks borrows: a lifetime, a share of the right to its being alive, and what is
 -- at the pointer.
 abbrev pub Loan : Type 0
 Loan = Lft × (Share × Loaded)
@@ -36,7 +36,7 @@ loaded_of loan = loan.1.1
 abbrev pub share_of : Loan → Fml
 share_of loan = flft loan.0 loan.1.0
 
--- A loaded index lies at the pointer, and is lent for the lifetime, as by `&`.
+-- A loaded index is at the pointer, and is borrowed for the lifetime, as by `&`.
 abbrev pub lies_lent : Ptr → Loan → Fml
 lies_lent at loan = lent_at the_row at (loaded_of loan) loan.0
 

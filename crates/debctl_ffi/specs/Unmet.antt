@@ -4,6 +4,7 @@
 use Rattle.std.specs.Prelude.{◌≡◌, ◌⊎◌, ℕ, ◌≤◌, Bool, true, false, List, [], ◌∷◌, map, length, Some, IsTrue, IsFalse, not, ◌==◌, codes, refl}
 use Rattle.deb_base.specs.declared.doc.Doc.TheVariants.{Packages}
 use Rattle.deb_base.specs.declared.refusal.Refusal.{Refusal}
+use Rattle.deb_base.specs.declared.version_text.VersionText.TheVariants.{Canonical}
 use Rattle.deb_relation.specs.Applying.{Environment}
 use Rattle.deb_relation.specs.Environments.{environment_with}
 use Rattle.deb_relation.specs.Targets.{is_environment}
@@ -11,7 +12,7 @@ use Rattle.deb_control.specs.Documents.{Accepted, Meaning, refusal_of}
 use Rattle.deb_index.specs.Listed.{Listed}
 use Rattle.deb_index.specs.Listing.{ListsAll}
 use Rattle.deb_index.specs.Questions.{bad_environment}
-use Rattle.deb_unmet.specs.Asked.{doc_of}
+use Rattle.deb_unmet.specs.Asked.{doc_of, request_for}
 use Rattle.deb_unmet.specs.Asking.{asks_of}
 use Rattle.deb_unmet.specs.Files.{file_lines, is_nothing}
 use Rattle.deb_unmet.specs.declared.asked.Asked.{Asked}
@@ -116,7 +117,8 @@ pub record HasLines (asks : Asked) (environment : Environment) (packages : List 
   pub meaning : Meaning
   pub accepted : Accepted (doc_of asks) text meaning
   pub count : length meaning ≡ summary.paragraphs
-  pub lines : bytes ≡ file_lines (asks_of asks environment packages) meaning
+  pub lines : bytes
+      ≡ file_lines (asks_of (request_for asks Canonical) environment packages) text meaning
   pub is_empty : summary.is_empty ≡ is_nothing bytes
 
 -- All are accepted, and the lines of the file are given, of which there is none, or is one; or

@@ -11,10 +11,10 @@ ghost use Rattle.deb_unmet.specs.Asked.{doc_of};
 ghost use Rattle.debctl_ffi.specs.Unmet.{AsksNothing, HasLines, IsAsked, RefusesAsker, asker};
 
 use crate::report::read_index;
-use deb_base::{Code, Fault, Refusal, SliceSource, VecSink};
+use deb_base::{Code, Fault, Refusal, SliceSource, VecSink, VersionText};
 use deb_index::Index;
 use deb_relation::{Env, EnvFault};
-use deb_unmet::{Asked, Strength, Summary, unmet};
+use deb_unmet::{Asked, Request, Strength, Summary, unmet};
 use std::alloc::Global;
 
 /// The packages of an index, and the environment for which relations are asked.
@@ -81,7 +81,11 @@ pub(crate) fn lines_in(
 {
     let mut sink = VecSink::new(alloc);
     let mut source = SliceSource::new(text);
-    match unmet(alloc, index, environment, asked, &mut source, &mut sink) {
+    let request = Request {
+        asked,
+        versions: VersionText::Canonical,
+    };
+    match unmet(alloc, index, environment, request, &mut source, &mut sink) {
         Ok(summary) => Ok((summary, sink.into_bytes())),
         Err(Fault::Refused(refusal)) => Err(Fault::Refused(refusal)),
         Err(Fault::Memory | Fault::Write) => Err(Fault::Memory),

@@ -11,18 +11,18 @@ ghost use Rattle.deb_diff.specs.Kinds.{doc_of};
 
 use crate::answer::{Answer, no, no_kind, no_memory, no_room, refused, second_refused, yes};
 use crate::buffer::give;
-use deb_base::{Fault, SliceSource, VecSink};
+use deb_base::{Fault, SliceSource, VecSink, VersionText};
 use deb_control::{Side, SideFault};
-use deb_diff::{Detail, Kind, diff};
+use deb_diff::{Detail, Form, Kind, diff};
 use std::alloc::Global;
 
 /// Writes what changed in meaning between two files of a kind, the old one and the new one, to the
 /// start of `out`, and returns the length of these lines (Debian Policy 5.1 and 5.3 to 5.6): for
-/// each paragraph that was removed, added, changed or upgraded a line, and below it the values that
-/// differ if `detail` is 1. Status 0: there is none. 1: there is one. 2: the old file is refused,
-/// with its first refusal. 3: the old one is accepted and the new one is refused, with its first
-/// refusal. 4: `out` is too small; `len` is the length that it needs. 5: out of memory. 6: no such
-/// kind, or no such detail.
+/// each paragraph that was removed, added or changed or has another version a line, and below it
+/// the values that differ if `detail` is 1. Status 0: there is none. 1: there is one. 2: the old
+/// file is refused, with its first refusal. 3: the old one is accepted and the new one is refused,
+/// with its first refusal. 4: `out` is too small; `len` is the length that it needs. 5: out of
+/// memory. 6: no such kind, or no such detail.
 ///
 /// Except for status 0 and 1, `out` is unchanged.
 #[unsafe(no_mangle)]
@@ -67,8 +67,8 @@ pub extern "C" fn deb_diff(
             }
             if is_empty { yes(0) } else { no() }
         }
-        Err(told) => match told.fault {
-            Fault::Refused(refusal) => match told.side {
+        Err(failed) => match failed.fault {
+            Fault::Refused(refusal) => match failed.side {
                 Side::First => refused(&refusal),
                 Side::Second => second_refused(&refusal),
             },
@@ -118,8 +118,12 @@ fn diff_texts(
     let mut sink = VecSink::new(alloc);
     let mut first = SliceSource::new(text);
     let mut second = SliceSource::new(other);
-    match diff(alloc, of, how, &mut first, &mut second, &mut sink) {
+    let form = Form {
+        detail: how,
+        versions: VersionText::Canonical,
+    };
+    match diff(alloc, of, form, &mut first, &mut second, &mut sink) {
         Ok(is_empty) => Ok((is_empty, sink.into_bytes())),
-        Err(told) => Err(told),
+        Err(failed) => Err(failed),
     }
 }

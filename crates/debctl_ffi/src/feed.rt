@@ -3,6 +3,8 @@
 ghost use Rattle.std.specs.Prelude.{◌≡◌, [], ◌∷◌, List};
 ghost use Rattle.std.specs.Borrow.{full_share};
 ghost use Rattle.std.specs.Ptr.{lies_at, room_at};
+ghost use denote.Param.{layout};
+ghost use prog.Memory.{capped, size};
 ghost use types.Logic.{sem};
 ghost use Rattle.debctl_ffi.specs.Answers.{HasStatus, plain};
 ghost use Rattle.debctl_ffi.specs.Feeds.{FeedsOn, Loan, Starts, lies_lent, reader_of, share_of};
@@ -19,7 +21,9 @@ use std::alloc::Global;
 
 /// Returns how many bytes the memory of a reader has.
 #[unsafe(no_mangle)]
-pub extern "C" fn deb_reader_size() -> usize {
+pub extern "C" fn deb_reader_size() -> usize
+    ensures size { result ≡ capped (size (layout the_row)) }
+{
     size_of::<Reader>()
 }
 

@@ -7,8 +7,8 @@
 //! their promises.
 //!
 //! ```c
-//! struct deb_comparison told = deb_version_compare(left, left_length, right, right_length);
-//! if (told.status == DEB_YES && told.order < 0)
+//! struct deb_comparison found = deb_version_compare(left, left_length, right, right_length);
+//! if (found.status == DEB_YES && found.order < 0)
 //!     puts("the first is earlier");
 //! ```
 #![tactic(auto)]
@@ -16,6 +16,7 @@
 mod all_refusals;
 mod answer;
 mod asker;
+mod blank_lines;
 mod buffer;
 mod details;
 mod diff;
@@ -26,10 +27,12 @@ mod field;
 mod fields;
 mod files;
 mod index;
+mod kept;
 mod kind;
 pub mod laws;
 mod library;
 mod loaded;
+mod long_line;
 mod pieces;
 mod query;
 mod query_why;

@@ -2,43 +2,46 @@
 
 ghost use Rattle.std.specs.Prelude.{◌≡◌, ◌≤◌, ◌<◌, ◌++◌, IfOk, Some, length};
 ghost use Rattle.deb_base.specs.Devices.{last_count};
-ghost use Rattle.deb_base.specs.Memory.{none_counts_to_last};
 
+use crate::kept::{Held, Part};
 use deb_base::{Failed, Source};
 use std::alloc::{AllocError, Global};
 
 /// The bytes at the end of a file. No read of them fails.
 #[derive(Clone, Copy)]
 pub(crate) struct LastPiece<'a> {
-    kept: &'a [u8],
-    piece: &'a [u8],
+    held: Held<'a>,
+    piece: Part<'a>,
 }
 
 impl<'a> LastPiece<'a> {
+    ghost use Rattle.debctl_ffi.specs.KeptTexts.{held_text};
+
     /// The source of what was kept, and then of the last piece.
-    pub(crate) fn new(kept: &'a [u8], piece: &'a [u8]) -> LastPiece<'a>
-        ensures left { ⟦<LastPiece<'a> as Source>⟧.left result ≡ Some (kept.now ++ piece.now) }
+    pub(crate) fn new(held: Held<'a>, piece: &'a [u8]) -> LastPiece<'a>
+        ensures left { ⟦<LastPiece<'a> as Source>⟧.left result
+            ≡ Some (held_text held.entry ++ piece.now) }
     {
-        LastPiece { kept, piece }
+        LastPiece {
+            held,
+            piece: Part::new(piece),
+        }
     }
 }
 
 impl Source for LastPiece<'_> {
-    ghost left = { λ source. Some (source.kept.now ++ source.piece.now) };
+    ghost use Rattle.deb_base.specs.Memory.{none_counts_to_last};
+    ghost use Rattle.debctl_ffi.specs.KeptTexts.{held_text};
+
+    ghost left = { λ source. Some (held_text source.held ++ source.piece.bytes.now) };
 
     ghost failures = { λ source. 0 };
 
     fn read(&mut self, buffer: &mut [u8]) -> Result<usize, Failed> {
-        if !self.kept.is_empty() {
-            let count = self.kept.len().min(buffer.len());
-            buffer[..count].copy_from_slice(&self.kept[..count]);
-            self.kept = &self.kept[count..];
-            return Ok(count);
+        if !self.held.is_empty() {
+            return Ok(self.held.take(buffer));
         }
-        let count = self.piece.len().min(buffer.len());
-        buffer[..count].copy_from_slice(&self.piece[..count]);
-        self.piece = &self.piece[count..];
-        Ok(count)
+        Ok(self.piece.take(buffer))
     }
 
     ghost counts_to_last = { λ source. none_counts_to_last };
@@ -48,7 +51,7 @@ impl Source for LastPiece<'_> {
 /// no read is at the end of the file.
 #[derive(Clone, Copy)]
 pub(crate) struct Piece<'a> {
-    kept: &'a [u8],
+    held: Held<'a>,
     piece: &'a [u8],
     failures: u64,
     ghost some: { 0 < length piece.now },
@@ -56,33 +59,39 @@ pub(crate) struct Piece<'a> {
 }
 
 impl<'a> Piece<'a> {
+    ghost use Rattle.debctl_ffi.specs.KeptTexts.{held_text};
+
     /// The source of what was kept, and then of a piece.
-    pub(crate) fn new(kept: &'a [u8], piece: &'a [u8]) -> Piece<'a>
+    pub(crate) fn new(held: Held<'a>, piece: &'a [u8]) -> Piece<'a>
         requires some { 0 < length piece.now }
-        ensures left { ⟦<Piece<'a> as Source>⟧.left result ≡ Some (kept.now ++ piece.now) }
+        ensures left { ⟦<Piece<'a> as Source>⟧.left result
+            ≡ Some (held_text held.entry ++ piece.now) }
     {
         Piece {
-            kept,
+            held,
             piece,
             failures: 0,
         }
     }
 
-    /// The bytes that weren't read.
+    /// The bytes that weren't read. Out of memory also if something that was kept wasn't: a
+    /// paragraph that ends in the piece comes after it.
     pub(crate) fn rest(&self, alloc: Global) -> Result<Vec<u8>, AllocError>
         ensures left { IfOk result
             (λ rest. ⟦<Piece<'a> as Source>⟧.left self.now ≡ Some rest.items) }
         ensures some { IfOk result (λ rest. 0 < length rest.items) }
     {
-        let mut rest = Vec::new(alloc);
-        rest.extend_from_slice(self.kept)?;
-        rest.extend_from_slice(self.piece)?;
-        Ok(rest)
+        if !self.held.is_empty() {
+            return Err(AllocError);
+        }
+        Vec::from_slice(alloc, self.piece)
     }
 }
 
 impl Source for Piece<'_> {
-    ghost left = { λ source. Some (source.kept.now ++ source.piece.now) };
+    ghost use Rattle.debctl_ffi.specs.KeptTexts.{held_text};
+
+    ghost left = { λ source. Some (held_text source.held ++ source.piece.now) };
 
     ghost failures = { λ source. source.failures };
 
@@ -90,11 +99,8 @@ impl Source for Piece<'_> {
         if self.failures == u64::MAX {
             return Err(Failed);
         }
-        if !self.kept.is_empty() {
-            let count = self.kept.len().min(buffer.len());
-            buffer[..count].copy_from_slice(&self.kept[..count]);
-            self.kept = &self.kept[count..];
-            return Ok(count);
+        if !self.held.is_empty() {
+            return Ok(self.held.take(buffer));
         }
         let count = (self.piece.len() - 1).min(buffer.len());
         if count == 0 {

@@ -11,6 +11,7 @@ ghost use Rattle.debctl_ffi.specs.Tables.{HasTables};
 use crate::answer::{Answer, no_kind, no_memory, no_room, refused, yes};
 use crate::field::{FieldSpan, Tables};
 use crate::fields::give_tables;
+use crate::kept::Kept;
 use crate::kind::kind_of;
 use crate::pieces::{LastPiece, Piece};
 use crate::reading::{read_all, read_some};
@@ -19,7 +20,10 @@ use deb_base::Fault;
 use deb_control::Checked;
 use deb_field::Doc;
 use deb_syntax::FILE_LIMIT;
-use std::alloc::Global;
+use std::alloc::{AllocError, Global};
+
+/// After how many further bytes a reader looks for those that it need only count.
+const STEP: usize = 1 << 20;
 
 /// What the memory of a reader holds.
 #[derive(Drop)]
@@ -31,7 +35,7 @@ pub struct Reader {
     /// The fields of those that the last call read.
     pub(crate) tables: Tables,
     /// The bytes that were fed and not read.
-    pub(crate) kept: Vec<u8>,
+    pub(crate) kept: Kept,
     /// How many bytes were fed.
     pub(crate) fed: u64,
     /// What is known of these, without the last one.
@@ -74,7 +78,7 @@ impl Reader {
             checked: Checked::new(alloc, doc),
             count: 0,
             tables: Tables::new(alloc),
-            kept: Vec::new(alloc),
+            kept: Kept::new(Vec::new(alloc)),
             fed: 0,
             scan: RunScan::new(),
             ended: false,
@@ -131,11 +135,53 @@ impl Reader {
             → IfRefused result
             (λ refusal. RefusesOn doc (fed ++ text.now) given refusal self.new.tables) }
     {
-        if is_last == 0 {
-            self.take_piece(text)
-        } else {
-            self.take_last(text)
+        if is_last != 0 {
+            return self.take_last(text);
         }
+        match self.take_piece(text) {
+            Ok(()) => match self.shorten(text.len()) {
+                Ok(()) => Ok(()),
+                Err(AllocError) => Err(Fault::Memory),
+            },
+            Err(fault) => Err(fault),
+        }
+    }
+
+    /// Looks once in [`STEP`] bytes for those that need only be counted: blank lines, and the bytes
+    /// of a line that is longer than a paragraph may be.
+    fn shorten(&mut self, fed: usize) -> Result<(), AllocError>
+        ensures fed { (doc : DocData) (fed : List ℕ) (given : List Seen)
+            → IsFed doc fed given self.old → IfOk result (λ _. IsFed doc fed given self.new) }
+        ensures tables { self.new.tables ≡ self.old.tables }
+    {
+        if self.kept.len() % STEP >= fed {
+            return Ok(());
+        }
+        match self.drop_blanks() {
+            Ok(()) => self.drop_line(),
+            Err(AllocError) => Err(AllocError),
+        }
+    }
+
+    /// Keeps of a line that is longer than a paragraph may be only how many bytes it has.
+    fn drop_line(&mut self) -> Result<(), AllocError>
+        ensures fed { (doc : DocData) (fed : List ℕ) (given : List Seen)
+            → IsFed doc fed given self.old → IfOk result (λ _. IsFed doc fed given self.new) }
+        ensures tables { self.new.tables ≡ self.old.tables }
+    {
+        self.kept.drop_line(self.alloc)
+    }
+
+    /// Keeps of the blank lines that weren't read only how many they are.
+    fn drop_blanks(&mut self) -> Result<(), AllocError>
+        ensures fed { (doc : DocData) (fed : List ℕ) (given : List Seen)
+            → IsFed doc fed given self.old → IfOk result (λ _. IsFed doc fed given self.new) }
+        ensures tables { self.new.tables ≡ self.old.tables }
+    {
+        if !self.scan.is_between() {
+            return Ok(());
+        }
+        self.kept.drop_blanks(self.alloc)
     }
 
     /// Takes a piece that ends the file, and reads what is left.
@@ -151,7 +197,7 @@ impl Reader {
         self.ended = true;
         read_all(
             &mut self.checked,
-            &mut LastPiece::new(&self.kept, text),
+            &mut LastPiece::new(self.kept.held(), text),
             &mut self.count,
             &mut self.tables,
         )
@@ -176,12 +222,12 @@ impl Reader {
         if text.is_empty() {
             return Ok(());
         }
-        let runs = ended_runs(&mut self.scan, &self.kept, text);
+        let runs = ended_runs(&mut self.scan, self.kept.last(), text);
         if runs == 0 {
-            self.kept.extend_from_slice(text)?;
+            self.kept.push(text)?;
             return Ok(());
         }
-        let mut source = Piece::new(&self.kept, text);
+        let mut source = Piece::new(self.kept.held(), text);
         read_some(
             &mut self.checked,
             &mut source,
@@ -189,8 +235,8 @@ impl Reader {
             &mut self.count,
             &mut self.tables,
         )?;
-        let kept = source.rest(self.alloc)?;
-        self.kept = kept;
+        let rest = source.rest(self.alloc)?;
+        self.kept = Kept::new(rest);
         Ok(())
     }
 

@@ -1,4 +1,4 @@
-//! Reads paragraphs of a file, behind others that were read before.
+//! Reads the paragraphs of a file that follow those that were read before.
 
 ghost use Rattle.std.specs.Prelude.{◌≡◌, [], ℕ, List, IfOk, None};
 ghost use Rattle.deb_control.specs.Calls.{IfRefused};

@@ -40,6 +40,11 @@ impl RunScan {
         runs
     }
 
+    /// Whether no paragraph has begun since the last one that has ended, as far as is known.
+    pub(crate) fn is_between(&self) -> bool {
+        self.run == 0 && self.blank
+    }
+
     /// The line goes on with these bytes.
     fn extend(&mut self, bytes: &[u8]) {
         self.line = self.line.saturating_add(bytes.len());
@@ -62,10 +67,10 @@ impl RunScan {
     }
 }
 
-/// How many paragraphs end in the last of the bytes that were kept, and in a piece without its last
+/// How many paragraphs end in the last byte that was fed before, and in a piece without its last
 /// byte.
-pub(crate) fn ended_runs(scan: &mut RunScan, kept: &[u8], text: &[u8]) -> u64 {
-    let before = scan.count(&kept[kept.len().saturating_sub(1)..]);
+pub(crate) fn ended_runs(scan: &mut RunScan, last: &[u8], text: &[u8]) -> u64 {
+    let before = scan.count(last);
     let within = scan.count(&text[..text.len().saturating_sub(1)]);
     before.saturating_add(within)
 }

@@ -93,6 +93,7 @@ impl Printed for Vec<Change> {
                 ChangeKind::Removed => "removed",
                 ChangeKind::Changed => "changed",
                 ChangeKind::Upgraded => "upgraded",
+                ChangeKind::Downgraded => "downgraded",
                 _ => "added",
             };
             text += &format!("{word} {} {}", it.number, it.package);

@@ -33,6 +33,10 @@ pub fn relation_canonical(text: &[u8], out: &mut [u8], length: &mut usize) -> An
     )
 }
 
+pub fn version() -> u32 {
+    unsafe { deb_library_version() }
+}
+
 /// `count` becomes how many alternatives there are.
 pub fn relation_parts(text: &[u8], table: &mut [AlternativeAt], count: &mut usize) -> Answer {
     written!(deb_relation_parts(text.as_ptr(), text.len()), table, count)
@@ -48,11 +52,6 @@ pub fn explain_relation(text: &[u8], out: &mut [u8], length: &mut usize) -> Answ
 
 pub fn check(kind: u8, text: &[u8]) -> Answer {
     unsafe { deb_check(kind, text.as_ptr(), text.len()) }
-}
-
-/// `count` becomes how many refusals there are.
-pub fn check_all(kind: u8, text: &[u8], table: &mut [RefusalAt], count: &mut usize) -> Answer {
-    written!(deb_check_all(kind, text.as_ptr(), text.len()), table, count)
 }
 
 pub fn normalise(kind: u8, text: &[u8], out: &mut [u8], length: &mut usize) -> Answer {

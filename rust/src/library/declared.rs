@@ -32,14 +32,6 @@ pub struct VersionParts {
     pub revision_length: usize,
 }
 
-/// One refusal of a file, in the table that `deb_check_all` writes.
-#[repr(C)]
-#[derive(Clone, Copy, Default)]
-pub struct RefusalAt {
-    pub line: u64,
-    pub code: u8,
-}
-
 /// A field of a file, in the tables that `deb_fields` writes.
 #[repr(C)]
 #[derive(Clone, Copy, Debug, Default)]
@@ -119,6 +111,7 @@ impl Room {
 }
 
 extern "C" {
+    pub fn deb_library_version() -> u32;
     pub fn deb_version_compare(
         left: *const u8,
         left_length: usize,
@@ -169,14 +162,6 @@ extern "C" {
         length: *mut usize,
     ) -> Answer;
     pub fn deb_check(kind: u8, text: *const u8, text_length: usize) -> Answer;
-    pub fn deb_check_all(
-        kind: u8,
-        text: *const u8,
-        text_length: usize,
-        refusals: *mut RefusalAt,
-        refusals_size: usize,
-        refusal_count: *mut usize,
-    ) -> Answer;
     pub fn deb_normalise(
         kind: u8,
         text: *const u8,

@@ -14,7 +14,7 @@ const SPELLED: &[u8] = b"\n \nARCHITECTURE:all\npackage: aa\nVersion: 0:1\n\t\n\
     X: \n y\t\nArchitecture:  amd64\nPackage: bb\nVersion: 1.0\n\n\
     Version: 03-0\npackage: cc \narchitecture: all\n\n";
 
-/// Other ones, of which the last line of the last one is refused.
+/// Other ones, where the last line of the last one is refused.
 const LAST_LINE: &[u8] = b"Package: dd\nVersion: 1\nArchitecture: all\n\n\
     Package: bb\nVersion: 1.0\nArchitecture: amd64\nSize: 1k";
 
@@ -93,7 +93,7 @@ fn a_long_pair(rt: HostRuntime) -> Result<(), Fail> {
     Ok(())
 }
 
-/// A reader that fails once, at each of its calls: that is told with its side, and no reader is
+/// A reader that fails once, at each of its calls: that is reported with its side, and no reader is
 /// called again. A refusal of the second file that was seen gives way to it.
 #[test]
 fn one_of_two_cant_be_read(rt: HostRuntime) {
@@ -123,7 +123,7 @@ fn calls_of(alloc: Global, size: usize) -> (u64, u64) {
     (reader.calls, other.calls)
 }
 
-/// Whether a failed call of the first reader is its last one, and told.
+/// Whether a failed call of the first reader is its last one, and returned.
 fn tells_first(alloc: Global, file: &[u8], other: &[u8], size: usize, failing: u64) -> bool {
     let mut reader = Pieces::new(file, size, failing);
     let mut other = Pieces::new(other, size, 0);

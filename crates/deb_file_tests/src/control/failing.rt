@@ -42,8 +42,8 @@ fn calls_of(alloc: Global, size: usize) -> u64 {
     reader.calls
 }
 
-/// Whether the failed read is told and the last one, and whole paragraphs were written, each of
-/// which was read with the blank line behind it.
+/// Whether the failed read is reported and the last one, and whole paragraphs were written, each of
+/// which was read with the blank line after it.
 fn is_cut_off(alloc: Global, size: usize, failing: u64) -> bool {
     let mut reader = Pieces::new(FILE, size, failing);
     let mut held = Vec::new(alloc);
@@ -57,7 +57,7 @@ fn is_cut_off(alloc: Global, size: usize, failing: u64) -> bool {
             .any(|(written, read)| held.len() == *written && taken >= *read)
 }
 
-/// Whether `check` tells it, and `next`, also when it is asked again, though the reader would go
+/// Whether `check` returns it, and `next`, also when it is called again, though the reader would go
 /// on.
 fn is_told_by_all(rt: &impl Abort, alloc: Global, size: usize, failing: u64) -> Result<bool, Fail> {
     let mut reader = Pieces::new(FILE, size, failing);
@@ -86,7 +86,7 @@ fn a_failed_write_leaves_a_prefix(rt: HostRuntime) {
     }
 }
 
-/// Whether all is written, or a prefix up to the one bad write, which is told.
+/// Whether all is written, or a prefix up to the one bad write, which is reported.
 fn writes(alloc: Global, mut writer: Slow) -> bool {
     let mut out = Output::new(&mut writer);
     let answer = normalise(alloc, Doc::Packages, &mut Input::new(FILE), &mut out);

@@ -4,7 +4,7 @@ use super::*;
 use deb_control::{CheckedText, CheckedView, NoVisitor, Paragraph};
 use deb_field::{Canon, Value};
 
-/// A field as it stands in the file: its name, its line and its body.
+/// A field as it is in the file: its name, its line and its body.
 struct Field(&'static [u8], u64, &'static [u8]);
 
 /// A paragraph's first line, its fields, the canonical text of its version, and its own.
@@ -94,7 +94,7 @@ fn is_judged(alloc: Global, paragraph: &CheckedView<'_>, shown: &Shown) -> Resul
 }
 
 /// A source description with a body of ten thousand bytes: its value, its typed paragraph, and that
-/// one's text behind a thousand bytes.
+/// one's text after a thousand bytes.
 #[test]
 fn a_long_body_of_a_source(rt: HostRuntime) -> Result<(), Fail> {
     let mut file = Vec::new(rt.alloc());
@@ -161,7 +161,7 @@ fn has_values(alloc: Global, paragraph: &CheckedText<'_>, shown: &Shown) -> Resu
     )
 }
 
-/// Whether the typed paragraph is right, and its text behind a byte that stood there.
+/// Whether the typed paragraph is right, and its text after a byte that stood there.
 fn is_typed(alloc: Global, paragraph: &CheckedText<'_>, shown: &Shown) -> Result<bool, Fail> {
     let typed = paragraph.paragraph(alloc)?;
     let mut text = Vec::new(alloc);
@@ -170,7 +170,7 @@ fn is_typed(alloc: Global, paragraph: &CheckedText<'_>, shown: &Shown) -> Result
     Ok(stands_behind_sign(text.as_slice(), shown.3) && has_fields(&typed, shown.3.len()))
 }
 
-/// Whether a text stands behind an equals sign.
+/// Whether a text is after an equals sign.
 fn stands_behind_sign(text: &[u8], wanted: &[u8]) -> bool {
     text.first() == Some(&b'=') && text.get(1..) == Some(wanted)
 }

@@ -60,7 +60,7 @@ fn appends_or_leaves(alloc: Global) -> Result<bool, Fail> {
     Ok(true)
 }
 
-/// Whether the canonical text stands behind what stood there, or nothing where memory was wanted;
+/// Whether the canonical text is after what stood there, or nothing where memory was wanted;
 /// None where the list itself has no memory.
 fn has_all_or_none(alloc: Global, typed: &Paragraph<'_>) -> Option<bool> {
     let mut out = vec![in alloc; b'='; 3].ok()?;

@@ -46,7 +46,7 @@ fn assert_failing(
     Ok(reader.calls)
 }
 
-/// At most one piece is taken behind the blank line that ends a paragraph, and behind a paragraph's
+/// At most one piece is taken after the blank line that ends a paragraph, and after a paragraph's
 /// first line.
 #[test]
 fn one_piece_is_taken_ahead(rt: HostRuntime) -> Result<(), Fail> {
@@ -54,7 +54,7 @@ fn one_piece_is_taken_ahead(rt: HostRuntime) -> Result<(), Fail> {
     file.extend_from_slice(b"A: 1\n\nB: ")?;
     file.resize(300_009, b'x')?;
     file.extend_from_slice(b"\n\nC: 3\n")?;
-    // each paragraph's first line, and the most bytes that are taken when it is known, and behind
+    // each paragraph's first line, and the most bytes that are taken when it is known, and after
     // the paragraph
     let rows = [
         (1, 5 + 65_536, 6 + 65_536),
@@ -79,7 +79,7 @@ fn taken(file: &[u8], reader: &Pieces<'_>) -> usize {
     file.len().saturating_sub(reader.rest.len())
 }
 
-/// What stands before a byte that comes for ever, the byte, and the line that is cut off.
+/// What precedes a byte that comes for ever, the byte, and the line that is cut off.
 struct Cut(&'static [u8], u8, u64);
 
 const CUTS: [Cut; 2] = [Cut(b"", b'\n', 4_294_967_296), Cut(b"A: 1\n", b'x', 2)];

@@ -63,7 +63,7 @@ fn fields_of_a_paragraph(rt: HostRuntime) -> Result<(), Fail> {
     Ok(())
 }
 
-/// Whether the fields are those, by their places and in their order, and no others.
+/// Whether the fields are those, by their offsets and in their order, and no others.
 fn has_fields(paragraph: &Raw<'_>) -> bool {
     let mut fields = paragraph.fields();
     for (index, wanted) in FIELDS.iter().enumerate() {

@@ -1,4 +1,4 @@
--- All new paragraphs are lent.
+-- All new paragraphs are borrowed.
 use Rattle.std.proofs.Common.{◌≡◌, length, map, sym, ap, ◌∙◌, subst, rules}
 use Rattle.std.specs.List.{list_all}
 use Rattle.deb_control.specs.Pairs.{Pairwise}

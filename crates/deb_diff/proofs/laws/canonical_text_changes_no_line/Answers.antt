@@ -5,7 +5,9 @@ use Rattle.deb_field.specs.Values.{ValueMeaning, value_text, SpellsValue}
 use Rattle.deb_control.specs.Documents.{Accepted, Meaning, rules_of, canonical_text}
 use Rattle.deb_control.proofs.Accepting.{accepted_means_one_thing, canonical_text_is_accepted}
 use Rattle.deb_diff.specs.Kinds.{doc_of}
-use Rattle.deb_diff.specs.Lines.{diff_text}
+use Rattle.deb_base.specs.declared.version_text.VersionText.TheVariants.{Canonical}
+use Rattle.deb_diff.specs.Lines.{diff_text, form_of}
+use Rattle.deb_diff.proofs.CanonicalLines.{canonical_lines}
 use Rattle.deb_diff.proofs.laws.canonical_text_changes_no_line.Goals as goal
 
 same_meaning : (doc : Doc) (text : List ℕ) (meaning again : Meaning) → Accepted doc text meaning → Accepted doc (canonical_text meaning) again → again ≡ meaning
@@ -17,4 +19,10 @@ pub returns : goal.returns
 returns c = λ kind detail text other old new old_again new_again accepted accepted_too again again_too.
     let same = same_meaning (doc_of kind) text old old_again accepted again in
     let same_too = same_meaning (doc_of kind) other new new_again accepted_too again_too in
-    (ap (λ m. diff_text kind detail m new) same, ap (diff_text kind detail old) same_too, ap (λ m. diff_text kind detail m new_again) same ∙ ap (diff_text kind detail old) same_too)
+    let form = form_of detail Canonical in
+    let first = canonical_text old in
+    let second = canonical_text new in (
+      ap (λ m. diff_text kind form first other m new) same ∙ canonical_lines kind detail first text other other old new,
+      ap (diff_text kind form text second old) same_too ∙ canonical_lines kind detail text text second other old new,
+      ap (λ m. diff_text kind form first second m new_again) same ∙ ap (diff_text kind form first second old) same_too ∙ canonical_lines kind detail first text second other old new,
+    )

@@ -4,4 +4,4 @@ use Rattle.deb_diff.proofs.Fated.{removed-added}
 use Rattle.deb_diff.proofs.laws.swapped_files_swap_lines.Goals as goal
 
 pub returns : goal.returns
-returns c = λ kind old new. (removed-added (items_of kind old) (items_of kind new), sym (removed-added (items_of kind new) (items_of kind old)))
+returns c = λ kind text other old new. (removed-added (items_of kind text old) (items_of kind other new), sym (removed-added (items_of kind other new) (items_of kind text old)))

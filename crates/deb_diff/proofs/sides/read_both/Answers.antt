@@ -17,8 +17,8 @@ pub returns-in-Ok-read_new-clause-ok : goal.returns-in-Ok-read_new-clause-ok
 returns-in-Ok-read_new-clause-ok g c = λ text other left left_too.
     let old = c.in-Ok.ensures.ok text left in
     let lent : c.deref.result.now ≡ c.in-Ok.old.items = search rules in
-    let kept = subst (λ l. AreKept l (items_of c.args.kind old.meaning)) (sym lent) old.are_kept in
-    record { old_meaning = old.meaning; accepted = old.accepted; are_kept = old.are_kept; new = c.in-Ok-read_new.ensures.ok other (items_of c.args.kind old.meaning) left_too kept }
+    let kept = subst (λ l. AreKept l (items_of c.args.kind text old.meaning)) (sym lent) old.are_kept in
+    record { old_meaning = old.meaning; accepted = old.accepted; are_kept = old.are_kept; new = c.in-Ok-read_new.ensures.ok other (items_of c.args.kind text old.meaning) left_too kept }
 
 pub returns-in-Err-read_new-clause-second : goal.returns-in-Err-read_new-clause-second
 returns-in-Err-read_new-clause-second g c = λ text other left left_too.
@@ -42,3 +42,13 @@ returns-in-Ok-read_new-clause-second_untouched_if_refused g c = λ text refusal 
 
 pub returns-in-Err-read_new-clause-second_untouched_if_refused : goal.returns-in-Err-read_new-clause-second_untouched_if_refused
 returns-in-Err-read_new-clause-second_untouched_if_refused g c = λ text refusal left is. absurd (is_refused c.args.kind text c.in-Ok.old.items refusal (c.in-Ok.ensures.ok text left) is)
+
+pub returns-in-Err-read_new-clause-first_accepted_if_second : goal.returns-in-Err-read_new-clause-first_accepted_if_second
+returns-in-Err-read_new-clause-first_accepted_if_second g c = λ text left second.
+    let old = c.in-Ok.ensures.ok text left in
+    (old.meaning, old.accepted)
+
+pub returns-in-Ok-read_new-clause-first_accepted : goal.returns-in-Ok-read_new-clause-first_accepted
+returns-in-Ok-read_new-clause-first_accepted g c = λ text left.
+    let old = c.in-Ok.ensures.ok text left in
+    (old.meaning, old.accepted)

@@ -1,4 +1,4 @@
--- The answer is told by what was read.
+-- The answer is reported by what was read.
 use Rattle.std.proofs.Common.{sym, subst}
 use Rattle.std.proofs.lemmas.Result.{err_from_is_err_and}
 use Rattle.deb_sort.specs.Sorting.{Sorts}

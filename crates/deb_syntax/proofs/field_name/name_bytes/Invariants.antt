@@ -1,7 +1,7 @@
 use Rattle.deb_syntax.proofs.Common.{◌≡◌, ◌+◌, ◌-◌, ◌≤◌, length, take, drop, true, list_all, prefix_len, is_name_byte}
 use Rattle.deb_syntax.proofs.field_name.name_bytes.Given as goal
 
--- the bytes so far are a name's, and what follows tells how many more are
+-- the bytes so far are a name's, and what follows decides how many more are
 abbrev pub invariant-loop-len : goal.invariant-loop-len
 invariant-loop-len l = record {
   within : l.len ≤ length l.text;

@@ -50,7 +50,7 @@ returns-in_err-is_met-clause-cut_off g c = λ text left.
     let p = err_from_is_err_and c.from_residual-in_err-is_met.result c.from_residual-in_err-is_met.ensures.1 in
     let current = rw c.if-not-branch.false at c.in_ok-advance.ensures.passes.current in
     let given = given_values c.in-Some.paragraph _ _ _ c.in-Some.ensures.seen current c.in-Some.ensures.doc in
-    rw (p.1, p.2) (cut_after _ text _ _ _ c.loop-count.count given.values c.in_err-is_met.field-0.0 (c.in_err-is_met.ensures.puts given.values given.has) (asked_read _ text _ _ _ _ _ _ (c.loop-count.invariant.text text left)))
+    rw (p.1, p.2) (cut_after _ text _ _ _ c.loop-count.count _ given.values c.in_err-is_met.field-0.0 (c.in_err-is_met.ensures.puts given.values given.has) (asked_read _ text _ _ _ _ _ _ (c.loop-count.invariant.text text left)))
 
 pub returns-in_err-is_met-clause-write : goal.returns-in_err-is_met-clause-write
 returns-in_err-is_met-clause-write g c = λ text left.
@@ -60,7 +60,7 @@ returns-in_err-is_met-clause-write g c = λ text left.
     let doc = c.in-Some.ensures.doc ∙ c.in_ok-advance.ensures.doc ∙ c.loop-count.invariant.doc in
     let given = given_values c.in-Some.paragraph _ _ _ c.in-Some.ensures.seen current doc in
     let so_far = c.loop-count.invariant.text text left in
-    rw (p.1, p.2) (failed_after _ text _ _ _ _ _ _ _ c.loop-count.count _ given.values _ c.in_err-is_met.field-0.0 so_far (answers_on so_far.checked c.loop-count.invariant.fault passes) given.are (c.in_err-is_met.ensures.puts given.values given.has))
+    rw (p.1, p.2) (failed_after _ text _ _ _ _ _ _ _ c.loop-count.count _ given.values _ _ c.in_err-is_met.field-0.0 so_far (answers_on so_far.checked c.loop-count.invariant.fault passes) given.are given.fields (c.in_err-is_met.ensures.puts given.values given.has))
 
 pub returns-in_err-is_met-clause-reads_at_most : goal.returns-in_err-is_met-clause-reads_at_most
 returns-in_err-is_met-clause-reads_at_most g c = λ text left.
@@ -87,5 +87,5 @@ loop-count-preserved g c =
       count = omega (arith, checks.count, c.loop-count.invariant.count);
       text = λ text left.
           let so_far = c.loop-count.invariant.text text left in
-          one_asked _ text _ _ _ _ _ _ _ c.loop-count.count c.loop-count.is_empty c.in_ok-is_met.is_met c.if-is_empty.is_empty given.values _ so_far (checks.answers text so_far.checked.before so_far.checked.fits) given.are puts.0 puts.1 all_is;
+          one_asked _ text _ _ _ _ _ _ _ c.loop-count.count c.loop-count.is_empty c.in_ok-is_met.is_met c.if-is_empty.is_empty given.values _ _ so_far (checks.answers text so_far.checked.before so_far.checked.fits) given.are given.fields puts.0 puts.1 all_is;
     }

@@ -1,4 +1,4 @@
--- The parts of a text are told by their order.
+-- Parts that compare equal are the same.
 use Rattle.deb_version.proofs.Common.{HasTexts-from_spelled, version_same}
 use Rattle.deb_version.proofs.laws.equal_versions_mean_the_same.Goals as goal
 

@@ -1,4 +1,4 @@
--- The runs compare as what is left of them from the place on.
+-- The runs compare as what is left of them from the offset on.
 use Rattle.deb_version.proofs.Common.{◌≡◌, drop, nat_cmp, slice_cmp}
 use Rattle.deb_version.proofs.order.compare_digits.Given as goal
 

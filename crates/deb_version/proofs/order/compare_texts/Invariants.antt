@@ -1,4 +1,4 @@
--- The texts compare as what is left of them from the place on.
+-- The texts compare as what is left of them from the offset on.
 use Rattle.deb_version.proofs.Common.{◌≡◌, drop, map, nat_cmp, continued_cmp, end_rank, rank_of, text_cmp}
 use Rattle.deb_version.proofs.order.compare_texts.Given as goal
 

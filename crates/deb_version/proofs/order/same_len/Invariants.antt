@@ -1,4 +1,4 @@
--- What stands before the place is the same.
+-- The bytes before the offset are the same.
 use Rattle.deb_version.proofs.Common.{◌≡◌, take}
 use Rattle.deb_version.proofs.order.same_len.Given as goal
 

@@ -1,4 +1,4 @@
--- A version without epoch, or one behind an epoch and a colon.
+-- A version without epoch, or one after an epoch and a colon.
 use Rattle.deb_version.proofs.Common.{ℕ, List, ◌+◌, ◌-◌, length, take, drop, take_rest}
 use Rattle.deb_version.proofs.PrefixRuns.{version_run, epoch_run, epoch_before}
 use Rattle.deb_version.proofs.CanonicalPrefix.{IsItself}
@@ -9,7 +9,7 @@ pub returns-then-not-has_byte_at-clause-run : goal.returns-then-not-has_byte_at-
 returns-then-not-has_byte_at-clause-run c =
     version_run c.args.text.now c.in_ok-front.front c.in_ok-front.ensures.run (c.has_byte_at.ensures.other c.if-not-has_byte_at.true)
 
--- what stands behind the colon
+-- what follows the colon
 abbrev rest : Else-has_byte_at-2 → List ℕ
 rest c = take (length c.args.text.now - (c.in_ok-front.front + 1)) (drop (c.in_ok-front.front + 1) c.args.text.now)
 

@@ -1,4 +1,4 @@
--- An upstream version, and a revision behind a hyphen.
+-- An upstream version, and a revision after a hyphen.
 use Rattle.deb_version.proofs.Common.{ℕ, List, ◌+◌, ◌-◌, sym, ◌∙◌, length, take, drop, take_rest}
 use Rattle.deb_version.proofs.PrefixRuns.{component, upstream_run, revision_run, revision_behind}
 use Rattle.deb_version.proofs.CanonicalPrefix.{IsItself, upstream_itself}
@@ -18,7 +18,7 @@ returns-then-not-has_byte_at c = record {
   canonical = (alone c).canonical;
 }
 
--- what stands behind the hyphen
+-- what follows the hyphen
 abbrev rest : Else-has_byte_at → List ℕ
 rest c = take (length c.args.text.now - (c.in_ok-upstream.upstream + 1)) (drop (c.in_ok-upstream.upstream + 1) c.args.text.now)
 

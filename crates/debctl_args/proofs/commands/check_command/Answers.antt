@@ -12,4 +12,6 @@ returns c =
     let path : rule_of c.optional_word.result ≡ optional_rule (codes "path") = search rules in
     let one = shaped_with_rule _ _ _ _ _ named c.kind_option.ensures.rule c.kind_option.ensures.local c.in_ok-arg.ensures in
     let two = shaped_with_rule _ _ _ _ _ one c.all_option.ensures.rule c.all_option.ensures.local c.in_ok-arg-2.ensures in
-    IfOk-weaker c.arg-3.result _ _ (λ m adds. shaped_with_rule _ _ _ _ _ two path c.optional_word.ensures.local adds) c.arg-3.ensures
+    let three = shaped_with_rule _ _ _ _ _ two c.complete_option.ensures.rule c.complete_option.ensures.local c.in_ok-arg-3.ensures in
+    let four = shaped_with_rule _ _ _ _ _ three c.least_option.ensures.rule c.least_option.ensures.local c.in_ok-arg-4.ensures in
+    IfOk-weaker c.arg-5.result _ _ (λ m adds. shaped_with_rule _ _ _ _ _ four path c.optional_word.ensures.local adds) c.arg-5.ensures

@@ -13,5 +13,6 @@ returns c =
     let second : rule_of c.required_word-2.result ≡ required_rule (codes "new") = search rules in
     let one = shaped_with_rule _ _ _ _ _ named c.kind_option.ensures.rule c.kind_option.ensures.local c.in_ok-arg.ensures in
     let two = shaped_with_rule _ _ _ _ _ one c.values_option.ensures.rule c.values_option.ensures.local c.in_ok-arg-2.ensures in
-    let three = shaped_with_rule _ _ _ _ _ two first c.required_word.ensures.local c.in_ok-arg-3.ensures in
-    IfOk-weaker c.arg-4.result _ _ (λ m adds. shaped_with_rule _ _ _ _ _ three second c.required_word-2.ensures.local adds) c.arg-4.ensures
+    let three = shaped_with_rule _ _ _ _ _ two c.spelled_option.ensures.rule c.spelled_option.ensures.local c.in_ok-arg-3.ensures in
+    let four = shaped_with_rule _ _ _ _ _ three first c.required_word.ensures.local c.in_ok-arg-4.ensures in
+    IfOk-weaker c.arg-5.result _ _ (λ m adds. shaped_with_rule _ _ _ _ _ four second c.required_word-2.ensures.local adds) c.arg-5.ensures

@@ -14,6 +14,7 @@ returns c =
     let one = shaped_with_rule _ _ _ _ _ named c.arch_option.ensures.rule c.arch_option.ensures.local c.in_ok-arg.ensures in
     let two = shaped_with_rule _ _ _ _ _ one c.profiles_option.ensures.rule c.profiles_option.ensures.local c.in_ok-arg-2.ensures in
     let three = shaped_with_rule _ _ _ _ _ two c.why_option.ensures.rule c.why_option.ensures.local c.in_ok-arg-3.ensures in
-    let four = shaped_with_rule _ _ _ _ _ three c.relation_file_option.ensures.rule c.relation_file_option.ensures.local c.in_ok-arg-4.ensures in
-    let five = shaped_with_rule _ _ _ _ _ four relation c.optional_word.ensures.local c.in_ok-arg-5.ensures in
-    IfOk-weaker c.arg-6.result _ _ (λ m adds. shaped_with_rule _ _ _ _ _ five path c.optional_word-2.ensures.local adds) c.arg-6.ensures
+    let four = shaped_with_rule _ _ _ _ _ three c.spelled_option.ensures.rule c.spelled_option.ensures.local c.in_ok-arg-4.ensures in
+    let five = shaped_with_rule _ _ _ _ _ four c.relation_file_option.ensures.rule c.relation_file_option.ensures.local c.in_ok-arg-5.ensures in
+    let six = shaped_with_rule _ _ _ _ _ five relation c.optional_word.ensures.local c.in_ok-arg-6.ensures in
+    IfOk-weaker c.arg-7.result _ _ (λ m adds. shaped_with_rule _ _ _ _ _ six path c.optional_word-2.ensures.local adds) c.arg-7.ensures

@@ -6,7 +6,7 @@ use Rattle.debctl_commands.proofs.audit_job.audit.Goals as goal
 
 pub loop-path-init : goal.loop-path-init
 loop-path-init g c = record {
-  reported = audits_none g.F.Reader.Source.left g.F.Reader.Source.failures g.F.Opens.opens c.args.options.doc c.args.options.end (g.F.Opens.text c.args.files.now) _ _ _ _;
+  reported = audits_none g.F.Reader.Source.left g.F.Reader.Source.failures g.F.Opens.opens c.args.options.doc c.args.options.demands c.args.options.end (g.F.Opens.text c.args.files.now) _ _ _ _;
   stays = refl;
 }
 
@@ -16,7 +16,7 @@ loop-path-preserved g c =
     let next = rw c.loop-path.invariant.stays at c.in_ok-audit_file.ensures.audits in
     record {
       reported = rw (texts_more c.args.paths.now i c.loop-path-test.true, c.max-status.ensures)
-          (audits_more g.F.Reader.Source.left g.F.Reader.Source.failures g.F.Opens.opens c.args.options.doc c.args.options.end (g.F.Opens.text c.args.files.now) _ _ _ _ _ _ _ _ _ _ _ _ _ _ _ c.loop-path.invariant.reported _ next);
+          (audits_more g.F.Reader.Source.left g.F.Reader.Source.failures g.F.Opens.opens c.args.options.doc c.args.options.demands c.args.options.end (g.F.Opens.text c.args.files.now) _ _ _ _ _ _ _ _ _ _ _ _ _ _ _ c.loop-path.invariant.reported _ next);
       stays = c.audit_file.ensures.unchanged ∙ c.loop-path.invariant.stays;
     }
 
@@ -26,4 +26,4 @@ returns-in_err-audit_file g c =
     let i = c.loop-path.path-index in
     let next = rw c.loop-path.invariant.stays at c.in_err-audit_file.ensures.audits in
     rw (p.1, p.2, texts_split c.args.paths.now i c.loop-path-test.true)
-    (audits_stopped g.F.Reader.Source.left g.F.Reader.Source.failures g.F.Opens.opens c.args.options.doc c.args.options.end (g.F.Opens.text c.args.files.now) _ _ _ _ _ _ _ _ _ _ _ _ _ _ _ c.loop-path.invariant.reported _ _ next)
+    (audits_stopped g.F.Reader.Source.left g.F.Reader.Source.failures g.F.Opens.opens c.args.options.doc c.args.options.demands c.args.options.end (g.F.Opens.text c.args.files.now) _ _ _ _ _ _ _ _ _ _ _ _ _ _ _ c.loop-path.invariant.reported _ _ next)

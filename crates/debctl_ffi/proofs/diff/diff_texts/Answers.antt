@@ -17,6 +17,6 @@ returns-in-Ok-clause-ok c =
 
 pub returns-in-Err-clause-refused : goal.returns-in-Err-clause-refused
 returns-in-Err-clause-refused c =
-    refusal_of_side (doc_of c.args.of) c.args.text.now c.args.other.now c.in-Err.told.side c.in-Err.told.fault
+    refusal_of_side (doc_of c.args.of) c.args.text.now c.args.other.now c.in-Err.failed.side c.in-Err.failed.fault
     (c.in-Err.ensures.first c.args.text.now c.new-first.ensures.left)
     (c.in-Err.ensures.second c.args.text.now c.args.other.now c.new-first.ensures.left c.new-second.ensures.left)

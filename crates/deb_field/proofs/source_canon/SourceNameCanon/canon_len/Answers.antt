@@ -7,7 +7,7 @@ use Rattle.deb_field.specs.SourceNames.{source_meaning}
 use Rattle.deb_field.specs.Sources.{SourceMeaning, source_text, version_suffix}
 use Rattle.deb_field.proofs.source_canon.SourceNameCanon.canon_len.Goals as goal
 
--- the length of a name with a version, in parentheses behind a space
+-- the length of a name with a version, in parentheses after a space
 length_is : (name : List ℕ) (version : VersionMeaning) (source : SourceMeaning) → name ≡ source.name
     → Some version ≡ source.version → length name + length (version_text version) + 3 ≡ length (source_text source)
 length_is name version source named versioned =

@@ -4,7 +4,7 @@ use Rattle.deb_syntax.specs.Reading.{Fits}
 use Rattle.deb_syntax.specs.Paragraphs.{state_of}
 use Rattle.deb_file_tests.proofs.syntax.raw.count_paragraphs.Given as goal
 
--- the paragraphs so far are those of a front of the file
+-- the paragraphs so far are those of a prefix of the file
 abbrev pub invariant-loop-count : goal.invariant-loop-count
 invariant-loop-count g l = record {
   fault : (state_of l.paragraphs).fault ≡ None;

@@ -8,11 +8,13 @@ use Rattle.deb_control.specs.CheckedStates.{passing_judged}
 use Rattle.deb_control.specs.Checking.{passing_seen}
 use Rattle.deb_control.specs.Documents.{rules_of}
 use Rattle.deb_control.proofs.CheckedSoFar.{goes_on, sound_on, refusal_behind, counted_on}
-use Rattle.deb_index.specs.Stores.{IsKept, lines_in, listed_by, listed_in}
+use Rattle.deb_index.specs.FirstLines.{first_line}
+use Rattle.deb_index.specs.Stores.{IsKept, lines_in, listed_by, listed_in, spellings_in}
+use Rattle.deb_index.specs.VersionSpellings.{version_body, version_spelling}
 use Rattle.deb_index.specs.declared.index.Index.{Index}
 use Rattle.deb_index.proofs.Indexed.{HasListed, none_listed, one_listed, lists_all}
 use Rattle.deb_index.proofs.ListedValues.{lists-kept}
-use Rattle.deb_index.proofs.ReadLines.{HasLines, all_read, none_read, one_read}
+use Rattle.deb_index.proofs.ReadLines.{HasRead, all_read, none_read, one_line, one_spelling}
 use Rattle.deb_index.proofs.index.Index.read.Goals as goal
 
 pub loop-count-init : goal.loop-count-init
@@ -23,7 +25,8 @@ loop-count-init g c =
       fault = c.new-checked.ensures.sound;
       reads = refl;
       count = c.new-checked.ensures.none;
-      lines = λ text left. rw (c.new-checked.ensures.none, c.new-store.ensures) (none_read text);
+      lines = λ text left. rw (c.new-checked.ensures.none, c.new-store.ensures) (none_read first_line text);
+      spellings = λ text left. rw (c.new-checked.ensures.none, c.new-store.ensures) (none_read version_spelling text);
       kept = subst (λ rs. All (IsKept s.bytes.items s.entries.items) rs) (sym c.new-store.ensures) (All-from_recursion (IsKept s.bytes.items s.entries.items) [] tt);
       text = λ text left. subst (HasListed text _ _) (sym (ap (map (listed_by s.bytes.items s.entries.items)) c.new-store.ensures)) (none_listed text _ _ (rw left (c.new-checked.ensures.fits text)));
     }
@@ -65,7 +68,15 @@ returns-then-not-branch-clause-lines g c = λ text left.
     let so_far = (c.loop-count.invariant.text text left).checked in
     let checks = goes_on _ _ _ _ c.loop-count.invariant.fault passes in
     let end = checks.answers text so_far.before so_far.fits in
-    c.in_ok-of.ensures.lines ∙ all_read (rules_of Packages) text so_far.before (lines_in c.loop-count.store) (subst (λ n. HasLines text n (lines_in c.loop-count.store)) so_far.fits.counted (c.loop-count.invariant.lines text left)) end.answer
+    c.in_ok-of.ensures.lines ∙ all_read first_line (rules_of Packages) text so_far.before (lines_in c.loop-count.store) (subst (λ n. HasRead first_line text n (lines_in c.loop-count.store)) so_far.fits.counted (c.loop-count.invariant.lines text left)) end.answer
+
+pub returns-then-not-branch-clause-spellings : goal.returns-then-not-branch-clause-spellings
+returns-then-not-branch-clause-spellings g c = λ text left.
+    let passes = rw (c.if-not-branch.true, c.loop-count.invariant.doc) at c.in_ok-advance.ensures.passes.checks in
+    let so_far = (c.loop-count.invariant.text text left).checked in
+    let checks = goes_on _ _ _ _ c.loop-count.invariant.fault passes in
+    let end = checks.answers text so_far.before so_far.fits in
+    c.in_ok-of.ensures.spellings ∙ all_read version_spelling (rules_of Packages) text so_far.before (spellings_in c.loop-count.store) (subst (λ n. HasRead version_spelling text n (spellings_in c.loop-count.store)) so_far.fits.counted (c.loop-count.invariant.spellings text left)) end.answer
 
 pub returns-then-not-branch-clause-counts_read_failure : goal.returns-then-not-branch-clause-counts_read_failure
 returns-then-not-branch-clause-counts_read_failure g c =
@@ -97,10 +108,12 @@ loop-count-preserved g c =
     let keeps = rw c.loop-count.invariant.doc at c.in_ok-advance.ensures.passes.visits (ap Ok c.if-not-branch.false) in
     let checks = goes_on _ _ _ _ c.loop-count.invariant.fault passes in
     let listed = lists-kept _ given keeps in
-    let one = c.in_ok-push.ensures.kept listed.listed listed.keeps c.loop-count.invariant.kept in
     let current = rw c.if-not-branch.false at c.in_ok-advance.ensures.passes.current in
     let seen : Some (passing_judged c.in-Some.paragraph).seen ≡ Some given = c.in-Some.ensures.seen ∙ current in
     let same : (passing_judged c.in-Some.paragraph).seen ≡ given = cc in
+    let version = c.version_body.ensures ∙ ap (λ s. version_body s.fields) same in
+    let one = c.in_ok-push.ensures.kept listed.listed listed.keeps (rw version listed.spells) c.loop-count.invariant.kept in
+    let spelling = one.spellings ∙ ap (λ t. spellings_in c.loop-count.store ++ t ∷ []) version in
     let line = c.in_ok-push.ensures.line ∙ ap (λ n. lines_in c.loop-count.store ++ n ∷ []) (c.first_line.ensures ∙ ap (λ s. s.first) same) in
     record {
       doc = c.in_ok-advance.ensures.doc ∙ c.loop-count.invariant.doc;
@@ -112,8 +125,14 @@ loop-count-preserved g c =
           let so_far = (c.loop-count.invariant.text text left).checked in
           let counted = so_far.fits.counted in
           let next = subst (λ n. next_answer text n ≡ Ok (Some given)) (sym counted) (checks.answers text so_far.before so_far.fits).seen in
-          let more = one_read text _ (lines_in c.loop-count.store) given (c.loop-count.invariant.lines text left) next in
+          let more = one_line text _ (lines_in c.loop-count.store) given (c.loop-count.invariant.lines text left) next in
           rw (checks.count, line) more;
+      spellings = λ text left.
+          let so_far = (c.loop-count.invariant.text text left).checked in
+          let counted = so_far.fits.counted in
+          let next = subst (λ n. next_answer text n ≡ Ok (Some given)) (sym counted) (checks.answers text so_far.before so_far.fits).seen in
+          let more = one_spelling text _ (spellings_in c.loop-count.store) given (c.loop-count.invariant.spellings text left) next in
+          rw (checks.count, spelling) more;
       text = λ text left.
           let so_far = c.loop-count.invariant.text text left in
           one_listed text _ _ _ _ (listed_in c.loop-count.store) _ listed.listed (passing_seen Packages given) so_far

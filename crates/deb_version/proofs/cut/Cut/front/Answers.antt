@@ -1,4 +1,4 @@
--- The first cut is the bytes of a text that come first, and the digits behind them.
+-- The first cut is the bytes of a text that come first, and the digits after them.
 use Rattle.deb_version.proofs.Common.{arith, prefix_len-le-length}
 use Rattle.deb_version.specs.Fronts.{is_text_byte}
 use Rattle.deb_version.proofs.FrontCut.{IsFrontCut, front_cut}

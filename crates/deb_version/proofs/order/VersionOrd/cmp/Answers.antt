@@ -1,4 +1,4 @@
--- Each answer is the order of the versions, and so tells whether their canonical texts are one.
+-- Each answer is the order of the versions: it is Equal exactly if their canonical texts are one.
 use Rattle.deb_version.proofs.Common.{rules}
 use Rattle.deb_version.proofs.EqualTexts.{equal_where_one_text}
 use Rattle.deb_version.proofs.order.VersionOrd.cmp.Goals as goal

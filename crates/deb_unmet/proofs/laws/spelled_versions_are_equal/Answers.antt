@@ -1,0 +1,5 @@
+use Rattle.deb_unmet.proofs.SpelledVersions.{spelled_versions_are_equal}
+use Rattle.deb_unmet.proofs.laws.spelled_versions_are_equal.Goals as goal
+
+pub returns : goal.returns
+returns c = spelled_versions_are_equal

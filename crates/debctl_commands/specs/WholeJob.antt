@@ -1,0 +1,126 @@
+-- What the job of `check --complete` and `check --least N` answers and reports. The lines and the
+-- statuses are this project's own; acceptance and refusals are those of documents of a kind (Debian
+-- Policy 5.1 and 5.3 to 5.6).
+use Rattle.std.specs.Prelude.{◌≡◌, ◌⊎◌, ℕ, ⊤, List, Option, Some, Result, Ok, Err, IfOk, IfErr, refl}
+use Rattle.std.specs.Io.KnownBytes.{Appends}
+use Rattle.deb_base.specs.Devices.{AppendsFront, Puts, read_failures_after, write_failures_after}
+use Rattle.deb_base.specs.declared.doc.Doc.{Doc}
+use Rattle.deb_base.specs.declared.fault.Fault.{Fault}
+use Rattle.deb_base.specs.declared.fault.Fault.TheVariants.{Write}
+use Rattle.deb_control.specs.Calls.{HasParagraphs, IfRefused, IfWriteFailed}
+use Rattle.deb_control.specs.Checking.{IsRefusalOfDocument}
+use Rattle.deb_control.specs.Documents.{refusal_of}
+use Rattle.debctl_commands.specs.DocumentJobs.{ok_line, IfNotWritten, ReportsRefusal}
+use Rattle.debctl_commands.specs.Reporting.{ReportsFault, ReportsFront, ReportsWhole}
+use Rattle.debctl_commands.specs.Verdicts.{verdict_line, verdict_of, verdict_status, Finds}
+use Rattle.debctl_commands.specs.declared.verdict.Verdict.{Verdict}
+use Rattle.debctl_commands.specs.declared.verdict.Verdict.TheVariants.{Whole, NoNewline, TooFew}
+use Rattle.debctl_args.specs.declared.jobs.Demands.{Demands}
+
+-- The file is accepted and meets the demands, and exactly the line that says so was written; or a
+-- prefix of it was, before a write failed.
+pub record WritesWhole (doc : Doc) (demands : Demands) (text : List ℕ) (old new : Option (List ℕ))
+    : Type 0 where
+  pub count : ℕ
+  pub paragraphs : HasParagraphs doc text count
+  pub whole : verdict_of demands text count ≡ Whole count
+  pub written : Appends old new (ok_line count)
+
+pub record WritesFrontOfWhole (doc : Doc) (demands : Demands) (text : List ℕ)
+    (old new : Option (List ℕ)) : Type 0 where
+  pub count : ℕ
+  pub paragraphs : HasParagraphs doc text count
+  pub whole : verdict_of demands text count ≡ Whole count
+  pub written : AppendsFront old new (ok_line count)
+
+-- what was written for an accepted file: the line of one that meets the demands
+abbrev pub WritesVerdict : {W : Type 0} → (W → Option (List ℕ)) → W → W → Verdict → Type 0
+WritesVerdict held old new (Whole n) = Appends (held old) (held new) (ok_line n)
+WritesVerdict held old new NoNewline = new ≡ old
+WritesVerdict held old new (TooFew n least) = new ≡ old
+
+-- The answer to the job, and what it wrote: by the reader's text, its count of failed calls before
+-- and after, and the writer before and after.
+pub record ChecksWhole {W : Type 0} (doc : Doc) (demands : Demands) (left : Option (List ℕ))
+    (count count_after : ℕ) (held : W → Option (List ℕ)) (failures : W → ℕ) (old new : W)
+    (answer : Result Verdict Fault) : Type 0 where
+  pub ok : (text : List ℕ) → left ≡ Some text → IfOk answer (Finds doc demands text)
+  pub written : IfOk answer (WritesVerdict held old new)
+  pub refused : (text : List ℕ) → left ≡ Some text →
+      IfRefused answer (λ refusal. refusal_of doc text ≡ Some refusal)
+  pub write : (text : List ℕ) → left ≡ Some text →
+      IfWriteFailed answer (WritesFrontOfWhole doc demands text (held old) (held new))
+  pub refusal : IfRefused answer IsRefusalOfDocument
+  pub unwritten : IfNotWritten answer (new ≡ old)
+  pub reads : count_after ≡ read_failures_after count answer
+  pub writes : failures new ≡ write_failures_after (failures old) answer
+
+-- how that is written: the line of a file that meets the demands may fail
+pub record PutsLine {W : Type 0} (held : W → Option (List ℕ)) (failures : W → ℕ) (old new : W)
+    (line : List ℕ) (answer : Result ⊤ Fault) : Type 0 where
+  pub written : Puts (held old) (held new) answer line
+  pub fault : IfErr answer (λ fault. fault ≡ Write)
+  pub counts_failure : failures new ≡ write_failures_after (failures old) answer
+
+abbrev pub PutsVerdict : {W : Type 0} → (W → Option (List ℕ)) → (W → ℕ) → W → W → Verdict
+    → Result ⊤ Fault → Type 0
+PutsVerdict held failures old new (Whole n) answer =
+    PutsLine held failures old new (ok_line n) answer
+PutsVerdict held failures old new NoNewline answer = (new ≡ old) × IfErr answer (λ fault. ⊥)
+PutsVerdict held failures old new (TooFew n least) answer =
+    (new ≡ old) × IfErr answer (λ fault. ⊥)
+
+-- A line is reported with status 2, or a write of it failed.
+abbrev pub ReportsLine : {E : Type 0} → (E → Option (List ℕ)) → (E → ℕ) → E → E → List ℕ → ℕ
+    → Type 0
+ReportsLine held failures old new line status =
+    ReportsWhole held failures old new line 2 status ⊎ ReportsFront held failures old new line
+    status
+
+-- What is found of an accepted file is reported: nothing of one that meets the demands, and the
+-- line of another.
+abbrev pub ReportsVerdict : {E : Type 0} → (E → Option (List ℕ)) → (E → ℕ) → E → E → Verdict → ℕ
+    → Type 0
+ReportsVerdict held failures old new (Whole n) status = (status ≡ 0) × (new ≡ old)
+ReportsVerdict held failures old new NoNewline status =
+    ReportsLine held failures old new (verdict_line NoNewline) status
+ReportsVerdict held failures old new (TooFew n least) status =
+    ReportsLine held failures old new (verdict_line (TooFew n least)) status
+
+abbrev pub ReportsAnswered : {E : Type 0} → (E → Option (List ℕ)) → (E → ℕ) → E → E
+    → Result Verdict Fault → ℕ → Type 0
+ReportsAnswered held failures old new (Ok verdict) status =
+    ReportsVerdict held failures old new verdict status
+ReportsAnswered held failures old new (Err fault) status =
+    ReportsFault held failures old new fault status
+
+-- The file is accepted but doesn't meet the demands, and exactly the line that says so was written
+-- on `err`.
+pub record ReportsIncomplete (doc : Doc) (demands : Demands) (left err err_after : Option (List ℕ))
+    : Type 0 where
+  pub verdict : Verdict
+  pub lacks : verdict_status verdict ≡ 2
+  pub found : (text : List ℕ) → left ≡ Some text → Finds doc demands text verdict
+  pub reported : Appends err err_after (verdict_line verdict)
+
+-- Status 2: the file is refused, or doesn't meet the demands.
+abbrev pub ReportsLack : Doc → Demands → Option (List ℕ) → Option (List ℕ) → Option (List ℕ)
+    → Type 0
+ReportsLack doc demands left err err_after =
+    ReportsRefusal doc left err err_after ⊎ ReportsIncomplete doc demands left err err_after
+
+-- nothing is written on standard output of a file that doesn't meet the demands
+written_of_verdicts : {W : Type 0} (held : W → Option (List ℕ)) (old new : W)
+    → (WritesVerdict held old new (Whole 2) ≡ Appends (held old) (held new) (ok_line 2))
+    × (WritesVerdict held old new NoNewline ≡ (new ≡ old))
+    × (WritesVerdict held old new (TooFew 1 2) ≡ (new ≡ old))
+written_of_verdicts held old new = (refl, refl, refl)
+
+-- and nothing on standard error of one that does
+reported_of_verdicts : {E : Type 0} (held : E → Option (List ℕ)) (failures : E → ℕ) (old new : E)
+    (status : ℕ)
+    → (ReportsVerdict held failures old new (Whole 2) status ≡ ((status ≡ 0) × (new ≡ old)))
+    × (ReportsVerdict held failures old new NoNewline status
+    ≡ (ReportsWhole held failures old new (verdict_line NoNewline) 2 status
+    ⊎ ReportsFront held failures old new (verdict_line NoNewline) status))
+reported_of_verdicts held failures old new status = (refl, refl)
