@@ -56,13 +56,13 @@ const LINES: [(&str, &str); 38] = [
     ),
     (
         "diff x -",
-        "Ok(Run(Call { job: Diff { kind: Packages, detail: Fields }, first: Some(\"x\"), \
-        second: Some(\"-\") }))",
+        "Ok(Run(Call { job: Diff { kind: Packages, detail: Fields, versions: Canonical }, \
+        first: Some(\"x\"), second: Some(\"-\") }))",
     ),
     (
-        "diff --values -k source x y",
-        "Ok(Run(Call { job: Diff { kind: Source, detail: Values }, first: Some(\"x\"), \
-        second: Some(\"y\") }))",
+        "diff --values --spelled -k source x y",
+        "Ok(Run(Call { job: Diff { kind: Source, detail: Values, versions: Spelled }, \
+        first: Some(\"x\"), second: Some(\"y\") }))",
     ),
     (
         "diff --kind any x y",
@@ -83,12 +83,13 @@ const LINES: [(&str, &str); 38] = [
     (
         "query --arch amd64 --profiles a,,b aa x",
         "Ok(Run(Call { job: Query { arch: \"amd64\", profiles: [\"a\", \"\", \"b\"], \
-        relation: \"aa\", detail: Verdicts }, first: Some(\"x\"), second: None }))",
+        relation: \"aa\", detail: Verdicts, versions: Canonical }, first: Some(\"x\"), \
+        second: None }))",
     ),
     (
-        "query --arch amd64 --why --relation-from f x",
-        "Ok(Run(Call { job: QueryFrom { arch: \"amd64\", profiles: [], detail: Reasons }, \
-        first: Some(\"f\"), second: Some(\"x\") }))",
+        "query --arch amd64 --why --spelled --relation-from f x",
+        "Ok(Run(Call { job: QueryFrom { arch: \"amd64\", profiles: [], detail: Reasons, \
+        versions: Spelled }, first: Some(\"f\"), second: Some(\"x\") }))",
     ),
     (
         "version-key 1 2",
@@ -97,12 +98,13 @@ const LINES: [(&str, &str); 38] = [
     (
         "unmet --arch amd64 --recommends x",
         "Ok(Run(Call { job: Unmet { arch: \"amd64\", profiles: [], \
-        dependents: Index(Recommends) }, first: Some(\"x\"), second: Some(\"x\") }))",
+        dependents: Index(Recommends), versions: Canonical }, first: Some(\"x\"), \
+        second: Some(\"x\") }))",
     ),
     (
-        "unmet --arch amd64 --kind sources x -",
-        "Ok(Run(Call { job: Unmet { arch: \"amd64\", profiles: [], dependents: Sources }, \
-        first: Some(\"x\"), second: Some(\"-\") }))",
+        "unmet --arch amd64 --spelled --kind sources x -",
+        "Ok(Run(Call { job: Unmet { arch: \"amd64\", profiles: [], dependents: Sources, \
+        versions: Spelled }, first: Some(\"x\"), second: Some(\"-\") }))",
     ),
     (
         "unmet --arch amd64 -k source x",

@@ -4,12 +4,14 @@
 pub(crate) const DEBCTL_HELP: &str = "\
 Exit statuses:
   0  success, or the answer is yes
-  1  the answer is no; for `query` and `unmet`: a group isn't met
+  1  the answer is no; for `diff`: the files differ; for `query`: a group is unmet;
+     for `unmet`: a group is `unmet` or `unsure`
   2  a file, a version, a relation, an architecture or a profile is refused:
      standard error has `line N: CODE NAME`. Line 0 means a command-line
      argument. `same`, `diff` and `unmet` write `first: ` or `second: ` before
      the line of a file. `explain`, `audit` and `check --all` report errors on
-     standard output
+     standard output. A file without what `--complete` or `--least` demands is
+     refused with a line `incomplete: `
   3  wrong arguments, out of memory, or a failed read or write
 
 Put `--` before a version or a path that begins with a hyphen:
@@ -146,7 +148,7 @@ To check every file that `find` lists:
   ./good: ok 1";
 
 pub(crate) const NORMALISE_HELP: &str = "\
-Two accepted files of one kind have the same canonical text exactly if they mean
+Two accepted files of one kind have the same canonical text if and only if they mean
 the same. Each paragraph is written once it has been checked.
 
 Exit statuses:
@@ -250,7 +252,7 @@ pub(crate) const OPERATORS_HELP: &str =
     ge or >= (later or equal), gt or >> (later)";
 
 pub(crate) const CANON_VERSION_HELP: &str = "\
-Two versions are equal in Debian's order exactly if their canonical texts are the
+Two versions are equal in Debian's order if and only if their canonical texts are the
 same.
 
 Exit statuses:
@@ -269,8 +271,8 @@ Put `--` before a version that begins with a hyphen:
 pub(crate) const VERSION_KEY_HELP: &str = "\
 Prints a line for each version, in the order given: its key in hexadecimal. The byte
 order of keys, and of these lines, is Debian's order of versions. Two versions are
-equal in Debian's order exactly if their keys are the same. So a database can store,
-compare and index keys. The encoding doesn't change.
+equal in Debian's order if and only if their keys are the same. So a database can
+store, compare and index keys. The encoding doesn't change.
 
 Exit statuses:
   0  the keys are printed
