@@ -83,7 +83,7 @@ def check_all(text: Text, kind: Kind = "packages") -> AllChecked:
 
 def normalise(text: Text, kind: Kind = "packages") -> bytes:
     """Returns the canonical text of a file, as bytes that can be written to one: two accepted files
-    mean the same exactly if theirs are the same.
+    mean the same if and only if theirs are the same.
 
     Raises Refused if the file is refused.
     """

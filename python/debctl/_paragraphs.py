@@ -107,7 +107,7 @@ class Paragraph(Mapping[str, str]):
 
     def canonical(self, name: str) -> str:
         """Returns the canonical text of the value of the field with this name: two values mean the
-        same exactly if theirs are the same.
+        same if and only if theirs are the same.
 
         Raises KeyError if there is no such field.
         """

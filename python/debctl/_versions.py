@@ -26,7 +26,7 @@ def compare(left: Text, right: Text) -> int:
 
 
 def canonical(version: Text) -> str:
-    """Returns the canonical text of a version: two are equal exactly if theirs are the same.
+    """Returns the canonical text of a version: two are equal if and only if theirs are the same.
 
     Raises Refused if it isn't a version.
     """
@@ -43,7 +43,7 @@ def _buffer() -> Tuple[Any, Any, Any]:
 
 def key(version: Text) -> bytes:
     """Returns the key of a version: bytes whose order is Debian's order of versions. Two versions
-    are equal exactly if their keys are the same, so a database can sort and index keys. The
+    are equal if and only if their keys are the same, so a database can sort and index keys. The
     encoding doesn't change.
 
         >>> import debctl
@@ -122,7 +122,7 @@ class Version:
 
     @property
     def canonical(self) -> str:
-        """The canonical text: two versions are equal exactly if theirs are the same."""
+        """The canonical text: two versions are equal if and only if theirs are the same."""
         return canonical(self.text)
 
     @property

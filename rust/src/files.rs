@@ -48,8 +48,8 @@ pub fn check_all(kind: Kind, text: impl AsRef<[u8]>) -> Result<AllChecked, Error
     })
 }
 
-/// Returns the canonical text of a file: two accepted files mean the same exactly if theirs are the
-/// same.
+/// Returns the canonical text of a file: two accepted files mean the same if and only if theirs are
+/// the same.
 pub fn normalise(kind: Kind, text: impl AsRef<[u8]>) -> Result<Vec<u8>, Error> {
     let text = text.as_ref();
     let call =

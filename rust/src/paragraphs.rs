@@ -238,7 +238,7 @@ impl<'a> Paragraph<'a> {
     }
 
     /// Returns the canonical text of the value of the field with a name, or `None` if there is no
-    /// such field: two values mean the same exactly if theirs are the same.
+    /// such field: two values mean the same if and only if theirs are the same.
     pub fn canonical(&self, name: &str) -> Result<Option<Vec<u8>>, Error> {
         let kind = self.tables.kind;
         let canonical = paragraphs(kind, normalise(kind, self.to_text())?)?;

@@ -21,7 +21,8 @@ pub fn compare(left: impl AsRef<[u8]>, right: impl AsRef<[u8]>) -> Result<Orderi
     Ok(compared.order.cmp(&0))
 }
 
-/// Returns the canonical text of a version: two versions are equal exactly if theirs are the same.
+/// Returns the canonical text of a version: two versions are equal if and only if theirs are the
+/// same.
 pub fn canonical(version: impl AsRef<[u8]>) -> Result<String, Error> {
     let version = version.as_ref();
     let call =
@@ -30,8 +31,8 @@ pub fn canonical(version: impl AsRef<[u8]>) -> Result<String, Error> {
 }
 
 /// Returns the key of a version: bytes whose order is Debian's order of versions. Two versions are
-/// equal exactly if their keys are the same, so a database can sort and index keys. The encoding
-/// doesn't change.
+/// equal if and only if their keys are the same, so a database can sort and index keys. The
+/// encoding doesn't change.
 ///
 /// ```
 /// assert!(debctl::key("1.0~rc1")? < debctl::key("1.0")?);

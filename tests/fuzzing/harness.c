@@ -240,7 +240,7 @@ static void try_rows(uint8_t form, struct written it, uint8_t status) {
         REQUIRE(rows.length == 0);
     for (size_t i = 0; i < rows.length; i++) {
         const struct deb_row *row = (const struct deb_row *)rows.text + i;
-        REQUIRE(row->kind <= DEB_ROW_VALID && row->cell_count <= 6);
+        REQUIRE(row->kind <= DEB_ROW_DOWNGRADED && row->cell_count <= 6);
         for (int cell = 0; cell < 6; cell++)
             if (cell < row->cell_count) {
                 REQUIRE(row->cells[cell].start >= at && row->cells[cell].length <= it.length);
