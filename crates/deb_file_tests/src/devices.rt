@@ -4,28 +4,29 @@ use std::alloc::Global;
 use std::io::{self, ErrorKind, Read, Write};
 
 /// How many bytes a read gives at most.
-pub(crate) const SIZES: [usize; 5] = [1, 2, 3, 7, 65_536];
+pub const SIZES: [usize; 5] = [1, 2, 3, 7, 65_536];
 
 /// What is given to one who asks again after the end.
 const LATE: &[u8] = b"\n\nPackage: late\nVersion: 1\nArchitecture: all\n";
 
 /// A reader that gives a file in pieces of a size, and after its end other bytes.
 #[derive(Drop)]
-pub(crate) struct Pieces<'a> {
+pub struct Pieces<'a> {
     /// What is left of the file.
-    pub(crate) rest: &'a [u8],
+    pub rest: &'a [u8],
     size: usize,
     /// The number of the one call that fails, from 1; 0 where none does.
     failing: u64,
     /// How many calls there were.
-    pub(crate) calls: u64,
+    pub calls: u64,
     /// How many bytes the longest buffer had.
-    pub(crate) longest: usize,
+    pub longest: usize,
     has_ended: bool,
 }
 
 impl<'a> Pieces<'a> {
-    pub(crate) fn new(file: &'a [u8], size: usize, failing: u64) -> Pieces<'a> {
+    /// A reader of a file, of which the call with a number fails, counted from 1; none if it is 0.
+    pub fn new(file: &'a [u8], size: usize, failing: u64) -> Pieces<'a> {
         Pieces {
             rest: file,
             size,
@@ -56,15 +57,16 @@ impl Read for Pieces<'_> {
 
 /// A reader that gives a few bytes, and then one byte for ever.
 #[derive(Drop)]
-pub(crate) struct Endless<'a> {
+pub struct Endless<'a> {
     front: &'a [u8],
     byte: u8,
     /// How many bytes it gave.
-    pub(crate) given: u64,
+    pub given: u64,
 }
 
 impl<'a> Endless<'a> {
-    pub(crate) fn new(front: &'a [u8], byte: u8) -> Endless<'a> {
+    /// A reader of some bytes and then of one.
+    pub fn new(front: &'a [u8], byte: u8) -> Endless<'a> {
         Endless {
             front,
             byte,
@@ -88,24 +90,28 @@ impl Read for Endless<'_> {
 
 /// What a writer answers once its good calls are used up.
 #[derive(Clone, Copy)]
-pub(crate) enum Then {
+pub enum Then {
+    /// Each call fails.
     Fails,
+    /// Each call takes no byte.
     TakesNone,
 }
 
 /// A writer that takes at most so many bytes a call, for so many calls.
 #[derive(Drop)]
-pub(crate) struct Slow {
-    pub(crate) held: Vec<u8>,
+pub struct Slow {
+    /// What it took.
+    pub held: Vec<u8>,
     most: usize,
     calls: u64,
     then: Then,
     /// How many calls took nothing.
-    pub(crate) failures: u64,
+    pub failures: u64,
 }
 
 impl Slow {
-    pub(crate) fn new(alloc: Global, most: usize, calls: u64, then: Then) -> Slow {
+    /// A writer that takes so many bytes a call, and after so many calls does this.
+    pub fn new(alloc: Global, most: usize, calls: u64, then: Then) -> Slow {
         Slow {
             held: Vec::new(alloc),
             most,

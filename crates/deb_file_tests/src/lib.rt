@@ -1,6 +1,6 @@
-//! Tests of the libraries that read documents and indexes, by their public functions: what rows
-//! over the program can't show. Each call once when it succeeds, short and long; what paragraphs
-//! and reports return; devices that take or return a few bytes a call, and fail; and out of memory.
+//! Tests of the libraries that read documents, by their public functions: what rows over the
+//! program can't show. Each call once when it succeeds, short and long; what paragraphs return;
+//! devices that take or return a few bytes a call, and fail; and out of memory.
 //!
 //! They are in a crate of their own so that the gate proves those crates only once, and not again
 //! with their tests.
@@ -8,15 +8,10 @@
 
 #[cfg(test)]
 mod control;
-#[cfg(test)]
-mod devices;
+pub mod devices;
 #[cfg(test)]
 mod diff;
-#[cfg(test)]
-mod index;
 #[cfg(test)]
 mod refusals;
 #[cfg(test)]
 mod syntax;
-#[cfg(test)]
-mod unmet;

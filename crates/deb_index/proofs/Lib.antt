@@ -25,3 +25,9 @@ pub mod Stored
 pub mod KeptProvides
 pub mod Answered
 pub mod Details
+pub mod Numbered
+pub mod Offering
+pub mod Standings
+pub mod Filling
+pub mod Offered
+pub mod Answering

@@ -1,15 +1,14 @@
 -- A package that meets an alternative has or provides its name.
-use Rattle.std.proofs.Common.{◌≡◌, ℕ, Bool, true, false, cond, ◌&&◌, ◌||◌, List, [], ◌∷◌}
+use Rattle.std.proofs.Common.{◌≡◌, Bool, true, false, ◌&&◌, ◌||◌, List, [], ◌∷◌}
 use Rattle.std.proofs.Common.{refl, ap}
 use Rattle.std.specs.List.{list_any}
 use Rattle.std.specs.Str.{bytes_eq}
 use Rattle.std.proofs.lemmas.Bool.{false≢true}
-use Rattle.deb_relation.specs.Applying.{Environment, applies}
+use Rattle.deb_relation.specs.Applying.{Environment}
 use Rattle.deb_relation.specs.Meaning.{Alternative}
 use Rattle.deb_index.specs.Listed.{Listed}
 use Rattle.deb_index.specs.Meeting.{meets, meets_bound, meets_by_name, meets_qualifier, provided_meets_bound, provision_meets}
 use Rattle.deb_index.specs.Named.{has_name, provides}
-use Rattle.deb_index.proofs.Joined.{asked}
 
 pub and-first : (a b : Bool) → (a && b) ≡ true → a ≡ true
 and-first true b h = refl
@@ -30,8 +29,3 @@ has_or_provides environment a p met =
     (and-first (bytes_eq p.name a.name) (meets_bound a.bound p.version))
     (any-wider (provision_meets a) (λ q. bytes_eq q.name a.name) (λ q. and-first (bytes_eq q.name a.name) (provided_meets_bound a.bound q.version)) p.provisions)
     (and-first (meets_by_name a p) (meets_qualifier environment.target a.qualifier p) met)
-
--- the numbers of the packages that meet an alternative, if it applies, among those under its name
-abbrev pub found_for : Environment → List Listed → Alternative → List ℕ
-found_for environment packages a =
-    cond (applies a environment) (asked (has_name a.name) (provides a.name) (meets environment a) packages) []

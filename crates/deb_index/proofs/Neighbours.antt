@@ -64,6 +64,25 @@ over Less e = absurd (false≢true (sym e))
 over Equal e = absurd (false≢true (sym e))
 over Greater e = refl
 
+-- In a list in which those before others come first, then these, and then those behind them, these lie between the two places.
+module _ {X : Type 0} (standing : X → Ordering) where
+  pub between : (xs : List X) (i k : ℕ) → i ≤ length xs → IsPartitionPoint (λ x. is_lt (standing x) ≡ true) (λ x. is_lt (standing x) ≡ false) xs i → IsPartitionPoint (λ x. is_le (standing x) ≡ true) (λ x. is_le (standing x) ≡ false) (drop i xs) k → take k (drop i xs) ≡ filter (λ x. is_eq (standing x)) xs
+  between xs i k within first second =
+      sym (filter-from (λ x. is_lt (standing x)) (λ x. is_eq (standing x)) (λ x e. less-other (standing x) e) xs i (λ j d low. first.0 j d (omega arith) low)
+      ∙ filter-upto (λ x. is_eq (standing x)) (drop i xs) k
+      (λ j d low in_list. neither (standing (get_or (drop i xs) j d)) (not_before j d in_list) (second.0 j d (omega arith) low))
+      (λ j d high in_list. over (standing (get_or (drop i xs) j d)) (second.1 j d high in_list)))
+    where
+      not_before : (j : ℕ) (d : X) → j < length (drop i xs) → is_lt (standing (get_or (drop i xs) j d)) ≡ false
+      not_before j d in_list =
+          let long : length (drop i xs) ≡ length xs - i = length-drop i xs in
+          subst (λ x. is_lt (standing x) ≡ false) (sym (get_or-drop i xs j d)) (first.1 (i + j) d (omega arith) (omega (arith, in_list, long, within)))
+
+-- tests that answer alike keep the same
+filter-same : {X : Type 0} (f g : X → Bool) → ((x : X) → f x ≡ g x) → (xs : List X) → filter f xs ≡ filter g xs
+filter-same f g same [] = refl
+filter-same f g same (x ∷ xs) = ap (λ l. cond (f x) (x ∷ l) l) (filter-same f g same xs) ∙ ap (λ b. cond b (x ∷ filter g xs) (filter g xs)) (same x)
+
 -- the names before a third one, and those that don't come after it, come first
 before : (a b n : List ℕ) → is_gt (byte_cmp a b) ≡ false → is_lt (byte_cmp b n) ≡ true → is_lt (byte_cmp a n) ≡ true
 before a b n = go (byte_cmp a b) refl (byte_cmp b n) refl
@@ -112,16 +131,7 @@ module _ {X : Type 0} (name : X → List ℕ) (n : List ℕ) where
 
   -- what lies between the two places is what has the name
   pub neighbours : (xs : List X) (i k : ℕ) → i ≤ length xs → IsPartitionPoint (λ x. comes_before x ≡ true) (λ x. comes_before x ≡ false) xs i → IsPartitionPoint (λ x. comes_upto x ≡ true) (λ x. comes_upto x ≡ false) (drop i xs) k → take k (drop i xs) ≡ filter has_name xs
-  neighbours xs i k within first second =
-      sym (filter-from comes_before has_name (λ x e. sym (is_eq-slice_cmp (name x) n) ∙ less-other (byte_cmp (name x) n) e) xs i (λ j d low. first.0 j d (omega arith) low)
-      ∙ filter-upto has_name (drop i xs) k
-      (λ j d low in_list. sym (is_eq-slice_cmp (name (get_or (drop i xs) j d)) n) ∙ neither (byte_cmp (name (get_or (drop i xs) j d)) n) (not_before j d in_list) (second.0 j d (omega arith) low))
-      (λ j d high in_list. sym (is_eq-slice_cmp (name (get_or (drop i xs) j d)) n) ∙ over (byte_cmp (name (get_or (drop i xs) j d)) n) (second.1 j d high in_list)))
-    where
-      not_before : (j : ℕ) (d : X) → j < length (drop i xs) → comes_before (get_or (drop i xs) j d) ≡ false
-      not_before j d in_list =
-          let long : length (drop i xs) ≡ length xs - i = length-drop i xs in
-          subst (λ x. comes_before x ≡ false) (sym (get_or-drop i xs j d)) (first.1 (i + j) d (omega arith) (omega (arith, in_list, long, within)))
+  neighbours xs i k within first second = between (λ x. byte_cmp (name x) n) xs i k within first second ∙ filter-same (λ x. is_eq (byte_cmp (name x) n)) has_name (λ x. is_eq-slice_cmp (name x) n) xs
 
 -- all that comes from a place on
 pub rest_from : {X : Type 0} (i : ℕ) (xs : List X) → take (length xs - i) (drop i xs) ≡ drop i xs

@@ -9,12 +9,12 @@ use Rattle.deb_index.specs.Named.{numbers_from, numbers_of, passes_at}
 use Rattle.deb_index.specs.Reports.{passing_from, picked}
 use Rattle.deb_index.proofs.Counted.{numbers-within}
 
-behind : (front : List Listed) (p : Listed) (rest : List Listed) → slice_get (front ++ p ∷ rest) (length front) ≡ Some p
+pub behind : (front : List Listed) (p : Listed) (rest : List Listed) → slice_get (front ++ p ∷ rest) (length front) ≡ Some p
 behind [] p rest = refl
 behind (q ∷ front) p rest = behind front p rest
 
 -- the package after a prefix has the number that follows
-behind-front : (front : List Listed) (p : Listed) (rest : List Listed) (n : ℕ) → n ≡ length front + 1 → slice_get (front ++ p ∷ rest) (n - 1) ≡ Some p
+pub behind-front : (front : List Listed) (p : Listed) (rest : List Listed) (n : ℕ) → n ≡ length front + 1 → slice_get (front ++ p ∷ rest) (n - 1) ≡ Some p
 behind-front front p rest n is = ap (slice_get (front ++ p ∷ rest)) (omega (arith, is)) ∙ behind front p rest
 
 flat_map-cond : {X A : Type 0} (f : X → List A) (v : Bool) (x : X) (xs : List X) → flat_map f (cond v (x ∷ xs) xs) ≡ cond v (f x ++ flat_map f xs) (flat_map f xs)

@@ -17,6 +17,8 @@ pub mod PackageBuilder
 pub mod Stores
 pub mod Named
 pub mod Maps
+pub mod Offers
+pub mod Crowds
 pub mod Listing
 pub mod Indexes
 pub mod AnswerStores

@@ -1,6 +1,6 @@
 -- Which packages of a list have a name and which provide it, by their numbers in the list. Debian
 -- Policy 5.6.7 and 7.5.
-use Rattle.std.specs.Prelude.{◌≡◌, ℕ, ◌+◌, ◌-◌, ◌≤◌, length, Bool, true, false, cond, if◌then◌else◌, nat_eq, List, [], ◌∷◌, map, Option, None, Some, codes, refl}
+use Rattle.std.specs.Prelude.{◌≡◌, ℕ, ◌+◌, ◌-◌, ◌≤◌, length, Bool, true, false, cond, eqb, if◌then◌else◌, nat_eq, List, [], ◌∷◌, map, Option, None, Some, codes, refl}
 use Rattle.std.specs.List.{All, list_any, slice_get}
 use Rattle.std.specs.Option.{option_map, option_map_or}
 use Rattle.std.specs.Str.{bytes_eq}
@@ -38,6 +38,13 @@ passes_at test packages k = option_map_or test (slice_get packages (k - 1)) fals
 -- these are numbers of packages of the list
 abbrev pub AreNumbers : List Listed → List ℕ → Type 0
 AreNumbers packages numbers = All (λ k. (1 ≤ k) × (k ≤ length packages)) numbers
+
+-- a number is one of these
+abbrev pub among : ℕ → List ℕ → Bool
+among k numbers = list_any (eqb k) numbers
+
+worked-among : map (λ k. among k (3 ∷ 5 ∷ [])) (3 ∷ 5 ∷ 4 ∷ []) ≡ true ∷ true ∷ false ∷ []
+worked-among = refl
 
 -- Below, aa provides its own name twice and vv, aab provides vv and vv again, and a second aa
 -- provides nothing.

@@ -15,6 +15,7 @@ use Rattle.deb_version.specs.Faults.{first_fault}
 use Rattle.deb_version.specs.Places.{version_in}
 use Rattle.deb_field.specs.declared.flag.MultiArch.TheVariants.{Foreign}
 use Rattle.deb_index.specs.AnswerStores.{answers_in, numbered, span_of}
+use Rattle.deb_index.specs.Crowds.{all_offers, crowd_of, offer, offers_of, offers_under, provided_offers, two_listed}
 use Rattle.deb_index.specs.Entries.{IsFaultless, Places, entry_name}
 use Rattle.deb_index.specs.Indexes.{lines_of, packages_of, spellings_of}
 use Rattle.deb_index.specs.Kept.{line_of, listed_of, spelling_of}
@@ -55,6 +56,32 @@ vector alloc xs short =
 
 abbrev text : Global → (bytes : List ℕ) → nat_lt (length bytes) (2 ^ 63) ≡ true → Vec ℕ Global
 text alloc bytes short = vector alloc bytes short
+
+-- aa and vv are crowded: vv, aa and a name that begins vv
+abbrev crowded : Global → List (Vec ℕ Global)
+crowded alloc = text alloc (codes "aa") refl ∷ text alloc (codes "vv") refl ∷ []
+
+worked-crowd_of : (alloc : Global)
+    → map (crowd_of (crowded alloc)) (codes "vv" ∷ codes "aa" ∷ codes "v" ∷ [])
+    ≡ Some 1 ∷ Some 0 ∷ None ∷ []
+worked-crowd_of alloc = refl
+
+worked-under : (offers_under None 3 2 ≡ []) × (offers_under (Some 1) 3 2 ≡ offer 1 3 2 ∷ [])
+worked-under = (refl, refl)
+
+-- the own version of aa, vv in version 3, and vv of bb in version 4
+worked-all_offers : (alloc : Global) → all_offers (crowded alloc) 1 two_listed
+    ≡ offer 0 1 0 ∷ offer 1 1 1 ∷ offer 1 2 1 ∷ []
+worked-all_offers alloc = refl
+
+worked-offers_of : (alloc : Global) → map (offers_of (crowded alloc) 7) two_listed
+    ≡ (offer 0 7 0 ∷ offer 1 7 1 ∷ []) ∷ (offer 1 7 1 ∷ []) ∷ []
+worked-offers_of alloc = refl
+
+worked-provided_offers : (alloc : Global)
+    → map (λ p. provided_offers (crowded alloc) 7 2 p.provisions) two_listed
+    ≡ (offer 1 7 2 ∷ []) ∷ (offer 1 7 2 ∷ []) ∷ []
+worked-provided_offers alloc = refl
 
 worked-itself : itself (codes "aa") ≡ codes "aa"
 worked-itself = refl

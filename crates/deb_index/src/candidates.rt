@@ -1,22 +1,24 @@
 //! Finds the packages that meet a group, by the names of its alternatives.
 
-ghost use Rattle.std.specs.Prelude.{◌≡◌, ◌++◌, map, IfOk, OnOk};
-ghost use Rattle.std.specs.List.{filter};
+ghost use Rattle.std.specs.Prelude.{◌≡◌, ◌++◌, ◌&&◌, ◌||◌, ℕ, eqb, map, IfOk, OnOk};
+ghost use Rattle.std.specs.List.{filter, list_any};
+ghost use Rattle.std.specs.Option.{option_copied};
 ghost use Rattle.deb_relation.specs.Environments.{environment_of};
 ghost use Rattle.deb_relation.specs.Views.{alternative_of};
+ghost use Rattle.deb_index.specs.Crowds.{is_of};
 ghost use Rattle.deb_index.specs.Indexes.{packages_of};
+ghost use Rattle.deb_index.specs.Maps.{is_last};
 ghost use Rattle.deb_index.specs.Meeting.{meets};
-ghost use Rattle.deb_index.specs.Named.{AreNumbers, numbers_of, passes_at};
+ghost use Rattle.deb_index.specs.Named.{AreNumbers, among, numbers_of, passes_at};
 ghost use Rattle.deb_index.specs.Reports.{meets_group, some_applies};
 
 use crate::index::Index;
+use crate::offer::Offer;
 use deb_relation::{Alternative, Env};
 use std::alloc::{AllocError, Global};
 
 /// Whether some alternative of a group applies, and the numbers of the packages of an index that
 /// meet one that does, in ascending order and each once.
-///
-/// It asks only packages that have or provide the name of such an alternative.
 pub(crate) fn numbers_meeting(
     alloc: Global,
     index: &Index,
@@ -36,21 +38,7 @@ pub(crate) fn numbers_meeting(
     for alternative in group {
         if alternative.applies(environment) {
             applies = true;
-            let name = alternative.name();
-            append_meeting(
-                index,
-                index.packages(name),
-                alternative,
-                environment,
-                &mut numbers,
-            )?;
-            append_meeting(
-                index,
-                index.providers(name),
-                alternative,
-                environment,
-                &mut numbers,
-            )?;
+            append_meeting(index, alternative, environment, &mut numbers)?;
         }
     }
     numbers.sort_unstable();
@@ -58,8 +46,76 @@ pub(crate) fn numbers_meeting(
     Ok((applies, numbers))
 }
 
-/// Appends those of some numbers whose packages meet an alternative.
+/// Appends the numbers of the packages that meet an alternative, in some order.
+///
+/// It asks only packages that have or provide its name.
 fn append_meeting(
+    index: &Index,
+    alternative: &Alternative<'_>,
+    environment: &Env,
+    numbers: &mut Vec<u64>,
+) -> Result<(), AllocError>
+    ensures { OnOk result ((k : ℕ) → among k numbers.new.items
+        ≡ (among k numbers.old.items
+        || among k (numbers_of
+        (meets (environment_of environment.now) (alternative_of alternative.now))
+        (packages_of index.now)))) }
+{
+    if let Some(offers) = index.offers(alternative) {
+        return append_offering(index, offers, alternative.qualifier(), environment, numbers);
+    }
+    let name = alternative.name();
+    append_asked(
+        index,
+        index.packages(name),
+        alternative,
+        environment,
+        numbers,
+    )?;
+    append_asked(
+        index,
+        index.providers(name),
+        alternative,
+        environment,
+        numbers,
+    )
+}
+
+/// Appends the numbers of those offers whose packages meet a qualifier, once where several of one
+/// package follow one another.
+fn append_offering(
+    index: &Index,
+    offers: &[Offer],
+    qualifier: Option<&[u8]>,
+    environment: &Env,
+    numbers: &mut Vec<u64>,
+) -> Result<(), AllocError>
+    ensures { OnOk result ((k : ℕ) → among k numbers.new.items ≡ (among k numbers.old.items
+        || list_any
+        (λ o. eqb k o.number && is_of (environment_of environment.now)
+        (option_copied qualifier.entry) (packages_of index.now) o) offers.now)) }
+{
+    for offer in offers {
+        let number = u64::from(offer.number);
+        if !is_last(numbers, number) && index.is_of(offer, qualifier, environment) {
+            numbers.push(number)?;
+        }
+    }
+    Ok(())
+}
+
+/// Whether a number is the last of these.
+fn is_last(numbers: &[u64], number: u64) -> bool
+    ensures { result ≡ is_last number numbers.now }
+{
+    match numbers {
+        [.., last] => *last == number,
+        [] => false,
+    }
+}
+
+/// Appends those of some numbers whose packages meet an alternative.
+fn append_asked(
     index: &Index,
     candidates: &[u64],
     alternative: &Alternative<'_>,

@@ -1,6 +1,6 @@
 //! Indexes: reading one, and the packages under a name. `query` answers queries.
 
-ghost use Rattle.std.specs.Prelude.{◌≡◌, ◌-◌, ◌≤◌, ℕ, List, Some, Err, IfOk, IfErr, IsTrue, length};
+ghost use Rattle.std.specs.Prelude.{◌≡◌, ◌-◌, ◌≤◌, ℕ, List, Some, Err, IfOk, IfErr, IfSome, IsTrue, length};
 ghost use Rattle.std.specs.List.{slice_get};
 ghost use Rattle.std.specs.Option.{option_map};
 ghost use Rattle.deb_base.specs.Devices.{read_failures_after, ReadFaultIffFailed};
@@ -11,6 +11,8 @@ ghost use Rattle.deb_control.specs.Calls.{IfRefused};
 ghost use Rattle.deb_control.specs.CheckedStates.{passing_judged};
 ghost use Rattle.deb_control.specs.Checking.{IsRefusalOfDocument};
 ghost use Rattle.deb_control.specs.Documents.{refusal_of};
+ghost use Rattle.deb_relation.specs.Views.{alternative_of};
+ghost use Rattle.deb_index.specs.Crowds.{AreMeeting, AreOffers};
 ghost use Rattle.deb_index.specs.FirstLines.{first_lines, line_at};
 ghost use Rattle.deb_index.specs.Kept.{line_of, listed_of, spelling_of};
 ghost use Rattle.deb_index.specs.Listing.{ListsAll};
@@ -19,31 +21,36 @@ ghost use Rattle.deb_index.specs.Named.{has_name, numbers_of, package_at, provid
 ghost use Rattle.deb_index.specs.Stores.{IsStore, lines_in, listed_in, spellings_in};
 ghost use Rattle.deb_index.specs.VersionSpellings.{spelling_at, version_body, version_spellings};
 
+use crate::crowds::Crowds;
 use crate::names::Names;
+use crate::offer::Offer;
 use crate::package::Package;
 use crate::paragraph::PackageBuilder;
 use crate::store::Store;
 use deb_base::{Fault, Source};
 use deb_control::{Checked, CheckedView};
 use deb_field::Doc;
+use deb_relation::Alternative;
 use std::alloc::{AllocError, Global};
 
 /// The packages that a file lists, in file order.
 ///
 /// It owns what it keeps of each package: the name, the version, the architecture, Multi-Arch, what
 /// it provides, the line at which its paragraph starts, and the text by which that spells the
-/// version. It also keeps which packages have or
-/// provide a name, so that they are found without going over the list.
+/// version. It also keeps which packages have or provide a name, and of a name that many have or
+/// provide the versions in order, so that they are found without going over the list.
 #[derive(Debug, Drop)]
 pub struct Index {
     store: Store,
     named: Names,
     provided: Names,
+    crowds: Crowds,
     ghost kept: { IsStore store },
     ghost named_are: { (name : List ℕ) → numbers_under named name
         ≡ numbers_of (has_name name) (listed_in store) },
     ghost provided_are: { (name : List ℕ) → numbers_under provided name
         ≡ numbers_of (provides name) (listed_in store) },
+    ghost crowds_are: { AreOffers (listed_in store) crowds },
 }
 
 impl Index {
@@ -108,10 +115,12 @@ impl Index {
     {
         let named = Names::own(alloc, &store)?;
         let provided = Names::provided(alloc, &store)?;
+        let crowds = Crowds::of(alloc, &store, &named, &provided)?;
         Ok(Index {
             store,
             named,
             provided,
+            crowds,
         })
     }
 
@@ -134,6 +143,17 @@ impl Index {
         ensures { result.now ≡ numbers_of (provides name.now) (packages_of self.now) }
     {
         self.provided.of(name)
+    }
+
+    /// The versions of packages that meet an alternative by name and bound; `None` if those that
+    /// have or provide its name are asked one after another.
+    pub(crate) fn offers(&self, alternative: &Alternative<'_>) -> Option<&[Offer]>
+        ensures { IfSome result
+            (λ found. AreMeeting (alternative_of alternative.now) (packages_of self.now)
+            found.now) }
+    {
+        let bound = alternative.bound()?;
+        self.crowds.meeting(&self.store, alternative.name(), bound)
     }
 
     /// Returns what the index keeps of the package with a number, which is counted from 1, or

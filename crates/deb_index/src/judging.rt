@@ -2,16 +2,19 @@
 
 ghost use Rattle.std.specs.Prelude.{◌≡◌, ◌&&◌, map};
 ghost use Rattle.std.specs.List.{list_any};
+ghost use Rattle.std.specs.Option.{option_copied};
 ghost use Rattle.deb_relation.specs.Applying.{applies};
 ghost use Rattle.deb_relation.specs.Environments.{environment_of};
 ghost use Rattle.deb_relation.specs.Groups.{group_of};
 ghost use Rattle.deb_relation.specs.Views.{alternative_of};
+ghost use Rattle.deb_index.specs.Crowds.{is_of};
 ghost use Rattle.deb_index.specs.Indexes.{packages_of};
 ghost use Rattle.deb_index.specs.Meeting.{meets};
 ghost use Rattle.deb_index.specs.Named.{AreNumbers, passes_at};
 ghost use Rattle.deb_index.specs.Reports.{group_verdict, some_applies};
 
 use crate::index::Index;
+use crate::offer::Offer;
 use crate::verdict::Verdict;
 use deb_relation::{Alternative, Env, Group};
 
@@ -41,9 +44,23 @@ impl Index {
             (meets (environment_of environment.now) (alternative_of alternative.now))
             (packages_of self.now) }
     {
+        if let Some(offers) = self.offers(alternative) {
+            return some_is_of(self, offers, alternative.qualifier(), environment);
+        }
         let name = alternative.name();
         some_meets(self, self.packages(name), alternative, environment)
             || some_meets(self, self.providers(name), alternative, environment)
+    }
+
+    /// Whether the package of an offer meets a qualifier.
+    pub(crate) fn is_of(&self, offer: &Offer, qualifier: Option<&[u8]>, environment: &Env) -> bool
+        ensures { result ≡ is_of (environment_of environment.now)
+            (option_copied qualifier.entry) (packages_of self.now) offer.now }
+    {
+        match self.package(u64::from(offer.number)) {
+            Some(package) => package.meets_qualifier(qualifier, environment.target()),
+            None => false,
+        }
     }
 }
 
@@ -74,6 +91,17 @@ fn is_met(index: &Index, group: &[Alternative<'_>], environment: &Env) -> bool
     group.iter().any(|alternative| {
         alternative.applies(environment) && index.meets(alternative, environment)
     })
+}
+
+/// Whether the package of some offer meets a qualifier.
+fn some_is_of(index: &Index, offers: &[Offer], qualifier: Option<&[u8]>, environment: &Env) -> bool
+    ensures { result ≡ list_any
+        (is_of (environment_of environment.now) (option_copied qualifier.entry)
+        (packages_of index.now)) offers.now }
+{
+    offers
+        .iter()
+        .any(|offer| index.is_of(offer, qualifier, environment))
 }
 
 /// Whether the package of some number meets an alternative.

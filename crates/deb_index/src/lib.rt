@@ -16,6 +16,7 @@
 mod answer;
 mod answer_store;
 mod candidates;
+mod crowds;
 mod cut;
 mod entry;
 mod fault;
@@ -24,6 +25,7 @@ mod judging;
 mod kept_text;
 pub mod laws;
 mod names;
+mod offer;
 mod package;
 mod paragraph;
 mod provisions;

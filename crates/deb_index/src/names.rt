@@ -8,9 +8,10 @@ ghost use Rattle.deb_index.specs.Maps.{EndInLast, PutsLast, list_under, numbers_
 ghost use Rattle.deb_index.specs.Named.{has_name, numbers_of, provides};
 ghost use Rattle.deb_index.specs.Stores.{listed_in};
 
+use crate::crowds::FEW;
 use crate::entry::Entry;
 use crate::store::Store;
-use indexmap::IndexMap;
+use indexmap::{IndexMap, IndexSet};
 use std::alloc::{AllocError, Global};
 use std::slice;
 
@@ -67,6 +68,20 @@ impl Names {
             Some(number) => slice::from_ref(number),
             None => &[],
         }
+    }
+
+    /// Appends the names under which there are many numbers.
+    pub(crate) fn append_crowded(
+        &self,
+        alloc: Global,
+        names: &mut IndexSet<Vec<u8>>,
+    ) -> Result<(), AllocError> {
+        for (name, numbers) in self.lists.iter() {
+            if numbers.len() > FEW {
+                names.insert(Vec::from_slice(alloc, name)?)?;
+            }
+        }
+        Ok(())
     }
 
     /// No number is under any name, and there is room for as many names.

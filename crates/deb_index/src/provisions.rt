@@ -1,15 +1,18 @@
 //! The names that a package provides, found by binary search.
 
 ghost use Rattle.std.specs.Prelude.{◌≡◌, map};
-ghost use Rattle.std.specs.List.{All, AllPairs, filter, list_any};
+ghost use Rattle.std.specs.List.{All, AllPairs, filter, list_any, slice_get};
+ghost use Rattle.std.specs.Option.{option_and_then, option_map};
 ghost use Rattle.std.specs.Str.{bytes_eq};
 ghost use Rattle.deb_relation.specs.Views.{alternative_of};
+ghost use Rattle.deb_version.specs.Version.{meaning_of};
 ghost use Rattle.deb_index.specs.Entries.{IsFaultless, entry_name, provision_at};
 ghost use Rattle.deb_index.specs.Meeting.{provision_meets};
 ghost use Rattle.deb_index.specs.ProvidedNames.{IsNotAfter};
 
-use crate::entry::Entry;
+use crate::entry::{Entry, version_of};
 use deb_relation::Alternative;
+use deb_version::Version;
 
 /// What a package provides, in the byte order of the names, so that the entries of a name are
 /// neighbours.
@@ -28,6 +31,19 @@ impl<'a> Provisions<'a> {
             (map (provision_at self.now.text.now) self.now.entries.now) }
     {
         some_meets(self.text, self.named(alternative.name()), alternative)
+    }
+
+    /// The version of the entry at an index; `None` if there is no such entry, or it has none.
+    pub(crate) fn version(&self, index: usize) -> Option<Version<'a>>
+        ensures { option_map meaning_of result
+            ≡ option_and_then (λ e. (provision_at self.now.text.now e).version)
+            (slice_get self.now.entries.now index) }
+    {
+        let text = self.entries.get(index)?.version(self.text);
+        if text.is_empty() {
+            return None;
+        }
+        Some(version_of(text))
     }
 
     /// The entries of a name.

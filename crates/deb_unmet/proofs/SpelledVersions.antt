@@ -1,5 +1,5 @@
 -- The text by which a file spells a version: of an accepted file, an equal version.
-use Rattle.std.proofs.Common.{◌≡◌, ℕ, suc, ◌+◌, ◌≤◌, codes, Bool, true, false, ◌&&◌, cond, is_some, IsTrue, List, [], ◌∷◌, ◌++◌, length, drop, map, Option, None, Some, Result, Ok, refl, sym, ap, ◌∙◌, subst, arith}
+use Rattle.std.proofs.Common.{◌≡◌, ℕ, suc, ◌+◌, ◌≤◌, codes, Bool, true, false, ◌&&◌, cond, is_some, IsTrue, List, [], ◌∷◌, ◌++◌, length, drop, map, Option, None, Some, Ok, refl, sym, ap, ◌∙◌, subst}
 use Rattle.std.proofs.lemmas.Bool.{false≢true}
 use Rattle.std.specs.FinMap.{find}
 use Rattle.std.specs.List.{AllByRecursion}
@@ -9,7 +9,7 @@ use Rattle.deb_base.specs.Kinds.{kind_at, kind_of, known_row, required}
 use Rattle.deb_base.specs.Names.{canonical_name, folded}
 use Rattle.deb_base.specs.declared.kind.Kind.TheVariants.{Version}
 use Rattle.deb_base.specs.declared.version_text.VersionText.TheVariants.{Canonical, Spelled}
-use Rattle.deb_syntax.specs.Answers.{Seen, answer_of_first, next_answer, paragraph_answer, paragraphs_within, seen_from}
+use Rattle.deb_syntax.specs.Answers.{answer_of_first, next_answer, paragraph_answer, paragraphs_within, seen_from}
 use Rattle.deb_syntax.specs.Fields.{AreDistinct, Field, IsShort}
 use Rattle.deb_syntax.specs.Judging.{judged}
 use Rattle.deb_syntax.specs.Laws.{IsRun, body_of}
@@ -31,7 +31,7 @@ use Rattle.deb_field.specs.CanonLaw.{Through}
 use Rattle.deb_field.specs.ValueLaws.{value_law}
 use Rattle.deb_field.specs.Values.{SpellsKind, SpellsValue, ValueMeaning, VersionMeans, value_text}
 use Rattle.deb_control.specs.Acceptance.{has_values}
-use Rattle.deb_control.specs.Documents.{Accepted, Meaning}
+use Rattle.deb_control.specs.Documents.{Meaning}
 use Rattle.deb_control.specs.Pairs.{Pairwise}
 use Rattle.deb_control.specs.ValueFiles.{SpellsEntries, SpellsEntry, ValueEntries}
 use Rattle.deb_control.proofs.FieldValues.{is_some-find}
@@ -42,8 +42,8 @@ use Rattle.deb_relation.specs.Applying.{Environment}
 use Rattle.deb_unmet.specs.Asked.{doc_of, request_for}
 use Rattle.deb_unmet.specs.Asking.{asks_of}
 use Rattle.deb_unmet.specs.Fields.{paragraph_lines, word_in, word_of, word_under}
-use Rattle.deb_unmet.specs.Files.{Asks, file_lines, lines_from, lines_of}
-use Rattle.deb_unmet.specs.Laws.{SpelledVersionsAreEqual, SpellsVersions, lines_with}
+use Rattle.deb_unmet.specs.Files.{Asks, lines_from, lines_of}
+use Rattle.deb_unmet.specs.Laws.{SpelledVersionsAreEqual, lines_with}
 use Rattle.deb_unmet.specs.Spelled.{fields_after, fields_of_seen, spelled_in, text_in, version_word}
 use Rattle.deb_unmet.specs.declared.asked.Asked.{Asked}
 use Rattle.deb_unmet.specs.declared.asked.Asked.TheVariants.{Packages, Binary, Sources, Source}

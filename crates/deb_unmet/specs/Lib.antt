@@ -1,5 +1,6 @@
 pub mod Readings
 pub mod Troubles
+pub mod SoFar
 pub mod GroupReadings
 pub mod Asked
 pub mod Fields

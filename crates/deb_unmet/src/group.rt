@@ -1,15 +1,16 @@
 //! Lines of groups.
 
-ghost use Rattle.std.specs.Prelude.{◌≡◌, ◌++◌, ◌&&◌, OnOk, map, not};
-ghost use Rattle.std.specs.List.{flat_map, list_any};
+ghost use Rattle.std.specs.Prelude.{◌≡◌, ◌++◌, ◌&&◌, OnOk, map};
+ghost use Rattle.std.specs.List.{flat_map};
 ghost use Rattle.deb_relation.specs.Environments.{environment_of};
 ghost use Rattle.deb_relation.specs.Groups.{group_of};
 ghost use Rattle.deb_relation.specs.Views.{alternative_of};
 ghost use Rattle.deb_index.specs.Indexes.{packages_of};
-ghost use Rattle.deb_unmet.specs.Readings.{applies_by, may, surely};
-ghost use Rattle.deb_unmet.specs.Troubles.{can_be_otherwise, can_be_unmet, group_lines, is_met, trouble, trouble_word};
+ghost use Rattle.deb_unmet.specs.Readings.{may};
+ghost use Rattle.deb_unmet.specs.SoFar.{trouble_by, with_alternative};
+ghost use Rattle.deb_unmet.specs.Troubles.{group_lines, is_met, trouble, trouble_word};
 
-use crate::applying::applies_by;
+use crate::applying::{Applies, applies_by};
 use crate::trouble::Trouble;
 use deb_index::Index;
 use deb_relation::{Alternative, Env, Group};
@@ -53,7 +54,7 @@ fn append_group(
         (environment_of question.now.environment.now) (packages_of question.now.index.now)
         heading.now field.now (group_of group.now)) }
 {
-    if let Some(why) = trouble_of(question, group) {
+    if let Some(why) = trouble_of(question, group.alternatives()) {
         out.extend_from_slice(word_of(why))?;
         out.extend_from_slice(heading)?;
         out.extend_from_slice(field)?;
@@ -65,17 +66,68 @@ fn append_group(
 }
 
 /// Returns why a group has a line, if it has one.
-fn trouble_of(question: &Question<'_>, group: &Group<'_>) -> Option<Trouble>
+fn trouble_of(question: &Question<'_>, group: &[Alternative<'_>]) -> Option<Trouble>
     ensures { result ≡ trouble (environment_of question.now.environment.now)
-        (packages_of question.now.index.now) (group_of group.now) }
+        (packages_of question.now.index.now) (map alternative_of group.now) }
 {
-    let alternatives = group.alternatives();
-    if !can_be_unmet(question, alternatives) {
-        None
-    } else if can_be_otherwise(question, alternatives) {
-        Some(Trouble::Unsure)
-    } else {
-        Some(Trouble::Unmet)
+    let mut readings = Readings {
+        unmet: false,
+        met: false,
+        applies: false,
+    };
+    for alternative in group {
+        let applies = applies_by(alternative, question.environment);
+        let may_be_met = may_be_met(question, applies, alternative);
+        if may_be_met && applies.surely() {
+            return None;
+        }
+        readings = readings.with(applies, may_be_met);
+    }
+    readings.trouble()
+}
+
+/// Returns whether an alternative that applies so is met in some reading.
+fn may_be_met(question: &Question<'_>, applies: Applies, alternative: &Alternative<'_>) -> bool
+    ensures { result ≡ (may applies && is_met (environment_of question.now.environment.now)
+        (packages_of question.now.index.now) (alternative_of alternative.now)) }
+{
+    applies.may() && question.index.meets(alternative, question.environment)
+}
+
+/// What readings a group has by the alternatives so far, of which none surely applies and is met.
+#[derive(Clone, Copy, Debug)]
+struct Readings {
+    /// One may apply and is unmet.
+    unmet: bool,
+    /// One may apply and is met.
+    met: bool,
+    /// One surely applies.
+    applies: bool,
+}
+
+impl Readings {
+    /// The readings with an alternative more.
+    fn with(self, applies: Applies, may_be_met: bool) -> Readings
+        ensures { result ≡ with_alternative applies may_be_met self }
+    {
+        Readings {
+            unmet: self.unmet || (applies.may() && !may_be_met),
+            met: self.met || may_be_met,
+            applies: self.applies || applies.surely(),
+        }
+    }
+
+    /// Why a group with these readings has a line, if it has one.
+    fn trouble(self) -> Option<Trouble>
+        ensures { result ≡ trouble_by self }
+    {
+        if !self.unmet {
+            None
+        } else if self.met || !self.applies {
+            Some(Trouble::Unsure)
+        } else {
+            Some(Trouble::Unmet)
+        }
     }
 }
 
@@ -86,65 +138,4 @@ fn word_of(why: Trouble) -> &'static [u8]
         Trouble::Unmet => b"unmet",
         Trouble::Unsure => b"unsure",
     }
-}
-
-/// Returns whether a group is unmet in some reading.
-fn can_be_unmet(question: &Question<'_>, group: &[Alternative<'_>]) -> bool
-    ensures { result ≡ can_be_unmet (environment_of question.now.environment.now)
-        (packages_of question.now.index.now) (map alternative_of group.now) }
-{
-    !some_surely_met(question, group) && some_other_may(question, group)
-}
-
-/// Returns whether a group is met or ignored in some reading.
-fn can_be_otherwise(question: &Question<'_>, group: &[Alternative<'_>]) -> bool
-    ensures { result ≡ can_be_otherwise (environment_of question.now.environment.now)
-        (packages_of question.now.index.now) (map alternative_of group.now) }
-{
-    some_met_may(question, group) || !some_surely(question, group)
-}
-
-fn some_surely_met(question: &Question<'_>, group: &[Alternative<'_>]) -> bool
-    ensures { result ≡ list_any
-        (λ a. surely (applies_by (environment_of question.now.environment.now) (alternative_of a))
-        && is_met (environment_of question.now.environment.now)
-        (packages_of question.now.index.now) (alternative_of a)) group.now }
-{
-    let Question { index, environment } = *question;
-    group.iter().any(|alternative| {
-        applies_by(alternative, environment).surely() && index.meets(alternative, environment)
-    })
-}
-
-fn some_other_may(question: &Question<'_>, group: &[Alternative<'_>]) -> bool
-    ensures { result ≡ list_any
-        (λ a. may (applies_by (environment_of question.now.environment.now) (alternative_of a))
-        && not (is_met (environment_of question.now.environment.now)
-        (packages_of question.now.index.now) (alternative_of a))) group.now }
-{
-    let Question { index, environment } = *question;
-    group.iter().any(|alternative| {
-        applies_by(alternative, environment).may() && !index.meets(alternative, environment)
-    })
-}
-
-fn some_met_may(question: &Question<'_>, group: &[Alternative<'_>]) -> bool
-    ensures { result ≡ list_any
-        (λ a. may (applies_by (environment_of question.now.environment.now) (alternative_of a))
-        && is_met (environment_of question.now.environment.now)
-        (packages_of question.now.index.now) (alternative_of a)) group.now }
-{
-    let Question { index, environment } = *question;
-    group.iter().any(|alternative| {
-        applies_by(alternative, environment).may() && index.meets(alternative, environment)
-    })
-}
-
-fn some_surely(question: &Question<'_>, group: &[Alternative<'_>]) -> bool
-    ensures { result ≡ list_any
-        (λ a. surely (applies_by (environment_of question.now.environment.now)
-        (alternative_of a))) group.now }
-{
-    let environment = question.environment;
-    group.iter().any(|alternative| applies_by(alternative, environment).surely())
 }

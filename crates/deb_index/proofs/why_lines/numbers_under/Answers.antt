@@ -3,9 +3,9 @@ use Rattle.std.proofs.Common.{◌≡◌, ◌++◌, ap, ◌∙◌, sym, eqb}
 use Rattle.std.proofs.lemmas.List.Filters.{dedup_is}
 use Rattle.std.proofs.lemmas.List.Folds.{list_any-append}
 use Rattle.deb_index.specs.Indexes.{packages_of}
-use Rattle.deb_index.specs.Named.{has_name, numbers_of, provides}
+use Rattle.deb_index.specs.Named.{among, has_name, numbers_of, provides}
 use Rattle.deb_index.specs.Why.{has_or_provides}
-use Rattle.deb_index.proofs.Merged.{among, among-either, merged}
+use Rattle.deb_index.proofs.Merged.{among-either, merged}
 use Rattle.deb_index.proofs.why_lines.numbers_under.Goals as goal
 
 pub returns : goal.returns

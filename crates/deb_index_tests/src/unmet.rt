@@ -1,8 +1,8 @@
 //! Tests of `unmet`: the lines of each kind of file, in pieces, long ones, and what is written
 //! before a refusal.
 
-use crate::devices::{Pieces, SIZES};
 use deb_base::{Code, Fault, Input, Output, Refusal, VersionText};
+use deb_file_tests::devices::{Pieces, SIZES};
 use deb_index::Index;
 use deb_relation::Env;
 use deb_unmet::{Asked, Request, Strength, Summary, unmet};

@@ -1,9 +1,9 @@
 //! Tests of indexes and their reports on relations: each call once, short and long, what is found,
 //! and devices that fail.
 
-use crate::devices::{Pieces, SIZES, Slow, Then};
 use deb_base::{Code, Fault, Input, Output, Refusal, VersionText};
 use deb_field::MultiArch;
+use deb_file_tests::devices::{Pieces, SIZES, Slow, Then};
 use deb_index::Verdict::{Ignored, Met, Unmet};
 use deb_index::{DetailedReport, Index, Question, Report};
 use deb_relation::{Env, Relation};

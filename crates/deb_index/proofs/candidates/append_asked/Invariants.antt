@@ -6,7 +6,7 @@ use Rattle.deb_relation.specs.Views.{alternative_of}
 use Rattle.deb_index.specs.Indexes.{packages_of}
 use Rattle.deb_index.specs.Meeting.{meets}
 use Rattle.deb_index.specs.Named.{passes_at}
-use Rattle.deb_index.proofs.candidates.append_meeting.Given as goal
+use Rattle.deb_index.proofs.candidates.append_asked.Given as goal
 
 abbrev pub invariant-loop-number : goal.invariant-loop-number
 invariant-loop-number l =

@@ -1,0 +1,8 @@
+//! Tests of the libraries that answer queries over an index, by their public functions, in the way
+//! of `deb_file_tests`, whose devices they use.
+#![tactic(auto)]
+
+#[cfg(test)]
+mod index;
+#[cfg(test)]
+mod unmet;
