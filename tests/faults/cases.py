@@ -185,7 +185,7 @@ def read_cases(folder):
         cases += Reading(path).read()
     if not cases:
         raise Malformed(f"{folder}: there is no file of cases")
-    long = [*many_fields(), *long_paragraph(), *many_groups(), *several_writes()]
+    long = [*many_fields(), *long_paragraph(), *many_groups(), *many_versions(), *several_writes()]
     return [*cases, *long, *several_refusals(), *many_paragraphs(), *lengths()]
 
 
@@ -304,6 +304,18 @@ def many_groups():
         Case("200 groups", ["normalise"], files, "groups", written),
         Case("200 groups", query, files, None, report, b"", 1),
     ]
+
+
+def many_versions():
+    """A name that 18 packages have, one that they provide, and one that a package provides 18 times."""
+    numbers = range(1, 19)
+    package = b"Package: aa\nVersion: %d\nArchitecture: all\nProvides: vv (= %d)\n\n"
+    often = b", ".join(b"ww (= %d)" % at for at in numbers)
+    last = b"Package: bb\nVersion: 1\nArchitecture: all\nProvides: " + often + b"\n"
+    files = {"versions": b"".join(package % (at, at) for at in numbers) + last}
+    report = b"met aa (= 3)\n 3 aa 3 all\nmet vv (>= 18)\n 18 aa 18 all\nunmet ww (<< 1)\n"
+    query = ["query", "--arch", "amd64", "ww (<< 1), vv (>= 18), aa (= 3)", "versions"]
+    return [Case("18 versions", query, files, None, report, b"", 1)]
 
 
 # Lengths of a name at which a text that is made of a paragraph or a relation outgrows its room, each
