@@ -71,7 +71,9 @@ pub extern "C" fn deb_unmet(
         Err(Fault::Refused(refusal)) => return refused(&refusal),
         Err(_) => return no_memory(),
     };
-    match asker.lines(alloc, asked, text) {
+    let answered = asker.lines(alloc, asked, text);
+    drop(asker);
+    match answered {
         Ok((summary, lines)) => {
             if !give(&lines, out, len) {
                 return no_room();
