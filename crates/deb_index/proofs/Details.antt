@@ -5,7 +5,7 @@ use Rattle.std.proofs.lemmas.List.{drop-append-le, length-append, length-drop, l
 use Rattle.std.proofs.lemmas.List.Sums.{sum_by-cons, sum_by_push}
 use Rattle.deb_relation.specs.Applying.{Environment}
 use Rattle.deb_relation.specs.Meaning.{Group, Relation}
-use Rattle.deb_index.specs.AnswerStores.{HasAnswers, answers_in}
+use Rattle.deb_index.specs.AnswerStores.{HasAnswers, IsEmpty, answers_in}
 use Rattle.deb_index.specs.Detailed.{AppendsBelow, details_cut}
 use Rattle.deb_index.specs.Listed.{Listed}
 use Rattle.deb_index.specs.Reports.{Answer, answer, group_verdict}
@@ -13,7 +13,7 @@ use Rattle.deb_index.specs.ReportText.{VersionShown}
 use Rattle.deb_index.specs.Why.{answer_in, detailed, lines_below}
 use Rattle.deb_index.specs.declared.answer_store.AnswerStore.{AnswerStore}
 use Rattle.deb_index.specs.declared.verdict.Verdict.{Verdict}
-use Rattle.deb_index.proofs.Answered.{nothing}
+use Rattle.deb_index.proofs.Answered.{none_answered, nothing}
 
 -- A store has the answers for these groups, and these lines and lengths are those of the groups.
 pub record HasDetails (shown : VersionShown) (environment : Environment) (packages : List Listed) (groups : Relation) (store : AnswerStore) (reasons lens : List ℕ) : Type 0 where
@@ -42,6 +42,14 @@ pub answers_cut : (answers : List Answer) (reasons lens : List ℕ) → map answ
 answers_cut [] reasons lens = refl
 answers_cut (a ∷ answers) reasons [] = ap (λ l. a ∷ l) (answers_cut answers (drop 0 reasons) [])
 answers_cut (a ∷ answers) reasons (n ∷ lens) = ap (λ l. a ∷ l) (answers_cut answers (drop n reasons) lens)
+
+pub none_detailed : (shown : VersionShown) (environment : Environment) (packages : List Listed) (store : AnswerStore) (reasons lens : List ℕ) → IsEmpty store → reasons ≡ [] → lens ≡ [] → HasDetails shown environment packages [] store reasons lens
+none_detailed shown environment packages store reasons lens none no_reasons no_lens = record {
+  has = none_answered environment packages store none;
+  all = rw (no_reasons, no_lens) refl;
+  each = rw no_lens refl;
+  details = rw none.spans refl;
+}
 
 -- one group more
 pub detailed_more : (shown : VersionShown) (environment : Environment) (packages : List Listed) (groups : Relation) (group : Group) (old new : AnswerStore) (reasons lines more lens longer : List ℕ) (verdict : Verdict) (len : ℕ) → HasDetails shown environment packages groups old reasons lens → verdict ≡ group_verdict environment packages group → HasAnswers environment packages (groups ++ group ∷ []) new

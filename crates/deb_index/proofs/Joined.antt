@@ -1,16 +1,14 @@
 -- The numbers of the packages that pass a test, found under two names.
-use Rattle.std.proofs.Common.{◌≡◌, ℕ, zero, suc, ◌+◌, ◌<◌, Bool, true, false, cond, ◌&&◌, ◌||◌, eqb, List, [], ◌∷◌, ◌++◌, get_or, length, map, take, refl, sym, ap, ◌∙◌, arith}
+use Rattle.std.proofs.Common.{◌≡◌, ℕ, ◌+◌, Bool, true, false, cond, ◌&&◌, ◌||◌, eqb, List, [], ◌∷◌, ◌++◌, refl, sym, ap, ◌∙◌}
 use Rattle.std.specs.List.{filter, list_any}
 use Rattle.std.proofs.lemmas.Bool.{false≢true}
-use Rattle.std.proofs.lemmas.List.{take_more}
 use Rattle.std.proofs.lemmas.List.Folds.{list_any-append}
 use Rattle.deb_relation.specs.Applying.{Environment, applies}
-use Rattle.deb_relation.specs.Meaning.{Alternative}
-use Rattle.deb_relation.proofs.Mapped.{any-map}
+use Rattle.deb_relation.specs.Meaning.{Alternative, Group}
 use Rattle.deb_index.specs.Listed.{Listed}
 use Rattle.deb_index.specs.Meeting.{meets}
-use Rattle.deb_index.specs.Named.{among, has_name, numbers_from, numbers_of, passes_at, provides}
-use Rattle.deb_index.specs.Reports.{meets_group}
+use Rattle.deb_index.specs.Named.{AppendsMeeting, among, has_name, numbers_from, numbers_of, passes_at, provides}
+use Rattle.deb_index.specs.Reports.{meets_group, some_applies}
 use Rattle.deb_index.proofs.Meetings.{has_or_provides}
 use Rattle.deb_index.proofs.Merged.{among-either, none-numbered}
 use Rattle.deb_index.proofs.Picked.{filtered}
@@ -39,33 +37,13 @@ among-asked f g test wider packages k =
     ∙ sym (among-either k 1 (λ p. f p && test p) (λ p. g p && test p) packages)
     ∙ ap (among k) (numbers-same 1 (λ p. (f p && test p) || (g p && test p)) test (λ p. either-asked (f p) (g p) (test p) (wider p)) packages)
 
--- a test that an element passes
-pub any-at : {X : Type 0} (f : X → Bool) (xs : List X) (i : ℕ) (d : X) → i < length xs → f (get_or xs i d) ≡ true → list_any f xs ≡ true
-any-at f [] i d within is = absurd (omega (arith, within))
-any-at f (x ∷ xs) zero d within is = ap (λ b. b || list_any f xs) is
-any-at f (x ∷ xs) (suc i) d within is = or-true (f x) (any-at f xs i d (omega (arith, within)) is)
-  where
-    or-true : (a : Bool) {b : Bool} → b ≡ true → (a || b) ≡ true
-    or-true true is = refl
-    or-true false is = is
-
--- the numbers that are joined for one alternative more
-pub any-step : {X : Type 0} (f : X → Bool) (xs : List X) (i : ℕ) (x : X) → i < length xs → x ≡ get_or xs i x → list_any f (take (i + 1) xs) ≡ (list_any f (take i xs) || f x)
-any-step f xs i x within is =
-    ap (list_any f) (take_more xs i x within ∙ ap (λ y. take i xs ++ y ∷ []) (sym is)) ∙ list_any-append f (take i xs) (x ∷ []) ∙ ap (λ b. list_any f (take i xs) || b) (alone (f x))
+-- one element more
+pub any-one : {X : Type 0} (f : X → Bool) (xs : List X) (x : X) → list_any f (xs ++ x ∷ []) ≡ (list_any f xs || f x)
+any-one f xs x = list_any-append f xs (x ∷ []) ∙ ap (λ b. list_any f xs || b) (alone (f x))
   where
     alone : (b : Bool) → (b || false) ≡ b
     alone true = refl
     alone false = refl
-
-pub some-asked : {X : Type 0} (f : X → Bool) (xs : List X) (i : ℕ) (x : X) (v old new : Bool) → i < length xs → x ≡ get_or xs i x → f x ≡ v → old ≡ list_any f (take i xs) → new ≡ cond v true old → new ≡ list_any f (take (i + 1) xs)
-some-asked f xs i x v old new within is asks was told = told ∙ go v old ∙ ap (λ b. old || b) (sym asks) ∙ ap (λ b. b || f x) was ∙ sym (any-step f xs i x within is)
-  where
-    go : (v old : Bool) → cond v true old ≡ (old || v)
-    go true true = refl
-    go true false = refl
-    go false true = refl
-    go false false = refl
 
 module _ (environment : Environment) (packages : List Listed) (k : ℕ) where
   among-if : (v : Bool) (a : Alternative) → among k (numbers_of (λ p. v && meets environment a p) packages) ≡ cond v (among k (numbers_of (meets environment a) packages)) false
@@ -75,22 +53,19 @@ module _ (environment : Environment) (packages : List Listed) (k : ℕ) where
   pub joined-none : (numbers : List ℕ) → numbers ≡ [] → among k numbers ≡ among k (numbers_of (meets_group environment []) packages)
   joined-none numbers none = ap (among k) (none ∙ sym (none-numbered 1 packages))
 
-  pub joined-step : {X : Type 0} (view : X → Alternative) (xs : List X) (i : ℕ) (x : X) (v : Bool) (old new : List ℕ) → i < length xs → x ≡ get_or xs i x → applies (view x) environment ≡ v
-      → among k old ≡ among k (numbers_of (meets_group environment (map view (take i xs))) packages)
-      → among k new ≡ cond v (among k old || among k (numbers_of (meets environment (view x)) packages)) (among k old)
-      → among k new ≡ among k (numbers_of (meets_group environment (map view (take (i + 1) xs))) packages)
-  joined-step view xs i x v old new within is asks was told =
-      let so_far = map view (take i xs) in
-      let some : Alternative → Listed → Bool = λ a p. applies a environment && meets environment a p in
-      told ∙ go v (among k (numbers_of (meets environment (view x)) packages))
-      ∙ ap (λ b. among k old || b) (sym (among-if v (view x)))
-      ∙ ap (λ b. b || among k (numbers_of (λ p. v && meets environment (view x) p) packages)) was
-      ∙ sym (among-either k 1 (meets_group environment so_far) (λ p. v && meets environment (view x) p) packages)
-      ∙ ap (among k) (numbers-same 1 (λ p. meets_group environment so_far p || (v && meets environment (view x) p)) (meets_group environment (map view (take (i + 1) xs)))
-      (λ p. ap (λ w. meets_group environment so_far p || (w && meets environment (view x) p)) (sym asks)
-      ∙ ap (λ b. b || some (view x) p) (sym (any-map view (λ a. some a p) (take i xs)))
-      ∙ sym (any-step (λ y. some (view y) p) xs i x within is)
-      ∙ any-map view (λ a. some a p) (take (i + 1) xs)) packages)
+  -- the numbers that are joined for one alternative more
+  pub joined-step : (done : Group) (a : Alternative) (v : Bool) (old new : List ℕ) → v ≡ applies a environment
+      → among k old ≡ among k (numbers_of (meets_group environment done) packages)
+      → among k new ≡ cond v (among k old || among k (numbers_of (meets environment a) packages)) (among k old)
+      → among k new ≡ among k (numbers_of (meets_group environment (done ++ a ∷ [])) packages)
+  joined-step done a v old new asks was told =
+      let some : Listed → Alternative → Bool = λ p b. applies b environment && meets environment b p in
+      told ∙ go v (among k (numbers_of (meets environment a) packages))
+      ∙ ap (λ b. among k old || b) (sym (among-if v a))
+      ∙ ap (λ b. b || among k (numbers_of (λ p. v && meets environment a p) packages)) was
+      ∙ sym (among-either k 1 (meets_group environment done) (λ p. v && meets environment a p) packages)
+      ∙ ap (among k) (numbers-same 1 (λ p. meets_group environment done p || (v && meets environment a p)) (meets_group environment (done ++ a ∷ []))
+      (λ p. ap (λ w. meets_group environment done p || (w && meets environment a p)) asks ∙ sym (any-one (some p) done a)) packages)
     where
       go : (v b : Bool) → cond v (among k old || b) (among k old) ≡ (among k old || cond v b false)
       go true b = refl
@@ -117,3 +92,24 @@ module _ (environment : Environment) (packages : List Listed) (k : ℕ) where
       regroup : (a b c : Bool) → ((a || b) || c) ≡ (a || (b || c))
       regroup true b c = refl
       regroup false b c = refl
+
+-- Whether some alternative so far applies, and the numbers that were found for those so far.
+pub record FoundBy (environment : Environment) (packages : List Listed) (applies : Bool) (numbers : List ℕ) (done : Group) : Type 0 where
+  pub some : applies ≡ some_applies environment done
+  pub each : (k : ℕ) → among k numbers ≡ among k (numbers_of (meets_group environment done) packages)
+
+pub found_none : (environment : Environment) (packages : List Listed) (numbers : List ℕ) → numbers ≡ [] → FoundBy environment packages false numbers []
+found_none environment packages numbers none = record { some = refl; each = λ k. joined-none environment packages k numbers none }
+
+pub found_more : (environment : Environment) (packages : List Listed) (a : Alternative) (done : Group) (before asked now : Bool) (old new : List ℕ) → now ≡ cond asked true before → AppendsMeeting environment packages a old new asked
+    → FoundBy environment packages before old done → FoundBy environment packages now new (done ++ a ∷ [])
+found_more environment packages a done before asked now old new is appends so_far = record {
+  some = is ∙ either asked before ∙ ap (λ b. b || asked) so_far.some ∙ ap (λ b. some_applies environment done || b) appends.is ∙ sym (any-one (λ b. applies b environment) done a);
+  each = λ k. joined-step environment packages k done a asked old new appends.is (so_far.each k) (appends.appended k);
+}
+  where
+    either : (v old : Bool) → cond v true old ≡ (old || v)
+    either true true = refl
+    either true false = refl
+    either false true = refl
+    either false false = refl

@@ -14,11 +14,13 @@ pub mod Counted
 pub mod Merged
 pub mod Picked
 pub mod Joined
+pub mod Wildcards
 pub mod Meetings
 pub mod Neighbours
 pub mod ProvidedOrder
 pub mod VersionPlaces
 pub mod Cutting
+pub mod TextPieces
 pub mod SomeMeets
 pub mod Reasoned
 pub mod Stored

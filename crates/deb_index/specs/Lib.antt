@@ -7,6 +7,7 @@ pub mod ReportText
 pub mod Reasons
 pub mod Why
 pub mod Spans
+pub mod CanonicalTexts
 pub mod FirstLines
 pub mod KeptTexts
 pub mod Entries

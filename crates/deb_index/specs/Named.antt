@@ -1,11 +1,14 @@
 -- Which packages of a list have a name and which provide it, by their numbers in the list. Debian
 -- Policy 5.6.7 and 7.5.
-use Rattle.std.specs.Prelude.{◌≡◌, ℕ, ◌+◌, ◌-◌, ◌≤◌, length, Bool, true, false, cond, eqb, if◌then◌else◌, nat_eq, List, [], ◌∷◌, map, Option, None, Some, codes, refl}
+use Rattle.std.specs.Prelude.{◌≡◌, ℕ, ◌+◌, ◌-◌, ◌≤◌, ◌||◌, length, Bool, true, false, cond, eqb, if◌then◌else◌, nat_eq, List, [], ◌∷◌, map, Option, None, Some, codes, refl}
 use Rattle.std.specs.List.{All, list_any, slice_get}
 use Rattle.std.specs.Option.{option_map, option_map_or}
 use Rattle.std.specs.Str.{bytes_eq}
 use Rattle.deb_version.specs.Places.{version_in}
+use Rattle.deb_relation.specs.Applying.{Environment, applies}
+use Rattle.deb_relation.specs.Meaning.{Alternative}
 use Rattle.deb_index.specs.Listed.{Listed}
+use Rattle.deb_index.specs.Meeting.{meets}
 
 -- a package has the name
 abbrev pub has_name : List ℕ → Listed → Bool
@@ -42,6 +45,16 @@ AreNumbers packages numbers = All (λ k. (1 ≤ k) × (k ≤ length packages)) n
 -- a number is one of these
 abbrev pub among : ℕ → List ℕ → Bool
 among k numbers = list_any (eqb k) numbers
+
+-- Whether an alternative applies; if it does, the numbers of the packages that meet it were
+-- appended, in some order.
+pub record AppendsMeeting (environment : Environment) (packages : List Listed) (a : Alternative)
+    (old new : List ℕ) (asked : Bool) : Type 0 where
+  pub is : asked ≡ applies a environment
+  pub appended : (k : ℕ)
+      → among k new
+      ≡ cond asked (among k old || among k (numbers_of (meets environment a) packages))
+      (among k old)
 
 worked-among : map (λ k. among k (3 ∷ 5 ∷ [])) (3 ∷ 5 ∷ 4 ∷ []) ≡ true ∷ true ∷ false ∷ []
 worked-among = refl

@@ -13,11 +13,11 @@ use Rattle.deb_relation.specs.Applying.{Environment}
 use Rattle.deb_relation.specs.Environments.{environment_of, environment_with}
 use Rattle.deb_relation.specs.Grammar.{SpellsRelation}
 use Rattle.deb_relation.specs.Meaning.{Relation}
-use Rattle.deb_relation.specs.Relations.{relation_of}
+use Rattle.deb_relation.specs.RelationTexts.{text_meaning}
 use Rattle.deb_relation.specs.Targets.{is_environment}
 use Rattle.deb_relation.specs.Tests.{some_wildcard}
 use Rattle.deb_relation.specs.declared.environment.Env.{Env}
-use Rattle.deb_relation.specs.declared.relation.Relation.{Relation as Groups}
+use Rattle.deb_relation.specs.declared.relation_text.RelationText.{RelationText}
 use Rattle.deb_control.specs.Documents.{refusal_of}
 use Rattle.deb_index.specs.Listed.{Listed}
 use Rattle.deb_index.specs.Listing.{ListsAll}
@@ -105,8 +105,8 @@ pub record IsReported (q : Question) (text : List ℕ) (answers : List Answer) :
 -- ---- its parts
 
 -- the relation that a text is, or its refusal
-abbrev pub ParsesRelation : List ℕ → Result Groups Fault → Type 0
-ParsesRelation text (Ok relation) = SpellsRelation text (relation_of relation)
+abbrev pub ParsesRelation : List ℕ → Result RelationText Fault → Type 0
+ParsesRelation text (Ok relation) = SpellsRelation text (text_meaning relation)
 ParsesRelation text (Err fault) = RefusedOrMemory fault (RefusesRelation text)
 
 -- the environment that names are, or their refusal

@@ -1,13 +1,10 @@
 //! What a report keeps of its answers: texts, numbers of packages and lengths, in three lists.
 
 ghost use Rattle.std.specs.Prelude.{◌≡◌, [], IfOk, OnOk};
-ghost use Rattle.deb_relation.specs.Groups.{group_of};
-ghost use Rattle.deb_relation.specs.Texts.{group_text};
 ghost use Rattle.deb_index.specs.AnswerStores.{AppendsAnswer, IsEmpty};
 
 use crate::store::offset;
 use crate::verdict::Verdict;
-use deb_relation::Group;
 use std::alloc::{AllocError, Global};
 
 /// An answer: how many bytes of the texts and how many of the numbers are its own, after those of
@@ -29,37 +26,32 @@ pub(crate) struct AnswerStore {
 }
 
 impl AnswerStore {
-    /// No answer, and room for so many bytes of text and so many answers.
-    pub(crate) fn with_capacity(
-        alloc: Global,
-        text_len: usize,
-        count: usize,
-    ) -> Result<AnswerStore, AllocError>
+    /// No answer, and room for so many bytes of text.
+    pub(crate) fn with_capacity(alloc: Global, text_len: usize) -> Result<AnswerStore, AllocError>
         ensures { IfOk result IsEmpty }
     {
         let texts = Vec::with_capacity(alloc, text_len)?;
-        let spans = Vec::with_capacity(alloc, count)?;
         Ok(AnswerStore {
             texts,
             numbers: Vec::new(alloc),
-            spans,
+            spans: Vec::new(alloc),
         })
     }
 
-    /// Appends the answer for a group that packages with these numbers meet. Out of memory is also
-    /// returned if the span can't hold a length.
+    /// Appends the answer for a group with this text that packages with these numbers meet. Out of
+    /// memory is also returned if the span can't hold a length.
     pub(crate) fn push(
         &mut self,
-        group: &Group<'_>,
+        group: &[u8],
         verdict: Verdict,
         numbers: &[u64],
     ) -> Result<(), AllocError>
-        ensures { OnOk result (AppendsAnswer self.old self.new (group_text (group_of group.now))
-            verdict numbers.now) }
+        ensures { OnOk result
+            (AppendsAnswer self.old self.new group.now verdict numbers.now) }
     {
-        let text_len = offset(group.canon_len() as usize)?;
+        let text_len = offset(group.len())?;
         let found_len = offset(numbers.len())?;
-        group.canon_into(&mut self.texts)?;
+        self.texts.extend_from_slice(group)?;
         self.numbers.extend_from_slice(numbers)?;
         self.spans.push(AnswerSpan {
             text_len,

@@ -1,49 +1,75 @@
 //! Finds the packages that meet a group, by the names of its alternatives.
 
-ghost use Rattle.std.specs.Prelude.{◌≡◌, ◌++◌, ◌&&◌, ◌||◌, ℕ, eqb, map, IfOk, OnOk};
+ghost use Rattle.std.specs.Prelude.{◌≡◌, ◌++◌, ◌&&◌, ◌||◌, [], ◌∷◌, ℕ, eqb, IfOk, OnOk};
 ghost use Rattle.std.specs.List.{filter, list_any};
 ghost use Rattle.std.specs.Option.{option_copied};
 ghost use Rattle.deb_relation.specs.Environments.{environment_of};
+ghost use Rattle.deb_relation.specs.Meaning.{Alternative as Meaning};
+ghost use Rattle.deb_relation.specs.Relations.{relation_of};
 ghost use Rattle.deb_relation.specs.Views.{alternative_of};
+ghost use Rattle.deb_index.specs.CanonicalTexts.{OfGroup};
 ghost use Rattle.deb_index.specs.Crowds.{is_of};
 ghost use Rattle.deb_index.specs.Indexes.{packages_of};
 ghost use Rattle.deb_index.specs.Maps.{is_last};
 ghost use Rattle.deb_index.specs.Meeting.{meets};
-ghost use Rattle.deb_index.specs.Named.{AreNumbers, among, numbers_of, passes_at};
+ghost use Rattle.deb_index.specs.Named.{AppendsMeeting, AreNumbers, among, numbers_of, passes_at};
 ghost use Rattle.deb_index.specs.Reports.{meets_group, some_applies};
 
 use crate::index::Index;
 use crate::offer::Offer;
-use deb_relation::{Alternative, Env};
+use crate::pieces::{next_alternative, only_alternative};
+use deb_relation::{Alternative, Env, Relation};
 use std::alloc::{AllocError, Global};
 
-/// Whether some alternative of a group applies, and the numbers of the packages of an index that
-/// meet one that does, in ascending order and each once.
+/// Whether some alternative of the group with a canonical text applies, and the numbers of the
+/// packages of an index that meet one that does, in ascending order and each once.
 pub(crate) fn numbers_meeting(
     alloc: Global,
     index: &Index,
-    group: &[Alternative<'_>],
+    group: &[u8],
     environment: &Env,
 ) -> Result<(bool, Vec<u64>), AllocError>
-    ensures applies { IfOk result (λ answer. answer.0
-        ≡ some_applies (environment_of environment.now) (map alternative_of group.now)) }
-    ensures numbers { IfOk result
+    ensures applies { OfGroup group.now (λ g. IfOk result
+        (λ answer. answer.0 ≡ some_applies (environment_of environment.now) g)) }
+    ensures numbers { OfGroup group.now (λ g. IfOk result
         (λ answer. answer.1.items
-        ≡ numbers_of
-        (meets_group (environment_of environment.now) (map alternative_of group.now))
-        (packages_of index.now)) }
+        ≡ numbers_of (meets_group (environment_of environment.now) g) (packages_of index.now))) }
 {
     let mut applies = false;
     let mut numbers = Vec::new(alloc);
-    for alternative in group {
-        if alternative.applies(environment) {
+    let mut rest = group;
+    while !rest.is_empty() {
+        let (relation, others) = next_alternative(alloc, rest)?;
+        let also = append_only(index, &relation, environment, &mut numbers)?;
+        if also {
             applies = true;
-            append_meeting(index, alternative, environment, &mut numbers)?;
         }
+        rest = others;
     }
     numbers.sort_unstable();
     numbers.dedup();
     Ok((applies, numbers))
+}
+
+/// Appends the numbers of the packages that meet the only alternative of a relation, if it applies,
+/// and returns whether it does.
+fn append_only(
+    index: &Index,
+    relation: &Relation<'_>,
+    environment: &Env,
+    numbers: &mut Vec<u64>,
+) -> Result<bool, AllocError>
+    ensures { (a : Meaning) → relation_of relation.now ≡ (a ∷ []) ∷ [] → IfOk result
+        (AppendsMeeting (environment_of environment.now) (packages_of index.now) a
+        numbers.old.items numbers.new.items) }
+{
+    match only_alternative(relation) {
+        Some(alternative) if alternative.applies(environment) => {
+            append_meeting(index, alternative, environment, numbers)?;
+            Ok(true)
+        }
+        _ => Ok(false),
+    }
 }
 
 /// Appends the numbers of the packages that meet an alternative, in some order.

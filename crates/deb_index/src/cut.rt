@@ -15,7 +15,7 @@ use crate::span::part;
 use std::alloc::AllocError;
 
 /// How many bytes come before the first one that is this byte.
-fn before(text: &[u8], byte: u8) -> usize
+pub(crate) fn before(text: &[u8], byte: u8) -> usize
     ensures value { result ≡ prefix_len (λ b. not (b == byte)) text.now }
     ensures bound { result ≤ length text.now }
 {

@@ -4,6 +4,7 @@ ghost use Rattle.std.specs.Prelude.{◌≡◌, Err, IfErr, IfOk, IsTrue};
 ghost use Rattle.deb_relation.specs.Environments.{environment_of};
 ghost use Rattle.deb_relation.specs.Relations.{relation_of};
 ghost use Rattle.deb_relation.specs.Tests.{some_wildcard};
+ghost use Rattle.deb_relation.specs.Texts.{relation_text};
 ghost use Rattle.deb_index.specs.Asked.{environment_asked, relation_asked};
 ghost use Rattle.deb_index.specs.Indexes.{packages_of, spellings_of};
 ghost use Rattle.deb_index.specs.Questions.{ReportsOf, wildcard};
@@ -17,7 +18,7 @@ use crate::question::{Question, refusal};
 use crate::report::Report;
 use deb_base::{Code, Fault};
 use deb_relation::{Env, Relation};
-use std::alloc::Global;
+use std::alloc::{AllocError, Global};
 
 impl Index {
     /// Reports on a relation in an environment: for each group, in the order of the groups'
@@ -49,7 +50,8 @@ impl Index {
         if relation.has_wildcard() {
             return Err(QueryFault::Wildcard);
         }
-        let report = Report::of(alloc, self, relation, environment)?;
+        let text = canonical_text(alloc, relation)?;
+        let report = Report::of(alloc, self, &text, environment)?;
         Ok(report)
     }
 
@@ -68,10 +70,19 @@ impl Index {
         ensures wildcard { IsTrue (some_wildcard (relation_asked question.now))
             → result ≡ Err (Fault.Refused wildcard) }
     {
-        match self.query(alloc, &question.relation, &question.environment) {
-            Ok(report) => Ok(report),
-            Err(QueryFault::Wildcard) => Err(refusal(Code::Wildcard)),
-            Err(QueryFault::Memory) => Err(Fault::Memory),
+        if question.has_wildcard() {
+            return Err(refusal(Code::Wildcard));
         }
+        let text = question.text(alloc)?;
+        let report = Report::of(alloc, self, &text, &question.environment)?;
+        Ok(report)
     }
+}
+
+fn canonical_text(alloc: Global, relation: &Relation<'_>) -> Result<Vec<u8>, AllocError>
+    ensures { IfOk result (λ text. text.items ≡ relation_text (relation_of relation.now)) }
+{
+    let mut text = Vec::with_capacity(alloc, relation.canon_len() as usize)?;
+    relation.canon_into(&mut text)?;
+    Ok(text)
 }

@@ -3,10 +3,9 @@
 ghost use Rattle.std.specs.Prelude.{◌≡◌, ◌++◌, ◌==◌, [], ◌∷◌, IfOk, OnOk, cond, length, not};
 ghost use Rattle.std.specs.List.{list_all};
 ghost use Rattle.deb_relation.specs.Environments.{environment_of};
-ghost use Rattle.deb_relation.specs.Groups.{group_of};
 ghost use Rattle.deb_relation.specs.Meaning.{Relation as Meaning};
-ghost use Rattle.deb_relation.specs.Relations.{relation_of};
 ghost use Rattle.deb_index.specs.AnswerStores.{HasAnswers};
+ghost use Rattle.deb_index.specs.CanonicalTexts.{IsCanonical, OfGroup, OfRelation};
 ghost use Rattle.deb_index.specs.Indexes.{packages_of, spellings_of};
 ghost use Rattle.deb_index.specs.Named.{AreNumbers};
 ghost use Rattle.deb_index.specs.Reports.{all_met, group_verdict, is_unmet, report};
@@ -15,8 +14,9 @@ use crate::answer::Answers;
 use crate::answer_store::{AnswerSpan, AnswerStore};
 use crate::candidates::numbers_meeting;
 use crate::index::Index;
+use crate::pieces::cut_group;
 use crate::verdict::Verdict;
-use deb_relation::{Env, Group, Relation};
+use deb_relation::Env;
 use std::alloc::{AllocError, Global};
 
 /// The report of an index on a relation: for each of its groups, in their order, whether it is met
@@ -51,46 +51,50 @@ impl<'a> Report<'a> {
         none_unmet(&self.answers.spans)
     }
 
-    /// Returns the answers for the groups of a relation, over the packages of an index.
+    /// Returns the answers for the groups of the relation with a canonical text, over the packages
+    /// of an index.
     pub(crate) fn of(
         alloc: Global,
         index: &'a Index,
-        relation: &Relation<'_>,
+        text: &[u8],
         environment: &Env,
     ) -> Result<Report<'a>, AllocError>
-        ensures report { IfOk result
-            (λ reported. report_of reported ≡ report (packages_of index.now)
-            (relation_of relation.now) (environment_of environment.now)) }
+        requires { IsCanonical text.now }
+        ensures report { OfRelation text.now (λ m. IfOk result
+            (λ reported. report_of reported ≡ report (packages_of index.now) m
+            (environment_of environment.now))) }
         ensures spellings { IfOk result
             (λ reported. spellings_reported reported ≡ spellings_of index.now) }
     {
-        let groups = relation.groups();
-        let text_len = relation.canon_len() as usize;
-        let mut answers = AnswerStore::with_capacity(alloc, text_len, groups.len())?;
-        for group in groups {
+        let mut answers = AnswerStore::with_capacity(alloc, text.len())?;
+        let mut rest = text;
+        while !rest.is_empty() {
+            let (group, others) = cut_group(rest);
             append_answer(alloc, index, group, environment, &mut answers)?;
+            rest = others;
         }
         Ok(Report { index, answers })
     }
 }
 
-/// Appends the answer for a group, over the packages of an index, and returns the verdict.
+/// Appends the answer for the group with a canonical text, over the packages of an index, and
+/// returns the verdict.
 pub(crate) fn append_answer(
     alloc: Global,
     index: &Index,
-    group: &Group<'_>,
+    group: &[u8],
     environment: &Env,
     answers: &mut AnswerStore,
 ) -> Result<Verdict, AllocError>
-    ensures verdict { IfOk result
+    ensures verdict { OfGroup group.now (λ g. IfOk result
         (λ verdict. verdict ≡ group_verdict (environment_of environment.now)
-        (packages_of index.now) (group_of group.now)) }
-    ensures appended { (groups : Meaning)
+        (packages_of index.now) g)) }
+    ensures appended { OfGroup group.now (λ g. (groups : Meaning)
         → HasAnswers (environment_of environment.now) (packages_of index.now) groups answers.old
         → OnOk result (HasAnswers (environment_of environment.now) (packages_of index.now)
-        (groups ++ group_of group.now ∷ []) answers.new) }
+        (groups ++ g ∷ []) answers.new)) }
 {
-    let (applies, numbers) = numbers_meeting(alloc, index, group.alternatives(), environment)?;
+    let (applies, numbers) = numbers_meeting(alloc, index, group, environment)?;
     let verdict = verdict_of(applies, &numbers);
     answers.push(group, verdict, &numbers)?;
     Ok(verdict)

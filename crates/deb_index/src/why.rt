@@ -3,9 +3,9 @@
 ghost use Rattle.std.specs.Prelude.{◌≡◌, Err, IfErr, IfOk, IsTrue, map};
 ghost use Rattle.deb_base.specs.Devices.{write_failures_after, Puts, WriteFaultIffFailed};
 ghost use Rattle.deb_relation.specs.Environments.{environment_of};
-ghost use Rattle.deb_relation.specs.Relations.{relation_of};
 ghost use Rattle.deb_relation.specs.Tests.{some_wildcard};
 ghost use Rattle.deb_index.specs.Asked.{environment_asked, relation_asked};
+ghost use Rattle.deb_index.specs.CanonicalTexts.{IsCanonical, OfRelation};
 ghost use Rattle.deb_index.specs.Detailed.{DetailsOf, DetailsOfBy, detailed_of, details_left, details_of, first_len};
 ghost use Rattle.deb_index.specs.Indexes.{packages_of, spellings_of};
 ghost use Rattle.deb_index.specs.Questions.{wildcard};
@@ -18,6 +18,7 @@ ghost use Rattle.deb_index.specs.Why.{answer_in, detailed_answer_text, detailed_
 use crate::answer::{Answer, Answers};
 use crate::answer_store::AnswerStore;
 use crate::index::Index;
+use crate::pieces::cut_group;
 use crate::question::{Question, refusal};
 use crate::report::{Report, append_answer};
 use crate::report_text::write_answer;
@@ -25,7 +26,7 @@ use crate::shown::Versions;
 use crate::span::cut;
 use crate::why_lines::append_below;
 use deb_base::{Code, Fault, Sink, VersionText, put_all};
-use deb_relation::{Env, Relation};
+use deb_relation::Env;
 use std::alloc::{AllocError, Global};
 
 /// The answer for a group, and the lines that say why it is unmet or ignored.
@@ -140,19 +141,15 @@ impl Index {
         ensures wildcard { IsTrue (some_wildcard (relation_asked question.now))
             → result ≡ Err (Fault.Refused wildcard) }
     {
-        if question.relation.has_wildcard() {
+        if question.has_wildcard() {
             return Err(refusal(Code::Wildcard));
         }
         let versions = Versions {
             index: self,
             chosen: versions,
         };
-        let report = DetailedReport::of(
-            alloc,
-            versions,
-            &question.relation,
-            &question.environment,
-        )?;
+        let text = question.text(alloc)?;
+        let report = DetailedReport::of(alloc, versions, &text, &question.environment)?;
         Ok(report)
     }
 }
@@ -230,30 +227,31 @@ impl<'a> DetailedReport<'a> {
         write_all(self.answers(), versions, out)
     }
 
-    /// Returns the answers for the groups of a relation, over the packages of an index, with their
-    /// reasons.
+    /// Returns the answers for the groups of the relation with a canonical text, over the packages
+    /// of an index, with their reasons.
     fn of(
         alloc: Global,
         versions: Versions<'a>,
-        relation: &Relation<'_>,
+        text: &[u8],
         environment: &Env,
     ) -> Result<DetailedReport<'a>, AllocError>
-        ensures details { IfOk result
+        requires { IsCanonical text.now }
+        ensures details { OfRelation text.now (λ m. IfOk result
             (λ reported. details_of reported ≡ detailed_report_by (shown_by versions.entry)
-            (packages_of versions.entry.index.now) (relation_of relation.now)
-            (environment_of environment.now)) }
+            (packages_of versions.entry.index.now) m (environment_of environment.now))) }
         ensures spellings { IfOk result (λ reported. spellings_detailed reported
             ≡ spellings_of versions.entry.index.now) }
     {
         let index = versions.index;
-        let groups = relation.groups();
-        let text_len = relation.canon_len() as usize;
-        let mut answers = AnswerStore::with_capacity(alloc, text_len, groups.len())?;
+        let mut answers = AnswerStore::with_capacity(alloc, text.len())?;
         let mut reasons = Vec::new(alloc);
-        let mut lens = Vec::with_capacity(alloc, groups.len())?;
-        for group in groups {
+        let mut lens = Vec::new(alloc);
+        let mut rest = text;
+        while !rest.is_empty() {
+            let (group, others) = cut_group(rest);
             let verdict = append_answer(alloc, index, group, environment, &mut answers)?;
             lens.push(append_below(alloc, versions, group, environment, verdict, &mut reasons)?)?;
+            rest = others;
         }
         let report = Report { index, answers };
         Ok(DetailedReport {

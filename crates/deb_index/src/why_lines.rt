@@ -1,13 +1,15 @@
 //! The lines with the reasons for which a group is unmet or ignored.
 
-ghost use Rattle.std.specs.Prelude.{◌≡◌, ◌++◌, map, IfOk, OnOk};
+ghost use Rattle.std.specs.Prelude.{◌≡◌, ◌++◌, [], ◌∷◌, IfOk, OnOk};
 ghost use Rattle.std.specs.List.{flat_map, list_any};
 ghost use Rattle.std.specs.Option.{option_map};
 ghost use Rattle.std.specs.Str.{bytes_eq};
 ghost use Rattle.deb_relation.specs.Applying.{is_among};
 ghost use Rattle.deb_relation.specs.Environments.{environment_of};
-ghost use Rattle.deb_relation.specs.Groups.{group_of};
+ghost use Rattle.deb_relation.specs.Meaning.{Alternative as Meaning};
+ghost use Rattle.deb_relation.specs.Relations.{relation_of};
 ghost use Rattle.deb_relation.specs.Views.{alternative_of, lent_list_of, name_key, names_of};
+ghost use Rattle.deb_index.specs.CanonicalTexts.{OfGroup};
 ghost use Rattle.deb_index.specs.Detailed.{AppendsBelow};
 ghost use Rattle.deb_index.specs.Indexes.{packages_of};
 ghost use Rattle.deb_index.specs.Named.{numbers_of};
@@ -17,10 +19,11 @@ ghost use Rattle.deb_index.specs.Why.{alternative_lines, asked_lines, has_or_pro
 
 use crate::answer::Found;
 use crate::index::Index;
+use crate::pieces::{next_alternative, only_alternative};
 use crate::reason::Reason;
 use crate::shown::Versions;
 use crate::verdict::Verdict;
-use deb_relation::{Alternative, Env, Group};
+use deb_relation::{Alternative, Env, Relation};
 use itoa::Buffer;
 use std::alloc::{AllocError, Global};
 
@@ -28,40 +31,61 @@ use std::alloc::{AllocError, Global};
 pub(crate) fn append_below(
     alloc: Global,
     versions: Versions<'_>,
-    group: &Group<'_>,
+    group: &[u8],
     environment: &Env,
     verdict: Verdict,
     out: &mut Vec<u8>,
 ) -> Result<usize, AllocError>
-    ensures { IfOk result (AppendsBelow out.old.items out.new.items
+    ensures { OfGroup group.now (λ g. IfOk result (AppendsBelow out.old.items out.new.items
         (lines_below (shown_by versions.entry) (environment_of environment.now)
-        (packages_of versions.entry.index.now) (group_of group.now) verdict)) }
+        (packages_of versions.entry.index.now) g verdict))) }
 {
-    let before = out.len();
-    if !matches!(verdict, Verdict::Met) {
-        append_all(alloc, versions, group.alternatives(), environment, out)?;
+    if matches!(verdict, Verdict::Met) {
+        return Ok(0);
     }
-    Ok(out.len() - before)
+    let before = out.len();
+    append_all(alloc, versions, group, environment, out)?;
+    Ok(out.len().saturating_sub(before))
 }
 
-/// Appends the lines of alternatives.
+/// Appends the lines of the alternatives of the group with a canonical text.
 fn append_all(
     alloc: Global,
     versions: Versions<'_>,
-    group: &[Alternative<'_>],
+    group: &[u8],
     environment: &Env,
     out: &mut Vec<u8>,
 ) -> Result<(), AllocError>
-    ensures { OnOk result (out.new.items
+    ensures { OfGroup group.now (λ g. OnOk result (out.new.items
         ≡ out.old.items ++ flat_map
         (alternative_lines (shown_by versions.entry) (environment_of environment.now)
-        (packages_of versions.entry.index.now))
-        (map alternative_of group.now)) }
+        (packages_of versions.entry.index.now)) g)) }
 {
-    for alternative in group {
-        append_alternative(alloc, versions, alternative, environment, out)?;
+    let mut rest = group;
+    while !rest.is_empty() {
+        let (relation, others) = next_alternative(alloc, rest)?;
+        append_only(alloc, versions, &relation, environment, out)?;
+        rest = others;
     }
     Ok(())
+}
+
+/// Appends the lines of the only alternative of a relation.
+fn append_only(
+    alloc: Global,
+    versions: Versions<'_>,
+    relation: &Relation<'_>,
+    environment: &Env,
+    out: &mut Vec<u8>,
+) -> Result<(), AllocError>
+    ensures { (a : Meaning) → relation_of relation.now ≡ (a ∷ []) ∷ [] → OnOk result
+        (out.new.items ≡ out.old.items ++ alternative_lines (shown_by versions.entry)
+        (environment_of environment.now) (packages_of versions.entry.index.now) a) }
+{
+    match only_alternative(relation) {
+        Some(alternative) => append_alternative(alloc, versions, alternative, environment, out),
+        None => Ok(()),
+    }
 }
 
 /// Appends the lines of an alternative.

@@ -1,63 +1,79 @@
--- Why a group has a line, by its parsed alternatives one after another.
-use Rattle.std.proofs.Common.{◌≡◌, ℕ, ◌<◌, Bool, true, false, cond, not, ◌&&◌, ◌||◌, List, get_or, length, map, None, Some, refl, sym, ap, ◌∙◌}
+-- Why a group has a line, by its alternatives one after another.
+use Rattle.std.proofs.Common.{◌≡◌, Bool, true, false, cond, not, ◌&&◌, ◌||◌, List, [], ◌∷◌, ◌++◌, None, Some, refl, sym, ap, ◌∙◌}
 use Rattle.std.specs.List.{list_any}
+use Rattle.deb_version.proofs.CutLemmas.{list_any-at}
 use Rattle.deb_relation.specs.Applying.{Environment}
-use Rattle.deb_relation.specs.Views.{alternative_of}
-use Rattle.deb_relation.specs.declared.alternative.Alternative.{Alternative}
-use Rattle.deb_relation.proofs.Mapped.{any-map}
-use Rattle.deb_index.proofs.Joined.{any-at}
+use Rattle.deb_relation.specs.Meaning.{Alternative, Group}
+use Rattle.deb_index.proofs.Joined.{any-one}
 use Rattle.deb_index.specs.Listed.{Listed}
 use Rattle.deb_unmet.specs.Readings.{applies_by, may, surely}
-use Rattle.deb_unmet.specs.SoFar.{trouble_by}
+use Rattle.deb_unmet.specs.SoFar.{trouble_by, unless_met}
 use Rattle.deb_unmet.specs.Troubles.{can_be_otherwise, is_met, trouble}
 use Rattle.deb_unmet.specs.declared.applying.Applies.{Applies}
 use Rattle.deb_unmet.specs.declared.applying.Applies.TheVariants.{Surely, Maybe, Never}
 use Rattle.deb_unmet.specs.declared.group.Readings.{Readings as SoFar}
 use Rattle.deb_unmet.specs.declared.trouble.Trouble.TheVariants.{Unmet, Unsure}
 
-module _ (environment : Environment) (packages : List Listed) where
-  abbrev applied : Alternative → Applies
-  applied a = applies_by environment (alternative_of a)
+abbrev with_one : Applies → Bool → SoFar → SoFar
+with_one x m so_far = record { unmet = so_far.unmet || (may x && not m); met = so_far.met || (may x && m); applies = so_far.applies || surely x }
 
-  abbrev met : Alternative → Bool
-  met a = is_met environment packages (alternative_of a)
+some-same : (a b : SoFar) → Some a ≡ Some b → a ≡ b
+some-same a b e = cc
+
+never-none : (a : SoFar) → None ≡ Some a → false ≡ true
+never-none a e = absurd cc
+
+-- one that doesn't decide, and one that does
+goes-on : (x : Applies) (m : Bool) (so_far now : SoFar) → unless_met x m so_far ≡ Some now → ((surely x && m) ≡ false) × (now ≡ with_one x m so_far)
+goes-on Surely true so_far now e = (sym (never-none now e), absurd cc)
+goes-on Surely false so_far now e = (refl, sym (some-same _ _ e))
+goes-on Maybe true so_far now e = (refl, sym (some-same _ _ e))
+goes-on Maybe false so_far now e = (refl, sym (some-same _ _ e))
+goes-on Never m so_far now e = (refl, sym (some-same _ _ e))
+
+decides : (x : Applies) (m : Bool) (so_far : SoFar) → unless_met x m so_far ≡ None → (surely x && m) ≡ true
+decides Surely true so_far e = refl
+decides Surely false so_far e = absurd cc
+decides Maybe m so_far e = absurd cc
+decides Never m so_far e = absurd cc
+
+module _ (environment : Environment) (packages : List Listed) where
+  abbrev surely_met : Alternative → Bool
+  surely_met a = surely (applies_by environment a) && is_met environment packages a
+
+  abbrev unmet_may : Alternative → Bool
+  unmet_may a = may (applies_by environment a) && not (is_met environment packages a)
+
+  abbrev met_may : Alternative → Bool
+  met_may a = may (applies_by environment a) && is_met environment packages a
 
   -- What is known of the first alternatives: none that surely applies is met.
-  pub record Tried (group : List Alternative) (so_far : SoFar) : Type 0 where
-    pub none : list_any (λ a. surely (applied a) && met a) group ≡ false
-    pub unmet : so_far.unmet ≡ list_any (λ a. may (applied a) && not (met a)) group
-    pub met : so_far.met ≡ list_any (λ a. may (applied a) && met a) group
-    pub applies : so_far.applies ≡ list_any (λ a. surely (applied a)) group
+  pub record Tried (so_far : SoFar) (group : Group) : Type 0 where
+    pub none : list_any surely_met group ≡ false
+    pub unmet : so_far.unmet ≡ list_any unmet_may group
+    pub met : so_far.met ≡ list_any met_may group
+    pub applies : so_far.applies ≡ list_any (λ a. surely (applies_by environment a)) group
 
-  sure-met : (applies : Applies) (m : Bool) → ((may applies && m) && surely applies) ≡ (surely applies && m)
-  sure-met Surely true = refl
-  sure-met Surely false = refl
-  sure-met Maybe true = refl
-  sure-met Maybe false = refl
-  sure-met Never m = refl
+  pub tried-more : (done : Group) (a : Alternative) (so_far now : SoFar) → unless_met (applies_by environment a) (is_met environment packages a) so_far ≡ Some now → Tried so_far done → Tried now (done ++ a ∷ [])
+  tried-more done a so_far now e tried =
+      let on = goes-on (applies_by environment a) (is_met environment packages a) so_far now e in
+      record {
+        none = any-one surely_met done a ∙ ap (λ b. b || surely_met a) tried.none ∙ on.0;
+        unmet = ap (λ s. s.unmet) on.1 ∙ ap (λ b. b || unmet_may a) tried.unmet ∙ sym (any-one unmet_may done a);
+        met = ap (λ s. s.met) on.1 ∙ ap (λ b. b || met_may a) tried.met ∙ sym (any-one met_may done a);
+        applies = ap (λ s. s.applies) on.1 ∙ ap (λ b. b || surely (applies_by environment a)) tried.applies ∙ sym (any-one (λ b. surely (applies_by environment b)) done a);
+      }
 
   -- one that surely applies and is met decides
-  pub no-trouble : (group : List Alternative) (i : ℕ) (a : Alternative) (applies : Applies) (may_be_met : Bool) → i < length group → a ≡ get_or group i a
-      → applies ≡ applied a → may_be_met ≡ (may applies && met a) → may_be_met ≡ true → surely applies ≡ true → None ≡ trouble environment packages (map alternative_of group)
-  no-trouble group i a applies may_be_met within at is met_is some sure =
-      let here : (surely (applied a) && met a) ≡ true = ap (λ x. surely x && met a) (sym is) ∙ sym (sure-met applies (met a)) ∙ ap (λ b. b && surely applies) (sym met_is ∙ some) ∙ sure in
-      let decided : list_any (λ b. surely (applied b) && met b) group ≡ true = any-at (λ b. surely (applied b) && met b) group i a within (ap (λ b. surely (applied b) && met b) (sym at) ∙ here) in
-      sym (ap (λ n. cond (not n && list_any (λ b. may (applies_by environment b) && not (is_met environment packages b)) (map alternative_of group)) (cond (can_be_otherwise environment packages (map alternative_of group)) (Some Unsure) (Some Unmet)) None)
-      (sym (any-map alternative_of (λ b. surely (applies_by environment b) && is_met environment packages b) group) ∙ decided))
+  pub no-trouble : (group done more : Group) (a : Alternative) (so_far : SoFar) → unless_met (applies_by environment a) (is_met environment packages a) so_far ≡ None → group ≡ done ++ a ∷ more → None ≡ trouble environment packages group
+  no-trouble group done more a so_far e all =
+      sym (ap (λ n. cond (not n && list_any unmet_may group) (cond (can_be_otherwise environment packages group) (Some Unsure) (Some Unmet)) None)
+      (ap (list_any surely_met) all ∙ list_any-at surely_met done a more (decides (applies_by environment a) (is_met environment packages a) so_far e)))
 
   -- else all of them do
-  pub tried-all : (group : List Alternative) (so_far : SoFar) → Tried group so_far → trouble_by so_far ≡ trouble environment packages (map alternative_of group)
+  pub tried-all : (group : Group) (so_far : SoFar) → Tried so_far group → trouble_by so_far ≡ trouble environment packages group
   tried-all group so_far tried =
-      ap (λ u. cond u (cond (so_far.met || not so_far.applies) (Some Unsure) (Some Unmet)) None) (tried.unmet ∙ any-map alternative_of (λ b. may (applies_by environment b) && not (is_met environment packages b)) group)
-      ∙ ap (λ m. cond (unmet_may) (cond (m || not so_far.applies) (Some Unsure) (Some Unmet)) None) (tried.met ∙ any-map alternative_of (λ b. may (applies_by environment b) && is_met environment packages b) group)
-      ∙ ap (λ s. cond (unmet_may) (cond (met_may || not s) (Some Unsure) (Some Unmet)) None) (tried.applies ∙ any-map alternative_of (λ b. surely (applies_by environment b)) group)
-      ∙ ap (λ n. cond (not n && unmet_may) (cond (met_may || not some_sure) (Some Unsure) (Some Unmet)) None) (sym tried.none ∙ any-map alternative_of (λ b. surely (applies_by environment b) && is_met environment packages b) group)
-    where
-      unmet_may : Bool
-      unmet_may = list_any (λ b. may (applies_by environment b) && not (is_met environment packages b)) (map alternative_of group)
-
-      met_may : Bool
-      met_may = list_any (λ b. may (applies_by environment b) && is_met environment packages b) (map alternative_of group)
-
-      some_sure : Bool
-      some_sure = list_any (λ b. surely (applies_by environment b)) (map alternative_of group)
+      ap (λ u. cond u (cond (so_far.met || not so_far.applies) (Some Unsure) (Some Unmet)) None) tried.unmet
+      ∙ ap (λ m. cond (list_any unmet_may group) (cond (m || not so_far.applies) (Some Unsure) (Some Unmet)) None) tried.met
+      ∙ ap (λ s. cond (list_any unmet_may group) (cond (list_any met_may group || not s) (Some Unsure) (Some Unmet)) None) tried.applies
+      ∙ ap (λ n. cond (not n && list_any unmet_may group) (cond (can_be_otherwise environment packages group) (Some Unsure) (Some Unmet)) None) (sym tried.none)

@@ -5,7 +5,8 @@ use Rattle.std.specs.List.{flat_map}
 use Rattle.deb_control.specs.ValueFiles.{ValueEntries}
 use Rattle.deb_field.specs.Values.{ValueMeaning}
 use Rattle.deb_relation.specs.Applying.{Environment}
-use Rattle.deb_relation.specs.Meaning.{Group, Relation}
+use Rattle.deb_relation.specs.Meaning.{Relation}
+use Rattle.deb_relation.specs.Texts.{group_text}
 use Rattle.deb_relation.proofs.Joining.{nil_of}
 use Rattle.deb_index.specs.Listed.{Listed}
 use Rattle.deb_unmet.specs.Fields.{field_lines, fields_lines, groups_of, value_under}
@@ -20,17 +21,17 @@ both_empty (x ∷ a) b is = absurd cc
 empty_both : (a b : List ℕ) → a ≡ [] → b ≡ [] → a ++ b ≡ []
 empty_both a b first second = ap (λ xs. xs ++ b) first ∙ second
 
-line-none : (why : Option Trouble) (heading other field : List ℕ) (group : Group) → trouble_line why heading field group ≡ [] → trouble_line why other field group ≡ []
-line-none None heading other field group is = refl
-line-none (Some Unmet) heading other field group is = absurd cc
-line-none (Some Unsure) heading other field group is = absurd cc
+line-none : (why : Option Trouble) (heading other field text : List ℕ) → trouble_line why heading field text ≡ [] → trouble_line why other field text ≡ []
+line-none None heading other field text is = refl
+line-none (Some Unmet) heading other field text is = absurd cc
+line-none (Some Unsure) heading other field text is = absurd cc
 
 groups-none : (environment : Environment) (packages : List Listed) (heading other field : List ℕ) (groups : Relation) → flat_map (group_lines environment packages heading field) groups ≡ [] → flat_map (group_lines environment packages other field) groups ≡ []
 groups-none environment packages heading other field [] is = refl
 groups-none environment packages heading other field (group ∷ groups) is =
     let p = both_empty (group_lines environment packages heading field group) (flat_map (group_lines environment packages heading field) groups) is in
     empty_both (group_lines environment packages other field group) (flat_map (group_lines environment packages other field) groups)
-    (line-none (trouble environment packages group) heading other field group p.0)
+    (line-none (trouble environment packages group) heading other field (group_text group) p.0)
     (groups-none environment packages heading other field groups p.1)
 
 pub no_lines : (environment : Environment) (packages : List Listed) (heading other : List ℕ) (values : ValueEntries ValueMeaning) (fields : List (List ℕ)) → fields_lines environment packages heading values fields ≡ [] → fields_lines environment packages other values fields ≡ []

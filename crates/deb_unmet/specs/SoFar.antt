@@ -16,6 +16,11 @@ with_alternative applies met so_far =
       applies = so_far.applies || surely applies;
     }
 
+-- an alternative more, unless it surely applies and is met
+abbrev pub unless_met : Applies → Bool → SoFar → Option SoFar
+unless_met applies met so_far =
+    cond (surely applies && met) None (Some (with_alternative applies (may applies && met) so_far))
+
 -- why a group has a line, where no alternative that surely applies is met
 abbrev pub trouble_by : SoFar → Option Trouble
 trouble_by so_far =
@@ -34,6 +39,11 @@ worked-with : (map (λ applies. with_alternative applies false nothing)
     × (with_alternative Maybe true nothing ≡ so_far false true false)
     × (with_alternative Never false (so_far true true true) ≡ so_far true true true)
 worked-with = (refl, refl, refl)
+
+worked-unless : (map (λ applies. unless_met applies true nothing) (Surely ∷ Maybe ∷ Never ∷ [])
+    ≡ None ∷ Some (so_far false true false) ∷ Some nothing ∷ [])
+    × (unless_met Surely false nothing ≡ Some (so_far true false true))
+worked-unless = (refl, refl)
 
 worked-trouble : map trouble_by
     (nothing ∷ so_far false true true ∷ so_far true false true ∷ so_far true true true

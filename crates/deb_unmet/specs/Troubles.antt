@@ -40,15 +40,15 @@ abbrev pub trouble_word : Trouble → List ℕ
 trouble_word Unmet = codes "unmet"
 trouble_word Unsure = codes "unsure"
 
--- the word, the heading of its paragraph, the field, and the group
-abbrev pub trouble_line : Option Trouble → List ℕ → List ℕ → Group → List ℕ
-trouble_line None heading field group = []
-trouble_line (Some why) heading field group =
-    concat (trouble_word why ∷ heading ∷ field ∷ codes " " ∷ group_text group ∷ codes "\n" ∷ [])
+-- the word, the heading of its paragraph, the field, and the text of the group
+abbrev pub trouble_line : Option Trouble → List ℕ → List ℕ → List ℕ → List ℕ
+trouble_line None heading field text = []
+trouble_line (Some why) heading field text =
+    concat (trouble_word why ∷ heading ∷ field ∷ codes " " ∷ text ∷ codes "\n" ∷ [])
 
 abbrev pub group_lines : Environment → List Listed → List ℕ → List ℕ → Group → List ℕ
 group_lines environment packages heading field group =
-    trouble_line (trouble environment packages group) heading field group
+    trouble_line (trouble environment packages group) heading field (group_text group)
 
 -- For amd64, over aa in version 1 for amd64 alone.
 abbrev environment : Environment

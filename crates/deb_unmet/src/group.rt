@@ -1,20 +1,22 @@
 //! Lines of groups.
 
-ghost use Rattle.std.specs.Prelude.{◌≡◌, ◌++◌, ◌&&◌, OnOk, map};
+ghost use Rattle.std.specs.Prelude.{◌≡◌, ◌++◌, ◌&&◌, [], ◌∷◌, IfOk, OnOk};
 ghost use Rattle.std.specs.List.{flat_map};
 ghost use Rattle.deb_relation.specs.Environments.{environment_of};
-ghost use Rattle.deb_relation.specs.Groups.{group_of};
+ghost use Rattle.deb_relation.specs.Meaning.{Alternative as Meaning};
+ghost use Rattle.deb_relation.specs.Relations.{relation_of};
 ghost use Rattle.deb_relation.specs.Views.{alternative_of};
+ghost use Rattle.deb_index.specs.CanonicalTexts.{OfGroup, OfRelation};
 ghost use Rattle.deb_index.specs.Indexes.{packages_of};
-ghost use Rattle.deb_unmet.specs.Readings.{may};
-ghost use Rattle.deb_unmet.specs.SoFar.{trouble_by, with_alternative};
-ghost use Rattle.deb_unmet.specs.Troubles.{group_lines, is_met, trouble, trouble_word};
+ghost use Rattle.deb_unmet.specs.Readings.{applies_by, may};
+ghost use Rattle.deb_unmet.specs.SoFar.{trouble_by, unless_met, with_alternative};
+ghost use Rattle.deb_unmet.specs.Troubles.{group_lines, is_met, trouble, trouble_line, trouble_word};
 
 use crate::applying::{Applies, applies_by};
 use crate::trouble::Trouble;
-use deb_index::Index;
-use deb_relation::{Alternative, Env, Group};
-use std::alloc::AllocError;
+use deb_index::{Index, cut_group, next_alternative, only_alternative};
+use deb_relation::{Alternative, Env, Relation};
+use std::alloc::{AllocError, Global};
 
 /// The packages that may meet a relation, and the environment of the relation.
 #[derive(Clone, Copy)]
@@ -23,67 +25,93 @@ pub(crate) struct Question<'a> {
     pub(crate) environment: &'a Env,
 }
 
-/// Appends the line of each group that has one, after a heading and the name of the field.
+/// Appends the line of each group that has one, of the relation with a canonical text, after a
+/// heading and the name of the field.
 pub(crate) fn append_groups(
+    alloc: Global,
     out: &mut Vec<u8>,
     question: &Question<'_>,
     heading: &[u8],
     field: &[u8],
-    groups: &[Group<'_>],
+    text: &[u8],
 ) -> Result<(), AllocError>
-    ensures { OnOk result (out.new.items ≡ out.old.items ++ flat_map
+    ensures { OfRelation text.now (λ m. OnOk result (out.new.items ≡ out.old.items ++ flat_map
         (group_lines (environment_of question.now.environment.now)
-        (packages_of question.now.index.now) heading.now field.now)
-        (map group_of groups.now)) }
+        (packages_of question.now.index.now) heading.now field.now) m)) }
 {
-    for group in groups {
-        append_group(out, question, heading, field, group)?;
+    let mut rest = text;
+    while !rest.is_empty() {
+        let (group, others) = cut_group(rest);
+        append_group(alloc, out, question, heading, field, group)?;
+        rest = others;
     }
     Ok(())
 }
 
-/// Appends the line of a group, if it has one.
+/// Appends the line of the group with a canonical text, if it has one.
 fn append_group(
+    alloc: Global,
     out: &mut Vec<u8>,
     question: &Question<'_>,
     heading: &[u8],
     field: &[u8],
-    group: &Group<'_>,
+    group: &[u8],
 ) -> Result<(), AllocError>
-    ensures { OnOk result (out.new.items ≡ out.old.items ++ group_lines
+    ensures { OfGroup group.now (λ g. OnOk result (out.new.items ≡ out.old.items ++ group_lines
         (environment_of question.now.environment.now) (packages_of question.now.index.now)
-        heading.now field.now (group_of group.now)) }
+        heading.now field.now g)) }
 {
-    if let Some(why) = trouble_of(question, group.alternatives()) {
+    let why = trouble_of(alloc, question, group)?;
+    append_line(out, why, heading, field, group)
+}
+
+/// Appends the line of the group with this text, if there is a reason for one.
+fn append_line(
+    out: &mut Vec<u8>,
+    why: Option<Trouble>,
+    heading: &[u8],
+    field: &[u8],
+    group: &[u8],
+) -> Result<(), AllocError>
+    ensures { OnOk result (out.new.items
+        ≡ out.old.items ++ trouble_line why heading.now field.now group.now) }
+{
+    if let Some(why) = why {
         out.extend_from_slice(word_of(why))?;
         out.extend_from_slice(heading)?;
         out.extend_from_slice(field)?;
         out.push(b' ')?;
-        group.canon_into(out)?;
+        out.extend_from_slice(group)?;
         out.push(b'\n')?;
     }
     Ok(())
 }
 
-/// Returns why a group has a line, if it has one.
-fn trouble_of(question: &Question<'_>, group: &[Alternative<'_>]) -> Option<Trouble>
-    ensures { result ≡ trouble (environment_of question.now.environment.now)
-        (packages_of question.now.index.now) (map alternative_of group.now) }
+/// Returns why the group with a canonical text has a line, if it has one.
+fn trouble_of(
+    alloc: Global,
+    question: &Question<'_>,
+    group: &[u8],
+) -> Result<Option<Trouble>, AllocError>
+    ensures { OfGroup group.now (λ g. IfOk result
+        (λ why. why ≡ trouble (environment_of question.now.environment.now)
+        (packages_of question.now.index.now) g)) }
 {
     let mut readings = Readings {
         unmet: false,
         met: false,
         applies: false,
     };
-    for alternative in group {
-        let applies = applies_by(alternative, question.environment);
-        let may_be_met = may_be_met(question, applies, alternative);
-        if may_be_met && applies.surely() {
-            return None;
+    let mut rest = group;
+    while !rest.is_empty() {
+        let (relation, others) = next_alternative(alloc, rest)?;
+        match readings.with_only(question, &relation) {
+            Some(more) => readings = more,
+            None => return Ok(None),
         }
-        readings = readings.with(applies, may_be_met);
+        rest = others;
     }
-    readings.trouble()
+    Ok(readings.trouble())
 }
 
 /// Returns whether an alternative that applies so is met in some reading.
@@ -106,6 +134,23 @@ struct Readings {
 }
 
 impl Readings {
+    /// The readings with the only alternative of a relation more; none if that surely applies and is
+    /// met.
+    fn with_only(self, question: &Question<'_>, relation: &Relation<'_>) -> Option<Readings>
+        ensures { (a : Meaning) → relation_of relation.now ≡ (a ∷ []) ∷ [] → result
+            ≡ unless_met (applies_by (environment_of question.now.environment.now) a)
+            (is_met (environment_of question.now.environment.now)
+            (packages_of question.now.index.now) a) self }
+    {
+        let alternative = only_alternative(relation)?;
+        let applies = applies_by(alternative, question.environment);
+        let may_be_met = may_be_met(question, applies, alternative);
+        if may_be_met && applies.surely() {
+            return None;
+        }
+        Some(self.with(applies, may_be_met))
+    }
+
     /// The readings with an alternative more.
     fn with(self, applies: Applies, may_be_met: bool) -> Readings
         ensures { result ≡ with_alternative applies may_be_met self }

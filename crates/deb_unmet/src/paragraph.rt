@@ -1,23 +1,27 @@
 //! Lines of a paragraph.
 
 ghost use Rattle.std.specs.Prelude.{◌≡◌, ◌++◌, [], ℕ, List, false, IfOk, OnOk, Some};
+ghost use Rattle.std.specs.List.{flat_map};
 ghost use Rattle.std.specs.Option.{option_map};
 ghost use Rattle.deb_control.specs.ValueFiles.{ValueEntries};
+ghost use Rattle.deb_field.specs.RelationSpelled.{relation_meaning};
 ghost use Rattle.deb_field.specs.ValueMeanings.{value_meaning};
 ghost use Rattle.deb_field.specs.Values.{ValueMeaning};
 ghost use Rattle.deb_relation.specs.Environments.{environment_of};
+ghost use Rattle.deb_relation.specs.Texts.{relation_text};
 ghost use Rattle.deb_relation.specs.Views.{names_of};
 ghost use Rattle.deb_index.specs.Indexes.{packages_of};
 ghost use Rattle.deb_unmet.specs.Fields.{architecture_of, field_lines, fields_lines, heading, own_environment, own_or, paragraph_lines, value_under, word_in, word_under};
 ghost use Rattle.deb_unmet.specs.Paragraphs.{HasValues, fields_in};
 ghost use Rattle.deb_unmet.specs.Spelled.{spelled_in, version_word};
+ghost use Rattle.deb_unmet.specs.Troubles.{group_lines};
 
 use crate::asked::{Asked, Request};
 use crate::group::{Question, append_groups};
 use deb_base::VersionText;
 use deb_control::CheckedView;
-use deb_field::Value;
-use deb_relation::{Env, EnvFault, RelationFault};
+use deb_field::{Canon, RelationField, Value};
+use deb_relation::{Env, EnvFault};
 use deb_version::CanonicalVersion;
 use itoa::Buffer;
 use std::alloc::{AllocError, Global};
@@ -153,11 +157,33 @@ fn append_value(
     let Value::Relation(body) = value else {
         return Ok(());
     };
-    match body.relation(alloc) {
-        Ok(relation) => append_groups(out, question, heading, field, relation.groups()),
-        Err(RelationFault::Memory) => Err(AllocError),
-        Err(RelationFault::Bad { .. }) => unreachable!(),
-    }
+    append_relation(alloc, out, question, heading, field, body)
+}
+
+/// Appends the lines of a relationship field.
+fn append_relation(
+    alloc: Global,
+    out: &mut Vec<u8>,
+    question: &Question<'_>,
+    heading: &[u8],
+    field: &[u8],
+    body: &RelationField<'_>,
+) -> Result<(), AllocError>
+    ensures { OnOk result (out.new.items ≡ out.old.items ++ flat_map
+        (group_lines (environment_of question.now.environment.now)
+        (packages_of question.now.index.now) heading.now field.now)
+        (relation_meaning body.now)) }
+{
+    let text = canonical_text(alloc, body)?;
+    append_groups(alloc, out, question, heading, field, &text)
+}
+
+fn canonical_text(alloc: Global, body: &RelationField<'_>) -> Result<Vec<u8>, AllocError>
+    ensures { IfOk result (λ text. text.items ≡ relation_text (relation_meaning body.now)) }
+{
+    let mut text = Vec::with_capacity(alloc, body.canon_len() as usize)?;
+    body.canon_into(&mut text)?;
+    Ok(text)
 }
 
 /// Returns the architecture of a paragraph's lines.

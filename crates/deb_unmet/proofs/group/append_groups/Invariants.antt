@@ -1,12 +1,16 @@
-use Rattle.std.proofs.Common.{◌≡◌, ◌++◌, map, drop}
+-- The lines of the groups so far.
+use Rattle.std.proofs.Common.{◌≡◌, ◌++◌, length}
 use Rattle.std.specs.List.{flat_map}
 use Rattle.deb_relation.specs.Environments.{environment_of}
-use Rattle.deb_relation.specs.Groups.{group_of}
+use Rattle.deb_index.specs.CanonicalTexts.{OfRelation}
 use Rattle.deb_index.specs.Indexes.{packages_of}
+use Rattle.deb_index.proofs.TextPieces.{GroupsRead}
 use Rattle.deb_unmet.specs.Troubles.{group_lines}
 use Rattle.deb_unmet.proofs.group.append_groups.Given as goal
 
-abbrev pub invariant-loop-group : goal.invariant-loop-group
-invariant-loop-group l =
-    l.out.items ++ flat_map (group_lines (environment_of l.question.environment.now) (packages_of l.question.index.now) l.heading l.field) (map group_of (drop l.group-index l.groups))
-    ≡ l.initial.out.items ++ flat_map (group_lines (environment_of l.question.environment.now) (packages_of l.question.index.now) l.heading l.field) (map group_of l.groups)
+abbrev pub invariant-loop-rest : goal.invariant-loop-rest
+invariant-loop-rest l =
+    OfRelation l.text (λ m. GroupsRead (λ done. l.out.items ≡ l.initial.out.items ++ flat_map (group_lines (environment_of l.question.environment.now) (packages_of l.question.index.now) l.heading l.field) done) m l.rest)
+
+abbrev pub decreases-loop-rest : goal.decreases-loop-rest
+decreases-loop-rest l = length l.rest

@@ -1,22 +1,33 @@
-use Rattle.std.proofs.Common.{◌≡◌, ◌+◌, [], ◌∷◌, ◌++◌, map, take, ap, refl, sym, subst, ◌∙◌}
-use Rattle.std.proofs.lemmas.List.{map-append, take_more}
+use Rattle.std.proofs.Common.{refl, sym, ◌∙◌}
 use Rattle.deb_relation.specs.Environments.{environment_of}
-use Rattle.deb_relation.specs.Groups.{group_of}
 use Rattle.deb_index.specs.Indexes.{packages_of}
 use Rattle.deb_index.specs.ShownVersions.{shown_by}
 use Rattle.deb_index.specs.Why.{lines_below}
-use Rattle.deb_index.proofs.Details.{HasDetails, detailed_more}
+use Rattle.deb_index.proofs.Details.{HasDetails, detailed_more, none_detailed}
+use Rattle.deb_index.proofs.TextPieces.{groups_all, groups_more, groups_none}
 use Rattle.deb_index.proofs.why.DetailedReport.of.Goals as goal
 
-pub loop-group-preserved : goal.loop-group-preserved
-loop-group-preserved c =
+pub loop-rest-init : goal.loop-rest-init
+loop-rest-init c = λ m regular is.
     let environment = environment_of c.args.environment.now in
     let packages = packages_of c.args.versions.index.now in
     let shown = shown_by c.args.versions in
-    let groups = map group_of (take c.loop-group.group-index c.groups-groups.result.now) in
-    let group = group_of c.group-item.result in
-    let more : map group_of (take (c.loop-group.group-index + 1) c.groups-groups.result.now) ≡ groups ++ group ∷ [] =
-    ap (map group_of) (take_more c.groups-groups.result.now c.loop-group.group-index c.group-item.result c.loop-group-test.true) ∙ map-append group_of (take c.loop-group.group-index c.groups-groups.result.now) _ ∙ ap (λ g. groups ++ group_of g ∷ []) (sym c.group-item.is) in
-    subst (λ l. HasDetails shown environment packages l c.append_answer.new.answers c.append_below.new.out.items c.push.new.self.items) (sym more)
-    (detailed_more shown environment packages groups group c.loop-group.answers c.append_answer.new.answers c.loop-group.reasons.items (lines_below shown environment packages group c.in_ok-verdict.verdict) c.append_below.new.out.items c.loop-group.lens.items c.push.new.self.items c.in_ok-verdict.verdict c.in_ok-append_below.field-0
-    c.loop-group.invariant c.in_ok-verdict.ensures.verdict (c.in_ok-verdict.ensures.appended groups c.loop-group.invariant.has) refl c.in_ok-append_below.ensures c.in_ok-push.ensures.items)
+    groups_none (λ done. HasDetails shown environment packages done c.in_ok-answers.answers c.new-reasons.result.items c.new-lens.result.items) m c.args.text.now regular is (none_detailed shown environment packages c.in_ok-answers.answers c.new-reasons.result.items c.new-lens.result.items c.in_ok-answers.ensures c.new-reasons.ensures.items c.new-lens.ensures.items)
+
+pub loop-rest-preserved : goal.loop-rest-preserved
+loop-rest-preserved c = λ m regular is.
+    let environment = environment_of c.args.environment.now in
+    let packages = packages_of c.args.versions.index.now in
+    let shown = shown_by c.args.versions in
+    groups_more (λ done. HasDetails shown environment packages done c.loop-rest.answers c.loop-rest.reasons.items c.loop-rest.lens.items) (λ done. HasDetails shown environment packages done c.append_answer.new.answers c.append_below.new.out.items c.push.new.self.items) m
+    c.loop-rest.rest.now c.cut_group.result.1.now (c.loop-rest.invariant m regular is) (sym c.is_empty.ensures ∙ c.loop-rest-test.true) c.cut_group.ensures.others
+    (λ g gs done good text so_far. let first = c.cut_group.ensures.first g gs good text in
+    detailed_more shown environment packages done g c.loop-rest.answers c.append_answer.new.answers c.loop-rest.reasons.items (lines_below shown environment packages g c.in_ok-verdict.verdict) c.append_below.new.out.items c.loop-rest.lens.items c.push.new.self.items c.in_ok-verdict.verdict c.in_ok-append_below.field-0
+    so_far (c.in_ok-verdict.ensures.verdict g good first) (c.in_ok-verdict.ensures.appended g good first done so_far.has) refl (c.in_ok-append_below.ensures g good first) c.in_ok-push.ensures.items)
+
+pub returns-clause-details : goal.returns-clause-details
+returns-clause-details c = λ m regular is.
+    let environment = environment_of c.args.environment.now in
+    let packages = packages_of c.args.versions.index.now in
+    let shown = shown_by c.args.versions in
+    (groups_all (λ done. HasDetails shown environment packages done c.loop-rest.answers c.loop-rest.reasons.items c.loop-rest.lens.items) m c.loop-rest.rest.now (c.loop-rest.invariant m regular is) (sym c.is_empty.ensures ∙ c.loop-rest-test.false)).details

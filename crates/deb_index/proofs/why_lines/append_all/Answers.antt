@@ -1,0 +1,22 @@
+use Rattle.std.proofs.Common.{◌≡◌, ◌++◌, append-nil, sym, ◌∙◌}
+use Rattle.std.specs.List.{flat_map}
+use Rattle.deb_relation.specs.Environments.{environment_of}
+use Rattle.deb_index.specs.Indexes.{packages_of}
+use Rattle.deb_index.specs.ShownVersions.{shown_by}
+use Rattle.deb_index.specs.Why.{alternative_lines}
+use Rattle.deb_index.proofs.TextPieces.{alternatives_all, alternatives_more, alternatives_none, lines_more}
+use Rattle.deb_index.proofs.why_lines.append_all.Goals as goal
+
+pub loop-rest-init : goal.loop-rest-init
+loop-rest-init c = λ group regular is.
+    alternatives_none (λ done. c.args.out.now.items ≡ c.args.out.now.items ++ flat_map (alternative_lines (shown_by c.args.versions) (environment_of c.args.environment.now) (packages_of c.args.versions.index.now)) done) group c.args.group.now regular is (sym (append-nil c.args.out.now.items))
+
+pub loop-rest-preserved : goal.loop-rest-preserved
+loop-rest-preserved c = λ group regular is.
+    let lines = alternative_lines (shown_by c.args.versions) (environment_of c.args.environment.now) (packages_of c.args.versions.index.now) in
+    alternatives_more (λ done. c.loop-rest.out.items ≡ c.args.out.now.items ++ flat_map lines done) (λ done. c.append_only.new.out.items ≡ c.args.out.now.items ++ flat_map lines done) group c.loop-rest.rest.now c.in_ok-relation.others.now (c.loop-rest.invariant group regular is) (sym c.is_empty.ensures ∙ c.loop-rest-test.true) c.in_ok-relation.ensures.others
+    (λ a more done good text so_far. lines_more lines done a c.args.out.now.items c.loop-rest.out.items c.append_only.new.out.items so_far (c.in_ok-append_only.ensures a (c.in_ok-relation.ensures.first a more good text)))
+
+pub returns : goal.returns
+returns c = λ group regular is.
+    alternatives_all (λ done. c.loop-rest.out.items ≡ c.args.out.now.items ++ flat_map (alternative_lines (shown_by c.args.versions) (environment_of c.args.environment.now) (packages_of c.args.versions.index.now)) done) group c.loop-rest.rest.now (c.loop-rest.invariant group regular is) (sym c.is_empty.ensures ∙ c.loop-rest-test.false)
