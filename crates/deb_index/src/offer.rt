@@ -45,8 +45,8 @@ impl<'a> Packages<'a> {
     /// Whether an offer comes before those of a name that meet a bound, is one of them, or comes
     /// behind them.
     pub(crate) fn standing(&self, offer: &Offer, crowd: u32, bound: (Op, &Version<'_>)) -> Ordering
-        ensures { result
-            ≡ standing (listed_in self.now.store.now) crowd (lent_bound_of bound.entry) offer.now }
+        ensures { result ≡ standing (listed_in self.now.store.now) crowd
+            (lent_bound_of bound.entry) offer.now }
     {
         let order = offer.crowd.cmp(&crowd);
         if order.is_ne() {
