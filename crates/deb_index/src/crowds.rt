@@ -72,7 +72,7 @@ impl Crowds {
         requires offers { AreOffers (listed_in store.now) self.now }
         ensures { IfSome result (λ found. option_map
             (λ crowd. filter (λ offer.
-                is_eq (standing (listed_in store.now) crowd (lent_bound_of bound.entry) offer))
+            is_eq (standing (listed_in store.now) crowd (lent_bound_of bound.entry) offer))
             self.now.offers.items)
             (crowd_of self.now.names.keys name.now) ≡ Some found.now) }
     {
