@@ -10,7 +10,7 @@ ghost use Rattle.debctl_ffi.specs.Relations.{GivesRelation, HasText, IsNoRelatio
 use crate::answer::{Answer, no_memory, no_room, refused, yes};
 use crate::buffer::give;
 use deb_base::{Code, Fault, Refusal};
-use deb_relation::{Relation, RelationFault};
+use deb_relation::{RelationFault, RelationText};
 use std::alloc::Global;
 
 /// Writes the canonical text of a relation to the start of `out`, and returns its length (Debian
@@ -63,10 +63,10 @@ fn canonical_relation(alloc: Global, text: &[u8]) -> Result<Vec<u8>, Fault>
     Ok(canonical)
 }
 
-fn parse_relation(alloc: Global, text: &[u8]) -> Result<Relation<'_>, Fault>
+fn parse_relation(alloc: Global, text: &[u8]) -> Result<RelationText<'_>, Fault>
     ensures { ParsesRelation text.now result }
 {
-    match Relation::parse(alloc, text) {
+    match RelationText::parse(alloc, text) {
         Ok(relation) => Ok(relation),
         Err(RelationFault::Bad { .. }) => Err(Fault::Refused(Refusal {
             code: Code::BadRelation,
