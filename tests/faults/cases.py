@@ -303,6 +303,7 @@ def many_groups():
     return [
         Case("200 groups", ["normalise"], files, "groups", written),
         Case("200 groups", query, files, None, report, b"", 1),
+        Case("200 groups", ["explain", "--relation", backwards.decode()], {}, None, b"ok\n"),
     ]
 
 
