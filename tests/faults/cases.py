@@ -296,6 +296,7 @@ def many_groups():
     """Relations of 200 groups, in an order that isn't the canonical one."""
     names = [b"p%03d" % number for number in range(1, 201)]
     backwards = b", ".join(reversed(names))
+    halves = b", ".join([*names[100:], *names[:100]])  # not one run, which is sorted without memory
     files = {"groups": P3 + b"Depends: " + backwards + b"\n"}
     written = b"Architecture: all\nDepends: " + b", ".join(names) + b"\nPackage: aa\nVersion: 1\n"
     report = b"".join(b"unmet " + name + b"\n" for name in names)
@@ -303,7 +304,7 @@ def many_groups():
     return [
         Case("200 groups", ["normalise"], files, "groups", written),
         Case("200 groups", query, files, None, report, b"", 1),
-        Case("200 groups", ["explain", "--relation", backwards.decode()], {}, None, b"ok\n"),
+        Case("200 groups", ["explain", "--relation", halves.decode()], {}, None, b"ok\n"),
     ]
 
 
