@@ -11,7 +11,6 @@ pub mod Refused
 pub mod AcceptedCases
 pub mod Laws
 pub mod Checking
-pub mod GivenParagraphs
 pub mod Calls
 pub mod Sides
 pub mod Comparing

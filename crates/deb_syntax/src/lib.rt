@@ -14,6 +14,7 @@
 //! - An error repeats at each later call, and a failed read is never taken for the end.
 #![tactic(auto)]
 
+mod dropped;
 mod ending;
 mod field_name;
 mod field_span;
@@ -22,11 +23,13 @@ mod first;
 mod folded_name;
 mod judge;
 pub mod laws;
-mod line;
+mod line_run;
 mod paragraphs;
+mod partial_line;
 mod raw;
 mod read_buffer;
 mod seen_names;
+mod skip;
 
 pub use file_cursor::FILE_LIMIT;
 pub use paragraphs::Paragraphs;
