@@ -1,11 +1,9 @@
--- What the loops that check and normalise a file know of it, and what they answer by that.
-use Rattle.deb_control.proofs.Common.{◌≡◌, ℕ, ◌+◌, List, [], ◌∷◌, ◌++◌, length, map, Option, None, Some, Result, Ok, Err, IfOk, IfNone, refl, sym, ap, ◌∙◌, subst, arith, append_assoc, append-nil, Appends-trans, length-map, Appends, newline, AppendsFront, read_failures_after, Fault, Refused, Memory, Read, Write, Refusal, AppendsFront-then, AppendsFront-more, TakesNoMore, cursor_state, file_limit, taken_none, reach_limit, checked_state, Checked, Entries, Doc, value_text, ValueMeaning, SpellsValue, value_law, IfRefused, IfCutOff, HasParagraphs, WritesCanonical, WritesRefused, WritesRead, paragraph_text, file_text, Passing, CheckedState, CheckedMoment, HasChecked, GivesPassing, GivesEnd, AnswersChecked, Checks, ChecksOn, rules_of, canonical_text, refusal_of, out_of, IsAllOf, outcome, gap_behind, body_under}
-use Rattle.deb_control.proofs.Accepting.{accepted-from_none, outcome-accepted, accepted_is_written}
+-- What is known of a file whose first paragraphs were given, and what an answer after them says.
+use Rattle.deb_control.proofs.Common.{◌≡◌, ℕ, ◌+◌, List, [], ◌∷◌, ◌++◌, length, map, Option, None, Some, Result, Ok, Err, IfOk, IfNone, sym, ap, ◌∙◌, subst, arith, length-map, read_failures_after, Fault, Refused, Memory, Read, Write, Refusal, TakesNoMore, cursor_state, file_limit, taken_none, reach_limit, checked_state, Checked, Entries, Doc, value_text, ValueMeaning, SpellsValue, value_law, IfRefused, IfCutOff, HasParagraphs, Passing, CheckedState, CheckedMoment, HasChecked, GivesEnd, AnswersChecked, Checks, ChecksOn, rules_of, refusal_of, IsAllOf, outcome, body_under, FitsChecked, GivesPassing, all_pass, map-append}
+use Rattle.deb_control.proofs.Accepting.{accepted-from_none, outcome-accepted}
 use Rattle.deb_control.proofs.Checks.{counted-err}
 use Rattle.deb_control.proofs.DocumentRules.{document_rules}
-use Rattle.deb_control.proofs.FollowedParagraphs.{outcome-from_refusal, outcome-from_end, outcome-starts}
-use Rattle.deb_control.proofs.NextChecked.{file_text-push}
-use Rattle.deb_control.proofs.ReadAlone.{read-alone}
+use Rattle.deb_control.proofs.FollowedParagraphs.{follow-all, next-all, outcome-from_end, outcome-from_refusal, passed-all}
 
 -- a reader without an error goes on
 pub goes_on : (doc : Doc) (before : CheckedMoment) (answer : Result (Option Passing) Fault) (after : CheckedMoment) → before.state.fault ≡ None → ChecksOn doc before answer after → Checks doc before answer after
@@ -17,15 +15,6 @@ sound_on doc before given after sound checks = subst (λ fault. IfNone fault (af
 
 pub failed_on : (doc : Doc) (before : CheckedMoment) (fault : Fault) (after : CheckedMoment) → before.state.fault ≡ None → ChecksOn doc before (Err fault) after → after.state.fault ≡ Some fault
 failed_on doc before fault after sound checks = subst (λ kept. IfNone kept (after.state.fault ≡ Some fault)) sound checks.keeps
-
--- the text of more paragraphs begins with that of the first ones
-pub file_text-starts : (before more : List Entries) → (rest : List ℕ) × (file_text (before ++ more) ≡ file_text before ++ rest)
-file_text-starts before [] = ([], ap file_text (append-nil before) ∙ sym (append-nil (file_text before)))
-file_text-starts [] (entries ∷ more) = (file_text (entries ∷ more), refl)
-file_text-starts (first ∷ []) (entries ∷ more) = (newline ∷ file_text (entries ∷ more), refl)
-file_text-starts (first ∷ next ∷ before) (entries ∷ more) =
-    let rest = file_text-starts (next ∷ before) (entries ∷ more) in
-    (rest.0, ap (λ text. paragraph_text first ++ newline ∷ text) rest.1 ∙ sym (append_assoc (paragraph_text first) (newline ∷ file_text (next ∷ before)) rest.0))
 
 -- A file that has only these paragraphs is accepted with them.
 pub is_all_of : (doc : Doc) (text : List ℕ) (before : List Entries) → outcome (rules_of doc) text ≡ record { passed = before; refusal = None } → IsAllOf doc text before
@@ -47,10 +36,20 @@ has_paragraphs doc text before n is counted =
       count = sym (length-map all.meaning (map (body_under value_text))) ∙ ap length all.bodies ∙ counted;
     }
 
+-- where all that were answered before pass
+pub count_all : {doc : Doc} {text : List ℕ} (before : List Entries) {state : CheckedState} {left : Option (List ℕ)} → FitsChecked doc text (all_pass before) state left → state.count ≡ length before
+count_all before fits = fits.counted ∙ ap length (passed-all before)
+
+pub again_all : {doc : Doc} {text : List ℕ} {given : Passing} {new : CheckedState} {left : Option (List ℕ)} (before : List Entries) → (gives : GivesPassing doc text (all_pass before) given new left) → FitsChecked doc text (all_pass (before ++ gives.entries ∷ [])) new left
+again_all {doc} {text} {new} {left} before gives = subst (λ l. FitsChecked doc text l new left) (sym (map-append (λ e. Ok e) before (gives.entries ∷ []))) gives.again
+
+pub outcome_at_end : (doc : Doc) (text : List ℕ) (before : List Entries) {state new : CheckedState} {left after : Option (List ℕ)} → FitsChecked doc text (all_pass before) state left → GivesEnd doc text (all_pass before) new after → outcome (rules_of doc) text ≡ record { passed = before; refusal = None }
+outcome_at_end doc text before fits end = outcome-from_end (rules_of doc) text before (follow-all (rules_of doc) text [] before fits.given) (sym (next-all (rules_of doc) text before) ∙ end.answer)
+
 -- The paragraphs that were given are all.
-pub all_checked : (doc : Doc) (text : List ℕ) (state new : CheckedState) (left left_after : Option (List ℕ)) (count : ℕ) (checked : HasChecked doc text state left) → state.count ≡ count → GivesEnd doc text checked.before new left_after → HasParagraphs doc text count
+pub all_checked : (doc : Doc) (text : List ℕ) (state new : CheckedState) (left left_after : Option (List ℕ)) (count : ℕ) (checked : HasChecked doc text state left) → state.count ≡ count → GivesEnd doc text (all_pass checked.before) new left_after → HasParagraphs doc text count
 all_checked doc text state new left left_after count checked counted end =
-    has_paragraphs doc text checked.before count (outcome-from_end (rules_of doc) text checked.before checked.fits.given end.answer) (sym checked.fits.counted ∙ counted)
+    has_paragraphs doc text checked.before count (outcome_at_end doc text checked.before checked.fits end) (sym (count_all checked.before checked.fits) ∙ counted)
 
 -- where none was given before, those that are counted are all
 pub counted_all : (doc : Doc) (text : List ℕ) (r : Result ℕ Fault) → IfOk r (λ n. HasParagraphs doc text (0 + n)) → IfOk r (HasParagraphs doc text)
@@ -64,8 +63,8 @@ has_taken checked doc text left has =
     taken_none text has.fits.passed (cursor_state p.cursor) p.overlong_len p.finished _ p.fault left has.fits.fits (reach_limit _ p.reach)
 
 -- a refusal after them is the file's, and they are all that passes
-pub refused_behind : (T : Type 0) (doc : Doc) (text : List ℕ) (state new : CheckedState) (left left_after : Option (List ℕ)) (fault : Fault) (checked : HasChecked doc text state left) → AnswersChecked doc text checked.before (Err fault) new left_after → IfRefused {T = T} (Err fault) (λ refusal. outcome (rules_of doc) text ≡ record { passed = checked.before; refusal = Some refusal })
-refused_behind T doc text state new left left_after (Refused refusal) checked answer = outcome-from_refusal (rules_of doc) text checked.before refusal checked.fits.given answer
+pub refused_behind : (T : Type 0) (doc : Doc) (text : List ℕ) (state new : CheckedState) (left left_after : Option (List ℕ)) (fault : Fault) (checked : HasChecked doc text state left) → AnswersChecked doc text (all_pass checked.before) (Err fault) new left_after → IfRefused {T = T} (Err fault) (λ refusal. outcome (rules_of doc) text ≡ record { passed = checked.before; refusal = Some refusal })
+refused_behind T doc text state new left left_after (Refused refusal) checked answer = outcome-from_refusal (rules_of doc) text checked.before refusal (follow-all (rules_of doc) text [] checked.before checked.fits.given) (sym (next-all (rules_of doc) text checked.before) ∙ answer)
 refused_behind T doc text state new left left_after Memory checked answer = tt
 refused_behind T doc text state new left left_after Read checked answer = tt
 refused_behind T doc text state new left left_after Write checked answer = tt
@@ -77,7 +76,7 @@ refused_then T P Q Memory f h = tt
 refused_then T P Q Read f h = tt
 refused_then T P Q Write f h = tt
 
-pub refusal_behind : (T : Type 0) (doc : Doc) (text : List ℕ) (state new : CheckedState) (left left_after : Option (List ℕ)) (fault : Fault) (checked : HasChecked doc text state left) → AnswersChecked doc text checked.before (Err fault) new left_after → IfRefused {T = T} (Err fault) (λ refusal. refusal_of doc text ≡ Some refusal)
+pub refusal_behind : (T : Type 0) (doc : Doc) (text : List ℕ) (state new : CheckedState) (left left_after : Option (List ℕ)) (fault : Fault) (checked : HasChecked doc text state left) → AnswersChecked doc text (all_pass checked.before) (Err fault) new left_after → IfRefused {T = T} (Err fault) (λ refusal. refusal_of doc text ≡ Some refusal)
 refusal_behind T doc text state new left left_after fault checked answer =
     refused_then T (λ refusal. outcome (rules_of doc) text ≡ record { passed = checked.before; refusal = Some refusal }) (λ refusal. refusal_of doc text ≡ Some refusal) fault
     (λ refusal is. ap (λ o. o.refusal) is) (refused_behind T doc text state new left left_after fault checked answer)
@@ -86,72 +85,18 @@ refusal_behind T doc text state new left left_after fault checked answer =
 pub counted_on : (T : Type 0) (doc : Doc) (before : CheckedMoment) (fault : Fault) (after : CheckedMoment) (n : ℕ) → Checks doc before (Err fault) after → before.source.failures ≡ n → after.source.failures ≡ read_failures_after {T = T} n (Err fault)
 counted_on T doc before fault after n checks same = checks.counted ∙ ap (λ k. read_failures_after {T = Option Passing} k (Err fault)) same ∙ counted-err (Option Passing) T n fault
 
--- What is written of the first paragraphs, where an error of the reader comes after them.
-pub writes_read : (doc : Doc) (text : List ℕ) (state : CheckedState) (left old new : Option (List ℕ)) (checked : HasChecked doc text state left) → Appends old new (file_text checked.before) → WritesRead doc text old new
-writes_read doc text state left old new checked written =
-    let fits = checked.fits in
-    let starts = outcome-starts (rules_of doc) text checked.before fits.given in
-    record {
-      read = fits.passed;
-      behind = fits.fits.overlong ++ (state.reader.unread ++ fits.fits.rest);
-      whole = fits.fits.whole;
-      closed = fits.fits.closed;
-      first = checked.before;
-      more = starts.0;
-      passed = starts.1;
-      all = fits.paragraphs;
-      alone = read-alone (rules_of doc) text fits.passed (fits.fits.overlong ++ (state.reader.unread ++ fits.fits.rest)) checked.before fits.fits.whole fits.paragraphs fits.given fits.fits.closed;
-      written = written;
-    }
-
+-- a fact for out of memory or a failed read
 pub cut_off : (T : Type 0) (fault : Fault) (P : Type 0) → P → IfCutOff {T = T} (Err fault) P
 cut_off T (Refused refusal) P h = tt
 cut_off T Memory P h = h
 cut_off T Read P h = h
 cut_off T Write P h = tt
 
--- What is written of a file that is refused after its first paragraphs.
-pub writes_refused : (T : Type 0) (doc : Doc) (text : List ℕ) (state new : CheckedState) (left left_after old held : Option (List ℕ)) (fault : Fault) (checked : HasChecked doc text state left) → Appends old held (file_text checked.before) → AnswersChecked doc text checked.before (Err fault) new left_after → IfRefused {T = T} (Err fault) (λ refusal. WritesRefused doc text refusal old held)
-writes_refused T doc text state new left left_after old held fault checked written answer =
-    refused_then T (λ refusal. outcome (rules_of doc) text ≡ record { passed = checked.before; refusal = Some refusal }) (λ refusal. WritesRefused doc text refusal old held) fault
-    (λ refusal is. record { refused = ap (λ o. o.refusal) is; written = subst (Appends old held) (ap (λ o. file_text o.passed) (sym is)) written })
-    (refused_behind T doc text state new left left_after fault checked answer)
-
--- What is written of a file whose paragraphs all pass.
-pub writes_canonical : (doc : Doc) (text : List ℕ) (state new : CheckedState) (left left_after old held : Option (List ℕ)) (count : ℕ) (checked : HasChecked doc text state left) → state.count ≡ count → Appends old held (file_text checked.before) → GivesEnd doc text checked.before new left_after → WritesCanonical doc text count old held
-writes_canonical doc text state new left left_after old held count checked counted written end =
-    let is = outcome-from_end (rules_of doc) text checked.before checked.fits.given end.answer in
-    let has = all_checked doc text state new left left_after count checked counted end in
-    let text_is : file_text checked.before ≡ canonical_text has.meaning =
-    ap (λ o. file_text o.passed) (sym is) ∙ accepted_is_written ValueMeaning (SpellsValue doc) value_text (value_law doc) (rules_of doc) (document_rules doc) text has.meaning has.accepted in
-    record { meaning = has.meaning; accepted = has.accepted; count = has.count; written = subst (Appends old held) text_is written }
-
--- one more paragraph is written after them
-pub paragraph_written : (before : List Entries) (entries : Entries) (bytes : List ℕ) (n : ℕ) (a b c : Option (List ℕ)) → length before ≡ n → bytes ≡ paragraph_text entries → Appends a b (file_text before) → Appends b c (gap_behind n ++ (bytes ++ [])) → Appends a c (file_text (before ++ entries ∷ []))
-paragraph_written before entries bytes n a b c counted is written next =
-    rw file_text-push (Appends-trans a b c (file_text before) (gap_behind (length before) ++ paragraph_text entries) written (rw (counted, ← is, ← append-nil bytes) next))
-
--- What is left where that write fails.
-pub paragraph_failed : (doc : Doc) (text : List ℕ) (before : List Entries) (given : Passing) (new : CheckedState) (left a b c : Option (List ℕ)) (bytes : List ℕ) (n : ℕ) → length before ≡ n → bytes ≡ given.text → Appends a b (file_text before) → GivesPassing doc text before given new left → AppendsFront b c (gap_behind n ++ (bytes ++ [])) → AppendsFront a c (out_of doc text)
-paragraph_failed doc text before given new left a b c bytes n counted is written gives front =
-    let starts = outcome-starts (rules_of doc) text (before ++ gives.entries ∷ []) gives.again.given in
-    let rest = file_text-starts (before ++ gives.entries ∷ []) starts.0 in
-    let all : AppendsFront a c (file_text (before ++ gives.entries ∷ [])) = rw file_text-push (AppendsFront-then a b c (file_text before) (gap_behind (length before) ++ paragraph_text gives.entries) written (rw (counted, ← gives.written, ← is, ← append-nil bytes) front)) in
-    rw (starts.1, rest.1) (AppendsFront-more a c (file_text (before ++ gives.entries ∷ [])) rest.0 all)
-
--- The first paragraphs of the file were given, and their canonical text was written.
-pub record HasWritten (doc : Doc) (text : List ℕ) (state : CheckedState) (left old new : Option (List ℕ)) : Type 0 where
-  pub checked : HasChecked doc text state left
-  pub written : Appends old new (file_text checked.before)
-
 -- what a call answers of the file, and how much was taken of it by then
-pub answers_on : {doc : Doc} {text : List ℕ} {before after : CheckedMoment} {answer : Result (Option Passing) Fault} (has : HasChecked doc text before.state before.source.bytes) → before.state.fault ≡ None → ChecksOn doc before answer after → AnswersChecked doc text has.before answer after.state after.source.bytes
-answers_on {text} has sound checks = (goes_on _ _ _ _ sound checks).answers text has.before has.fits
-
-pub taken_on : {doc : Doc} {text : List ℕ} {before after : CheckedMoment} {answer : Result (Option Passing) Fault} → HasChecked doc text before.state before.source.bytes → before.state.fault ≡ None → ChecksOn doc before answer after → TakesNoMore text file_limit after.source.bytes
-taken_on {text} has sound checks = (goes_on _ _ _ _ sound checks).taken text has.before has.fits
+pub answers_on : {doc : Doc} {text : List ℕ} {before after : CheckedMoment} {answer : Result (Option Passing) Fault} (has : HasChecked doc text before.state before.source.bytes) → before.state.fault ≡ None → ChecksOn doc before answer after → AnswersChecked doc text (all_pass has.before) answer after.state after.source.bytes
+answers_on {text} has sound checks = (goes_on _ _ _ _ sound checks).answers text (all_pass has.before) has.fits
 
 -- an answer that is no error leaves the first paragraphs given
-pub checked_on : (doc : Doc) (text : List ℕ) (before : List Entries) (given : Option Passing) (new : CheckedState) (left : Option (List ℕ)) → AnswersChecked doc text before (Ok given) new left → HasChecked doc text new left
+pub checked_on : (doc : Doc) (text : List ℕ) (before : List Entries) (given : Option Passing) (new : CheckedState) (left : Option (List ℕ)) → AnswersChecked doc text (all_pass before) (Ok given) new left → HasChecked doc text new left
 checked_on doc text before None new left ends = record { before = before; fits = ends.again }
-checked_on doc text before (Some given) new left gives = record { before = before ++ gives.entries ∷ []; fits = gives.again }
+checked_on doc text before (Some given) new left gives = record { before = before ++ gives.entries ∷ []; fits = again_all before gives }

@@ -1,8 +1,8 @@
 -- What a call of a reader of checked paragraphs says, from what its reader of paragraphs says.
-use Rattle.deb_control.proofs.Common.{◌≡◌, inl, inr, ℕ, ◌+◌, ◌<◌, ◌≤◌, ◌==◌, ◌&&◌, not, Bool, true, false, cond, leb, List, [], ◌∷◌, ◌++◌, length, is_some, option_map, Option, None, Some, Result, Ok, Err, IfOk, IfErr, IfNone, IfSome, MatchResult, IsTrue, IsSome, ◌↔◌, refl, sym, ap, ◌∙◌, subst, arith, length-append, ne_eqb, false≢true, and_parts, leb-true, read_failures_after, IsReadersFault, RefusedOrMemory, NoParagraph, TooManyParagraphs, Fault, Refused, Memory, Read, Write, Refusal, TakesNoMore, Seen, next_answer, next_begin, are_numbered, paragraphs_of, Entries, advance_answer, State, Fits, passed_count, GivesNone, Answers, AnswersBegin, Moment, Advances, Begins, is_single, Doc, paragraph_text, file_text, Passing, CheckedMoment, FitsChecked, AnswersChecked, IsRefusalOfDocument, IfRefused, Checks, ChecksOn, seen_behind, seen_in, current_answer, seen_last, passing_seen, text_built, rules_of, end_answer, given_answer, seen_found, AddsPassing, RefusesSeen, has_some, answer_of_seen, next_checked, line_behind, Totals}
+use Rattle.deb_control.proofs.Common.{◌≡◌, inl, inr, ℕ, ◌+◌, ◌<◌, ◌≤◌, ◌==◌, ◌&&◌, not, Bool, true, false, cond, leb, List, [], ◌∷◌, ◌++◌, length, is_some, option_map, Option, None, Some, Result, Ok, Err, IfOk, IfErr, IfNone, IfSome, MatchResult, IsTrue, IsSome, ◌↔◌, refl, sym, ap, ◌∙◌, subst, arith, length-append, ne_eqb, false≢true, and_parts, leb-true, read_failures_after, IsReadersFault, RefusedOrMemory, NoParagraph, TooManyParagraphs, Fault, Refused, Memory, Read, Write, Refusal, TakesNoMore, Seen, next_answer, next_begin, are_numbered, paragraphs_of, Entries, advance_answer, State, Fits, passed_count, GivesNone, Answers, AnswersBegin, Moment, Advances, Begins, is_single, Doc, paragraph_text, file_text, Passing, CheckedMoment, FitsChecked, AnswersChecked, IsRefusalOfDocument, IfRefused, Checks, ChecksOn, seen_given, seen_in, current_answer, seen_last, passing_seen, text_built, rules_of, end_answer, given_answer, seen_found, AddsPassing, RefusesSeen, has_some, answer_of_seen, next_given, line_behind, Answered, passed_in, Totals}
 use Rattle.deb_syntax.specs.Lines.{file_limit}
-use Rattle.deb_control.proofs.FollowedParagraphs.{follow-push}
-use Rattle.deb_control.proofs.NextChecked.{next_checked-seen, next_checked-second, next_checked-last, next_checked-refused, bytes-with, next_checked-passes, next_checked-unbuilt, next_checked-too_long}
+use Rattle.deb_control.proofs.FollowedParagraphs.{given-push, passed-push}
+use Rattle.deb_control.proofs.NextChecked.{next_after-seen, next_after-second, next_after-last, next_after-refused, bytes-with, next_after-passes, next_after-unbuilt, next_after-too_long}
 use Rattle.deb_control.proofs.RefusalCodes.{built-code, readers_fault}
 
 pub file_limit_is : file_limit ≡ 4294967295
@@ -51,37 +51,37 @@ module _ (doc : Doc) (shown shown_now : Option Seen) (kept kept_now : Option Fau
   there count_now bytes_now = checked_at shown_now kept_now new count_now bytes_now after failures_after
 
   -- an error of the reader of paragraphs
-  checks-err : (A : Type 0) (fault : Fault) → ((text : List ℕ) (before : List Entries) → FitsChecked doc text before here.state left → (refusal : Refusal) → fault ≡ Refused refusal → next_checked (rules_of doc) text before ≡ Err refusal) → ((text passed : List ℕ) → Fits text passed reader left → TakesNoMore text file_limit after) → failures_after ≡ read_failures_after {T = A} failures (Err fault) → IsReadersFault fault IsRefusalOfDocument → ((text : List ℕ) (before : List Entries) → FitsChecked doc text before here.state left → (refusal : Refusal) → fault ≡ Refused refusal → new.current ≡ seen_behind (rules_of doc) text before) → Checks doc here (Err fault) (there count bytes)
+  checks-err : (A : Type 0) (fault : Fault) → ((text : List ℕ) (answered : List Answered) → FitsChecked doc text answered here.state left → (refusal : Refusal) → fault ≡ Refused refusal → next_given (rules_of doc) text answered ≡ Err refusal) → ((text passed : List ℕ) → Fits text passed reader left → TakesNoMore text file_limit after) → failures_after ≡ read_failures_after {T = A} failures (Err fault) → IsReadersFault fault IsRefusalOfDocument → ((text : List ℕ) (answered : List Answered) → FitsChecked doc text answered here.state left → (refusal : Refusal) → fault ≡ Refused refusal → new.current ≡ seen_given (rules_of doc) text answered) → Checks doc here (Err fault) (there count bytes)
   checks-err A fault refused taken counted is current = record {
-    answers = λ text before fits. go fault text before (refused text before fits) is;
-    taken = λ text before fits. taken text fits.passed fits.fits;
+    answers = λ text answered fits. go fault text answered (refused text answered fits) is;
+    taken = λ text answered fits. taken text fits.passed fits.fits;
     counted = counted ∙ counted-err A (Option Passing) failures fault;
     fault = is;
     count = refl;
     few = few;
     finished = tt;
-    refused = λ text before fits. shows fault text before (current text before fits);
+    refused = λ text answered fits. shows fault text answered (current text answered fits);
   }
     where
-      shows : (f : Fault) (text : List ℕ) (before : List Entries) → ((refusal : Refusal) → f ≡ Refused refusal → new.current ≡ seen_behind (rules_of doc) text before) → IfRefused {T = Option Passing} (Err f) (λ _. new.current ≡ seen_behind (rules_of doc) text before)
-      shows (Refused refusal) text before h = h refusal refl
-      shows Memory text before h = tt
-      shows Read text before h = tt
-      shows Write text before h = tt
+      shows : (f : Fault) (text : List ℕ) (answered : List Answered) → ((refusal : Refusal) → f ≡ Refused refusal → new.current ≡ seen_given (rules_of doc) text answered) → IfRefused {T = Option Passing} (Err f) (λ _. new.current ≡ seen_given (rules_of doc) text answered)
+      shows (Refused refusal) text answered h = h refusal refl
+      shows Memory text answered h = tt
+      shows Read text answered h = tt
+      shows Write text answered h = tt
 
-      go : (f : Fault) (text : List ℕ) (before : List Entries) → ((refusal : Refusal) → f ≡ Refused refusal → next_checked (rules_of doc) text before ≡ Err refusal) → IsReadersFault f IsRefusalOfDocument → AnswersChecked doc text before (Err f) (there count bytes).state after
-      go (Refused refusal) text before h ok = h refusal refl
-      go Memory text before h ok = tt
-      go Read text before h ok = tt
-      go Write text before h ok = absurd ok
+      go : (f : Fault) (text : List ℕ) (answered : List Answered) → ((refusal : Refusal) → f ≡ Refused refusal → next_given (rules_of doc) text answered ≡ Err refusal) → IsReadersFault f IsRefusalOfDocument → AnswersChecked doc text answered (Err f) (there count bytes).state after
+      go (Refused refusal) text answered h ok = h refusal refl
+      go Memory text answered h ok = tt
+      go Read text answered h ok = tt
+      go Write text answered h ok = absurd ok
 
   -- no further paragraph
-  checks-none : ((text : List ℕ) (before : List Entries) → FitsChecked doc text before here.state left → (passed : List ℕ) → GivesNone text passed new after → passed_count passed ≡ length before → next_checked (rules_of doc) text before ≡ Ok None) → ((text passed : List ℕ) → Fits text passed reader left → GivesNone text passed new after) → ((text passed : List ℕ) → Fits text passed reader left → TakesNoMore text file_limit after) → failures_after ≡ failures → new.finished ≡ true → Checks doc here (Ok None) (there count bytes)
+  checks-none : ((text : List ℕ) (answered : List Answered) → FitsChecked doc text answered here.state left → (passed : List ℕ) → GivesNone text passed new after → passed_count passed ≡ length answered → next_given (rules_of doc) text answered ≡ Ok None) → ((text passed : List ℕ) → Fits text passed reader left → GivesNone text passed new after) → ((text passed : List ℕ) → Fits text passed reader left → TakesNoMore text file_limit after) → failures_after ≡ failures → new.finished ≡ true → Checks doc here (Ok None) (there count bytes)
   checks-none none gives taken counted ends = record {
-    answers = λ text before fits.
+    answers = λ text answered fits.
         let all = gives text fits.passed fits.fits in
         record {
-          answer = none text before fits fits.passed all fits.paragraphs;
+          answer = none text answered fits fits.passed all fits.paragraphs;
           again = record {
             passed = text;
             fits = all.again;
@@ -91,34 +91,34 @@ module _ (doc : Doc) (shown shown_now : Option Seen) (kept kept_now : Option Fau
             bytes = fits.bytes;
           };
         };
-    taken = λ text before fits. taken text fits.passed fits.fits;
+    taken = λ text answered fits. taken text fits.passed fits.fits;
     counted = counted;
     fault = tt;
     count = omega arith;
     few = few;
     finished = ends;
-    refused = λ text before fits. tt;
+    refused = λ text answered fits. tt;
   }
 
   -- what the reader of paragraphs says of the next one, where it may follow
   module _ (may : (is_single doc && not (count == 0)) ≡ false) where
-    few_of : (text : List ℕ) (before : List Entries) → FitsChecked doc text before here.state left → ((rules_of doc).single && has_some before) ≡ false
-    few_of text before fits = ap (λ t. is_single doc && t) (has_some-is before count fits.counted) ∙ may
+    few_of : (text : List ℕ) (answered : List Answered) → FitsChecked doc text answered here.state left → ((rules_of doc).single && has_some (passed_in answered)) ≡ false
+    few_of text answered fits = ap (λ t. is_single doc && t) (has_some-is (passed_in answered) count fits.counted) ∙ may
 
     -- what it shows is what is seen of the next one
-    shows_seen : (text : List ℕ) (before : List Entries) → FitsChecked doc text before here.state left → (answer : Result (Option Seen) Refusal) → next_answer text (length before) ≡ answer → new.current ≡ seen_in answer → new.current ≡ seen_behind (rules_of doc) text before
-    shows_seen text before fits answer at current = current ∙ ap seen_in (sym at) ∙ ap (λ t. cond t None (seen_in (next_answer text (length before)))) (sym (few_of text before fits))
+    shows_seen : (text : List ℕ) (answered : List Answered) → FitsChecked doc text answered here.state left → (answer : Result (Option Seen) Refusal) → next_answer text (length answered) ≡ answer → new.current ≡ seen_in answer → new.current ≡ seen_given (rules_of doc) text answered
+    shows_seen text answered fits answer at current = current ∙ ap seen_in (sym at) ∙ ap (λ t. cond t None (seen_in (next_answer text (length answered)))) (sym (few_of text answered fits))
 
     pub checks-advance_err : (fault : Fault) → Advances (reader_at reader left failures) (Err fault) (reader_at new after failures_after) → Checks doc here (Err fault) (there count bytes)
     checks-advance_err fault advances = checks-err (Option Seen) fault
-        (λ text before fits refusal is.
+        (λ text answered fits refusal is.
         let answers : Answers text fits.passed (Err (Refused refusal)) new after = subst (λ f. Answers text fits.passed (Err f) new after) is (advances.answers text fits.passed fits.fits) in
-        let at : next_answer text (length before) ≡ Err refusal = ap (next_answer text) (sym fits.paragraphs) ∙ answers in
-        next_checked-seen (rules_of doc) text before (few_of text before fits) ∙ ap (answer_of_seen (rules_of doc) (line_behind text) before) at)
+        let at : next_answer text (length answered) ≡ Err refusal = ap (next_answer text) (sym fits.paragraphs) ∙ answers in
+        next_after-seen (rules_of doc) text (length answered) (passed_in answered) (few_of text answered fits) ∙ ap (answer_of_seen (rules_of doc) (line_behind text) (passed_in answered)) at)
         advances.taken advances.counted (readers_fault fault advances.fault)
-        (λ text before fits refusal is.
+        (λ text answered fits refusal is.
         let answers : Answers text fits.passed (Err (Refused refusal)) new after = subst (λ f. Answers text fits.passed (Err f) new after) is (advances.answers text fits.passed fits.fits) in
-        shows_seen text before fits (Err refusal) (ap (next_answer text) (sym fits.paragraphs) ∙ answers) advances.current)
+        shows_seen text answered fits (Err refusal) (ap (next_answer text) (sym fits.paragraphs) ∙ answers) advances.current)
 
     -- none follows: one is missing, or none is
     pub checks-end : (totals : Totals) (lines : ℕ) (given : Passing) (answer : Result (Option Seen) Fault) (result : Result Bool Fault) → totals.paragraphs ≡ count → answer ≡ Ok None → Advances (reader_at reader left failures) answer (reader_at new after failures_after) → (new.finished ≡ true → lines ≡ new.lines) → result ≡ end_answer doc totals lines → Checks doc here (given_answer given result) (there count bytes)
@@ -129,46 +129,46 @@ module _ (doc : Doc) (shown shown_now : Option Seen) (kept kept_now : Option Fau
         advances : Advances (reader_at reader left failures) (Ok None) (reader_at new after failures_after)
         advances = subst (λ a. Advances (reader_at reader left failures) a (reader_at new after failures_after)) none goes
 
-        behind : (text : List ℕ) (before : List Entries) → FitsChecked doc text before here.state left → (passed : List ℕ) → GivesNone text passed new after → passed_count passed ≡ length before → next_checked (rules_of doc) text before ≡ cond (is_single doc && (totals.paragraphs == 0)) (Err (record { code = NoParagraph; line = line_behind text })) (Ok None)
-        behind text before fits passed all counts =
-            next_checked-seen (rules_of doc) text before (few_of text before fits)
-            ∙ ap (answer_of_seen (rules_of doc) (line_behind text) before) (ap (next_answer text) (sym counts) ∙ all.answer)
-            ∙ ap (λ t. cond (is_single doc && t) (Err (record { code = NoParagraph; line = line_behind text })) (Ok None)) (sym (none-test before totals.paragraphs (same ∙ fits.counted)))
+        behind : (text : List ℕ) (answered : List Answered) → FitsChecked doc text answered here.state left → (passed : List ℕ) → GivesNone text passed new after → passed_count passed ≡ length answered → next_given (rules_of doc) text answered ≡ cond (is_single doc && (totals.paragraphs == 0)) (Err (record { code = NoParagraph; line = line_behind text })) (Ok None)
+        behind text answered fits passed all counts =
+            next_after-seen (rules_of doc) text (length answered) (passed_in answered) (few_of text answered fits)
+            ∙ ap (answer_of_seen (rules_of doc) (line_behind text) (passed_in answered)) (ap (next_answer text) (sym counts) ∙ all.answer)
+            ∙ ap (λ t. cond (is_single doc && t) (Err (record { code = NoParagraph; line = line_behind text })) (Ok None)) (sym (none-test (passed_in answered) totals.paragraphs (same ∙ fits.counted)))
 
         go : (t : Bool) → (is_single doc && (totals.paragraphs == 0)) ≡ t → Checks doc here (given_answer given (cond t (Err (Refused (record { code = NoParagraph; line = lines + 1 }))) (Ok false))) (there count bytes)
-        go false e = checks-none (λ text before fits passed all counts. behind text before fits passed all counts ∙ ap (λ t. cond t (Err (record { code = NoParagraph; line = line_behind text })) (Ok None)) e) advances.answers advances.taken advances.counted advances.finished
+        go false e = checks-none (λ text answered fits passed all counts. behind text answered fits passed all counts ∙ ap (λ t. cond t (Err (record { code = NoParagraph; line = line_behind text })) (Ok None)) e) advances.answers advances.taken advances.counted advances.finished
         go true e = record {
-          answers = λ text before fits.
+          answers = λ text answered fits.
               let all = advances.answers text fits.passed fits.fits in
               let line : line_behind text ≡ lines + 1 = omega (arith, all.again.lines, numbered all.finished) in
-              behind text before fits fits.passed all fits.paragraphs
+              behind text answered fits fits.passed all fits.paragraphs
               ∙ ap (λ t. cond t (Err (record { code = NoParagraph; line = line_behind text })) (Ok None)) e
               ∙ ap (λ n. Err (record { code = NoParagraph; line = n })) line;
-          taken = λ text before fits. advances.taken text fits.passed fits.fits;
+          taken = λ text answered fits. advances.taken text fits.passed fits.fits;
           counted = advances.counted;
           fault = record { least = omega arith; most = omega arith; line = omega arith };
           count = refl;
           few = few;
           finished = tt;
-          refused = λ text before fits. let all = advances.answers text fits.passed fits.fits in shows_seen text before fits (Ok None) (ap (next_answer text) (sym fits.paragraphs) ∙ all.answer) advances.current;
+          refused = λ text answered fits. let all = advances.answers text fits.passed fits.fits in shows_seen text answered fits (Ok None) (ap (next_answer text) (sym fits.paragraphs) ∙ all.answer) advances.current;
         }
 
     -- the next one is refused
     pub checks-unpassed : (totals : Totals) (seen : Seen) (fault : Fault) → are_numbered seen.first seen.fields ≡ true → totals.paragraphs ≡ count → totals.bytes ≡ bytes → Advances (reader_at reader left failures) (Ok (Some seen)) (reader_at new after failures_after) → RefusedOrMemory fault (RefusesSeen doc seen totals) → Checks doc here (Err fault) (there count bytes)
-    checks-unpassed totals seen Memory numbered counted is advances refused = record { answers = λ text before fits. tt; taken = λ text before fits. advances.taken text fits.passed fits.fits; counted = advances.counted; fault = tt; count = refl; few = few; finished = tt; refused = λ text before fits. tt }
+    checks-unpassed totals seen Memory numbered counted is advances refused = record { answers = λ text answered fits. tt; taken = λ text answered fits. advances.taken text fits.passed fits.fits; counted = advances.counted; fault = tt; count = refl; few = few; finished = tt; refused = λ text answered fits. tt }
     checks-unpassed totals seen Read numbered counted is advances refused = absurd refused
     checks-unpassed totals seen Write numbered counted is advances refused = absurd refused
     checks-unpassed totals seen (Refused refusal) numbered counted is advances refused = record {
-      answers = λ text before fits.
+      answers = λ text answered fits.
           let next = advances.answers text fits.passed fits.fits in
-          let at : next_answer text (length before) ≡ Ok (Some seen) = ap (next_answer text) (sym fits.paragraphs) ∙ next.answer in
+          let at : next_answer text (length answered) ≡ Ok (Some seen) = ap (next_answer text) (sym fits.paragraphs) ∙ next.answer in
           elim refused [
-            | inl unbuilt ↦ next_checked-unbuilt (rules_of doc) text before seen (few_of text before fits) at refusal unbuilt
+            | inl unbuilt ↦ next_after-unbuilt (rules_of doc) text (length answered) (passed_in answered) seen (few_of text answered fits) at refusal unbuilt
             | inr long ↦
-                let more = bytes-with before long.entries totals.paragraphs totals.bytes (counted ∙ fits.counted) (is ∙ fits.bytes) in
-                next_checked-too_long (rules_of doc) text before seen (few_of text before fits) at long.entries long.built (subst (λ n. file_limit < n) more long.long) ∙ ap Err (sym long.is)
+                let more = bytes-with (passed_in answered) long.entries totals.paragraphs totals.bytes (counted ∙ fits.counted) (is ∙ fits.bytes) in
+                next_after-too_long (rules_of doc) text (length answered) (passed_in answered) seen (few_of text answered fits) at long.entries long.built (subst (λ n. file_limit < n) more long.long) ∙ ap Err (sym long.is)
           ];
-      taken = λ text before fits. advances.taken text fits.passed fits.fits;
+      taken = λ text answered fits. advances.taken text fits.passed fits.fits;
       counted = advances.counted;
       fault = elim refused [
         | inl unbuilt ↦ built-code doc seen refusal numbered unbuilt
@@ -177,17 +177,17 @@ module _ (doc : Doc) (shown shown_now : Option Seen) (kept kept_now : Option Fau
       count = refl;
       few = few;
       finished = tt;
-      refused = λ text before fits. let next = advances.answers text fits.passed fits.fits in shows_seen text before fits (Ok (Some seen)) (ap (next_answer text) (sym fits.paragraphs) ∙ next.answer) advances.current;
+      refused = λ text answered fits. let next = advances.answers text fits.passed fits.fits in shows_seen text answered fits (Ok (Some seen)) (ap (next_answer text) (sym fits.paragraphs) ∙ next.answer) advances.current;
     }
 
     -- the next one passes
     pub checks-passes : (totals totals_now : Totals) (seen : Seen) → totals.paragraphs ≡ count → totals.bytes ≡ bytes → Advances (reader_at reader left failures) (Ok (Some seen)) (reader_at new after failures_after) → (adds : AddsPassing doc seen totals totals_now) → totals_now.paragraphs ≤ file_limit + 1 → Checks doc here (Ok (Some (record { seen = seen; text = paragraph_text adds.entries }))) (there totals_now.paragraphs totals_now.bytes)
     checks-passes totals totals_now seen counted is advances adds few_now = record {
-      answers = λ text before fits.
+      answers = λ text answered fits.
           let next = advances.answers text fits.passed fits.fits in
-          let at : next_answer text (length before) ≡ Ok (Some seen) = ap (next_answer text) (sym fits.paragraphs) ∙ next.answer in
-          let more : totals_now.bytes ≡ length (file_text (before ++ adds.entries ∷ [])) = adds.bytes ∙ bytes-with before adds.entries totals.paragraphs totals.bytes (counted ∙ fits.counted) (is ∙ fits.bytes) in
-          let passes : next_checked (rules_of doc) text before ≡ Ok (Some adds.entries) = next_checked-passes (rules_of doc) text before seen (few_of text before fits) at adds.entries adds.built (subst (λ n. n ≤ file_limit) more adds.within) in
+          let at : next_answer text (length answered) ≡ Ok (Some seen) = ap (next_answer text) (sym fits.paragraphs) ∙ next.answer in
+          let more : totals_now.bytes ≡ length (file_text (passed_in answered ++ adds.entries ∷ [])) = adds.bytes ∙ bytes-with (passed_in answered) adds.entries totals.paragraphs totals.bytes (counted ∙ fits.counted) (is ∙ fits.bytes) in
+          let passes : next_given (rules_of doc) text answered ≡ Ok (Some adds.entries) = next_after-passes (rules_of doc) text (length answered) (passed_in answered) seen (few_of text answered fits) at adds.entries adds.built (subst (λ n. n ≤ file_limit) more adds.within) in
           record {
             entries = adds.entries;
             answer = passes;
@@ -197,19 +197,19 @@ module _ (doc : Doc) (shown shown_now : Option Seen) (kept kept_now : Option Fau
             again = record {
               passed = next.passed_now;
               fits = next.again;
-              given = follow-push (rules_of doc) text [] before adds.entries fits.given passes;
-              paragraphs = ap length next.passes ∙ length-append (paragraphs_of fits.passed) (next.paragraph ∷ []) ∙ ap (λ n. n + 1) fits.paragraphs ∙ sym (length-append before (adds.entries ∷ []));
-              counted = adds.paragraphs ∙ ap (λ n. n + 1) (counted ∙ fits.counted) ∙ sym (length-append before (adds.entries ∷ []));
-              bytes = more;
+              given = given-push (rules_of doc) text [] answered (Ok adds.entries) fits.given passes;
+              paragraphs = ap length next.passes ∙ length-append (paragraphs_of fits.passed) (next.paragraph ∷ []) ∙ ap (λ n. n + 1) fits.paragraphs ∙ sym (length-append answered (Ok adds.entries ∷ []));
+              counted = adds.paragraphs ∙ ap (λ n. n + 1) (counted ∙ fits.counted) ∙ sym (length-append (passed_in answered) (adds.entries ∷ [])) ∙ ap length (sym (passed-push answered adds.entries));
+              bytes = more ∙ ap (λ l. length (file_text l)) (sym (passed-push answered adds.entries));
             };
           };
-      taken = λ text before fits. advances.taken text fits.passed fits.fits;
+      taken = λ text answered fits. advances.taken text fits.passed fits.fits;
       counted = advances.counted;
       fault = tt;
       count = adds.paragraphs ∙ ap (λ n. n + 1) counted;
       few = few_now;
       finished = tt;
-      refused = λ text before fits. tt;
+      refused = λ text answered fits. tt;
     }
 
     -- the next one is checked
@@ -232,38 +232,38 @@ module _ (doc : Doc) (shown shown_now : Option Seen) (kept kept_now : Option Fau
     single : is_single doc ≡ true
     single = (and_parts (is_single doc) (not (count == 0)) complete).0
 
-    second : (text : List ℕ) (before : List Entries) → FitsChecked doc text before here.state left → has_some before ≡ true
-    second text before fits = has_some-is before count fits.counted ∙ (and_parts (is_single doc) (not (count == 0)) complete).1
+    second : (text : List ℕ) (answered : List Answered) → FitsChecked doc text answered here.state left → has_some (passed_in answered) ≡ true
+    second text answered fits = has_some-is (passed_in answered) count fits.counted ∙ (and_parts (is_single doc) (not (count == 0)) complete).1
 
     -- nothing is seen of it
-    shows_none : (text : List ℕ) (before : List Entries) → FitsChecked doc text before here.state left → new.current ≡ None → new.current ≡ seen_behind (rules_of doc) text before
-    shows_none text before fits none = none ∙ rw (single, second text before fits) refl
+    shows_none : (text : List ℕ) (answered : List Answered) → FitsChecked doc text answered here.state left → new.current ≡ None → new.current ≡ seen_given (rules_of doc) text answered
+    shows_none text answered fits none = none ∙ rw (single, second text answered fits) refl
 
     pub checks-begins_err : (fault : Fault) → Begins (reader_at reader left failures) (Err fault) (reader_at new after failures_after) → Checks doc here (Err fault) (there count bytes)
     checks-begins_err fault begins = checks-err (Option ℕ) fault
-        (λ text before fits refusal is.
+        (λ text answered fits refusal is.
         let answers : AnswersBegin text fits.passed (Err (Refused refusal)) new after = subst (λ f. AnswersBegin text fits.passed (Err f) new after) is (begins.answers text fits.passed fits.fits) in
-        next_checked-refused (rules_of doc) text before single (second text before fits) refusal (ap (next_begin text) (sym fits.paragraphs) ∙ answers))
+        next_after-refused (rules_of doc) text (length answered) (passed_in answered) single (second text answered fits) refusal (ap (next_begin text) (sym fits.paragraphs) ∙ answers))
         begins.taken begins.counted (readers_fault fault begins.fault)
-        (λ text before fits refusal is. shows_none text before fits begins.current)
+        (λ text answered fits refusal is. shows_none text answered fits begins.current)
 
     pub checks-begins_none : Begins (reader_at reader left failures) (Ok None) (reader_at new after failures_after) → Checks doc here (Ok None) (there count bytes)
     checks-begins_none begins = checks-none
-        (λ text before fits passed all counts. next_checked-last (rules_of doc) text before single (second text before fits) (ap (next_begin text) (sym counts) ∙ all.begin))
+        (λ text answered fits passed all counts. next_after-last (rules_of doc) text (length answered) (passed_in answered) single (second text answered fits) (ap (next_begin text) (sym counts) ∙ all.begin))
         begins.answers begins.taken begins.counted begins.finished
 
     pub checks-begins_some : (line : ℕ) → Begins (reader_at reader left failures) (Ok (Some line)) (reader_at new after failures_after) → Checks doc here (Err (Refused (record { code = TooManyParagraphs; line = line }))) (there count bytes)
     checks-begins_some line begins = record {
-      answers = λ text before fits.
+      answers = λ text answered fits.
           let gives = begins.answers text fits.passed fits.fits in
-          next_checked-second (rules_of doc) text before single (second text before fits) line (ap (next_begin text) (sym fits.paragraphs) ∙ gives.begin);
-      taken = λ text before fits. begins.taken text fits.passed fits.fits;
+          next_after-second (rules_of doc) text (length answered) (passed_in answered) single (second text answered fits) line (ap (next_begin text) (sym fits.paragraphs) ∙ gives.begin);
+      taken = λ text answered fits. begins.taken text fits.passed fits.fits;
       counted = begins.counted;
       fault = record { least = omega arith; most = omega arith; line = begins.line };
       count = refl;
       few = few;
       finished = tt;
-      refused = λ text before fits. shows_none text before fits begins.current;
+      refused = λ text answered fits. shows_none text answered fits begins.current;
     }
 
 -- where a paragraph was found, it is the one that is given

@@ -80,12 +80,12 @@ pub use Rattle.deb_syntax.specs.Reading.{Advances, Answers, AnswersBegin, Begins
 pub use Rattle.deb_syntax.specs.declared.raw.RawField.{RawField}
 pub use Rattle.deb_control.specs.Acceptance.{IsAccepted, has_values}
 pub use Rattle.deb_control.specs.AcceptanceLaws.{AcceptedIsWritten, AcceptedMeansOneThing, CanonicalTextIsAccepted, CanonicalTextIsItsOwn, CanonicalTextTellsAccepted, RefusedOrAccepted}
-pub use Rattle.deb_control.specs.Refused.{seen_behind, seen_in}
+pub use Rattle.deb_control.specs.Refused.{seen_given, seen_in}
 pub use Rattle.deb_control.specs.Calls.{HasParagraphs, IfCutOff, IfRefused, WritesCanonical, WritesRead, WritesRefused}
 pub use Rattle.deb_control.specs.Canonical.{behind_colon, field_text, file_text, paragraph_text}
 pub use Rattle.deb_control.specs.CheckedStates.{checked_moment, checked_state, passing_of}
 pub use Rattle.deb_control.specs.CanonTexts.{HoldsText, HoldsTexts, name_in, names_ascend, part_of, text_in}
-pub use Rattle.deb_control.specs.Checking.{AnswersChecked, CheckedMoment, CheckedState, Checks, ChecksOn, FitsChecked, Follow, GivesEnd, GivesPassing, HasChecked, IsRefusalOfDocument, Passing, current_answer, is_judged, is_passing, is_text_of, passing_seen, seen_last, text_built}
+pub use Rattle.deb_control.specs.Checking.{AnswersChecked, CheckedMoment, CheckedState, Checks, ChecksOn, FitsChecked, Follow, FollowGiven, GivesEnd, GivesPassing, HasChecked, IsRefusalOfDocument, Passing, current_answer, is_judged, is_passing, is_text_of, all_pass, passing_seen, seen_last, text_built, whole_answer}
 pub use Rattle.deb_control.specs.Comparing.{Agrees, RefusesSecond, AnswersSame}
 pub use Rattle.deb_control.specs.Documents.{Meaning, canonical_text, out_of, refusal_of, rules_of, text_unless_refused}
 pub use Rattle.deb_control.specs.Finding.{AddsPassing, RefusesSeen, end_answer, given_answer, seen_found}
@@ -95,7 +95,7 @@ pub use Rattle.deb_control.specs.ParagraphValues.{values_of}
 pub use Rattle.deb_control.specs.Paragraphs.{AreValuesOf, IsTypedField, field_in, text_of_values, values_in}
 pub use Rattle.deb_control.specs.PassingValues.{HasValue}
 pub use Rattle.deb_control.specs.ReadingOn.{ReadsFile, ReadsOn, shown}
-pub use Rattle.deb_control.specs.Refusals.{Outcome, answer_behind, answer_of_seen, built, canonical_entries, canonical_field, followed, has_some, have_names, line_behind, next_checked, outcome, outcome_behind, refusal_by, refusal_or, refused_or_built, stopped, value_refusal_of, within_file}
+pub use Rattle.deb_control.specs.Refusals.{Answered, Outcome, answer_behind, answer_of_seen, built, canonical_entries, canonical_field, followed, has_some, have_names, line_behind, next_after, next_checked, next_given, outcome, outcome_behind, passed_in, refusal_by, refusal_or, refused_or_built, stopped, value_refusal_of, within_file}
 pub use Rattle.deb_control.specs.Rules.{AreRulesOf, Rules}
 pub use Rattle.deb_control.specs.Sorting.{comes_before, name_before}
 pub use Rattle.deb_control.specs.Totals.{bytes_with, gap_behind}

@@ -1,9 +1,9 @@
 -- What the loop that compares two files knows of them, and what is answered by that.
-use Rattle.deb_control.proofs.Common.{◌≡◌, ◌↔◌, ℕ, Bool, true, false, List, [], ◌∷◌, ◌++◌, length, Option, None, Some, Ok, IsTrue, refl, sym, ap, ◌∙◌, arith, length-append, false≢true, is_none, Entries, Doc, value_text, ValueMeaning, SpellsValue, value_law, HasParagraphs, paragraph_text, file_text, Passing, CheckedMoment, FitsChecked, HasChecked, AnswersChecked, ChecksOn, AnswersSame, Agrees, rules_of, Meaning, canonical_text, refusal_of, outcome, bodies_of}
+use Rattle.deb_control.proofs.Common.{◌≡◌, ◌↔◌, ℕ, Bool, true, false, List, [], ◌∷◌, ◌++◌, length, Option, None, Some, Ok, IsTrue, refl, sym, ap, ◌∙◌, arith, length-append, false≢true, is_none, Entries, Doc, value_text, ValueMeaning, SpellsValue, value_law, HasParagraphs, paragraph_text, file_text, Passing, CheckedMoment, FitsChecked, HasChecked, AnswersChecked, all_pass, ChecksOn, AnswersSame, Agrees, rules_of, Meaning, canonical_text, refusal_of, outcome, bodies_of}
 use Rattle.deb_control.proofs.Accepting.{accepted-from_none, outcome-accepted, canonical_text_tells_accepted}
-use Rattle.deb_control.proofs.CheckedSoFar.{goes_on}
+use Rattle.deb_control.proofs.CheckedSoFar.{again_all, goes_on, outcome_at_end}
 use Rattle.deb_control.proofs.DocumentRules.{document_rules}
-use Rattle.deb_control.proofs.FollowedParagraphs.{outcome-from_end, outcome-starts}
+use Rattle.deb_control.proofs.FollowedParagraphs.{follow-all, outcome-starts}
 use Rattle.deb_control.proofs.NextChecked.{file_text-push}
 
 -- As many first paragraphs of both files were given, with the same canonical text.
@@ -41,31 +41,31 @@ Compared doc text other new new_too (Some given) (Some given_too) = (given.text 
 
 pub compared : (doc : Doc) (text other : List ℕ) (one two new new_too : CheckedMoment) (given given_too : Option Passing) → HaveAgreed doc text other one two → one.state.fault ≡ None → two.state.fault ≡ None → ChecksOn doc one (Ok given) new → ChecksOn doc two (Ok given_too) new_too → Compared doc text other new new_too given given_too
 compared doc text other one two new new_too given given_too agreed sound sound_too checks checks_too =
-    go given given_too ((goes_on _ _ _ _ sound checks).answers text agreed.first.before agreed.first.fits) ((goes_on _ _ _ _ sound_too checks_too).answers other agreed.second.before agreed.second.fits)
+    go given given_too ((goes_on _ _ _ _ sound checks).answers text (all_pass agreed.first.before) agreed.first.fits) ((goes_on _ _ _ _ sound_too checks_too).answers other (all_pass agreed.second.before) agreed.second.fits)
   where
-    go : (given given_too : Option Passing) → AnswersChecked doc text agreed.first.before (Ok given) new.state new.source.bytes → AnswersChecked doc other agreed.second.before (Ok given_too) new_too.state new_too.source.bytes → Compared doc text other new new_too given given_too
+    go : (given given_too : Option Passing) → AnswersChecked doc text (all_pass agreed.first.before) (Ok given) new.state new.source.bytes → AnswersChecked doc other (all_pass agreed.second.before) (Ok given_too) new_too.state new_too.source.bytes → Compared doc text other new new_too given given_too
     go None None end end_too =
-        let is = outcome-from_end (rules_of doc) text agreed.first.before agreed.first.fits.given end.answer in
-        let is_too = outcome-from_end (rules_of doc) other agreed.second.before agreed.second.fits.given end_too.answer in
+        let is = outcome_at_end doc text agreed.first.before agreed.first.fits end in
+        let is_too = outcome_at_end doc other agreed.second.before agreed.second.fits end_too in
         record { passes = ap (λ o. o.refusal) is; other_passes = ap (λ o. o.refusal) is_too; written = ap (λ o. file_text o.passed) is ∙ agreed.texts ∙ sym (ap (λ o. file_text o.passed) is_too) }
     go None (Some given_too) end gives_too = λ same.
-        let is = outcome-from_end (rules_of doc) text agreed.first.before agreed.first.fits.given end.answer in
-        let starts = outcome-starts (rules_of doc) other (agreed.second.before ++ gives_too.entries ∷ []) gives_too.again.given in
+        let is = outcome_at_end doc text agreed.first.before agreed.first.fits end in
+        let starts = outcome-starts (rules_of doc) other (agreed.second.before ++ gives_too.entries ∷ []) (follow-all (rules_of doc) other [] _ (again_all agreed.second.before gives_too).given) in
         no_more agreed.first.before agreed.second.before gives_too.entries starts.0 agreed.counts (sym (ap (λ o. o.passed) is) ∙ same ∙ starts.1)
     go (Some given) None gives end_too = λ same.
-        let is = outcome-from_end (rules_of doc) other agreed.second.before agreed.second.fits.given end_too.answer in
-        let starts = outcome-starts (rules_of doc) text (agreed.first.before ++ gives.entries ∷ []) gives.again.given in
+        let is = outcome_at_end doc other agreed.second.before agreed.second.fits end_too in
+        let starts = outcome-starts (rules_of doc) text (agreed.first.before ++ gives.entries ∷ []) (follow-all (rules_of doc) text [] _ (again_all agreed.first.before gives).given) in
         no_more agreed.second.before agreed.first.before gives.entries starts.0 (sym agreed.counts) (sym (ap (λ o. o.passed) is) ∙ sym same ∙ starts.1)
     go (Some given) (Some given_too) gives gives_too = (
       λ same. record {
-        first = record { before = _; fits = gives.again };
-        second = record { before = _; fits = gives_too.again };
+        first = record { before = _; fits = again_all agreed.first.before gives };
+        second = record { before = _; fits = again_all agreed.second.before gives_too };
         counts = omega (arith, agreed.counts, length-append agreed.first.before (gives.entries ∷ []), length-append agreed.second.before (gives_too.entries ∷ []));
         texts = texts-push agreed.first.before agreed.second.before gives.entries gives_too.entries agreed.counts agreed.texts (sym gives.written ∙ same ∙ gives_too.written);
       },
       λ differ same.
-          let starts = outcome-starts (rules_of doc) text (agreed.first.before ++ gives.entries ∷ []) gives.again.given in
-          let starts_too = outcome-starts (rules_of doc) other (agreed.second.before ++ gives_too.entries ∷ []) gives_too.again.given in
+          let starts = outcome-starts (rules_of doc) text (agreed.first.before ++ gives.entries ∷ []) (follow-all (rules_of doc) text [] _ (again_all agreed.first.before gives).given) in
+          let starts_too = outcome-starts (rules_of doc) other (agreed.second.before ++ gives_too.entries ∷ []) (follow-all (rules_of doc) other [] _ (again_all agreed.second.before gives_too).given) in
           let entries_same = same_place agreed.first.before agreed.second.before gives.entries gives_too.entries starts.0 starts_too.0 agreed.counts (sym starts.1 ∙ same ∙ starts_too.1) in
           differ (gives.written ∙ ap paragraph_text entries_same ∙ sym gives_too.written),
     )

@@ -1,11 +1,50 @@
 -- What comes of a file after its first paragraphs, which have passed.
-use Rattle.deb_control.proofs.Common.{◌≡◌, ℕ, zero, suc, ◌+◌, List, [], ◌∷◌, ◌++◌, ◌&&◌, not, Bool, true, false, cond, length, drop, Option, None, Some, Result, Ok, Err, refl, sym, ap, ◌∙◌, subst, arith, append-nil, length-append, NoParagraph, Refusal, line_beyond, answer_of_first, paragraphs_within, Paragraph, file_limit, Entries, push-append, Follow, has_some, answer_of_seen, answer_behind, next_checked, Outcome, stopped, followed, outcome_behind, outcome, line_behind, Rules}
+use Rattle.deb_control.proofs.Common.{◌≡◌, ℕ, zero, suc, ◌+◌, List, [], ◌∷◌, ◌++◌, ◌&&◌, not, Bool, true, false, cond, length, drop, Option, None, Some, Result, Ok, Err, refl, sym, ap, ◌∙◌, subst, arith, append-nil, length-append, NoParagraph, Refusal, line_beyond, answer_of_first, paragraphs_within, Paragraph, file_limit, Entries, push-append, Answered, Follow, FollowGiven, all_pass, whole_answer, length-map, map-append, next_after, next_given, passed_in, has_some, answer_of_seen, answer_behind, next_checked, Outcome, stopped, followed, outcome_behind, outcome, line_behind, Rules}
 
 -- one paragraph more follows
 pub follow-push : (rules : Rules) (text : List ℕ) (front more : List Entries) (entries : Entries) → Follow rules text front more → next_checked rules text (front ++ more) ≡ Ok (Some entries) → Follow rules text front (more ++ entries ∷ [])
 follow-push rules text front [] entries follow next = (subst (λ m. next_checked rules text m ≡ Ok (Some entries)) (append-nil front) next, tt)
 follow-push rules text front (first ∷ more) entries follow next =
     (follow.0, follow-push rules text (front ++ first ∷ []) more entries follow.1 (subst (λ m. next_checked rules text m ≡ Ok (Some entries)) (sym (push-append front first more)) next))
+
+-- the same by what was answered of each
+pub given-push : (rules : Rules) (text : List ℕ) (front more : List Answered) (answer : Answered) → FollowGiven rules text front more → next_given rules text (front ++ more) ≡ whole_answer answer → FollowGiven rules text front (more ++ answer ∷ [])
+given-push rules text front [] answer follow next = (subst (λ m. next_given rules text m ≡ whole_answer answer) (append-nil front) next, tt)
+given-push rules text front (first ∷ more) answer follow next =
+    (follow.0, given-push rules text (front ++ first ∷ []) more answer follow.1 (subst (λ m. next_given rules text m ≡ whole_answer answer) (sym (push-append front first more)) next))
+
+-- those that passed
+pub passed-push : (answered : List Answered) (entries : Entries) → passed_in (answered ++ Ok entries ∷ []) ≡ passed_in answered ++ entries ∷ []
+passed-push [] entries = refl
+passed-push (Ok first ∷ answered) entries = ap (λ l. first ∷ l) (passed-push answered entries)
+passed-push (Err refusal ∷ answered) entries = passed-push answered entries
+
+pub refused-push : (answered : List Answered) (refusal : Refusal) → passed_in (answered ++ Err refusal ∷ []) ≡ passed_in answered
+refused-push [] refusal = refl
+refused-push (Ok first ∷ answered) refusal = ap (λ l. first ∷ l) (refused-push answered refusal)
+refused-push (Err other ∷ answered) refusal = refused-push answered refusal
+
+-- where all did
+pub passed-all : (before : List Entries) → passed_in (all_pass before) ≡ before
+passed-all [] = refl
+passed-all (entries ∷ before) = ap (λ l. entries ∷ l) (passed-all before)
+
+pub next-all : (rules : Rules) (text : List ℕ) (before : List Entries) → next_given rules text (all_pass before) ≡ next_checked rules text before
+next-all rules text before = ap (λ l. next_after rules text (length (all_pass before)) l) (passed-all before) ∙ ap (λ k. next_after rules text k before) (length-map before (λ entries. Ok entries))
+
+pub follow-all : (rules : Rules) (text : List ℕ) (front more : List Entries) → FollowGiven rules text (all_pass front) (all_pass more) → Follow rules text front more
+follow-all rules text front [] follow = tt
+follow-all rules text front (entries ∷ more) follow = (
+  sym (next-all rules text front) ∙ follow.0,
+  follow-all rules text (front ++ entries ∷ []) more (subst (λ l. FollowGiven rules text l (all_pass more)) (sym (map-append (λ e. Ok e) front (entries ∷ []))) follow.1),
+)
+
+pub all-follow : (rules : Rules) (text : List ℕ) (front more : List Entries) → Follow rules text front more → FollowGiven rules text (all_pass front) (all_pass more)
+all-follow rules text front [] follow = tt
+all-follow rules text front (entries ∷ more) follow = (
+  next-all rules text front ∙ follow.0,
+  subst (λ l. FollowGiven rules text l (all_pass more)) (map-append (λ e. Ok e) front (entries ∷ [])) (all-follow rules text (front ++ entries ∷ []) more follow.1),
+)
 
 suc_plus : (k : ℕ) → suc k + 1 ≡ suc (k + 1)
 suc_plus k = omega arith

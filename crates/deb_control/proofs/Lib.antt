@@ -31,6 +31,9 @@ pub mod ReadingOn
 pub mod ComparedSoFar
 pub mod PartsWithin
 pub mod ReadAlone
+pub mod ShownSoFar
+pub mod WrittenSoFar
+pub mod GivenValues
 pub mod RefusalLines
 pub mod RefusedLines
 pub mod Resuming

@@ -1,5 +1,5 @@
 -- Reading on in a file, a call at a time.
-use Rattle.deb_control.proofs.Common.{◌≡◌, ℕ, List, [], Option, None, Some, Result, Ok, Err, IfOk, refl, ap, ◌∙◌, ⊤, Shown, read_failures_after, Fault, Doc, checked_state, checked_moment, Passing, FitsChecked, ChecksOn, ReadsFile, ReadsOn, Checked}
+use Rattle.deb_control.proofs.Common.{◌≡◌, ℕ, List, [], Option, None, Some, Result, Ok, Err, IfOk, refl, ap, ◌∙◌, ⊤, Shown, read_failures_after, Fault, Doc, checked_state, checked_moment, Passing, FitsChecked, ChecksOn, all_pass, ReadsFile, ReadsOn, Checked}
 use Rattle.deb_control.proofs.CheckedSoFar.{goes_on, sound_on, failed_on, checked_on, counted_on, has_taken, refusal_behind}
 
 -- nothing was read yet
@@ -21,7 +21,7 @@ module _ (before now after : Checked) (source source_now source_after : Shown) (
       record {
         files = λ text has.
             let so_far = (reads.files text has).given in
-            record { taken = goes.taken text so_far.before so_far.fits; refused = tt; given = checked_on _ text so_far.before given _ _ (goes.answers text so_far.before so_far.fits) };
+            record { taken = goes.taken text (all_pass so_far.before) so_far.fits; refused = tt; given = checked_on _ text so_far.before given _ _ (goes.answers text (all_pass so_far.before) so_far.fits) };
         failures = goes.counted ∙ reads.failures;
         fault = tt;
         sound = sound_on _ _ _ _ reads.sound checks;
@@ -36,7 +36,7 @@ module _ (before now after : Checked) (source source_now source_after : Shown) (
       record {
         files = λ text has.
             let so_far = (reads.files text has).given in
-            record { taken = goes.taken text so_far.before so_far.fits; refused = refusal_behind T _ text _ _ _ _ fault so_far (goes.answers text so_far.before so_far.fits); given = tt };
+            record { taken = goes.taken text (all_pass so_far.before) so_far.fits; refused = refusal_behind T _ text _ _ _ _ fault so_far (goes.answers text (all_pass so_far.before) so_far.fits); given = tt };
         failures = counted_on T _ _ fault _ _ goes reads.failures;
         fault = goes.fault;
         sound = tt;

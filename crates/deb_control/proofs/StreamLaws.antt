@@ -1,11 +1,11 @@
 -- The first refusal of a stream is that of the file, and a stream goes on without what is refused.
-use Rattle.deb_control.proofs.Common.{◌≡◌, ℕ, ◌+◌, ◌++◌, Bool, true, false, cond, List, [], ◌∷◌, length, drop, Option, None, Some, Result, Ok, Err, refl, sym, ap, ◌∙◌, arith, length-append, paragraph_limit, Refusal, Entries, Paragraph, Rules, paragraphs_within, rules_of, answer_behind, line_behind}
+use Rattle.deb_control.proofs.Common.{◌≡◌, ℕ, ◌+◌, ◌++◌, Bool, true, false, cond, List, [], ◌∷◌, length, drop, Option, None, Some, Result, Ok, Err, refl, sym, ap, ◌∙◌, arith, length-append, paragraph_limit, Refusal, Entries, Paragraph, Rules, paragraphs_within, rules_of, answer_behind, line_behind, next_after}
 use Rattle.deb_syntax.specs.Answers.{line_beyond}
 use Rattle.deb_syntax.specs.Lines.{file_limit}
 use Rattle.deb_control.proofs.FollowedParagraphs.{drop_one, never_behind_all}
 use Rattle.deb_control.specs.Refusals.{Outcome, followed, outcome_behind, stopped}
 use Rattle.deb_control.specs.Laws.{RefusedOrAccepted}
-use Rattle.deb_control.specs.Streams.{CheckedStream, end_of, ended_by, is_end_under, item_of, refusals_in, stream_behind_under, stream_from, with_answer, with_item}
+use Rattle.deb_control.specs.Streams.{CheckedStream, end_of, ended_by, is_end_under, item_of, refusals_in, stream_after, stream_behind_under, stream_from, with_answer, with_item}
 use Rattle.deb_control.specs.StreamLaws.{EndEndsTheStream, FirstIsTheRefusal, NoRefusalIsAccepted, PassedIsNext, RefusedIsLeftOut, first_of}
 
 -- the first of a stream's refusals
@@ -72,22 +72,52 @@ refused_is_left_out doc text before p other refusal w refused goes_on =
     (ap stream (sym there) ∙ ap (λ b. stream_behind_under paragraph_limit file_limit rules b n before (drop (length before) (paragraphs_within other))) (sym w.beyond)
     ∙ ap (λ k. stream_behind_under paragraph_limit file_limit rules (line_beyond 1 file_limit other) (k + 1) before (drop (length before) (paragraphs_within other))) (sym w.lines))
 
+-- the stream after the first `k` paragraphs, of which these passed
+module _ (rules : Rules) (text : List ℕ) (k : ℕ) (before : List Entries) where
+  abbrev stream_at : List Paragraph → CheckedStream
+  stream_at left = stream_behind_under paragraph_limit file_limit rules (line_beyond 1 file_limit text) (line_behind text) before left
+
+  by_answer : (p : Paragraph) (left : List Paragraph) (answer : Result (Option Entries) Refusal) → drop k (paragraphs_within text) ≡ p ∷ left → next_after rules text k before ≡ answer → stream_after rules text k before ≡ with_answer (is_end_under paragraph_limit rules p) p before answer (λ passed. stream_behind_under paragraph_limit file_limit rules (line_beyond 1 file_limit text) (line_behind text) passed left)
+  by_answer p left answer here is =
+      ap stream_at here
+      ∙ ap (λ a. with_answer (is_end_under paragraph_limit rules p) p before a (λ passed. stream_behind_under paragraph_limit file_limit rules (line_beyond 1 file_limit text) (line_behind text) passed left))
+      (ap (answer_behind rules (line_beyond 1 file_limit text) (line_behind text) before) (sym here) ∙ is)
+
+  rest_is : (p : Paragraph) (left : List Paragraph) → drop k (paragraphs_within text) ≡ p ∷ left → left ≡ drop (k + 1) (paragraphs_within text)
+  rest_is p left here = ap (drop 1) (sym here) ∙ drop_one k (paragraphs_within text)
+
+  -- one that passes
+  pub passed_next : (entries : Entries) → next_after rules text k before ≡ Ok (Some entries) → (p : Paragraph) × (stream_after rules text k before ≡ with_item (item_of p (Ok entries)) (stream_after rules text (k + 1) (before ++ entries ∷ [])))
+  passed_next entries passes = go (drop k (paragraphs_within text)) refl
+    where
+      go : (left : List Paragraph) → drop k (paragraphs_within text) ≡ left → (p : Paragraph) × (stream_after rules text k before ≡ with_item (item_of p (Ok entries)) (stream_after rules text (k + 1) (before ++ entries ∷ [])))
+      go [] here = absurd (never_behind_all rules (line_beyond 1 file_limit text) (line_behind text) before entries (ap (answer_behind rules (line_beyond 1 file_limit text) (line_behind text) before) (sym here) ∙ passes))
+      go (p ∷ left) here = (
+        p,
+        by_answer p left (Ok (Some entries)) here passes
+            ∙ ap (λ ps. with_item (item_of p (Ok entries)) (stream_behind_under paragraph_limit file_limit rules (line_beyond 1 file_limit text) (line_behind text) (before ++ entries ∷ []) ps)) (rest_is p left here),
+      )
+
+  -- one that is refused, where the stream goes on
+  pub refused_next : (p : Paragraph) (left : List Paragraph) (refusal : Refusal) → drop k (paragraphs_within text) ≡ p ∷ left → next_after rules text k before ≡ Err refusal → is_end_under paragraph_limit rules p refusal ≡ false → stream_after rules text k before ≡ with_item (item_of p (Err refusal)) (stream_after rules text (k + 1) before)
+  refused_next p left refusal here refused goes_on =
+      by_answer p left (Err refusal) here refused
+      ∙ ap (λ t. cond t (ended_by (Some refusal)) (with_item (item_of p (Err refusal)) (stream_at left))) goes_on
+      ∙ ap (λ ps. with_item (item_of p (Err refusal)) (stream_at ps)) (rest_is p left here)
+
+  -- and none
+  pub end_next : next_after rules text k before ≡ Ok None → stream_after rules text k before ≡ ended_by None
+  end_next none = go (drop k (paragraphs_within text)) refl
+    where
+      go : (left : List Paragraph) → drop k (paragraphs_within text) ≡ left → stream_after rules text k before ≡ ended_by None
+      go [] here = ap stream_at here ∙ ap end_of (ap (answer_behind rules (line_beyond 1 file_limit text) (line_behind text) before) (sym here) ∙ none)
+      go (p ∷ left) here = by_answer p left (Ok None) here none
+
 pub passed_is_next : PassedIsNext
-passed_is_next doc text before entries passes = go (drop (length before) (paragraphs_within text)) refl passes
-  where
-    go : (left : List Paragraph) → drop (length before) (paragraphs_within text) ≡ left → answer_behind (rules_of doc) (line_beyond 1 file_limit text) (line_behind text) before left ≡ Ok (Some entries) → (p : Paragraph) × (stream_behind_under paragraph_limit file_limit (rules_of doc) (line_beyond 1 file_limit text) (line_behind text) before left ≡ with_item (item_of p (Ok entries)) (stream_from (rules_of doc) text (before ++ entries ∷ [])))
-    go [] is answer = absurd (never_behind_all (rules_of doc) (line_beyond 1 file_limit text) (line_behind text) before entries answer)
-    go (p ∷ left) is answer =
-        let count : length before + 1 ≡ length (before ++ entries ∷ []) = omega (arith, length-append before (entries ∷ [])) in
-        let rest : left ≡ drop (length (before ++ entries ∷ [])) (paragraphs_within text) = ap (drop 1) (sym is) ∙ drop_one (length before) (paragraphs_within text) ∙ ap (λ m. drop m (paragraphs_within text)) count in (
-          p,
-          ap (λ a. with_answer (is_end_under paragraph_limit (rules_of doc) p) p before a (λ passed. stream_behind_under paragraph_limit file_limit (rules_of doc) (line_beyond 1 file_limit text) (line_behind text) passed left)) answer
-              ∙ ap (λ ps. with_item (item_of p (Ok entries)) (stream_behind_under paragraph_limit file_limit (rules_of doc) (line_beyond 1 file_limit text) (line_behind text) (before ++ entries ∷ []) ps)) rest,
-        )
+passed_is_next doc text before entries passes =
+    let next = passed_next (rules_of doc) text (length before) before entries passes in
+    let count : length before + 1 ≡ length (before ++ entries ∷ []) = omega (arith, length-append before (entries ∷ [])) in
+    (next.0, next.1 ∙ ap (λ k. with_item (item_of next.0 (Ok entries)) (stream_after (rules_of doc) text k (before ++ entries ∷ []))) count)
 
 pub end_ends_stream : EndEndsTheStream
-end_ends_stream doc text before none = go (drop (length before) (paragraphs_within text)) none
-  where
-    go : (left : List Paragraph) → answer_behind (rules_of doc) (line_beyond 1 file_limit text) (line_behind text) before left ≡ Ok None → stream_behind_under paragraph_limit file_limit (rules_of doc) (line_beyond 1 file_limit text) (line_behind text) before left ≡ ended_by None
-    go [] answer = ap end_of answer
-    go (p ∷ left) answer = ap (λ a. with_answer (is_end_under paragraph_limit (rules_of doc) p) p before a (λ passed. stream_behind_under paragraph_limit file_limit (rules_of doc) (line_beyond 1 file_limit text) (line_behind text) passed left)) answer
+end_ends_stream doc text before none = end_next (rules_of doc) text (length before) before none

@@ -1,6 +1,6 @@
 -- What a reader of checked paragraphs is to its callers, which texts fit it, and what its calls say
 -- of them (Debian Policy 5.1; the limits and the order of the refusals are this project's own).
-use Rattle.std.specs.Prelude.{◌≡◌, ℕ, ◌+◌, ◌≤◌, Bool, true, false, List, [], ◌∷◌, ◌++◌, length, Option, Some, None, IfSome, IfNone, IsSome, IsTrue, ◌⊎◌, Result, Ok, Err, is_ok, IfOk, IfErr, MatchResult, codes, refl}
+use Rattle.std.specs.Prelude.{◌≡◌, ℕ, ◌+◌, ◌≤◌, Bool, true, false, List, [], ◌∷◌, ◌++◌, length, map, Option, Some, None, IfSome, IfNone, IsSome, IsTrue, ◌⊎◌, Result, Ok, Err, is_ok, IfOk, IfErr, MatchResult, codes, refl}
 use Rattle.std.proofs.Common.{subst}
 use Rattle.std.specs.Option.{option_map}
 use Rattle.std.specs.Str.{bytes_eq}
@@ -22,8 +22,8 @@ use Rattle.deb_base.specs.declared.doc.Doc.TheVariants.{Any, Packages}
 use Rattle.deb_control.specs.Calls.{IfRefused}
 use Rattle.deb_control.specs.Canonical.{paragraph_text, file_text}
 use Rattle.deb_control.specs.Documents.{rules_of}
-use Rattle.deb_control.specs.Refused.{seen_behind}
-use Rattle.deb_control.specs.Refusals.{built, next_checked}
+use Rattle.deb_control.specs.Refused.{seen_given}
+use Rattle.deb_control.specs.Refusals.{Answered, built, next_checked, next_given, passed_in}
 use Rattle.deb_control.specs.Rules.{Rules}
 
 -- A paragraph that passes: what was seen of it, and its canonical text.
@@ -52,50 +52,66 @@ Follow rules text front (entries ∷ more) =
     (next_checked rules text front ≡ Ok (Some entries))
     × Follow rules text (front ++ entries ∷ []) more
 
--- A file fits where these are the canonical bodies of the paragraphs that were given: they are its
--- first ones, and what its reader of paragraphs has passed.
-pub record FitsChecked (doc : Doc) (text : List ℕ) (before : List Entries) (state : CheckedState)
-    (left : Option (List ℕ)) : Type 0 where
+-- the same by what was answered of each, where some may be refused
+abbrev pub whole_answer : Answered → Result (Option Entries) Refusal
+whole_answer (Ok entries) = Ok (Some entries)
+whole_answer (Err refusal) = Err refusal
+
+abbrev pub FollowGiven : Rules → List ℕ → List Answered → List Answered → Type 0
+FollowGiven rules text front [] = Unit {0}
+FollowGiven rules text front (answer ∷ more) =
+    (next_given rules text front ≡ whole_answer answer)
+    × FollowGiven rules text (front ++ answer ∷ []) more
+
+-- A file fits where this was answered of its first paragraphs, which are those that its reader of
+-- paragraphs has passed: of each that passes its canonical bodies, and of each after which the
+-- reader went on, why it is refused.
+pub record FitsChecked (doc : Doc) (text : List ℕ) (answered : List Answered)
+    (state : CheckedState) (left : Option (List ℕ)) : Type 0 where
   pub passed : List ℕ
   pub fits : Fits text passed state.reader left
-  pub given : Follow (rules_of doc) text [] before
-  pub paragraphs : passed_count passed ≡ length before
-  pub counted : state.count ≡ length before
-  pub bytes : state.bytes ≡ length (file_text before)
+  pub given : FollowGiven (rules_of doc) text [] answered
+  pub paragraphs : passed_count passed ≡ length answered
+  pub counted : state.count ≡ length (passed_in answered)
+  pub bytes : state.bytes ≡ length (file_text (passed_in answered))
+
+-- none of these was refused
+abbrev pub all_pass : List Entries → List Answered
+all_pass before = map (λ entries. Ok entries) before
 
 -- The first paragraphs of the file were given.
 pub record HasChecked (doc : Doc) (text : List ℕ) (state : CheckedState)
     (left : Option (List ℕ)) : Type 0 where
   pub before : List Entries
-  pub fits : FitsChecked doc text before state left
+  pub fits : FitsChecked doc text (all_pass before) state left
 
 -- The next paragraph of a file passes after these, and was given: no further one has been.
-pub record GivesPassing (doc : Doc) (text : List ℕ) (before : List Entries) (given : Passing)
+pub record GivesPassing (doc : Doc) (text : List ℕ) (answered : List Answered) (given : Passing)
     (new : CheckedState) (left : Option (List ℕ)) : Type 0 where
   pub entries : Entries
-  pub answer : next_checked (rules_of doc) text before ≡ Ok (Some entries)
-  pub seen : next_answer text (length before) ≡ Ok (Some given.seen)
+  pub answer : next_given (rules_of doc) text answered ≡ Ok (Some entries)
+  pub seen : next_answer text (length answered) ≡ Ok (Some given.seen)
   pub built : built (rules_of doc) given.seen ≡ Ok entries
   pub written : given.text ≡ paragraph_text entries
-  pub again : FitsChecked doc text (before ++ entries ∷ []) new left
+  pub again : FitsChecked doc text (answered ++ Ok entries ∷ []) new left
 
--- All paragraphs of the file pass, and were given.
-pub record GivesEnd (doc : Doc) (text : List ℕ) (before : List Entries) (new : CheckedState)
+-- No further paragraph of the file follows them.
+pub record GivesEnd (doc : Doc) (text : List ℕ) (answered : List Answered) (new : CheckedState)
     (left : Option (List ℕ)) : Type 0 where
-  pub answer : next_checked (rules_of doc) text before ≡ Ok None
-  pub again : FitsChecked doc text before new left
+  pub answer : next_given (rules_of doc) text answered ≡ Ok None
+  pub again : FitsChecked doc text answered new left
 
--- What an answer says of a file that fits, where these paragraphs were given.
-abbrev pub AnswersChecked : (doc : Doc) (text : List ℕ) (before : List Entries)
+-- What an answer says of a file that fits, where this was answered before.
+abbrev pub AnswersChecked : (doc : Doc) (text : List ℕ) (answered : List Answered)
     → Result (Option Passing) Fault → CheckedState → Option (List ℕ) → Type 0
-AnswersChecked doc text before (Ok None) new left = GivesEnd doc text before new left
-AnswersChecked doc text before (Ok (Some given)) new left =
-    GivesPassing doc text before given new left
-AnswersChecked doc text before (Err (Refused refusal)) new left =
-    next_checked (rules_of doc) text before ≡ Err refusal
-AnswersChecked doc text before (Err Memory) new left = Unit {0}
-AnswersChecked doc text before (Err Read) new left = Unit {0}
-AnswersChecked doc text before (Err Write) new left = ⊥
+AnswersChecked doc text answered (Ok None) new left = GivesEnd doc text answered new left
+AnswersChecked doc text answered (Ok (Some given)) new left =
+    GivesPassing doc text answered given new left
+AnswersChecked doc text answered (Err (Refused refusal)) new left =
+    next_given (rules_of doc) text answered ≡ Err refusal
+AnswersChecked doc text answered (Err Memory) new left = Unit {0}
+AnswersChecked doc text answered (Err Read) new left = Unit {0}
+AnswersChecked doc text answered (Err Write) new left = ⊥
 
 -- how many paragraphs an answer gives
 abbrev pub given_count : Option Passing → ℕ
@@ -119,10 +135,10 @@ pub record CheckedMoment : Type 0 where
 -- refusal the reader of paragraphs shows the paragraph that is refused, where its lines aren't.
 pub record Checks (doc : Doc) (before : CheckedMoment) (answer : Result (Option Passing) Fault)
     (after : CheckedMoment) : Type 0 where
-  pub answers : (text : List ℕ) (given : List Entries)
+  pub answers : (text : List ℕ) (given : List Answered)
       → FitsChecked doc text given before.state before.source.bytes
       → AnswersChecked doc text given answer after.state after.source.bytes
-  pub taken : (text : List ℕ) (given : List Entries)
+  pub taken : (text : List ℕ) (given : List Answered)
       → FitsChecked doc text given before.state before.source.bytes
       → TakesNoMore text file_limit after.source.bytes
   pub counted : after.source.failures ≡ read_failures_after before.source.failures answer
@@ -132,10 +148,10 @@ pub record Checks (doc : Doc) (before : CheckedMoment) (answer : Result (Option 
       (λ fault. after.state.count ≡ before.state.count)
   pub few : after.state.count ≤ file_limit + 1
   pub finished : IfOk answer (λ given. IfNone given (IsTrue after.state.reader.finished))
-  pub refused : (text : List ℕ) (given : List Entries)
+  pub refused : (text : List ℕ) (given : List Answered)
       → FitsChecked doc text given before.state before.source.bytes
       → IfRefused answer
-      (λ _. after.state.reader.current ≡ seen_behind (rules_of doc) text given)
+      (λ _. after.state.reader.current ≡ seen_given (rules_of doc) text given)
 
 -- A call: without an error it goes on, and keeps the error that it then answers; with one it
 -- answers that error, and neither reads nor changes.
@@ -193,6 +209,11 @@ current_answer doc current (Err fault) = Err fault
 
 counts_given : (given : Passing) → (given_count None ≡ 0) × (given_count (Some given) ≡ 1)
 counts_given given = (refl, refl)
+
+answers_whole : (refusal : Refusal)
+    → (whole_answer (Ok ((codes "A", codes "1") ∷ [])) ≡ Ok (Some ((codes "A", codes "1") ∷ [])))
+    × (whole_answer (Err refusal) ≡ Err refusal)
+answers_whole refusal = (refl, refl)
 
 -- for the worked cases: what is built of a paragraph, and its canonical text
 abbrev entries_built : Entries

@@ -11,6 +11,7 @@ pub mod Refused
 pub mod AcceptedCases
 pub mod Laws
 pub mod Checking
+pub mod GivenParagraphs
 pub mod Calls
 pub mod Sides
 pub mod Comparing

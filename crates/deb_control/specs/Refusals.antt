@@ -136,18 +136,41 @@ answer_behind rules beyond n before left =
 abbrev pub line_behind : List ℕ → ℕ
 line_behind text = length (lines_of text) + 1
 
--- What is answered of a file after its first paragraphs, which have passed and have these
--- canonical bodies: those of the next one, none where there is no further one, or why the file is
+-- What is answered of a file after its first `k` paragraphs, of which some have passed and have
+-- these canonical bodies: those of the next one, none where there is no further one, or why it is
 -- refused.
+abbrev pub next_after_under : ℕ → ℕ → Rules → List ℕ → ℕ → List Entries
+    → Result (Option Entries) Refusal
+next_after_under limit most rules text k before =
+    answer_behind_under limit most rules (line_beyond 1 most text) (line_behind text) before
+    (drop k (paragraphs_within_under limit most text))
+
+abbrev pub next_after : Rules → List ℕ → ℕ → List Entries → Result (Option Entries) Refusal
+next_after rules text k before = next_after_under paragraph_limit file_limit rules text k before
+
+-- the same where all of these have passed
 abbrev pub next_checked_under : ℕ → ℕ → Rules → List ℕ → List Entries
     → Result (Option Entries) Refusal
 next_checked_under limit most rules text before =
-    answer_behind_under limit most rules (line_beyond 1 most text) (line_behind text) before
-    (drop (length before) (paragraphs_within_under limit most text))
+    next_after_under limit most rules text (length before) before
 
 abbrev pub next_checked : Rules → List ℕ → List Entries → Result (Option Entries) Refusal
 next_checked rules text before =
     next_checked_under paragraph_limit file_limit rules text before
+
+-- What was answered of a paragraph: its canonical bodies, or why it is refused. And the bodies of
+-- those that passed.
+abbrev pub Answered : Type 0
+Answered = Result Entries Refusal
+
+abbrev pub passed_in : List Answered → List Entries
+passed_in [] = []
+passed_in (Ok entries ∷ answered) = entries ∷ passed_in answered
+passed_in (Err refusal ∷ answered) = passed_in answered
+
+-- the next answer after these
+abbrev pub next_given : Rules → List ℕ → List Answered → Result (Option Entries) Refusal
+next_given rules text answered = next_after rules text (length answered) (passed_in answered)
 
 -- What comes of a file: the canonical bodies of the paragraphs before the first that fails, and why
 -- it is refused.
@@ -244,6 +267,16 @@ one_asked : (refusal_by (sample true) (codes "Package: aa\n\n x")
     × (refusal_by (sample true) (codes "Package: aa") ≡ None)
 unfolding file_limit paragraph_limit is_utf8 chars encode
 one_asked = (refl, refl, refl, refl, refl)
+
+-- after a first paragraph that is refused, which counts as none that has passed
+after_refused : (next_given (sample false) (codes "Size: 12\n\nPackage: aa\n")
+    (Err (record { code = BadNumber; line = 1 }) ∷ [])
+    ≡ Ok (Some ((codes "Package", codes "aa") ∷ [])))
+    × (passed_in (Ok [] ∷ Err (record { code = BadNumber; line = 1 })
+    ∷ Ok ((codes "Size", codes "1") ∷ []) ∷ [])
+    ≡ [] ∷ ((codes "Size", codes "1") ∷ []) ∷ [])
+unfolding file_limit paragraph_limit is_utf8 chars encode
+after_refused = (refl, refl)
 
 -- canonical text that is too long, where the file is not: `package:a` has ten bytes with its
 -- newline, and its canonical text eleven

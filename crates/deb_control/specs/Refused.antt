@@ -11,7 +11,7 @@ use Rattle.deb_syntax.specs.Answers.{Seen, next_answer}
 use Rattle.deb_syntax.specs.Judged.{judged_behind}
 use Rattle.deb_syntax.specs.Lines.{Paragraph, file_limit}
 use Rattle.deb_syntax.specs.Meaning.{Entries}
-use Rattle.deb_control.specs.Refusals.{has_some}
+use Rattle.deb_control.specs.Refusals.{Answered, has_some, passed_in}
 use Rattle.deb_control.specs.Rules.{Rules}
 
 -- what is seen of a paragraph, where its lines aren't refused
@@ -19,17 +19,30 @@ abbrev pub seen_in : Result (Option Seen) Refusal → Option Seen
 seen_in (Ok seen) = seen
 seen_in (Err refusal) = None
 
--- What is seen of the paragraph after those that pass. Nothing is of one that is one too many, and
--- of one whose lines are refused.
-abbrev pub seen_behind : Rules → List ℕ → List Entries → Option Seen
-seen_behind rules text before =
-    cond (rules.single && has_some before) None (seen_in (next_answer text (length before)))
+-- What is seen of the paragraph after the first `k`, of which these have passed. Nothing is of one
+-- that is one too many, and of one whose lines are refused.
+abbrev pub seen_after : Rules → List ℕ → ℕ → List Entries → Option Seen
+seen_after rules text k before =
+    cond (rules.single && has_some before) None (seen_in (next_answer text k))
 
--- The paragraph after those that pass, where its lines are judged. None is of one that is one too
--- many.
+-- That paragraph, where its lines are judged. None is of one that is one too many.
+abbrev pub lines_after : Rules → List ℕ → ℕ → List Entries → Option Paragraph
+lines_after rules text k before =
+    cond (rules.single && has_some before) None (judged_behind text k)
+
+-- the same where all of the first ones have passed
+abbrev pub seen_behind : Rules → List ℕ → List Entries → Option Seen
+seen_behind rules text before = seen_after rules text (length before) before
+
 abbrev pub lines_behind : Rules → List ℕ → List Entries → Option Paragraph
-lines_behind rules text before =
-    cond (rules.single && has_some before) None (judged_behind text (length before))
+lines_behind rules text before = lines_after rules text (length before) before
+
+-- and where this was answered of each of them
+abbrev pub seen_given : Rules → List ℕ → List Answered → Option Seen
+seen_given rules text answered = seen_after rules text (length answered) (passed_in answered)
+
+abbrev pub lines_given : Rules → List ℕ → List Answered → Option Paragraph
+lines_given rules text answered = lines_after rules text (length answered) (passed_in answered)
 
 -- the paragraph that was found last, where the error is a refusal
 abbrev pub seen_refused : Option Fault → Option Seen → Option Seen
@@ -72,6 +85,15 @@ lines_shown : (lines_behind (sample false) (codes "a:1\n\nb:2\nc") ([] ∷ [])
     × (lines_behind (sample false) (codes "a:1\n") ([] ∷ []) ≡ None)
 unfolding file_limit paragraph_limit is_utf8 chars encode
 lines_shown = (refl, refl, refl)
+
+-- after a first paragraph that was refused: the second isn't one too many
+after_refused : (refusal : Refusal)
+    → (seen_given (sample true) (codes "c\n\nb:2\n") (Err refusal ∷ []) ≡ Some second)
+    × (lines_given (sample true) (codes "c\n\nb:2\n") (Err refusal ∷ [])
+    ≡ Some (record { first = 3; lines = codes "b:2" ∷ [] }))
+    × (seen_given (sample true) (codes "c\n\nb:2\n") (Ok [] ∷ []) ≡ None)
+unfolding file_limit paragraph_limit is_utf8 chars encode
+after_refused refusal = (refl, refl, refl)
 
 errors_shown : (refusal : Refusal)
     → (seen_refused (Some (Refused refusal)) (Some second) ≡ Some second)

@@ -1,6 +1,6 @@
 -- How a reader of checked paragraphs goes on after a paragraph that is refused (this project's
 -- own).
-use Rattle.std.specs.Prelude.{◌≡◌, ℕ, ◌==◌, ◌&&◌, Bool, true, false, not, List, [], length, Option, Some, None, refl}
+use Rattle.std.specs.Prelude.{◌≡◌, ℕ, ◌==◌, ◌&&◌, Bool, true, false, not, List, [], ◌∷◌, ◌++◌, Option, Some, None, Err, refl}
 use Rattle.deb_base.specs.Codes.{number_of}
 use Rattle.deb_base.specs.Docs.{is_single}
 use Rattle.deb_base.specs.declared.code.Code.TheVariants.{BadNumber, FileTooLong, ParagraphTooLong}
@@ -11,17 +11,17 @@ use Rattle.deb_base.specs.declared.fault.Fault.TheVariants.{Refused, Memory, Rea
 use Rattle.deb_base.specs.declared.refusal.Refusal.{Refusal}
 use Rattle.deb_syntax.specs.Answers.{Seen}
 use Rattle.deb_syntax.specs.Lines.{Paragraph}
-use Rattle.deb_syntax.specs.Meaning.{Entries}
-use Rattle.deb_syntax.specs.Resuming.{IsWithout}
 use Rattle.deb_control.specs.Checking.{CheckedState, FitsChecked}
+use Rattle.deb_control.specs.Refusals.{Answered}
 
--- Instead of the text another one fits, which lacks the paragraph after those that were given and
--- is the same otherwise: the reader goes on as if the paragraph's lines were blank.
-pub record FitsWithout (doc : Doc) (text : List ℕ) (before : List Entries) (p : Paragraph)
-    (state : CheckedState) (left : Option (List ℕ)) : Type 0 where
-  pub other : List ℕ
-  pub without : IsWithout text (length before) p other
-  pub fits : FitsChecked doc other before state left
+-- After an error the paragraph has passed too: if it is refused, that is what was answered of it.
+abbrev pub FitsRefused : (doc : Doc) (text : List ℕ) (answered : List Answered) → Fault
+    → CheckedState → Option (List ℕ) → Type 0
+FitsRefused doc text answered (Refused refusal) new left =
+    FitsChecked doc text (answered ++ Err refusal ∷ []) new left
+FitsRefused doc text answered Memory new left = Unit {0}
+FitsRefused doc text answered Read new left = Unit {0}
+FitsRefused doc text answered Write new left = Unit {0}
 
 -- whether the error is a refusal of a paragraph whose lines were judged, and isn't that with it the
 -- file's canonical text is too long
@@ -81,6 +81,13 @@ kinds_to_go_on_in : (p : Paragraph)
     ≡ false)
     × (resumes Binary (Some (Refused (record { code = BadNumber; line = 4 }))) (Some p) ≡ false)
 kinds_to_go_on_in p = (refl, refl, refl)
+
+answers_refused : (doc : Doc) (text : List ℕ) (answered : List Answered) (refusal : Refusal)
+    (new : CheckedState) (left : Option (List ℕ))
+    → (FitsRefused doc text answered (Refused refusal) new left
+    ≡ FitsChecked doc text (answered ++ Err refusal ∷ []) new left)
+    × (FitsRefused doc text answered Memory new left ≡ Unit {0})
+answers_refused doc text answered refusal new left = (refl, refl)
 
 errors_inside : (refusal other : Refusal) (inside : Option Fault)
     → (is_inside (Some (Refused refusal)) None ≡ true)

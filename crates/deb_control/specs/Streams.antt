@@ -11,7 +11,7 @@ use Rattle.deb_base.specs.declared.refusal.Refusal.{Refusal}
 use Rattle.deb_syntax.specs.Answers.{line_beyond, line_too_long, paragraphs_within_under}
 use Rattle.deb_syntax.specs.Lines.{Paragraph, file_limit}
 use Rattle.deb_syntax.specs.Meaning.{Entries}
-use Rattle.deb_control.specs.Refusals.{answer_behind_under, line_behind}
+use Rattle.deb_control.specs.Refusals.{Answered, answer_behind_under, line_behind, passed_in}
 use Rattle.deb_control.specs.Rules.{Rules}
 
 -- An item of a stream: the number of its first line, its lines, and the canonical bodies of a
@@ -71,12 +71,21 @@ stream_behind_under limit most rules beyond n before (p ∷ left) =
     (answer_behind_under limit most rules beyond n before (p ∷ left))
     (λ passed. stream_behind_under limit most rules beyond n passed left)
 
--- The stream of a file after its first paragraphs, which have passed and have these canonical
--- bodies.
+-- The stream of a file after its first `k` paragraphs, of which some have passed and have these
+-- canonical bodies.
+abbrev pub stream_after_under : ℕ → ℕ → Rules → List ℕ → ℕ → List Entries → CheckedStream
+stream_after_under limit most rules text k before =
+    stream_behind_under limit most rules (line_beyond 1 most text) (line_behind text) before
+    (drop k (paragraphs_within_under limit most text))
+
+abbrev pub stream_after : Rules → List ℕ → ℕ → List Entries → CheckedStream
+stream_after rules text k before =
+    stream_after_under paragraph_limit file_limit rules text k before
+
+-- the same where all of these have passed
 abbrev pub stream_from_under : ℕ → ℕ → Rules → List ℕ → List Entries → CheckedStream
 stream_from_under limit most rules text before =
-    stream_behind_under limit most rules (line_beyond 1 most text) (line_behind text) before
-    (drop (length before) (paragraphs_within_under limit most text))
+    stream_after_under limit most rules text (length before) before
 
 abbrev pub stream_from : Rules → List ℕ → List Entries → CheckedStream
 stream_from rules text before = stream_from_under paragraph_limit file_limit rules text before
@@ -87,6 +96,10 @@ stream_under limit most rules text = stream_from_under limit most rules text []
 -- The stream of a file.
 abbrev pub stream_of : Rules → List ℕ → CheckedStream
 stream_of rules text = stream_under paragraph_limit file_limit rules text
+
+-- and where this was answered of each of them
+abbrev pub stream_given : Rules → List ℕ → List Answered → CheckedStream
+stream_given rules text answered = stream_after rules text (length answered) (passed_in answered)
 
 -- where a paragraph passes, other refusals
 abbrev pub refusals_after : Result Entries Refusal → List Refusal → List Refusal

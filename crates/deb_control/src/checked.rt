@@ -54,10 +54,10 @@ impl Checked {
     ghost use Rattle.deb_control.specs.CheckedStates.{lines_checked, passing_judged, passing_of};
     ghost use Rattle.deb_control.specs.CheckedStates.{refused_last};
     ghost use Rattle.deb_control.specs.Calls.{IfRefused};
-    ghost use Rattle.deb_control.specs.Refused.{lines_behind};
-    ghost use Rattle.deb_control.specs.Resuming.{FitsWithout, refuses_paragraph, resumed, resumes};
+    ghost use Rattle.deb_control.specs.Refusals.{Answered};
+    ghost use Rattle.deb_control.specs.Refused.{lines_given};
+    ghost use Rattle.deb_control.specs.Resuming.{FitsRefused, refuses_paragraph, resumed, resumes};
     ghost use Rattle.deb_syntax.specs.Judged.{line_judged};
-    ghost use Rattle.deb_syntax.specs.Meaning.{Entries};
 
     /// Returns a reader of checked paragraphs that has read nothing: the file is what its source
     /// has left. Takes no memory.
@@ -134,15 +134,15 @@ impl Checked {
             (checked_moment self.new (R.left reader.new) (R.failures reader.new)) }
         ensures doc { doc_read self.new ≡ doc_read self.old }
         ensures lines { IfNone (checked_state self.old).fault
-            ((text : List ℕ) (before : List Entries) → FitsChecked (doc_read self.old) text before
-            (checked_state self.old) (R.left reader.old) → IfRefused result
-            (λ _. lines_checked self.new ≡ lines_behind (rules_of (doc_read self.old)) text
-            before)) }
-        ensures without { IfNone (checked_state self.old).fault
-            ((text : List ℕ) (before : List Entries) → FitsChecked (doc_read self.old) text before
-            (checked_state self.old) (R.left reader.old) → IfErr result
-            (λ _. IfSome (lines_checked self.new) (λ p. FitsWithout (doc_read self.old) text before
-            p (checked_state self.new) (R.left reader.new)))) }
+            ((text : List ℕ) (answered : List Answered) → FitsChecked (doc_read self.old) text
+            answered (checked_state self.old) (R.left reader.old) → IfRefused result
+            (λ _. lines_checked self.new ≡ lines_given (rules_of (doc_read self.old)) text
+            answered)) }
+        ensures refused { IfNone (checked_state self.old).fault
+            ((text : List ℕ) (answered : List Answered) → FitsChecked (doc_read self.old) text
+            answered (checked_state self.old) (R.left reader.old) → IfErr result
+            (λ fault. IfSome (lines_checked self.new) (λ _. FitsRefused (doc_read self.old) text
+            answered fault (checked_state self.new) (R.left reader.new)))) }
         ensures repeats { IsSome (checked_state self.old).fault → self.new ≡ self.old }
         ensures source_untouched { IsQuietChecked (checked_state self.old) → reader.new ≡
             reader.old }
@@ -180,9 +180,9 @@ impl Checked {
             (lines_checked self.old) }
         ensures goes_on { IsTrue result
             → checked_state self.new ≡ resumed (checked_state self.old) }
-        ensures fits { (text : List ℕ) (before : List Entries) (left : Option (List ℕ))
-            → FitsChecked (doc_read self.old) text before (checked_state self.old) left
-            → FitsChecked (doc_read self.old) text before (checked_state self.new) left }
+        ensures fits { (text : List ℕ) (answered : List Answered) (left : Option (List ℕ))
+            → FitsChecked (doc_read self.old) text answered (checked_state self.old) left
+            → FitsChecked (doc_read self.old) text answered (checked_state self.new) left }
         ensures doc { doc_read self.new ≡ doc_read self.old }
         ensures lines { lines_checked self.new ≡ lines_checked self.old }
         ensures unchanged { IsFalse result → self.new ≡ self.old }

@@ -7,7 +7,7 @@ ghost use Rattle.deb_base.specs.Reading.{TakesNoMore};
 ghost use Rattle.deb_syntax.specs.Lines.{file_limit};
 ghost use Rattle.deb_syntax.specs.Meaning.{Entries};
 ghost use Rattle.deb_control.specs.Calls.{IfRefused, HasParagraphs};
-ghost use Rattle.deb_control.specs.Checking.{FitsChecked, IsRefusalOfDocument};
+ghost use Rattle.deb_control.specs.Checking.{all_pass, FitsChecked, IsRefusalOfDocument};
 ghost use Rattle.deb_control.specs.CheckedStates.{checked_state};
 ghost use Rattle.deb_control.specs.Documents.{refusal_of};
 ghost use Rattle.deb_control.specs.ReadingOn.{ReadsOn, shown};
@@ -53,7 +53,8 @@ pub fn check<R: Source>(alloc: Global, doc: Doc, reader: &mut R) -> Result<u64, 
 pub(crate) fn count_rest<R: Source>(checked: &mut Checked, reader: &mut R) -> Result<u64, Fault>
     requires sound { (checked_state checked.now).fault ≡ None }
     ensures ok { (text : List ℕ) (before : List Entries)
-        → FitsChecked checked.old.doc text before (checked_state checked.old) (R.left reader.old)
+        → FitsChecked checked.old.doc text (all_pass before) (checked_state checked.old)
+        (R.left reader.old)
         → IfOk result (λ n. HasParagraphs checked.old.doc text (length before + n)) }
     ensures on { ReadsOn checked.old (shown (R.left reader.old) (R.failures reader.old)) result
         checked.new (shown (R.left reader.new) (R.failures reader.new)) }

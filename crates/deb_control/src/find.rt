@@ -3,15 +3,15 @@
 ghost use Rattle.std.specs.Prelude.{◌≡◌, ◌≤◌, ◌==◌, ◌&&◌, ℕ, List, not, Option, None, Some, Ok, Err, false, true, is_some, length, IfOk, IfErr, IfSome, IsTrue};
 ghost use Rattle.deb_base.specs.Faults.{RefusedOrMemory};
 ghost use Rattle.deb_syntax.specs.Answers.{Seen};
-ghost use Rattle.deb_syntax.specs.Meaning.{Entries};
 ghost use Rattle.deb_syntax.specs.Paragraphs.{judged_last, state_of, seen_of, IsQuiet};
 ghost use Rattle.deb_base.specs.Docs.{is_single as is_one};
 ghost use Rattle.deb_control.specs.Calls.{IfRefused};
 ghost use Rattle.deb_control.specs.Checking.{is_found, Checks, FitsChecked, Passing, passing_seen};
 ghost use Rattle.deb_control.specs.Documents.{rules_of};
 ghost use Rattle.deb_control.specs.Finding.{moment_from, AddsPassing, RefusesSeen, end_answer, given_answer, seen_found};
-ghost use Rattle.deb_control.specs.Refused.{lines_behind};
-ghost use Rattle.deb_control.specs.Resuming.{FitsWithout, is_inside};
+ghost use Rattle.deb_control.specs.Refusals.{Answered};
+ghost use Rattle.deb_control.specs.Refused.{lines_given};
+ghost use Rattle.deb_control.specs.Resuming.{FitsRefused, is_inside};
 ghost use Rattle.deb_control.specs.Visiting.{VisitsFound, VisitsValues};
 
 use crate::paragraph_check::{check_paragraph, refused};
@@ -45,17 +45,17 @@ pub(crate) fn find<R: Source, V: FieldVisitor>(
     ensures visits { result ≡ Ok true
         → VisitsFound V.Visited visitor.new doc (state_of paragraphs.new).current }
     ensures lines { (shown : Option Seen) (kept : Option Fault) (text : List ℕ)
-        (before : List Entries) → FitsChecked doc text before
+        (answered : List Answered) → FitsChecked doc text answered
         (moment_from shown kept paragraphs.old totals.old (R.left reader.old)
         (R.failures reader.old)).state (R.left reader.old) → IfRefused result
-        (λ _. judged_last paragraphs.new ≡ lines_behind (rules_of doc) text before) }
+        (λ _. judged_last paragraphs.new ≡ lines_given (rules_of doc) text answered) }
     ensures inside { IfErr result
         (λ fault. IsTrue (is_inside (Some fault) (state_of paragraphs.new).fault)) }
-    ensures without { (shown shown_now : Option Seen) (kept kept_now : Option Fault)
-        (text : List ℕ) (before : List Entries) → FitsChecked doc text before
+    ensures refused { (shown shown_now : Option Seen) (kept kept_now : Option Fault)
+        (text : List ℕ) (answered : List Answered) → FitsChecked doc text answered
         (moment_from shown kept paragraphs.old totals.old (R.left reader.old)
         (R.failures reader.old)).state (R.left reader.old) → IfErr result
-        (λ _. IfSome (judged_last paragraphs.new) (λ p. FitsWithout doc text before p
+        (λ fault. IfSome (judged_last paragraphs.new) (λ _. FitsRefused doc text answered fault
         (moment_from shown_now kept_now paragraphs.new totals.new (R.left reader.new)
         (R.failures reader.new)).state (R.left reader.new))) }
     ensures source_untouched { IsQuiet (state_of paragraphs.old) → reader.new ≡ reader.old }

@@ -1,25 +1,21 @@
 -- What is known of the paragraphs that were kept while a file is read, and at its end.
 use Rattle.std.proofs.Common.{◌≡◌, ℕ, ◌+◌, Bool, true, false, cond, is_none, is_some, List, [], ◌∷◌, ◌++◌, length, map, Option, None, Some, Ok, refl, sym, ap, ◌∙◌, subst, arith, append-nil}
-use Rattle.std.proofs.lemmas.List.{length_push}
 use Rattle.std.specs.Option.{option_map}
-use Rattle.deb_base.specs.declared.doc.Doc.{Doc}
-use Rattle.deb_syntax.specs.Meaning.{Entries, entries_of}
-use Rattle.deb_field.specs.ValueLaws.{value_law}
-use Rattle.deb_field.specs.Values.{ValueMeaning, value_text, SpellsValue}
-use Rattle.deb_control.specs.Checking.{CheckedState, FitsChecked, HasChecked, GivesPassing, GivesEnd, Passing}
-use Rattle.deb_control.specs.Documents.{Meaning, rules_of}
+use Rattle.deb_syntax.specs.Answers.{Seen, next_answer}
+use Rattle.deb_field.specs.Values.{ValueMeaning}
+use Rattle.deb_control.specs.Documents.{Meaning}
+use Rattle.deb_control.specs.GivenParagraphs.{AreNext}
 use Rattle.deb_control.specs.Pairs.{Pairwise}
 use Rattle.deb_control.specs.Paragraphs.{AreValuesOf}
-use Rattle.deb_control.specs.ValueFiles.{ValueEntries, SpellsEntry, SpellsEntries, body_under}
-use Rattle.deb_control.proofs.CheckedSoFar.{is_all_of}
-use Rattle.deb_control.proofs.FollowedParagraphs.{outcome-from_end}
-use Rattle.deb_control.proofs.ValueBodies.{bodies_of-spelled, one_list}
+use Rattle.deb_control.specs.ValueFiles.{ValueEntries}
+use Rattle.deb_control.proofs.GivenValues.{accepted-given, pairwise-length, pairwise-push}
+use Rattle.deb_control.proofs.ShownSoFar.{ShownAll}
 use Rattle.deb_diff.specs.Items.{Item, item_of, items_from, items_of, whole}
 use Rattle.deb_diff.specs.Kepts.{AreKept, IsKept}
 use Rattle.deb_diff.specs.Kinds.{doc_of}
 use Rattle.deb_diff.specs.Pairing.{all_but, earliest, without}
 use Rattle.deb_diff.specs.Pools.{IsPoolOf, Takes, left_in}
-use Rattle.deb_diff.specs.Spelled.{fields_after, fields_of_seen}
+use Rattle.deb_diff.specs.Spelled.{fields_of_seen}
 use Rattle.deb_diff.specs.Sifting.{Sifts, SiftsFile, items_in}
 use Rattle.deb_diff.specs.declared.kept.Kept.{Kept}
 use Rattle.deb_diff.specs.declared.kind.Kind.{Kind}
@@ -39,12 +35,6 @@ taken-some others key wanted old new number takes =
 pub taken-left : (others : List Item) (key : Item → List ℕ) (wanted : List ℕ) (old new : Pool) (number : Option ℕ) → Takes others key wanted old number new → items_in others new ≡ all_but key wanted (items_in others old)
 taken-left others key wanted old new number takes =
     ap (map (λ e. e.1)) takes.left ∙ sym (all_but-map (λ e. e.1) key wanted (left_in others old))
-
-pub pairwise-push : {A B : Type 0} (R : A → B → Type 0) (xs : List A) (ys : List B) (x : A) (y : B) → Pairwise R xs ys → R x y → Pairwise R (xs ++ x ∷ []) (ys ++ y ∷ [])
-pairwise-push R [] [] x y all one = (one, tt)
-pairwise-push R [] (b ∷ ys) x y all one = absurd all
-pairwise-push R (a ∷ xs) [] x y all one = absurd all
-pairwise-push R (a ∷ xs) (b ∷ ys) x y all one = (all.0, pairwise-push R xs ys x y all.1 one)
 
 -- a paragraph was taken away, or kept
 pub sifts-taken : (item : Item) (others : List Item) (old new : Pool) (wanted : List ℕ) (number : ℕ) (kept : List Kept) → wanted ≡ whole item → Takes others whole wanted old (Some number) new → Sifts item others old new kept kept
@@ -86,63 +76,53 @@ unpaired-push (z ∷ xs) ys x = go (is_some (earliest whole (whole z) ys)) (unpa
     go true h = h
     go false h = ap (λ l. z ∷ l) h
 
--- the paragraph after so many
-abbrev item_at : Kind → List ℕ → ℕ → ValueEntries ValueMeaning → Item
-item_at kind text n values = item_of kind (n + 1) (fields_after text n) values
+-- paragraphs that were given after so many
+abbrev pub items_given : Kind → ℕ → List Seen → Meaning → List Item
+items_given kind n (seen ∷ given) (values ∷ more) = item_of kind (n + 1) seen.fields values ∷ items_given kind (n + 1) given more
+items_given kind n given values = []
 
-items-push : (kind : Kind) (text : List ℕ) (n : ℕ) (meaning : Meaning) (values : ValueEntries ValueMeaning) → items_from kind text n (meaning ++ values ∷ []) ≡ items_from kind text n meaning ++ item_at kind text (n + length meaning) values ∷ []
-items-push kind text n [] values = ap (λ k. item_at kind text k values ∷ []) (omega arith)
-items-push kind text n (first ∷ meaning) values =
-    ap (λ l. item_at kind text n first ∷ l) (items-push kind text (n + 1) meaning values ∙ ap (λ k. items_from kind text (n + 1) meaning ++ item_at kind text k values ∷ []) (omega arith))
+items_given-push : (kind : Kind) (n : ℕ) (given : List Seen) (values : Meaning) (seen : Seen) (more : ValueEntries ValueMeaning) → length values ≡ length given → items_given kind n (given ++ seen ∷ []) (values ++ more ∷ []) ≡ items_given kind n given values ++ item_of kind (n + length given + 1) seen.fields more ∷ []
+items_given-push kind n [] [] seen more same = ap (λ k. item_of kind (k + 1) seen.fields more ∷ []) (omega arith)
+items_given-push kind n [] (v ∷ values) seen more same = absurd (omega (arith, same))
+items_given-push kind n (first ∷ given) [] seen more same = absurd (omega (arith, same))
+items_given-push kind n (first ∷ given) (v ∷ values) seen more same =
+    ap (λ l. item_of kind (n + 1) first.fields v ∷ l)
+    (items_given-push kind (n + 1) given values seen more (omega (arith, same)) ∙ ap (λ k. items_given kind (n + 1) given values ++ item_of kind (k + 1) seen.fields more ∷ []) (omega arith))
 
--- The first paragraphs of the file were given, so many, and they were taken away or are kept.
-pub record HasSifted (kind : Kind) (text : List ℕ) (others : List Item) (old new : Pool) (kept : List Kept) (state : CheckedState) (left : Option (List ℕ)) (count : ℕ) : Type 0 where
-  pub checked : HasChecked (doc_of kind) text state left
+-- they are those of the file
+given-items : (kind : Kind) (text : List ℕ) (n : ℕ) (given : List Seen) (values : Meaning) → length values ≡ length given → AreNext text n given → items_given kind n given values ≡ items_from kind text n values
+given-items kind text n [] [] same next = refl
+given-items kind text n [] (v ∷ values) same next = absurd (omega (arith, same))
+given-items kind text n (seen ∷ given) [] same next = refl
+given-items kind text n (seen ∷ given) (v ∷ values) same next =
+    ap (λ f. item_of kind (n + 1) f v ∷ items_given kind (n + 1) given values) (sym (ap fields_of_seen next.0))
+    ∙ ap (λ l. item_of kind (n + 1) (fields_of_seen (next_answer text n)) v ∷ l) (given-items kind text (n + 1) given values (omega (arith, same)) next.1)
+
+-- These paragraphs were taken away, or they are kept.
+pub record HasSifted (kind : Kind) (others : List Item) (old new : Pool) (kept : List Kept) (given : List Seen) : Type 0 where
   pub values : Meaning
-  pub are : SpellsEntries (SpellsValue (doc_of kind)) checked.before values
-  pub before_counted : length checked.before ≡ count
-  pub counted : length values ≡ count
+  pub are : Pairwise (AreValuesOf (doc_of kind)) given values
   pub is_pool : IsPoolOf (map whole others) new
-  pub left_is : items_in others new ≡ without whole (items_in others old) (items_of kind text values)
-  pub are_kept : AreKept kept (unpaired whole (items_of kind text values) (items_in others old))
+  pub left_is : items_in others new ≡ without whole (items_in others old) (items_given kind 0 given values)
+  pub are_kept : AreKept kept (unpaired whole (items_given kind 0 given values) (items_in others old))
 
-pub none_sifted : (kind : Kind) (text : List ℕ) (others : List Item) (pool : Pool) (state : CheckedState) (left : Option (List ℕ)) → FitsChecked (doc_of kind) text [] state left → IsPoolOf (map whole others) pool → HasSifted kind text others pool pool [] state left 0
-none_sifted kind text others pool state left fits is_pool = record {
-  checked = record { before = []; fits = fits };
-  values = [];
-  are = tt;
-  before_counted = refl;
-  counted = refl;
-  is_pool = is_pool;
-  left_is = refl;
-  are_kept = tt;
-}
-
--- the canonical bodies of a paragraph spell its values
-spelled : (doc : Doc) (text : List ℕ) (before : List Entries) (given : Passing) (new : CheckedState) (left : Option (List ℕ)) (values : ValueEntries ValueMeaning) → (gives : GivesPassing doc text before given new left) → AreValuesOf doc given.seen values → Pairwise (SpellsEntry (SpellsValue doc)) gives.entries values
-spelled doc text before given new left values gives are =
-    let same : Ok (map (body_under value_text) values) ≡ Ok gives.entries = sym are.passes ∙ gives.built in
-    let entries : map (body_under value_text) values ≡ gives.entries = cc in
-    subst (λ e. Pairwise (SpellsEntry (SpellsValue doc)) e values) entries
-    (bodies_of-spelled ValueMeaning (SpellsValue doc) value_text (value_law doc) (entries_of given.seen.fields ∷ []) (values ∷ []) (are.spelled, tt)).0
+pub none_sifted : (kind : Kind) (others : List Item) (pool : Pool) → IsPoolOf (map whole others) pool → HasSifted kind others pool pool [] []
+none_sifted kind others pool is_pool = record { values = []; are = tt; is_pool = is_pool; left_is = refl; are_kept = tt }
 
 -- one paragraph more
-pub one_sifted : (kind : Kind) (text : List ℕ) (others : List Item) (old now new : Pool) (kept kept_new : List Kept) (state after : CheckedState) (left left_after : Option (List ℕ)) (count : ℕ) (values : ValueEntries ValueMeaning) (given : Passing)
-    → (has : HasSifted kind text others old now kept state left count) → GivesPassing (doc_of kind) text has.checked.before given after left_after → AreValuesOf (doc_of kind) given.seen values
-    → Sifts (item_of kind (count + 1) given.seen.fields values) others now new kept kept_new → HasSifted kind text others old new kept_new after left_after (count + 1)
-one_sifted kind text others old now new kept kept_new state after left left_after count values given has gives are sifts =
-    let fields = given.seen.fields in
-    let item = item_of kind (count + 1) fields values in
-    let items = items_of kind text has.values in
+pub one_sifted : (kind : Kind) (others : List Item) (old now new : Pool) (kept kept_new : List Kept) (given : List Seen) (count : ℕ) (values : ValueEntries ValueMeaning) (seen : Seen)
+    → HasSifted kind others old now kept given → length given ≡ count → AreValuesOf (doc_of kind) seen values
+    → Sifts (item_of kind (count + 1) seen.fields values) others now new kept kept_new → HasSifted kind others old new kept_new (given ++ seen ∷ [])
+one_sifted kind others old now new kept kept_new given count values seen has counted are sifts =
+    let item = item_of kind (count + 1) seen.fields values in
+    let items = items_given kind 0 given has.values in
     let waiting = items_in others old in
-    let found : fields_after text count ≡ fields = ap (fields_after text) (sym has.before_counted) ∙ ap fields_of_seen gives.seen in
-    let more : items_of kind text (has.values ++ values ∷ []) ≡ items ++ item ∷ [] = items-push kind text 0 has.values values ∙ ap (λ k. items ++ item_at kind text k values ∷ []) (omega (arith, has.counted)) ∙ ap (λ f. items ++ item_of kind (count + 1) f values ∷ []) found in
+    let same : length has.values ≡ length given = pairwise-length (AreValuesOf (doc_of kind)) given has.values has.are in
+    let from_start : 0 + length given ≡ count = omega (arith, counted) in
+    let more : items_given kind 0 (given ++ seen ∷ []) (has.values ++ values ∷ []) ≡ items ++ item ∷ [] = items_given-push kind 0 given has.values seen values same ∙ ap (λ k. items ++ item_of kind (k + 1) seen.fields values ∷ []) from_start in
     record {
-      checked = record { before = has.checked.before ++ gives.entries ∷ []; fits = gives.again };
       values = has.values ++ values ∷ [];
-      are = pairwise-push (Pairwise (SpellsEntry (SpellsValue (doc_of kind)))) has.checked.before has.values gives.entries values has.are (spelled (doc_of kind) text has.checked.before given after left_after values gives are);
-      before_counted = omega (arith, length_push has.checked.before gives.entries, has.before_counted);
-      counted = omega (arith, length_push has.values values, has.counted);
+      are = pairwise-push (AreValuesOf (doc_of kind)) given has.values seen values has.are are;
       is_pool = sifts.is_pool;
       left_is = sifts.left ∙ ap (all_but whole (whole item)) has.left_is ∙ sym (without-push waiting items item) ∙ ap (without whole waiting) (sym more);
       are_kept = subst (λ l. AreKept kept_new (unpaired whole l waiting)) (sym more)
@@ -150,18 +130,14 @@ one_sifted kind text others old now new kept kept_new state after left left_afte
     }
 
 -- there is no further paragraph
-pub all_sifted : (kind : Kind) (text : List ℕ) (others : List Item) (old new : Pool) (kept : List Kept) (state after : CheckedState) (left left_after : Option (List ℕ)) (count : ℕ) → (has : HasSifted kind text others old new kept state left count) → GivesEnd (doc_of kind) text has.checked.before after left_after → SiftsFile kind text others old new kept
-all_sifted kind text others old new kept state after left left_after count has end =
-    let doc = doc_of kind in
-    let all = is_all_of doc text has.checked.before (outcome-from_end (rules_of doc) text has.checked.before has.checked.fits.given end.answer) in
-    let means = all.accepted.means in
-    let same : has.values ≡ all.meaning =
-    one_list ValueMeaning (SpellsValue doc) value_text (value_law doc) has.checked.before has.values all.meaning has.are
-    (subst (λ bodies. SpellsEntries (SpellsValue doc) bodies all.meaning) all.bodies (bodies_of-spelled ValueMeaning (SpellsValue doc) value_text (value_law doc) means.bodies all.meaning means.spelled)) in
+pub all_sifted : (kind : Kind) (text : List ℕ) (others : List Item) (old new : Pool) (kept : List Kept) (given : List Seen) → HasSifted kind others old new kept given → ShownAll (doc_of kind) text given → SiftsFile kind text others old new kept
+all_sifted kind text others old new kept given has shown =
+    let same : length has.values ≡ length given = pairwise-length (AreValuesOf (doc_of kind)) given has.values has.are in
+    let items : items_given kind 0 given has.values ≡ items_of kind text has.values = given-items kind text 0 given has.values same shown.next in
     record {
-      meaning = all.meaning;
-      accepted = all.accepted;
+      meaning = has.values;
+      accepted = accepted-given (doc_of kind) text given has.values shown has.are;
       is_pool = has.is_pool;
-      left = has.left_is ∙ ap (λ m. without whole (items_in others old) (items_of kind text m)) same;
-      are_kept = subst (AreKept kept) (unpaired-left whole (items_of kind text has.values) (items_in others old) ∙ ap (λ m. without whole (items_of kind text m) (items_in others old)) same) has.are_kept;
+      left = has.left_is ∙ ap (without whole (items_in others old)) items;
+      are_kept = subst (AreKept kept) (unpaired-left whole (items_given kind 0 given has.values) (items_in others old) ∙ ap (λ l. without whole l (items_in others old)) items) has.are_kept;
     }

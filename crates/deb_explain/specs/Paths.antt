@@ -1,7 +1,7 @@
 -- How a path is shown in a line: no byte of it ends the line or acts on a terminal, no character of
 -- it hides or reorders text, and no two paths are shown alike. The rules are this project's own.
 use Rattle.std.specs.Prelude.{◌≡◌, ℕ, ◌&&◌, not, Bool, true, false, cond, nat_le}
-use Rattle.std.specs.Prelude.{nat_lt, List, [], ◌∷◌, ◌++◌, codes, refl}
+use Rattle.std.specs.Prelude.{List, [], ◌∷◌, ◌++◌, codes, refl}
 use Rattle.std.specs.List.{flat_map, list_any}
 use Rattle.std.specs.Str.{is_utf8, chars}
 use lib.Utf8.{encode}

@@ -15,7 +15,7 @@ use Rattle.deb_relation.specs.Texts.{alternative_text, architectures_text, bound
 use Rattle.deb_relation.proofs.Bytes.{other, package_bytes, package_some}
 use Rattle.deb_relation.proofs.Regular.{IsRegular, IsRegularGroup, IsRegularRelation}
 use Rattle.deb_relation.proofs.Runs.{Passes, Stops}
-use Rattle.deb_index.specs.Entries.{AppendsEntries, BehindName, HasNoFault, IsEntry, IsFaultless, IsVersionPlace, Places, entry_name, entry_version, provision_at, version_kept}
+use Rattle.deb_index.specs.Entries.{AppendsEntries, BehindName, HasNoFault, HasNumber, IsEntry, IsIn, IsVersionPlace, Places, entry_name, entry_version, provision_at, version_kept}
 use Rattle.deb_index.specs.Listed.{Provision, bound_version, is_plain, provided_by, provision_in, provisions_of}
 use Rattle.deb_index.specs.Spans.{part}
 use Rattle.deb_index.proofs.Commas.{group_lacks_comma, is_other}
@@ -141,11 +141,11 @@ provision-same : (n m : List ℕ) (v w : Option Version) → n ≡ m → v ≡ w
 provision-same n m v w e f = rw (e, f) refl
 
 -- the entry of a group: its name and its version are at these offsets
-module _ (text : List ℕ) (start end k : ℕ) (a : Alternative) (others : Group) (regular : IsRegular a) (is : part start end text ≡ group_text (a ∷ others)) (long : k ≡ prefix_len in_name (part start end text)) (fits : start + k ≤ end) where
+module _ (text : List ℕ) (number start end k : ℕ) (a : Alternative) (others : Group) (regular : IsRegular a) (is : part start end text ≡ group_text (a ∷ others)) (long : k ≡ prefix_len in_name (part start end text)) (fits : start + k ≤ end) (inside : end ≤ length text) where
   pub behind_is : drop k (part start end text) ≡ behind_name a others
   behind_is = ap (λ n. drop n (part start end text)) long ∙ behind_at a others regular (part start end text) is
 
-  pub entry_name_is : (from to : ℕ) → entry_name text (record { start = start; name_end = start + k; version = start + k + from; end = start + k + to }) ≡ a.name
+  pub entry_name_is : (from to : ℕ) → entry_name text (record { start = start; name_end = start + k; version = start + k + from; end = start + k + to; number = number }) ≡ a.name
   entry_name_is from to =
       let first : start ≡ start + 0 = omega arith in
       let low : 0 ≤ k = omega arith in
@@ -153,7 +153,7 @@ module _ (text : List ℕ) (start end k : ℕ) (a : Alternative) (others : Group
       ap (λ s. part s (start + k) text) first ∙ sym (part-part start end 0 k text low fits)
       ∙ ap (λ n. take n (part start end text)) count ∙ front_at a others regular (part start end text) is
 
-  pub entry_version_is : (from to : ℕ) → from ≤ to → start + k + to ≤ end → entry_version text (record { start = start; name_end = start + k; version = start + k + from; end = start + k + to }) ≡ part from to (drop k (part start end text))
+  pub entry_version_is : (from to : ℕ) → from ≤ to → start + k + to ≤ end → entry_version text (record { start = start; name_end = start + k; version = start + k + from; end = start + k + to; number = number }) ≡ part from to (drop k (part start end text))
   entry_version_is from to order within =
       let first : start + k + from ≡ start + (k + from) = omega arith in
       let last : start + k + to ≡ start + (k + to) = omega arith in
@@ -166,64 +166,66 @@ module _ (text : List ℕ) (start end k : ℕ) (a : Alternative) (others : Group
       ∙ ap (take (to - from)) (sym (drop-drop from k (part start end text)))
 
   pub entry_is : (from to : ℕ) → from ≤ to → start + k + to ≤ end → IsVersionPlace a others (drop k (part start end text)) (Some (from, to)) → HasNoFault (part from to (drop k (part start end text)))
-      → IsEntry text (Some (record { start = start; name_end = start + k; version = start + k + from; end = start + k + to })) (provided_by (a ∷ others))
+      → IsEntry text number (Some (record { start = start; name_end = start + k; version = start + k + from; end = start + k + to; number = number })) (provided_by (a ∷ others))
   entry_is from to order within place faultless = go (is_plain a && (length others == 0)) refl
     where
-      go : (v : Bool) → (is_plain a && (length others == 0)) ≡ v → IsEntry text (Some (record { start = start; name_end = start + k; version = start + k + from; end = start + k + to })) (provided_by (a ∷ others))
+      go : (v : Bool) → (is_plain a && (length others == 0)) ≡ v → IsEntry text number (Some (record { start = start; name_end = start + k; version = start + k + from; end = start + k + to; number = number })) (provided_by (a ∷ others))
       go true e =
           let version : version_kept (part from to (drop k (part start end text))) ≡ option_map bound_version a.bound = some-same _ _ (place ∙ ap (λ v. cond v (Some (option_map bound_version a.bound)) None) e) in
           record {
-            faultless = subst HasNoFault (sym (entry_version_is from to order within)) faultless;
+            is_in = record { name_end = omega (arith, fits, inside); end = omega (arith, within, inside); faultless = subst HasNoFault (sym (entry_version_is from to order within)) faultless };
+            numbered = refl;
             provides =
                 provision-same _ _ _ _ (entry_name_is from to) (ap version_kept (entry_version_is from to order within) ∙ version) ∙ sym (provided-one a others e);
           }
       go false e = let no : Some (version_kept (part from to (drop k (part start end text)))) ≡ None = place ∙ ap (λ v. cond v (Some (option_map bound_version a.bound)) None) e in absurd (cc)
 
 -- no entry
-pub no_entry : (text behind : List ℕ) (a : Alternative) (others : Group) → IsVersionPlace a others behind None → IsEntry text None (provided_by (a ∷ others))
-no_entry text behind a others place = go (is_plain a && (length others == 0)) refl
+pub no_entry : (text behind : List ℕ) (number : ℕ) (a : Alternative) (others : Group) → IsVersionPlace a others behind None → IsEntry text number None (provided_by (a ∷ others))
+no_entry text behind number a others place = go (is_plain a && (length others == 0)) refl
   where
-    go : (v : Bool) → (is_plain a && (length others == 0)) ≡ v → IsEntry text None (provided_by (a ∷ others))
+    go : (v : Bool) → (is_plain a && (length others == 0)) ≡ v → IsEntry text number None (provided_by (a ∷ others))
     go true e = let no : None ≡ Some (option_map bound_version a.bound) = place ∙ ap (λ v. cond v (Some (option_map bound_version a.bound)) None) e in absurd (cc)
-    go false e = record { faultless = tt; provides = sym (provided-none a others e) }
+    go false e = record { is_in = tt; numbered = tt; provides = sym (provided-none a others e) }
 
 -- what was appended of the groups so far
-pub record SoFar (text : List ℕ) (start : ℕ) (old now : List Places) (m : Relation) : Type 0 where
+pub record SoFar (text : List ℕ) (number start : ℕ) (old now : List Places) (m : Relation) : Type 0 where
   pub done : List Provision
   pub left : Relation
   pub regular : AllByRecursion IsRegularGroup left
   pub rest : drop start text ≡ relation_text left
-  pub appended : AppendsEntries text old now done
+  pub appended : AppendsEntries text number old now done
   pub all : done ++ provisions_of left ≡ provisions_of m
 
-pub so_far_none : (text : List ℕ) (old : List Places) (m : Relation) → IsRegularRelation m → text ≡ relation_text m → SoFar text 0 old old m
-so_far_none text old m regular is = record {
+pub so_far_none : (text : List ℕ) (number start : ℕ) (old : List Places) (m : Relation) → IsRegularRelation m → drop start text ≡ relation_text m → SoFar text number start old old m
+so_far_none text number start old m regular is = record {
   done = [];
   left = m;
   regular = regular.groups;
   rest = is;
-  appended = record { more = []; appended = sym (append-nil old); faultless = All-from_recursion (IsFaultless text) [] tt; provides = refl };
+  appended = record { more = []; appended = sym (append-nil old); are_in = All-from_recursion (IsIn text) [] tt; numbered = All-from_recursion (HasNumber number) [] tt; provides = refl };
   all = refl;
 }
 
-pub so_far_all : (text : List ℕ) (start : ℕ) (old now : List Places) (m : Relation) → SoFar text start old now m → length text ≤ start → AppendsEntries text old now (provisions_of m)
-so_far_all text start old now m so_far over =
+pub so_far_all : (text : List ℕ) (number start : ℕ) (old now : List Places) (m : Relation) → SoFar text number start old now m → length text ≤ start → AppendsEntries text number old now (provisions_of m)
+so_far_all text number start old now m so_far over =
     let none = no_groups so_far.left so_far.regular (sym so_far.rest ∙ drop_all start text over) in
-    subst (AppendsEntries text old now) (sym (append-nil so_far.done) ∙ ap (λ l. so_far.done ++ provisions_of l) (sym none) ∙ so_far.all) so_far.appended
+    subst (AppendsEntries text number old now) (sym (append-nil so_far.done) ∙ ap (λ l. so_far.done ++ provisions_of l) (sym none) ∙ so_far.all) so_far.appended
 
-appends-both : (text : List ℕ) (old now new : List Places) (done more : List Provision) → AppendsEntries text old now done → AppendsEntries text now new more → AppendsEntries text old new (done ++ more)
-appends-both text old now new done more first second = record {
+appends-both : (text : List ℕ) (number : ℕ) (old now new : List Places) (done more : List Provision) → AppendsEntries text number old now done → AppendsEntries text number now new more → AppendsEntries text number old new (done ++ more)
+appends-both text number old now new done more first second = record {
   more = first.more ++ second.more;
   appended = second.appended ∙ ap (λ l. l ++ second.more) first.appended ∙ append_assoc old first.more second.more;
-  faultless = All-append (IsFaultless text) first.more second.more first.faultless second.faultless;
+  are_in = All-append (IsIn text) first.more second.more first.are_in second.are_in;
+  numbered = All-append (HasNumber number) first.more second.more first.numbered second.numbered;
   provides = map-append (provision_at text) first.more second.more ∙ ap (λ l. l ++ map (provision_at text) second.more) first.provides ∙ ap (λ l. done ++ l) second.provides;
 }
 
-pub so_far_more : (text : List ℕ) (start n : ℕ) (old now new : List Places) (m : Relation) → SoFar text start old now m → start < length text → n ≡ prefix_len (is_other 44) (drop start text)
-    → ((group : Group) → IsRegularGroup group → part start (start + n) text ≡ group_text group → AppendsEntries text now new (provided_by group)) → SoFar text (start + n + 2) old new m
-so_far_more text start n old now new m so_far under count appends = go so_far.left so_far.regular so_far.rest so_far.all
+pub so_far_more : (text : List ℕ) (number start n : ℕ) (old now new : List Places) (m : Relation) → SoFar text number start old now m → start < length text → n ≡ prefix_len (is_other 44) (drop start text)
+    → ((group : Group) → IsRegularGroup group → part start (start + n) text ≡ group_text group → AppendsEntries text number now new (provided_by group)) → SoFar text number (start + n + 2) old new m
+so_far_more text number start n old now new m so_far under count appends = go so_far.left so_far.regular so_far.rest so_far.all
   where
-    go : (left : Relation) → AllByRecursion IsRegularGroup left → drop start text ≡ relation_text left → so_far.done ++ provisions_of left ≡ provisions_of m → SoFar text (start + n + 2) old new m
+    go : (left : Relation) → AllByRecursion IsRegularGroup left → drop start text ≡ relation_text left → so_far.done ++ provisions_of left ≡ provisions_of m → SoFar text number (start + n + 2) old new m
     go [] regular rest all = absurd (omega (arith, under, length-drop start text, ap length rest))
     go (group ∷ left) regular rest all =
         let next = next_group text start n group left regular.0 rest count in
@@ -232,7 +234,7 @@ so_far_more text start n old now new m so_far under count appends = go so_far.le
           left = left;
           regular = regular.1;
           rest = next.left;
-          appended = appends-both text old now new so_far.done (provided_by group) so_far.appended (appends group regular.0 next.front);
+          appended = appends-both text number old now new so_far.done (provided_by group) so_far.appended (appends group regular.0 next.front);
           all = append_assoc so_far.done (provided_by group) (provisions_of left) ∙ all;
         }
 
@@ -240,39 +242,41 @@ part-length : (start end : ℕ) (text : List ℕ) → end ≤ length text → le
 part-length start end text inside = length-take-le (end - start) (drop start text) (omega (arith, length-drop start text, inside))
 
 -- the entry of a group that was found, and none
-pub entry_found : (text : List ℕ) (start end k from to : ℕ) (behind : List ℕ) (group : Group) → IsRegularGroup group → part start end text ≡ group_text group → k ≡ prefix_len in_name (part start end text)
+pub entry_found : (text : List ℕ) (number start end k from to : ℕ) (behind : List ℕ) (group : Group) → IsRegularGroup group → part start end text ≡ group_text group → k ≡ prefix_len in_name (part start end text)
     → start ≤ end → end ≤ length text → k ≤ length (part start end text) → from ≤ to → to ≤ length behind → behind ≡ drop k (part start end text)
     → ((a : Alternative) (others : Group) → IsRegular a → BehindName a others behind → IsVersionPlace a others behind (Some (from, to)))
     → ((a : Alternative) (others : Group) → IsRegular a → BehindName a others behind → HasNoFault (part from to behind))
-    → IsEntry text (Some (record { start = start; name_end = start + k; version = start + k + from; end = start + k + to })) (provided_by group)
-entry_found text start end k from to behind [] regular is long low inside within order to_within behind_same place faultless = absurd (regular.some refl)
-entry_found text start end k from to behind (a ∷ others) regular is long low inside within order to_within behind_same place faultless =
+    → IsEntry text number (Some (record { start = start; name_end = start + k; version = start + k + from; end = start + k + to; number = number })) (provided_by group)
+entry_found text number start end k from to behind [] regular is long low inside within order to_within behind_same place faultless = absurd (regular.some refl)
+entry_found text number start end k from to behind (a ∷ others) regular is long low inside within order to_within behind_same place faultless =
     let fits : start + k ≤ end = omega (arith, low, within, part-length start end text inside) in
     let total : start + k + to ≤ end = omega (arith, low, within, to_within, ap length behind_same, length-drop k (part start end text), part-length start end text inside) in
     let name : BehindName a others behind = behind_same ∙ ap (λ n. drop n (part start end text)) long ∙ behind_at a others regular.each.0 (part start end text) is in
-    entry_is text start end k a others regular.each.0 is long fits from to order total
+    entry_is text number start end k a others regular.each.0 is long fits inside from to order total
     (subst (λ t. IsVersionPlace a others t (Some (from, to))) behind_same (place a others regular.each.0 name))
     (subst (λ t. HasNoFault (part from to t)) behind_same (faultless a others regular.each.0 name))
 
-pub entry_missing : (text : List ℕ) (start end k : ℕ) (behind : List ℕ) (group : Group) → IsRegularGroup group → part start end text ≡ group_text group → k ≡ prefix_len in_name (part start end text) → behind ≡ drop k (part start end text)
-    → ((a : Alternative) (others : Group) → IsRegular a → BehindName a others behind → IsVersionPlace a others behind None) → IsEntry text None (provided_by group)
-entry_missing text start end k behind [] regular is long behind_same place = absurd (regular.some refl)
-entry_missing text start end k behind (a ∷ others) regular is long behind_same place =
-    no_entry text behind a others (place a others regular.each.0 (behind_same ∙ ap (λ n. drop n (part start end text)) long ∙ behind_at a others regular.each.0 (part start end text) is))
+pub entry_missing : (text : List ℕ) (number start end k : ℕ) (behind : List ℕ) (group : Group) → IsRegularGroup group → part start end text ≡ group_text group → k ≡ prefix_len in_name (part start end text) → behind ≡ drop k (part start end text)
+    → ((a : Alternative) (others : Group) → IsRegular a → BehindName a others behind → IsVersionPlace a others behind None) → IsEntry text number None (provided_by group)
+entry_missing text number start end k behind [] regular is long behind_same place = absurd (regular.some refl)
+entry_missing text number start end k behind (a ∷ others) regular is long behind_same place =
+    no_entry text behind number a others (place a others regular.each.0 (behind_same ∙ ap (λ n. drop n (part start end text)) long ∙ behind_at a others regular.each.0 (part start end text) is))
 
 -- an entry, or none, is appended
-pub append_found : (text : List ℕ) (old new : List Places) (e : Places) (provided : List Provision) → new ≡ old ++ e ∷ [] → IsEntry text (Some e) provided → AppendsEntries text old new provided
-append_found text old new e provided is entry = record {
+pub append_found : (text : List ℕ) (number : ℕ) (old new : List Places) (e : Places) (provided : List Provision) → new ≡ old ++ e ∷ [] → IsEntry text number (Some e) provided → AppendsEntries text number old new provided
+append_found text number old new e provided is entry = record {
   more = e ∷ [];
   appended = is;
-  faultless = All-from_recursion (IsFaultless text) (e ∷ []) (entry.faultless, tt);
+  are_in = All-from_recursion (IsIn text) (e ∷ []) (entry.is_in, tt);
+  numbered = All-from_recursion (HasNumber number) (e ∷ []) (entry.numbered, tt);
   provides = entry.provides;
 }
 
-pub append_missing : (text : List ℕ) (old : List Places) (provided : List Provision) → IsEntry text None provided → AppendsEntries text old old provided
-append_missing text old provided entry = record {
+pub append_missing : (text : List ℕ) (number : ℕ) (old : List Places) (provided : List Provision) → IsEntry text number None provided → AppendsEntries text number old old provided
+append_missing text number old provided entry = record {
   more = [];
   appended = sym (append-nil old);
-  faultless = All-from_recursion (IsFaultless text) [] tt;
+  are_in = All-from_recursion (IsIn text) [] tt;
+  numbered = All-from_recursion (HasNumber number) [] tt;
   provides = entry.provides;
 }

@@ -28,8 +28,9 @@ pub mod KeptProvides
 pub mod Answered
 pub mod Details
 pub mod Numbered
+pub mod Owners
 pub mod Offering
+pub mod Gathered
 pub mod Standings
-pub mod Filling
 pub mod Offered
 pub mod Answering

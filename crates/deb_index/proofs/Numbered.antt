@@ -1,11 +1,13 @@
 -- Tests of packages and their numbers.
 use Rattle.std.proofs.Common.{◌≡◌, ℕ, ◌+◌, ◌-◌, ◌≤◌, nat_eq, if◌then◌else◌, slice_get, Bool, true, false, cond, ◌&&◌, ◌||◌, eqb, List, [], ◌∷◌, ◌++◌, length, Option, None, Some, append_assoc, refl, sym, ap, ◌∙◌, arith}
 use Rattle.std.specs.List.{list_any}
+use Rattle.std.specs.Option.{option_map_or}
 use Rattle.std.proofs.lemmas.List.{length_push}
 use Rattle.deb_index.specs.Crowds.{any_numbered}
 use Rattle.deb_index.specs.Listed.{Listed}
-use Rattle.deb_index.specs.Named.{among, numbers_from, package_at}
+use Rattle.deb_index.specs.Named.{among, numbers_from, numbers_of, package_at, passes_at}
 use Rattle.deb_index.proofs.Picked.{behind-front}
+use Rattle.deb_index.proofs.SomeMeets.{four}
 
 -- tests that answer alike
 pub numbered-same : (f g : ℕ → Listed → Bool) → ((n : ℕ) (p : Listed) → f n p ≡ g n p) → (n : ℕ) (packages : List Listed) → any_numbered f n packages ≡ any_numbered g n packages
@@ -30,6 +32,32 @@ module _ (test : ℕ → Option Listed → Listed → Bool) where
 
   pub located : (packages : List Listed) → any_numbered (λ k p. test k (package_at k packages) p) 1 packages ≡ any_numbered (λ k p. test k (Some p) p) 1 packages
   located packages = located-from [] packages 1 refl
+
+-- either of two tests
+pub numbered-either : (f g : ℕ → Listed → Bool) (n : ℕ) (packages : List Listed) → (any_numbered f n packages || any_numbered g n packages) ≡ any_numbered (λ k p. f k p || g k p) n packages
+numbered-either f g n [] = refl
+numbered-either f g n (p ∷ packages) = four (f n p) (any_numbered f (n + 1) packages) (g n p) (any_numbered g (n + 1) packages) ∙ ap (λ b. (f n p || g n p) || b) (numbered-either f g (n + 1) packages)
+
+-- a test of the packages whose numbers are asked
+module _ (asked : Listed → Bool) (test : ℕ → Listed → Bool) where
+  any-cond : (f : ℕ → Bool) (v : Bool) (n : ℕ) (numbers : List ℕ) → list_any f (cond v (n ∷ numbers) numbers) ≡ ((v && f n) || list_any f numbers)
+  any-cond f true n numbers = refl
+  any-cond f false n numbers = refl
+
+  asked-from : (front rest : List Listed) (n : ℕ) → n ≡ length front + 1 → list_any (λ k. passes_at (test k) (front ++ rest) k) (numbers_from n asked rest) ≡ any_numbered (λ k p. asked p && test k p) n rest
+  asked-from front [] n is = refl
+  asked-from front (p ∷ rest) n is =
+      let passes : ℕ → Bool = λ k. passes_at (test k) (front ++ p ∷ rest) k in
+      let numbers = numbers_from (n + 1) asked rest in
+      let long = length_push front p in
+      any-cond passes (asked p) n numbers
+      ∙ ap (λ o. (asked p && option_map_or (test n) o false) || list_any passes numbers) (behind-front front p rest n is)
+      ∙ ap (λ b. (asked p && test n p) || b)
+      (ap (λ l. list_any (λ k. passes_at (test k) l k) numbers) (sym (append_assoc front (p ∷ []) rest))
+      ∙ asked-from (front ++ p ∷ []) rest (n + 1) (omega (arith, is, long)))
+
+  pub numbered-asked : (packages : List Listed) → list_any (λ k. passes_at (test k) packages k) (numbers_of asked packages) ≡ any_numbered (λ k p. asked p && test k p) 1 packages
+  numbered-asked packages = asked-from [] packages 1 refl
 
 -- a test that asks no number
 pub unnumbered : (test : Listed → Bool) (n : ℕ) (packages : List Listed) → any_numbered (λ k p. test p) n packages ≡ list_any test packages

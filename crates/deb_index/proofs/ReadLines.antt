@@ -1,62 +1,25 @@
 -- What is read of each paragraph of a file, such as the line at which it starts: of those that were read, and of those that are left.
-use Rattle.std.proofs.Common.{◌≡◌, ℕ, ◌+◌, ◌&&◌, not, nat_le, Bool, true, false, cond, List, [], ◌∷◌, ◌++◌, length, map, drop, Option, None, Some, Result, Ok, Err, refl, sym, ap, ◌∙◌, append_assoc, append-nil}
+use Rattle.std.proofs.Common.{◌≡◌, ℕ, ◌+◌, ◌&&◌, not, nat_le, Bool, true, false, cond, List, [], ◌∷◌, ◌++◌, length, map, drop, Option, None, Some, Result, Ok, Err, refl, sym, ap, ◌∙◌, append-nil, arith, subst}
 use Rattle.deb_base.specs.Bodies.{paragraph_limit}
 use Rattle.deb_base.specs.declared.code.Code.TheVariants.{FileTooLong, TooManyParagraphs}
+use Rattle.std.proofs.lemmas.List.{length-map}
+use Rattle.deb_base.specs.declared.doc.Doc.{Doc}
 use Rattle.deb_base.specs.declared.refusal.Refusal.{Refusal}
-use Rattle.deb_syntax.specs.Answers.{Seen, answer_of_first, is_line, line_beyond, line_too_long, next_answer, paragraph_answer, paragraphs_within, seen_from}
+use Rattle.deb_syntax.specs.Answers.{Seen, answer_of_first, is_line, line_beyond, line_too_long, paragraph_answer, paragraphs_within, seen_from}
 use Rattle.deb_syntax.specs.Fields.{Field}
 use Rattle.deb_syntax.specs.Judging.{judged}
 use Rattle.deb_syntax.specs.Lines.{Paragraph, file_limit, paragraphs_of}
 use Rattle.deb_syntax.specs.Meaning.{Entries}
 use Rattle.deb_control.specs.Canonical.{file_text}
-use Rattle.deb_control.specs.Refusals.{answer_behind, answer_of_seen, built, has_some, line_behind, next_checked, within_file}
+use Rattle.deb_control.specs.Refusals.{answer_behind, answer_of_seen, built, has_some, line_behind, within_file}
 use Rattle.deb_control.specs.Rules.{Rules}
 use Rattle.deb_control.proofs.FollowedParagraphs.{drop_one}
 use Rattle.deb_control.proofs.Limits.{length-within, part_within-whole}
-use Rattle.deb_index.specs.FirstLines.{first_line}
-use Rattle.deb_index.specs.VersionSpellings.{body_judged, version_body, version_spelling}
-
--- after n paragraphs of a file this is what was read of each
-abbrev pub HasRead : {X : Type 0} → (Paragraph → X) → List ℕ → ℕ → List X → Type 0
-HasRead of text n read = map of (paragraphs_within text) ≡ read ++ map of (drop n (paragraphs_within text))
-
-pub none_read : {X : Type 0} (of : Paragraph → X) (text : List ℕ) → HasRead of text 0 []
-none_read of text = refl
-
--- what is read of a paragraph is read of what is seen of it
-module _ {X : Type 0} (of : Paragraph → X) (shown : Seen → X) (same : (p : Paragraph) (fields : List Field) → judged p.first p.lines ≡ Ok fields → of p ≡ shown (record { first = p.first; fields = fields })) where
-  seen-is : (p : Paragraph) (answer : Result (List Field) Refusal) (seen : Seen) → judged p.first p.lines ≡ answer → seen_from p.first answer ≡ Ok (Some seen) → of p ≡ shown seen
-  seen-is p (Ok fields) seen is e =
-      let are : record { first = p.first; fields = fields } ≡ seen = cc in
-      same p fields is ∙ ap shown are
-  seen-is p (Err refusal) seen is e = absurd (cc)
-
-  seen-is_first : (beyond : Option ℕ) (left : List Paragraph) (seen : Seen) → answer_of_first beyond left ≡ Ok (Some seen) → map of left ≡ shown seen ∷ map of (drop 1 left)
-  seen-is_first None [] seen e = absurd (cc)
-  seen-is_first (Some line) [] seen e = absurd (cc)
-  seen-is_first beyond (p ∷ more) seen e = ap (λ n. n ∷ map of more) (by_length (line_too_long p.first paragraph_limit p.lines) e)
-    where
-      by_file : (t : Bool) → cond {A = Result (Option Seen) Refusal} t (Err (record { code = FileTooLong; line = p.first + length p.lines })) (seen_from p.first (judged p.first p.lines)) ≡ Ok (Some seen) → of p ≡ shown seen
-      by_file true e = absurd (cc)
-      by_file false e = seen-is p (judged p.first p.lines) seen refl e
-
-      by_length : (long : Option ℕ) → paragraph_answer long beyond p ≡ Ok (Some seen) → of p ≡ shown seen
-      by_length (Some line) e = absurd (cc)
-      by_length None e = by_file (is_line (p.first + length p.lines) beyond) e
-
-  -- one more
-  pub one_read : (text : List ℕ) (n : ℕ) (read : List X) (seen : Seen) → HasRead of text n read → next_answer text n ≡ Ok (Some seen) → HasRead of text (n + 1) (read ++ shown seen ∷ [])
-  one_read text n read seen has answer =
-      has
-      ∙ ap (λ l. read ++ l) (seen-is_first (line_beyond 1 file_limit text) (drop n (paragraphs_within text)) seen answer)
-      ∙ ap (λ l. read ++ (shown seen ∷ map of l)) (drop_one n (paragraphs_within text))
-      ∙ sym (append_assoc read (shown seen ∷ []) (map of (drop (n + 1) (paragraphs_within text))))
-
-pub one_line : (text : List ℕ) (n : ℕ) (lines : List ℕ) (seen : Seen) → HasRead first_line text n lines → next_answer text n ≡ Ok (Some seen) → HasRead first_line text (n + 1) (lines ++ seen.first ∷ [])
-one_line = one_read first_line (λ seen. seen.first) (λ p fields is. refl)
-
-pub one_spelling : (text : List ℕ) (n : ℕ) (texts : List (List ℕ)) (seen : Seen) → HasRead version_spelling text n texts → next_answer text n ≡ Ok (Some seen) → HasRead version_spelling text (n + 1) (texts ++ version_body seen.fields ∷ [])
-one_spelling = one_read version_spelling (λ seen. version_body seen.fields) (λ p fields is. ap body_judged is)
+use Rattle.deb_control.specs.Documents.{rules_of}
+use Rattle.deb_control.specs.GivenParagraphs.{AreNext, bodies_seen}
+use Rattle.deb_control.proofs.ShownSoFar.{ShownAll}
+use Rattle.deb_index.specs.FirstLines.{first_line, first_lines}
+use Rattle.deb_index.specs.VersionSpellings.{body_judged, version_body, version_spelling, version_spellings}
 
 -- where a paragraph is left there is a further one, or the file is refused
 module _ (rules : Rules) (n : ℕ) (before : List Entries) where
@@ -92,9 +55,47 @@ module _ (rules : Rules) (n : ℕ) (before : List Entries) where
   none-left (Some line) [] e = absurd (cc)
   none-left beyond (p ∷ more) e = absurd (left-some beyond p more e)
 
--- all of them
-pub all_read : {X : Type 0} (of : Paragraph → X) (rules : Rules) (text : List ℕ) (before : List Entries) (read : List X) → HasRead of text (length before) read → next_checked rules text before ≡ Ok None → read ≡ map of (paragraphs_of text)
-all_read of rules text before read has end =
-    let none = none-left rules (line_behind text) before (line_beyond 1 file_limit text) (drop (length before) (paragraphs_within text)) end in
-    let whole : paragraphs_within text ≡ paragraphs_of text = ap paragraphs_of (part_within-whole text (length-within text none.0)) in
-    sym (append-nil read) ∙ ap (λ l. read ++ map of l) (sym none.1) ∙ sym has ∙ ap (map of) whole
+-- what is read of a paragraph is read of what is seen of it
+module _ {X : Type 0} (of : Paragraph → X) (shown : Seen → X) (same : (p : Paragraph) (fields : List Field) → judged p.first p.lines ≡ Ok fields → of p ≡ shown (record { first = p.first; fields = fields })) where
+  seen-is : (p : Paragraph) (answer : Result (List Field) Refusal) (seen : Seen) → judged p.first p.lines ≡ answer → seen_from p.first answer ≡ Ok (Some seen) → of p ≡ shown seen
+  seen-is p (Ok fields) seen is e =
+      let are : record { first = p.first; fields = fields } ≡ seen = cc in
+      same p fields is ∙ ap shown are
+  seen-is p (Err refusal) seen is e = absurd (cc)
+
+  seen-is_first : (beyond : Option ℕ) (left : List Paragraph) (seen : Seen) → answer_of_first beyond left ≡ Ok (Some seen) → map of left ≡ shown seen ∷ map of (drop 1 left)
+  seen-is_first None [] seen e = absurd (cc)
+  seen-is_first (Some line) [] seen e = absurd (cc)
+  seen-is_first beyond (p ∷ more) seen e = ap (λ n. n ∷ map of more) (by_length (line_too_long p.first paragraph_limit p.lines) e)
+    where
+      by_file : (t : Bool) → cond {A = Result (Option Seen) Refusal} t (Err (record { code = FileTooLong; line = p.first + length p.lines })) (seen_from p.first (judged p.first p.lines)) ≡ Ok (Some seen) → of p ≡ shown seen
+      by_file true e = absurd (cc)
+      by_file false e = seen-is p (judged p.first p.lines) seen refl e
+
+      by_length : (long : Option ℕ) → paragraph_answer long beyond p ≡ Ok (Some seen) → of p ≡ shown seen
+      by_length (Some line) e = absurd (cc)
+      by_length None e = by_file (is_line (p.first + length p.lines) beyond) e
+
+  -- what is read of the next paragraphs, and then of those that are left
+  next_read : (text : List ℕ) (n : ℕ) (given : List Seen) → AreNext text n given → map of (drop n (paragraphs_within text)) ≡ map shown given ++ map of (drop (n + length given) (paragraphs_within text))
+  next_read text n [] next = ap (λ k. map of (drop k (paragraphs_within text))) (omega arith)
+  next_read text n (seen ∷ more) next =
+      seen-is_first (line_beyond 1 file_limit text) (drop n (paragraphs_within text)) seen next.0
+      ∙ ap (λ l. shown seen ∷ map of l) (drop_one n (paragraphs_within text))
+      ∙ ap (λ l. shown seen ∷ l) (next_read text (n + 1) more next.1 ∙ ap (λ k. map shown more ++ map of (drop k (paragraphs_within text))) (omega arith))
+
+  -- if no further one follows it is read of all
+  pub all_read : (doc : Doc) (text : List ℕ) (given : List Seen) → ShownAll doc text given → map shown given ≡ map of (paragraphs_of text)
+  all_read doc text given all =
+      let count = length-map given (bodies_seen doc) in
+      let end : answer_behind (rules_of doc) (line_beyond 1 file_limit text) (line_behind text) (map (bodies_seen doc) given) (drop (length given) (paragraphs_within text)) ≡ Ok None = subst (λ k. answer_behind (rules_of doc) (line_beyond 1 file_limit text) (line_behind text) (map (bodies_seen doc) given) (drop k (paragraphs_within text)) ≡ Ok None) count all.none in
+      let none = none-left (rules_of doc) (line_behind text) (map (bodies_seen doc) given) (line_beyond 1 file_limit text) (drop (length given) (paragraphs_within text)) end in
+      let whole : paragraphs_within text ≡ paragraphs_of text = ap paragraphs_of (part_within-whole text (length-within text none.0)) in
+      let from_start : length given ≡ 0 + length given = omega arith in
+      sym (append-nil (map shown given)) ∙ ap (λ l. map shown given ++ map of l) (sym none.1 ∙ ap (λ k. drop k (paragraphs_within text)) from_start) ∙ sym (next_read text 0 given all.next) ∙ ap (map of) whole
+
+pub all_lines : (doc : Doc) (text : List ℕ) (given : List Seen) → ShownAll doc text given → map (λ seen. seen.first) given ≡ first_lines text
+all_lines = all_read first_line (λ seen. seen.first) (λ p fields is. refl)
+
+pub all_spellings : (doc : Doc) (text : List ℕ) (given : List Seen) → ShownAll doc text given → map (λ seen. version_body seen.fields) given ≡ version_spellings text
+all_spellings = all_read version_spelling (λ seen. version_body seen.fields) (λ p fields is. ap body_judged is)

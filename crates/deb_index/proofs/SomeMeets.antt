@@ -34,7 +34,7 @@ some-asked : (asked test : Listed → Bool) (packages : List Listed) → list_an
 some-asked asked test packages =
     sym (some-filter (passes_at test packages) (numbers_of asked packages)) ∙ ap some (filtered asked test packages) ∙ some-numbers 1 (λ p. asked p && test p) packages
 
-four : (a b c d : Bool) → ((a || b) || (c || d)) ≡ ((a || c) || (b || d))
+pub four : (a b c d : Bool) → ((a || b) || (c || d)) ≡ ((a || c) || (b || d))
 four true b c d = refl
 four false true true d = refl
 four false true false d = refl

@@ -1,14 +1,13 @@
--- In their order, offers before those of a name that meet a bound come first, and those behind them last.
+-- In their order, offers before those that meet a bound come first, and those behind them last.
 use Rattle.std.proofs.Common.{◌≡◌, ℕ, ◌+◌, ◌-◌, ◌<◌, ◌≤◌, Bool, true, false, List, drop, get_or, length, length-drop, Option, None, Some, refl, sym, ap, ◌∙◌, subst, arith}
-use Rattle.std.specs.Cmp.{IsStrictWeakOrder, IsTotalOrder, alike_right, on_total, then_total}
+use Rattle.std.specs.Cmp.{IsStrictWeakOrder, IsTotalOrder, alike_right, on_total}
 use Rattle.std.specs.Cmp.Lexicographic.{options_total}
 use Rattle.std.specs.List.Sorted.{IsPartitionedBy, IsSortedBy}
 use Rattle.std.specs.Option.{option_cmp}
-use Rattle.std.specs.Ordering.{is_gt, is_le, is_lt, nat_cmp, ordering_reverse, ordering_then}
+use Rattle.std.specs.Ordering.{is_gt, is_le, is_lt, ordering_reverse}
 use Rattle.std.specs.declared.cmp.Ordering.{Ordering}
 use Rattle.std.specs.declared.cmp.Ordering.TheVariants.{Less, Equal as Same, Greater}
 use Rattle.std.proofs.lemmas.Bool.{false≢true}
-use Rattle.std.proofs.lemmas.Cmp.{nat_cmp_total}
 use Rattle.std.proofs.lemmas.List.{get_or-drop}
 use Rattle.std.proofs.lemmas.List.Sorted.{ranks_by, sorted_far}
 use Rattle.deb_version.specs.Order.{version_cmp}
@@ -17,16 +16,15 @@ use Rattle.deb_version.specs.Parts.{Meaning as Version}
 use Rattle.deb_relation.specs.declared.operator.Op.{Op}
 use Rattle.deb_relation.specs.declared.operator.Op.TheVariants.{Earlier, EarlierEqual, Equal, LaterEqual, Later}
 use Rattle.deb_index.specs.Crowds.{comes_first}
-use Rattle.deb_index.specs.Listed.{Listed}
 use Rattle.deb_index.specs.Offers.{offer_cmp, offered, side, standing, standing_of}
-use Rattle.deb_index.specs.declared.offer.Offer.{Offer}
+use Rattle.deb_index.specs.declared.store.Store.{Store}
 
 -- the order of offers is total
-pub offers_total : (packages : List Listed) → IsTotalOrder (offer_cmp packages)
-offers_total packages = then_total (on_total (λ o. o.crowd) nat_cmp_total) (on_total (offered packages) (options_total version_total))
+pub offers_total : (store : Store) → IsTotalOrder (offer_cmp store)
+offers_total store = on_total (offered store) (options_total version_total)
 
-pub comes_first_is_weak : (packages : List Listed) → IsStrictWeakOrder (comes_first packages)
-comes_first_is_weak packages = ranks_by (offers_total packages) (λ o. o)
+pub comes_first_is_weak : (store : Store) → IsStrictWeakOrder (comes_first store)
+comes_first_is_weak store = ranks_by (offers_total store) (λ o. o)
 
 -- `Less` up to `Greater`
 abbrev upto : Ordering → Ordering → Bool
@@ -107,49 +105,30 @@ module _ {K : Type 0} {R : K → K → Ordering} (total : IsTotalOrder R) where
       go Same e s f = ap (λ a. upto a (R y z)) (total.congr x y z e) ∙ upto-itself (R y z)
       go Greater e s f = absurd (false≢true (sym first ∙ ap is_gt e))
 
--- the first of two orders decides, then the second
-then-keeps : (m n c : ℕ) (o a b : Ordering) → is_gt (ordering_then (nat_cmp m n) o) ≡ false → (is_gt o ≡ false → upto a b ≡ true) → upto (ordering_then (nat_cmp m c) a) (ordering_then (nat_cmp n c) b) ≡ true
-then-keeps m n c o a b first second = go (nat_cmp m n) refl (nat_cmp n c) refl
-  where
-    level : (x : Ordering) → upto a b ≡ true → upto (ordering_then x a) (ordering_then x b) ≡ true
-    level Less up = refl
-    level Same up = up
-    level Greater up = refl
-
-    go : (r : Ordering) → nat_cmp m n ≡ r → (s : Ordering) → nat_cmp n c ≡ s → upto (ordering_then (nat_cmp m c) a) (ordering_then (nat_cmp n c) b) ≡ true
-    go Less e Less f = ap (λ x. upto (ordering_then x a) (ordering_then (nat_cmp n c) b)) (nat_cmp_total.trans m n c e f)
-    go Less e Same f = ap (λ x. upto (ordering_then x a) (ordering_then (nat_cmp n c) b)) (sym (alike_right nat_cmp_total n c m f) ∙ e)
-    go Less e Greater f = ap (λ y. upto (ordering_then (nat_cmp m c) a) (ordering_then y b)) f ∙ upto-greater (ordering_then (nat_cmp m c) a)
-    go Same e s f = ap (λ x. upto (ordering_then x a) (ordering_then (nat_cmp n c) b)) (nat_cmp_total.congr m n c e) ∙ level (nat_cmp n c) (second (sym (ap (λ x. is_gt (ordering_then x o)) e) ∙ first))
-    go Greater e s f = absurd (false≢true (sym first ∙ ap (λ x. is_gt (ordering_then x o)) e))
-
-module _ (packages : List Listed) (crowd : ℕ) (bound : Op × Version) where
+module _ (store : Store) (bound : Op × Version) where
   version-keeps : (v w : Option Version) → is_gt (option_cmp version_cmp v w) ≡ false → upto (standing_of bound v) (standing_of bound w) ≡ true
   version-keeps None w first = refl
   version-keeps (Some v) None first = absurd (false≢true (sym first))
   version-keeps (Some v) (Some w) first = side-keeps bound.0 (version_cmp v bound.1) (version_cmp w bound.1) (seen_from version_total v w bound.1 first)
 
-  standing-keeps : (a b : Offer) → is_gt (offer_cmp packages a b) ≡ false → upto (standing packages crowd bound a) (standing packages crowd bound b) ≡ true
-  standing-keeps a b first = then-keeps a.crowd b.crowd crowd (option_cmp version_cmp (offered packages a) (offered packages b)) (standing_of bound (offered packages a)) (standing_of bound (offered packages b)) first (version-keeps (offered packages a) (offered packages b))
-
-  not_after : (a b : Offer) → is_lt (offer_cmp packages b a) ≡ false → is_gt (offer_cmp packages a b) ≡ false
-  not_after a b e = ap is_gt ((offers_total packages).antisymm a b) ∙ turned (offer_cmp packages b a) e
+  not_after : (a b : ℕ) → is_lt (offer_cmp store b a) ≡ false → is_gt (offer_cmp store a b) ≡ false
+  not_after a b e = ap is_gt ((offers_total store).antisymm a b) ∙ turned (offer_cmp store b a) e
     where
       turned : (o : Ordering) → is_lt o ≡ false → is_gt (ordering_reverse o) ≡ false
       turned Less e = absurd (false≢true (sym e))
       turned Same e = refl
       turned Greater e = refl
 
-  module _ (offers : List Offer) (sorted : IsSortedBy (comes_first packages) offers) where
-    in_order : (i j : ℕ) (d : Offer) → i ≤ j → j < length offers → upto (standing packages crowd bound (get_or offers i d)) (standing packages crowd bound (get_or offers j d)) ≡ true
-    in_order i j d low high = standing-keeps (get_or offers i d) (get_or offers j d) (not_after (get_or offers i d) (get_or offers j d) (sorted_far (comes_first packages) (comes_first_is_weak packages) offers sorted i j d low high))
+  module _ (offers : List ℕ) (sorted : IsSortedBy (comes_first store) offers) where
+    in_order : (i j d : ℕ) → i ≤ j → j < length offers → upto (standing store bound (get_or offers i d)) (standing store bound (get_or offers j d)) ≡ true
+    in_order i j d low high = version-keeps (offered store (get_or offers i d)) (offered store (get_or offers j d)) (not_after (get_or offers i d) (get_or offers j d) (sorted_far (comes_first store) (comes_first_is_weak store) offers sorted i j d low high))
 
-    pub before_parted : IsPartitionedBy (λ o. is_lt (standing packages crowd bound o)) offers
-    before_parted i j d low high = upto-lt (standing packages crowd bound (get_or offers i d)) (standing packages crowd bound (get_or offers j d)) (in_order i j d low high)
+    pub before_parted : IsPartitionedBy (λ o. is_lt (standing store bound o)) offers
+    before_parted i j d low high = upto-lt (standing store bound (get_or offers i d)) (standing store bound (get_or offers j d)) (in_order i j d low high)
 
-    pub upto_parted : (at : ℕ) → at ≤ length offers → IsPartitionedBy (λ o. is_le (standing packages crowd bound o)) (drop at offers)
+    pub upto_parted : (at : ℕ) → at ≤ length offers → IsPartitionedBy (λ o. is_le (standing store bound o)) (drop at offers)
     upto_parted at within i j d low high e =
         let long : length (drop at offers) ≡ length offers - at = length-drop at offers in
-        subst (λ o. is_le (standing packages crowd bound o) ≡ true) (sym (get_or-drop at offers i d))
-        (upto-le (standing packages crowd bound (get_or offers (at + i) d)) (standing packages crowd bound (get_or offers (at + j) d)) (in_order (at + i) (at + j) d (omega (arith, low)) (omega (arith, high, long, within)))
-        (subst (λ o. is_le (standing packages crowd bound o) ≡ true) (get_or-drop at offers j d) e))
+        subst (λ o. is_le (standing store bound o) ≡ true) (sym (get_or-drop at offers i d))
+        (upto-le (standing store bound (get_or offers (at + i) d)) (standing store bound (get_or offers (at + j) d)) (in_order (at + i) (at + j) d (omega (arith, low)) (omega (arith, high, long, within)))
+        (subst (λ o. is_le (standing store bound o) ≡ true) (get_or-drop at offers j d) e))

@@ -27,9 +27,19 @@ pub record Asks (q : Question) (asked : Asked) : Type 0 where
 worked-asked : (relation : RelationText) (environment : Env) (wildcard : Bool)
     → (is : wildcard ≡ some_wildcard (text_meaning relation))
     → (relation_asked
-    (record { relation = relation; wildcard = wildcard; environment = environment; wildcard_is = is })
+    (record {
+      relation = relation;
+      wildcard = wildcard;
+      environment = environment;
+      wildcard_is = is;
+    })
     ≡ text_meaning relation)
     × (environment_asked
-    (record { relation = relation; wildcard = wildcard; environment = environment; wildcard_is = is })
+    (record {
+      relation = relation;
+      wildcard = wildcard;
+      environment = environment;
+      wildcard_is = is;
+    })
     ≡ environment_of environment)
 worked-asked relation environment wildcard is = (refl, refl)

@@ -1,6 +1,7 @@
--- What the entries of Provides are that an index keeps: offsets in the canonical text of the field.
+-- What the entries of Provides are that an index keeps: offsets in a text, and the number of the
+-- package.
 -- Debian Policy 7.5.
-use Rattle.std.specs.Prelude.{◌≡◌, ℕ, ◌==◌, ◌&&◌, cond, length, List, [], ◌∷◌, ◌++◌, map, Option, None, Some, IfSome, codes, refl}
+use Rattle.std.specs.Prelude.{◌≡◌, ◌≤◌, ℕ, ◌==◌, ◌&&◌, cond, length, List, [], ◌∷◌, ◌++◌, map, Option, None, Some, IfSome, codes, refl}
 use Rattle.std.specs.List.{All}
 use Rattle.std.specs.Option.{option_map}
 use Rattle.deb_version.specs.Faults.{first_fault}
@@ -48,6 +49,12 @@ HasNoFault text = fault_kept text ≡ None
 abbrev pub IsFaultless : List ℕ → Entry → Type 0
 IsFaultless text e = HasNoFault (entry_version text e)
 
+-- An entry is one in a text.
+pub record IsIn (text : List ℕ) (e : Entry) : Type 0 where
+  pub name_end : e.name_end ≤ length text
+  pub end : e.end ≤ length text
+  pub faultless : IsFaultless text e
+
 -- What follows the name of an alternative in the text of a group, where these alternatives follow.
 abbrev pub BehindName : Alternative → Group → List ℕ → Type 0
 BehindName a others text = text ≡ qualifier_text a.qualifier ++ (bound_text a.bound ++
@@ -61,30 +68,36 @@ IsVersionPlace a others text place =
     option_map (λ p. version_kept (part p.0 p.1 text)) place
     ≡ cond (is_plain a && (length others == 0)) (Some (option_map bound_version a.bound)) None
 
--- An entry, or none, provides this, and its version is one.
-pub record IsEntry (text : List ℕ) (entry : Option Entry) (provided : List Provision) : Type 0
-  where
-    pub faultless : IfSome entry (IsFaultless text)
-    pub provides : provisions_at text entry ≡ provided
+abbrev pub HasNumber : ℕ → Entry → Type 0
+HasNumber number e = e.number ≡ number
 
--- Entries that provide this were appended, and their versions are versions.
-pub record AppendsEntries (text : List ℕ) (old new : List Entry) (provided : List Provision)
+-- An entry in a text with the number of its package, or none, provides this.
+pub record IsEntry (text : List ℕ) (number : ℕ) (entry : Option Entry) (provided : List Provision)
     : Type 0 where
+  pub is_in : IfSome entry (IsIn text)
+  pub numbered : IfSome entry (HasNumber number)
+  pub provides : provisions_at text entry ≡ provided
+
+-- Entries in a text with the number of their package were appended, and provide this.
+pub record AppendsEntries (text : List ℕ) (number : ℕ) (old new : List Entry)
+    (provided : List Provision) : Type 0 where
   pub more : List Entry
   pub appended : new ≡ old ++ more
-  pub faultless : All (IsFaultless text) more
+  pub are_in : All (IsIn text) more
+  pub numbered : All (HasNumber number) more
   pub provides : map (provision_at text) more ≡ provided
 
 -- `aa, bb (= 2)`: aa, and bb with its version
 worked-entries : map (provision_at (codes "aa, bb (= 2)"))
-    (record { start = 0; name_end = 2; version = 2; end = 2 }
-    ∷ record { start = 4; name_end = 6; version = 10; end = 11 } ∷ [])
+    (record { start = 0; name_end = 2; version = 2; end = 2; number = 1 }
+    ∷ record { start = 4; name_end = 6; version = 10; end = 11; number = 1 } ∷ [])
     ≡ record { name = codes "aa"; version = None }
     ∷ record { name = codes "bb"; version = Some (version_in (codes "2")) } ∷ []
 worked-entries = refl
 
 worked-provisions : (provisions_at (codes "aa") None ≡ [])
-    × (provisions_at (codes "aa") (Some (record { start = 0; name_end = 2; version = 2; end = 2 }))
+    × (provisions_at (codes "aa")
+    (Some (record { start = 0; name_end = 2; version = 2; end = 2; number = 1 }))
     ≡ record { name = codes "aa"; version = None } ∷ [])
 worked-provisions = (refl, refl)
 

@@ -14,8 +14,8 @@ abbrev pub later_entry : List ℕ → Entry → List ℕ
 later_entry text e = codes ", " ++ entry_text text e
 
 worked-entries : (entry_text (codes "aa, bb (= 2)")
-    (record { start = 0; name_end = 2; version = 2; end = 2 }) ≡ codes "aa")
+    (record { start = 0; name_end = 2; version = 2; end = 2; number = 1 }) ≡ codes "aa")
     × (later_entry (codes "aa, bb (= 2)")
-    (record { start = 4; name_end = 6; version = 10; end = 11 }) ≡ codes ", bb (= 2)")
+    (record { start = 4; name_end = 6; version = 10; end = 11; number = 1 }) ≡ codes ", bb (= 2)")
 unfolding group_text
 worked-entries = (refl, refl)

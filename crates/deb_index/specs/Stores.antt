@@ -1,10 +1,10 @@
 -- The packages that a store keeps.
-use Rattle.std.specs.Prelude.{◌≡◌, ◌≤◌, ℕ, None, List, [], ◌∷◌, ◌++◌, length, map}
-use Rattle.std.specs.List.{All, AllPairs}
+use Rattle.std.specs.Prelude.{◌≡◌, ◌+◌, ◌<◌, ◌≤◌, ℕ, None, List, [], ◌∷◌, ◌++◌, length, map}
+use Rattle.std.specs.List.{All, AllPairs, slice_index_or}
 use Rattle.deb_version.specs.Canonical.{version_text}
 use Rattle.deb_version.specs.Faults.{first_fault}
 use Rattle.deb_version.specs.Places.{version_in}
-use Rattle.deb_index.specs.Entries.{IsFaultless, Places, entry_name, provision_at}
+use Rattle.deb_index.specs.Entries.{HasNumber, IsIn, Places, entry_name, provision_at}
 use Rattle.deb_index.specs.Listed.{Listed}
 use Rattle.deb_index.specs.ProvidedNames.{IsNotAfter}
 use Rattle.deb_index.specs.Spans.{part}
@@ -26,9 +26,6 @@ besides_by bytes r = part r.version_end r.besides_end bytes
 abbrev pub architecture_by : List ℕ → Record → List ℕ
 architecture_by bytes r = part r.besides_end r.architecture_end bytes
 
-abbrev pub provides_by : List ℕ → Record → List ℕ
-provides_by bytes r = part r.architecture_end r.end bytes
-
 abbrev pub entries_by : List Places → Record → List Places
 entries_by entries r = part r.first r.entries_end entries
 
@@ -40,7 +37,7 @@ listed_by bytes entries r =
       version = version_in (version_by bytes r);
       architecture = architecture_by bytes r;
       multi_arch = r.multi_arch;
-      provisions = map (provision_at (provides_by bytes r)) (entries_by entries r);
+      provisions = map (provision_at bytes) (entries_by entries r);
     }
 
 -- the packages of a store
@@ -71,26 +68,25 @@ pub record IsSpelling (version text : List ℕ) : Type 0 where
   pub faultless : first_fault text ≡ None
   pub canonical : version_text (version_in text) ≡ version
 
--- Entries are in the order of their names, and their versions are versions.
-pub record AreEntries (text : List ℕ) (entries : List Places) : Type 0 where
-  pub ascend : AllPairs IsNotAfter (map (entry_name text) entries)
-  pub faultless : All (IsFaultless text) entries
-
 -- A record is that of a package: its offsets are within the lists, its version is one, and its
--- entries are entries.
+-- entries are in the order of their names.
 pub record IsKept (bytes : List ℕ) (entries : List Places) (r : Record) : Type 0 where
   pub name_end : r.name_end ≤ length bytes
   pub version_end : r.version_end ≤ length bytes
   pub besides_end : r.besides_end ≤ length bytes
   pub architecture_end : r.architecture_end ≤ length bytes
-  pub end : r.end ≤ length bytes
   pub entries_end : r.entries_end ≤ length entries
   pub version : IsVersionKept (version_by bytes r)
   pub spelling : IsSpelling (version_by bytes r) (spelling_by bytes r)
-  pub provides : AreEntries (provides_by bytes r) (entries_by entries r)
+  pub ascend : AllPairs IsNotAfter (map (entry_name bytes) (entries_by entries r))
 
-abbrev pub IsStore : Store → Type 0
-IsStore store = All (IsKept store.bytes.items store.entries.items) store.records.items
+-- The packages of a store are packages, and their entries are entries with their numbers.
+pub record IsStore (store : Store) : Type 0 where
+  pub entries : All (IsIn store.bytes.items) store.entries.items
+  pub records : All (IsKept store.bytes.items store.entries.items) store.records.items
+  pub numbered : (k : ℕ) (d : Record) → k < length store.records.items
+      → All (HasNumber (k + 1))
+      (entries_by store.entries.items (slice_index_or store.records.items k d))
 
 -- one package more, with the text of its version
 pub record KeepsOneMore (old new : Store) (p : Listed) (text : List ℕ) : Type 0 where

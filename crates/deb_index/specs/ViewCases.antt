@@ -1,26 +1,31 @@
 -- Worked cases of what the contracts see of the code's values, which are written out here: each
 -- field under its own name, and lists in their order.
-use Rattle.std.specs.Prelude.{◌≡◌, ℕ, ◌^◌, nat_lt, true, List, [], ◌∷◌, length, map, None, Some, Vec, codes, refl}
+use Rattle.std.specs.Prelude.{◌≡◌, ℕ, ◌+◌, ◌^◌, ◌==◌, ◌&&◌, nat_lt, true, false, List, [], ◌∷◌, length, map, None, Some, Vec, codes, refl}
 use Rattle.std.specs.Global.{Global}
 use Rattle.std.specs.Option.{option_map}
 use Rattle.std.specs.List.{All, AllPairs}
 use Rattle.std.specs.Map.{lookup}
+use Rattle.std.specs.Ordering.{is_lt}
 use Rattle.std.specs.Str.{bytes_eq}
+use Rattle.std.specs.declared.cmp.Ordering.TheVariants.{Less, Equal as Same, Greater}
 use Rattle.std.proofs.Common.{ap, ◌∙◌, arith}
 use Rattle.std.proofs.lemmas.Bool.{ltb-true}
 use denote.RawPtr.{null_ptr}
 use denote.Ref.{Bor}
 use Rattle.deb_version.specs.Canonical.{version_text}
 use Rattle.deb_version.specs.Faults.{first_fault}
+use Rattle.deb_version.specs.Order.{version_cmp}
 use Rattle.deb_version.specs.Places.{version_in}
+use Rattle.deb_relation.specs.declared.operator.Op.TheVariants.{Equal}
 use Rattle.deb_field.specs.declared.flag.MultiArch.TheVariants.{Foreign}
 use Rattle.deb_index.specs.AnswerStores.{answers_in, numbered, span_of}
-use Rattle.deb_index.specs.Crowds.{all_offers, crowd_of, offer, offers_of, offers_under, provided_offers, two_listed}
+use Rattle.deb_index.specs.Crowds.{comes_first, passes}
 use Rattle.deb_index.specs.Entries.{IsFaultless, Places, entry_name}
 use Rattle.deb_index.specs.Indexes.{lines_of, packages_of, spellings_of}
 use Rattle.deb_index.specs.Kept.{line_of, listed_of, spelling_of}
 use Rattle.deb_index.specs.Listed.{Listed, Provision}
 use Rattle.deb_index.specs.Named.{AreNumbers}
+use Rattle.deb_index.specs.Offers.{number_of, offer_cmp, offered, standing}
 use Rattle.deb_index.specs.PackageBuilder.{itself}
 use Rattle.deb_index.specs.ProvidedNames.{IsNotAfter}
 use Rattle.deb_index.specs.Maps.{list_under, numbers_under, numbers_with}
@@ -35,6 +40,7 @@ use Rattle.deb_index.specs.declared.names.Names.{Names}
 use Rattle.deb_index.specs.declared.package.Package.{Package}
 use Rattle.deb_index.specs.declared.provisions.Provisions.{Provisions}
 use Rattle.deb_index.specs.declared.store.Record.{Record}
+use Rattle.deb_index.specs.declared.store.Store.{Store}
 use Rattle.deb_index.specs.declared.verdict.Verdict.TheVariants.{Ignored, Met}
 
 -- a reference, and a vector that has room for what it holds
@@ -57,31 +63,71 @@ vector alloc xs short =
 abbrev text : Global → (bytes : List ℕ) → nat_lt (length bytes) (2 ^ 63) ≡ true → Vec ℕ Global
 text alloc bytes short = vector alloc bytes short
 
--- aa and vv are crowded: vv, aa and a name that begins vv
-abbrev crowded : Global → List (Vec ℕ Global)
-crowded alloc = text alloc (codes "aa") refl ∷ text alloc (codes "vv") refl ∷ []
+-- aa in version 1, which provides vv in version 3 and ww without one; and bb in version 2, which
+-- provides vv in version 4
+abbrev record_of : ℕ → ℕ → ℕ → ℕ → ℕ → Record
+record_of start architecture_end first entries_end line =
+    record {
+      start = start;
+      name_end = start + 2;
+      version_end = start + 3;
+      besides_end = start + 3;
+      architecture_end = architecture_end;
+      first = first;
+      entries_end = entries_end;
+      line = line;
+      multi_arch = None;
+    }
 
-worked-crowd_of : (alloc : Global)
-    → map (crowd_of (crowded alloc)) (codes "vv" ∷ codes "aa" ∷ codes "v" ∷ [])
-    ≡ Some 1 ∷ Some 0 ∷ None ∷ []
-worked-crowd_of alloc = refl
+abbrev two_packages : Global → Store
+two_packages alloc =
+    record {
+      bytes = text alloc (codes "aa1allvv (= 3), wwbb2i386vv (= 4)") refl;
+      entries = vector alloc
+          (record { start = 6; name_end = 8; version = 12; end = 13; number = 1 }
+          ∷ record { start = 16; name_end = 18; version = 18; end = 18; number = 1 }
+          ∷ record { start = 25; name_end = 27; version = 31; end = 32; number = 2 } ∷ [])
+          refl;
+      records = vector alloc (record_of 0 6 0 2 1 ∷ record_of 18 25 2 3 7 ∷ []) refl;
+    }
 
-worked-under : (offers_under None 3 2 ≡ []) × (offers_under (Some 1) 3 2 ≡ offer 1 3 2 ∷ [])
-worked-under = (refl, refl)
+-- the own versions of aa and bb, vv in version 3, ww, vv in version 4, and what is no offer
+worked-offered : (alloc : Global)
+    → map (offered (two_packages alloc)) (0 ∷ 1 ∷ 2 ∷ 3 ∷ 4 ∷ 5 ∷ [])
+    ≡ Some (version_in (codes "1")) ∷ Some (version_in (codes "2"))
+    ∷ Some (version_in (codes "3")) ∷ None ∷ Some (version_in (codes "4")) ∷ None ∷ []
+worked-offered alloc = refl
 
--- the own version of aa, vv in version 3, and vv of bb in version 4
-worked-all_offers : (alloc : Global) → all_offers (crowded alloc) 1 two_listed
-    ≡ offer 0 1 0 ∷ offer 1 1 1 ∷ offer 1 2 1 ∷ []
-worked-all_offers alloc = refl
+worked-number_of : (alloc : Global)
+    → map (number_of (two_packages alloc)) (0 ∷ 1 ∷ 2 ∷ 3 ∷ 4 ∷ 5 ∷ [])
+    ≡ 1 ∷ 2 ∷ 1 ∷ 1 ∷ 2 ∷ 0 ∷ []
+worked-number_of alloc = refl
 
-worked-offers_of : (alloc : Global) → map (offers_of (crowded alloc) 7) two_listed
-    ≡ (offer 0 7 0 ∷ offer 1 7 1 ∷ []) ∷ (offer 1 7 1 ∷ []) ∷ []
-worked-offers_of alloc = refl
+-- two versions, each with itself and with the other, and ww with one
+worked-offer_cmp : (alloc : Global)
+    → map (λ o. map (offer_cmp (two_packages alloc) o) (2 ∷ 3 ∷ 4 ∷ [])) (2 ∷ 3 ∷ 4 ∷ [])
+    ≡ (Same ∷ Greater ∷ Less ∷ []) ∷ (Less ∷ Same ∷ Less ∷ [])
+    ∷ (Greater ∷ Greater ∷ Same ∷ []) ∷ []
+worked-offer_cmp alloc = refl
 
-worked-provided_offers : (alloc : Global)
-    → map (λ p. provided_offers (crowded alloc) 7 2 p.provisions) two_listed
-    ≡ (offer 1 7 2 ∷ []) ∷ (offer 1 7 2 ∷ []) ∷ []
-worked-provided_offers alloc = refl
+worked-comes_first : (alloc : Global)
+    → map (comes_first (two_packages alloc) 2) (2 ∷ 3 ∷ 4 ∷ []) ≡ false ∷ false ∷ true ∷ []
+worked-comes_first alloc = refl
+
+-- to `= 3`: versions 1 and 2, 3, ww and 4
+worked-standing : (alloc : Global)
+    → map (standing (two_packages alloc) (Equal, version_in (codes "3")))
+    (0 ∷ 1 ∷ 2 ∷ 3 ∷ 4 ∷ [])
+    ≡ Less ∷ Less ∷ Same ∷ Less ∷ Greater ∷ []
+worked-standing alloc = refl
+
+-- the second package in version 2, in version 4, and in another
+worked-passes : (alloc : Global)
+    → map (passes
+    (λ n version. (n == 2) && is_lt (version_cmp version (version_in (codes "5"))))
+    (two_packages alloc)) (0 ∷ 1 ∷ 2 ∷ 3 ∷ 4 ∷ [])
+    ≡ false ∷ true ∷ false ∷ false ∷ true ∷ []
+worked-passes alloc = refl
 
 worked-itself : itself (codes "aa") ≡ codes "aa"
 worked-itself = refl
@@ -106,9 +152,12 @@ listed provisions besides faultless canonical is_version equal =
       equal = equal;
     }
 
+abbrev provided_from : ℕ → List Places
+provided_from n = record { start = n; name_end = n + 2; version = n + 2; end = n + 2; number = 2 }
+    ∷ record { start = n + 4; name_end = n + 6; version = n + 10; end = n + 11; number = 2 } ∷ []
+
 abbrev provided : List Places
-provided = record { start = 0; name_end = 2; version = 2; end = 2 }
-    ∷ record { start = 4; name_end = 6; version = 10; end = 11 } ∷ []
+provided = provided_from 0
 
 abbrev provides : List ℕ
 provides = codes "vv, ww (= 2)"
@@ -165,14 +214,14 @@ second =
       version_end = 7;
       besides_end = 7;
       architecture_end = 10;
-      end = 22;
       first = 0;
       entries_end = 2;
       line = 5;
       multi_arch = Some Foreign;
     }
 
-worked-second : (listed_by (codes "xxaa1.0allvv, ww (= 2)yy") provided second ≡ foreign two)
+worked-second :
+    (listed_by (codes "xxaa1.0allvv, ww (= 2)yy") (provided_from 10) second ≡ foreign two)
     × (line_by second ≡ 5)
     × (spelling_by (codes "xxaa1.0allvv, ww (= 2)yy") second ≡ codes "1.0")
 worked-second = (refl, refl, refl)
@@ -186,14 +235,14 @@ other =
       version_end = 7;
       besides_end = 12;
       architecture_end = 15;
-      end = 27;
       first = 0;
       entries_end = 2;
       line = 5;
       multi_arch = Some Foreign;
     }
 
-worked-other : (listed_by (codes "xxaa1.00:1.0allvv, ww (= 2)yy") provided other ≡ foreign two)
+worked-other :
+    (listed_by (codes "xxaa1.00:1.0allvv, ww (= 2)yy") (provided_from 15) other ≡ foreign two)
     × (spelling_by (codes "xxaa1.00:1.0allvv, ww (= 2)yy") other ≡ codes "0:1.0")
 worked-other = (refl, refl)
 

@@ -9,14 +9,13 @@ ghost use Rattle.deb_relation.specs.Relations.{relation_of};
 ghost use Rattle.deb_relation.specs.Views.{alternative_of};
 ghost use Rattle.deb_index.specs.CanonicalTexts.{OfGroup};
 ghost use Rattle.deb_index.specs.Crowds.{is_of};
-ghost use Rattle.deb_index.specs.Indexes.{packages_of};
+ghost use Rattle.deb_index.specs.Indexes.{number_in, packages_of};
 ghost use Rattle.deb_index.specs.Maps.{is_last};
 ghost use Rattle.deb_index.specs.Meeting.{meets};
 ghost use Rattle.deb_index.specs.Named.{AppendsMeeting, AreNumbers, among, numbers_of, passes_at};
 ghost use Rattle.deb_index.specs.Reports.{meets_group, some_applies};
 
 use crate::index::Index;
-use crate::offer::Offer;
 use crate::pieces::{next_alternative, only_alternative};
 use deb_relation::{Alternative, Env, Relation};
 use std::alloc::{AllocError, Global};
@@ -111,19 +110,20 @@ fn append_meeting(
 /// package follow one another.
 fn append_offering(
     index: &Index,
-    offers: &[Offer],
+    offers: &[u32],
     qualifier: Option<&[u8]>,
     environment: &Env,
     numbers: &mut Vec<u64>,
 ) -> Result<(), AllocError>
     ensures { OnOk result ((k : ℕ) → among k numbers.new.items ≡ (among k numbers.old.items
         || list_any
-        (λ o. eqb k o.number && is_of (environment_of environment.now)
-        (option_copied qualifier.entry) (packages_of index.now) o) offers.now)) }
+        (λ o. eqb k (number_in index.now o) && is_of (environment_of environment.now)
+        (option_copied qualifier.entry) (packages_of index.now) (number_in index.now o))
+        offers.now)) }
 {
-    for offer in offers {
-        let number = u64::from(offer.number);
-        if !is_last(numbers, number) && index.is_of(offer, qualifier, environment) {
+    for &offer in offers {
+        let number = index.number(offer);
+        if !is_last(numbers, number) && index.is_of(number, qualifier, environment) {
             numbers.push(number)?;
         }
     }

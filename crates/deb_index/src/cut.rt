@@ -1,6 +1,6 @@
 //! Cuts the canonical text of Provides into the entries that provide a name.
 
-ghost use Rattle.std.specs.Prelude.{◌≡◌, ◌<◌, ◌≤◌, ◌^◌, ◌==◌, ◌&&◌, not, length, IfSome, OnOk};
+ghost use Rattle.std.specs.Prelude.{◌≡◌, ◌<◌, ◌≤◌, ◌^◌, ◌==◌, ◌&&◌, not, drop, length, IfSome, OnOk};
 ghost use Rattle.std.specs.List.{prefix_len};
 ghost use Rattle.std.specs.Option.{option_map};
 ghost use Rattle.deb_relation.specs.Meaning.{Alternative, Group, Relation};
@@ -66,12 +66,12 @@ fn version_offsets(after: &[u8]) -> Option<(usize, usize)>
 }
 
 /// The entry between two offsets of a text, if it is a name alone or with a version.
-fn plain_entry(text: &[u8], start: usize, end: usize) -> Option<Entry>
+fn plain_entry(text: &[u8], start: usize, end: usize, number: u32) -> Option<Entry>
     requires in_order { start ≤ end }
     requires within { end ≤ length text.now }
     requires short { length text.now < 2 ^ 32 }
     ensures { (group : Group) → IsRegularGroup group → part start end text.now ≡ group_text group
-        → IsEntry text.now result (provided_by group) }
+        → IsEntry text.now number result (provided_by group) }
 {
     let group = part(text, start, end);
     let (name, after) = group.split_at(name_len(group));
@@ -81,6 +81,7 @@ fn plain_entry(text: &[u8], start: usize, end: usize) -> Option<Entry>
             name_end: (start + name.len()) as u32,
             version: (start + name.len() + from) as u32,
             end: (start + name.len() + to) as u32,
+            number,
         }),
         None => None,
     }
@@ -91,16 +92,17 @@ fn append_entry(
     text: &[u8],
     start: usize,
     end: usize,
+    number: u32,
     entries: &mut Vec<Entry>,
 ) -> Result<(), AllocError>
     requires in_order { start ≤ end }
     requires within { end ≤ length text.now }
     requires short { length text.now < 2 ^ 32 }
     ensures { (group : Group) → IsRegularGroup group → part start end text.now ≡ group_text group
-        → OnOk result (AppendsEntries text.now entries.old.items entries.new.items
+        → OnOk result (AppendsEntries text.now number entries.old.items entries.new.items
         (provided_by group)) }
 {
-    match plain_entry(text, start, end) {
+    match plain_entry(text, start, end, number) {
         Some(entry) => {
             entries.push(entry)?;
             Ok(())
@@ -109,20 +111,26 @@ fn append_entry(
     }
 }
 
-/// Appends the entries of a canonical relation that are a name alone or with a version. Out of
-/// memory is also returned if an entry can't hold the offsets of the text.
-pub(crate) fn append_entries(text: &[u8], entries: &mut Vec<Entry>) -> Result<(), AllocError>
-    ensures { (m : Relation) → IsRegularRelation m → text.now ≡ relation_text m
-        → OnOk result (AppendsEntries text.now entries.old.items entries.new.items
+/// Appends the entries of a canonical relation that are a name alone or with a version. The
+/// relation is the end of a text from an offset on. Out of memory is also returned if an entry
+/// can't hold the offsets of the text.
+pub(crate) fn append_entries(
+    text: &[u8],
+    offset: usize,
+    number: u32,
+    entries: &mut Vec<Entry>,
+) -> Result<(), AllocError>
+    ensures { (m : Relation) → IsRegularRelation m → drop offset text.now ≡ relation_text m
+        → OnOk result (AppendsEntries text.now number entries.old.items entries.new.items
         (provisions_of m)) }
 {
     if text.len() > u32::MAX as usize {
         return Err(AllocError);
     }
-    let mut start = 0;
+    let mut start = offset;
     while start < text.len() {
         let end = start + before(&text[start..], b',');
-        append_entry(text, start, end, entries)?;
+        append_entry(text, start, end, number, entries)?;
         start = end + 2;
     }
     Ok(())

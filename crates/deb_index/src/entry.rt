@@ -1,4 +1,4 @@
-//! The entries of Provides that provide a name, as offsets in the canonical text of the field.
+//! The entries of Provides that provide a name, as offsets in a text.
 
 ghost use Rattle.std.specs.Prelude.{◌≡◌, None};
 ghost use Rattle.std.specs.Option.{option_map};
@@ -15,15 +15,16 @@ use deb_relation::{Alternative, Op};
 use deb_version::Version;
 use std::cmp::Ordering;
 
-/// The offsets at which the name and the version of an entry of Provides are in the canonical text
-/// of the field (Debian Policy 7.5), which is shorter than 2^32. The version is empty if the entry
-/// has none.
+/// The offsets at which the name and the version of an entry of Provides (Debian Policy 7.5) are in
+/// a text that is shorter than 2^32, and the number of its package, counted from 1. The version is
+/// empty if the entry has none.
 #[derive(Clone, Copy, Debug)]
 pub(crate) struct Entry {
     pub(crate) start: u32,
     pub(crate) name_end: u32,
     pub(crate) version: u32,
     pub(crate) end: u32,
+    pub(crate) number: u32,
 }
 
 impl Entry {

@@ -1,6 +1,6 @@
 //! Indexes: reading one, and the packages under a name. `query` answers queries.
 
-ghost use Rattle.std.specs.Prelude.{◌≡◌, ◌-◌, ◌≤◌, ℕ, List, Some, Err, IfOk, IfErr, IfSome, IsTrue, length};
+ghost use Rattle.std.specs.Prelude.{◌≡◌, ◌-◌, ◌≤◌, ℕ, List, Some, Err, IfOk, IfErr, IfSome, IsTrue, length, map};
 ghost use Rattle.std.specs.List.{slice_get};
 ghost use Rattle.std.specs.Option.{option_map};
 ghost use Rattle.deb_base.specs.Devices.{read_failures_after, ReadFaultIffFailed};
@@ -12,7 +12,7 @@ ghost use Rattle.deb_control.specs.CheckedStates.{passing_judged};
 ghost use Rattle.deb_control.specs.Checking.{IsRefusalOfDocument};
 ghost use Rattle.deb_control.specs.Documents.{refusal_of};
 ghost use Rattle.deb_relation.specs.Views.{alternative_of};
-ghost use Rattle.deb_index.specs.Crowds.{AreMeeting, AreOffers};
+ghost use Rattle.deb_index.specs.Crowds.{AreCrowds, AreMeeting};
 ghost use Rattle.deb_index.specs.FirstLines.{first_lines, line_at};
 ghost use Rattle.deb_index.specs.Kept.{line_of, listed_of, spelling_of};
 ghost use Rattle.deb_index.specs.Listing.{ListsAll};
@@ -23,7 +23,7 @@ ghost use Rattle.deb_index.specs.VersionSpellings.{spelling_at, version_body, ve
 
 use crate::crowds::Crowds;
 use crate::names::Names;
-use crate::offer::Offer;
+use crate::offer::Packages;
 use crate::package::Package;
 use crate::paragraph::PackageBuilder;
 use crate::store::Store;
@@ -50,11 +50,11 @@ pub struct Index {
         ≡ numbers_of (has_name name) (listed_in store) },
     ghost provided_are: { (name : List ℕ) → numbers_under provided name
         ≡ numbers_of (provides name) (listed_in store) },
-    ghost crowds_are: { AreOffers (listed_in store) crowds },
+    ghost crowds_are: { AreCrowds store crowds },
 }
 
 impl Index {
-    ghost use Rattle.deb_index.specs.Indexes.{lines_of, packages_of, spellings_of};
+    ghost use Rattle.deb_index.specs.Indexes.{lines_of, number_in, packages_of, spellings_of};
 
     /// Reads a file as an index of packages (Debian Policy 5.1, 5.3 and 5.6).
     ///
@@ -147,13 +147,21 @@ impl Index {
 
     /// The versions of packages that meet an alternative by name and bound; `None` if those that
     /// have or provide its name are asked one after another.
-    pub(crate) fn offers(&self, alternative: &Alternative<'_>) -> Option<&[Offer]>
+    pub(crate) fn offers(&self, alternative: &Alternative<'_>) -> Option<&[u32]>
         ensures { IfSome result
             (λ found. AreMeeting (alternative_of alternative.now) (packages_of self.now)
-            found.now) }
+            (map (number_in self.now) found.now)) }
     {
         let bound = alternative.bound()?;
         self.crowds.meeting(&self.store, alternative.name(), bound)
+    }
+
+    /// The number of the package of an offer.
+    pub(crate) fn number(&self, offer: u32) -> u64
+        ensures { result ≡ number_in self.now offer }
+    {
+        let packages = Packages { store: &self.store };
+        packages.number(offer)
     }
 
     /// Returns what the index keeps of the package with a number, which is counted from 1, or

@@ -8,13 +8,12 @@ ghost use Rattle.deb_relation.specs.Environments.{environment_of};
 ghost use Rattle.deb_relation.specs.Groups.{group_of};
 ghost use Rattle.deb_relation.specs.Views.{alternative_of};
 ghost use Rattle.deb_index.specs.Crowds.{is_of};
-ghost use Rattle.deb_index.specs.Indexes.{packages_of};
+ghost use Rattle.deb_index.specs.Indexes.{number_in, packages_of};
 ghost use Rattle.deb_index.specs.Meeting.{meets};
 ghost use Rattle.deb_index.specs.Named.{AreNumbers, passes_at};
 ghost use Rattle.deb_index.specs.Reports.{group_verdict, some_applies};
 
 use crate::index::Index;
-use crate::offer::Offer;
 use crate::verdict::Verdict;
 use deb_relation::{Alternative, Env, Group};
 
@@ -52,12 +51,12 @@ impl Index {
             || some_meets(self, self.providers(name), alternative, environment)
     }
 
-    /// Whether the package of an offer meets a qualifier.
-    pub(crate) fn is_of(&self, offer: &Offer, qualifier: Option<&[u8]>, environment: &Env) -> bool
+    /// Whether the package of a number meets a qualifier.
+    pub(crate) fn is_of(&self, number: u64, qualifier: Option<&[u8]>, environment: &Env) -> bool
         ensures { result ≡ is_of (environment_of environment.now)
-            (option_copied qualifier.entry) (packages_of self.now) offer.now }
+            (option_copied qualifier.entry) (packages_of self.now) number }
     {
-        match self.package(u64::from(offer.number)) {
+        match self.package(number) {
             Some(package) => package.meets_qualifier(qualifier, environment.target()),
             None => false,
         }
@@ -94,14 +93,12 @@ fn is_met(index: &Index, group: &[Alternative<'_>], environment: &Env) -> bool
 }
 
 /// Whether the package of some offer meets a qualifier.
-fn some_is_of(index: &Index, offers: &[Offer], qualifier: Option<&[u8]>, environment: &Env) -> bool
+fn some_is_of(index: &Index, offers: &[u32], qualifier: Option<&[u8]>, environment: &Env) -> bool
     ensures { result ≡ list_any
-        (is_of (environment_of environment.now) (option_copied qualifier.entry)
-        (packages_of index.now)) offers.now }
+        (λ o. is_of (environment_of environment.now) (option_copied qualifier.entry)
+        (packages_of index.now) (number_in index.now o)) offers.now }
 {
-    offers
-        .iter()
-        .any(|offer| index.is_of(offer, qualifier, environment))
+    offers.iter().any(|offer| index.is_of(index.number(*offer), qualifier, environment))
 }
 
 /// Whether the package of some number meets an alternative.

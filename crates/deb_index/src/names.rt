@@ -51,8 +51,8 @@ impl Names {
     {
         let mut names = Names::with_capacity(alloc, store.entries.len())?;
         for (index, record) in store.records.iter().enumerate() {
-            let text = store.provides(record);
-            names.put_provided(alloc, text, store.entries(record), index as u64 + 1)?;
+            let entries = store.entries(record);
+            names.put_provided(alloc, &store.bytes, entries, index as u64 + 1)?;
         }
         Ok(names)
     }

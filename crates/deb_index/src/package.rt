@@ -1,23 +1,20 @@
 //! The packages of an index.
 
 ghost use Rattle.std.specs.Prelude.{◌≡◌, None};
-ghost use Rattle.std.specs.Option.{option_copied, option_map};
+ghost use Rattle.std.specs.Option.{option_copied};
 ghost use Rattle.std.specs.Str.{bytes_eq};
 ghost use Rattle.deb_relation.specs.Environments.{environment_of};
 ghost use Rattle.deb_relation.specs.Views.{alternative_of};
 ghost use Rattle.deb_version.specs.Canonical.{version_text};
 ghost use Rattle.deb_version.specs.Faults.{first_fault};
 ghost use Rattle.deb_version.specs.Places.{version_in};
-ghost use Rattle.deb_version.specs.Version.{meaning_of};
 ghost use Rattle.deb_index.specs.Meeting.{effective, is_allowed, is_foreign, meets, meets_by_name, meets_qualifier, multi_arch_or_no};
-ghost use Rattle.deb_index.specs.Offers.{version_at};
 ghost use Rattle.deb_index.specs.VersionSpellings.{spelling_or};
 
-use crate::entry::{meets_bound, version_of};
+use crate::entry::meets_bound;
 use crate::provisions::Provisions;
 use deb_field::MultiArch;
 use deb_relation::{Alternative, Env};
-use deb_version::Version;
 
 /// What an index keeps of a package. It borrows the bytes of the index.
 #[derive(Clone, Copy, Debug)]
@@ -106,17 +103,6 @@ impl<'a> Package<'a> {
     {
         (self.name == alternative.name() && meets_bound(alternative.bound(), self.version))
             || self.provisions.meet(alternative)
-    }
-
-    /// The version at a place: its own at 0, else that of an entry of Provides, counted from 1;
-    /// `None` if there is none.
-    pub(crate) fn version_at(&self, place: usize) -> Option<Version<'a>>
-        ensures { option_map meaning_of result ≡ version_at place (listed_of self.now) }
-    {
-        match place.checked_sub(1) {
-            None => Some(version_of(self.version)),
-            Some(index) => self.provisions.version(index),
-        }
     }
 
     /// Whether this is of the architecture that a qualifier asks, or of a Multi-Arch that serves.

@@ -1,18 +1,16 @@
 //! The names that a package provides, found by binary search.
 
-ghost use Rattle.std.specs.Prelude.{◌≡◌, map};
-ghost use Rattle.std.specs.List.{All, AllPairs, filter, list_any, slice_get};
-ghost use Rattle.std.specs.Option.{option_and_then, option_map};
+ghost use Rattle.std.specs.Prelude.{◌≡◌, ◌+◌, ◌≤◌, length, map};
+ghost use Rattle.std.specs.List.{All, AllPairs, filter, list_any};
 ghost use Rattle.std.specs.Str.{bytes_eq};
 ghost use Rattle.deb_relation.specs.Views.{alternative_of};
-ghost use Rattle.deb_version.specs.Version.{meaning_of};
 ghost use Rattle.deb_index.specs.Entries.{IsFaultless, entry_name, provision_at};
 ghost use Rattle.deb_index.specs.Meeting.{provision_meets};
 ghost use Rattle.deb_index.specs.ProvidedNames.{IsNotAfter};
+ghost use Rattle.deb_index.specs.Spans.{part};
 
-use crate::entry::{Entry, version_of};
+use crate::entry::Entry;
 use deb_relation::Alternative;
-use deb_version::Version;
 
 /// What a package provides, in the byte order of the names, so that the entries of a name are
 /// neighbours.
@@ -33,19 +31,6 @@ impl<'a> Provisions<'a> {
         some_meets(self.text, self.named(alternative.name()), alternative)
     }
 
-    /// The version of the entry at an index; `None` if there is no such entry, or it has none.
-    pub(crate) fn version(&self, index: usize) -> Option<Version<'a>>
-        ensures { option_map meaning_of result
-            ≡ option_and_then (λ e. (provision_at self.now.text.now e).version)
-            (slice_get self.now.entries.now index) }
-    {
-        let text = self.entries.get(index)?.version(self.text);
-        if text.is_empty() {
-            return None;
-        }
-        Some(version_of(text))
-    }
-
     /// The entries of a name.
     pub(crate) fn named(&self, name: &[u8]) -> &'a [Entry]
         ensures value { result.now
@@ -53,12 +38,24 @@ impl<'a> Provisions<'a> {
             self.now.entries.now }
         ensures faultless { All (IsFaultless self.now.text.now) result.now }
     {
+        self.find(name).1
+    }
+
+    /// The index at which the entries of a name begin, and these entries.
+    pub(crate) fn find(&self, name: &[u8]) -> (usize, &'a [Entry])
+        ensures value { result.1.now
+            ≡ filter (λ entry. bytes_eq (entry_name self.now.text.now entry) name.now)
+            self.now.entries.now }
+        ensures within { result.0 + length result.1.now ≤ length self.now.entries.now }
+        ensures place { result.1.now
+            ≡ part result.0 (result.0 + length result.1.now) self.now.entries.now }
+    {
         let text = self.text;
         let entries = self.entries;
         let start = entries.partition_point(|entry| entry.compare_name(text, name).is_lt());
         let rest = &entries[start..];
         let count = rest.partition_point(|entry| entry.compare_name(text, name).is_le());
-        &rest[..count]
+        (start, &rest[..count])
     }
 }
 

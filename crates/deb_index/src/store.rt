@@ -1,12 +1,13 @@
 //! What an index keeps of its packages: bytes, entries of Provides and records, in three lists.
 
 ghost use Rattle.std.specs.Prelude.{◌≡◌, ◌-◌, ◌<◌, ◌++◌, ◌∷◌, [], length, Some, IfOk, OnOk};
-ghost use Rattle.std.specs.List.{slice_get};
+ghost use Rattle.std.specs.List.{All, slice_get};
+ghost use Rattle.deb_index.specs.Entries.{IsIn};
 ghost use Rattle.deb_index.specs.Kept.{line_of, listed_of, spelling_of};
 ghost use Rattle.deb_index.specs.Listed.{Listed};
 ghost use Rattle.deb_index.specs.PackageBuilder.{KeepsPackage};
 ghost use Rattle.deb_index.specs.Spans.{part};
-ghost use Rattle.deb_index.specs.Stores.{IsStore, KeepsOneMore, lines_in, listed_in, spellings_in};
+ghost use Rattle.deb_index.specs.Stores.{IsKept, IsStore, KeepsOneMore, lines_in, listed_in, spellings_in};
 ghost use Rattle.deb_index.specs.VersionSpellings.{text_besides};
 ghost use Rattle.deb_version.specs.Grammar.{SpellsVersion};
 
@@ -20,7 +21,8 @@ use deb_field::MultiArch;
 use std::alloc::{AllocError, Global};
 
 /// A package: the offsets at which its texts and the entries of its Provides are in the lists of
-/// the store, which are shorter than 2^32, and the line at which its paragraph starts.
+/// the store, which are shorter than 2^32, and the line at which its paragraph starts. Provides
+/// follows the architecture.
 #[derive(Clone, Copy, Debug)]
 pub(crate) struct Record {
     pub(crate) start: u32,
@@ -28,7 +30,6 @@ pub(crate) struct Record {
     pub(crate) version_end: u32,
     pub(crate) besides_end: u32,
     pub(crate) architecture_end: u32,
-    pub(crate) end: u32,
     pub(crate) first: u32,
     pub(crate) entries_end: u32,
     pub(crate) line: u32,
@@ -48,7 +49,8 @@ pub(crate) struct Store {
 impl Store {
     /// No package.
     pub(crate) fn new(alloc: Global) -> Store
-        ensures { result.records.items ≡ [] }
+        ensures entries { result.entries.items ≡ [] }
+        ensures records { result.records.items ≡ [] }
     {
         Store {
             bytes: Vec::new(alloc),
@@ -80,16 +82,16 @@ impl Store {
         self.bytes.extend_from_slice(&kept.architecture)?;
         let architecture_end = offset(self.bytes.len())?;
         self.bytes.extend_from_slice(&kept.provides)?;
-        let end = offset(self.bytes.len())?;
         let first = offset(self.entries.len())?;
-        append_entries(&kept.provides, &mut self.entries)?;
+        let number = offset(self.records.len() + 1)?;
+        let provides = architecture_end as usize;
+        append_entries(&self.bytes, provides, number, &mut self.entries)?;
         self.records.push(Record {
             start,
             name_end,
             version_end,
             besides_end,
             architecture_end,
-            end,
             first,
             entries_end: offset(self.entries.len())?,
             line: offset(line as usize)?,
@@ -105,12 +107,11 @@ impl Store {
         part(&self.bytes, of.start as usize, of.name_end as usize)
     }
 
-    /// The canonical text of the Provides of a package.
-    pub(crate) fn provides(&self, of: &Record) -> &[u8]
-        ensures { result.now
-            ≡ part of.now.architecture_end of.now.end self.now.bytes.items }
+    /// The canonical text of the version of a package.
+    pub(crate) fn version(&self, of: &Record) -> &[u8]
+        ensures { result.now ≡ part of.now.name_end of.now.version_end self.now.bytes.items }
     {
-        part(&self.bytes, of.architecture_end as usize, of.end as usize)
+        part(&self.bytes, of.name_end as usize, of.version_end as usize)
     }
 
     /// The entries of the Provides of a package.
@@ -118,6 +119,20 @@ impl Store {
         ensures { result.now ≡ part of.now.first of.now.entries_end self.now.entries.items }
     {
         part(&self.entries, of.first as usize, of.entries_end as usize)
+    }
+
+    /// What a package provides.
+    pub(crate) fn provisions(&self, of: &Record) -> Provisions<'_>
+        requires entries { All (IsIn self.now.bytes.items) self.now.entries.items }
+        requires kept { IsKept self.now.bytes.items self.now.entries.items of.now }
+        ensures text { result.text.now ≡ self.now.bytes.items }
+        ensures entries { result.entries.now
+            ≡ part of.now.first of.now.entries_end self.now.entries.items }
+    {
+        Provisions {
+            text: &self.bytes,
+            entries: self.entries(of),
+        }
     }
 
     /// The package at an index.
@@ -132,7 +147,7 @@ impl Store {
         let bytes = self.bytes.as_slice();
         Package {
             name: self.name(record),
-            version: part(bytes, record.name_end as usize, record.version_end as usize),
+            version: self.version(record),
             besides: part(
                 bytes,
                 record.version_end as usize,
@@ -145,10 +160,7 @@ impl Store {
             ),
             line: record.line,
             multi_arch: record.multi_arch,
-            provisions: Provisions {
-                text: self.provides(record),
-                entries: self.entries(record),
-            },
+            provisions: self.provisions(record),
         }
     }
 }

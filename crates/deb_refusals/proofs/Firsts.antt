@@ -12,18 +12,18 @@ use Rattle.deb_control.proofs.FollowedParagraphs.{drop_one, follow-push, never_b
 use Rattle.deb_control.proofs.StreamLaws.{end_ends_stream, passed_is_next}
 use Rattle.deb_explain.specs.Explanations.{explanation_in, explanation_of, explain_refusal}
 use Rattle.deb_refusals.specs.Explained.{explained_stream}
-use Rattle.deb_refusals.specs.Given.{explanations_from}
+use Rattle.deb_refusals.specs.Given.{explanations_after}
 use Rattle.deb_refusals.specs.Laws.{FirstIsExplains, first_why}
 use Rattle.deb_refusals.proofs.Telling.{explained_by_next, explained_next}
 
 module _ (doc : Doc) (text : List ℕ) where
   abbrev FirstFrom : List Entries → Type 0
-  FirstFrom before = first_why (explanations_from doc text text before) ≡ explanation_of doc text
+  FirstFrom before = first_why (explanations_after doc text (length before) before) ≡ explanation_of doc text
 
   -- by what is answered after paragraphs that pass
   first_by : (before : List Entries) (a : Result (Option Entries) Refusal) → next_checked (rules_of doc) text before ≡ a → Follow (rules_of doc) text [] before → ((entries : Entries) → next_checked (rules_of doc) text before ≡ Ok (Some entries) → FirstFrom (before ++ entries ∷ [])) → FirstFrom before
   first_by before (Err refusal) is follow more =
-      ap first_why (explained_next doc text text before refusal (λ _. refl) follow is).1 ∙ sym (explained_by_next doc text before refusal follow is)
+      ap first_why (explained_next doc text (length before) before refusal is (λ _. (refl, follow))).1 ∙ sym (explained_by_next doc text before refusal follow is)
   first_by before (Ok None) is follow more =
       ap (λ s. first_why (explained_stream doc (explanation_of doc text) s)) (end_ends_stream doc text before is)
       ∙ sym (ap (explanation_in (rules_of doc) (explain_refusal doc) text) (outcome-from_end (rules_of doc) text before follow is))

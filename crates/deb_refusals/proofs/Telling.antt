@@ -14,20 +14,19 @@ use Rattle.deb_syntax.specs.Judged.{judged_by, line_judged}
 use Rattle.deb_syntax.specs.Judging.{judged}
 use Rattle.deb_syntax.specs.Lines.{Paragraph, file_limit}
 use Rattle.deb_syntax.specs.Meaning.{Entries}
-use Rattle.deb_syntax.specs.Resuming.{IsWithout}
 use Rattle.deb_control.specs.Checking.{Follow}
 use Rattle.deb_control.specs.Documents.{rules_of}
-use Rattle.deb_control.specs.Refusals.{has_some, line_behind, next_checked}
-use Rattle.deb_control.specs.Refused.{lines_behind, seen_behind, seen_in}
+use Rattle.deb_control.specs.Refusals.{has_some, next_after, next_checked}
+use Rattle.deb_control.specs.Refused.{lines_after, seen_after, seen_in}
 use Rattle.deb_control.specs.Resuming.{refuses_paragraph, resumes}
-use Rattle.deb_control.specs.Streams.{ended_by, is_end_under, item_of, stream_behind_under, with_item}
+use Rattle.deb_control.specs.Streams.{item_of, stream_after, with_item}
 use Rattle.deb_control.proofs.FollowedParagraphs.{outcome-from_refusal}
-use Rattle.deb_control.proofs.StreamLaws.{refused_is_left_out}
+use Rattle.deb_control.proofs.StreamLaws.{refused_next}
 use Rattle.deb_explain.specs.Explanations.{WhyRefused, explain_refusal, explanation_in, explanation_of}
 use Rattle.deb_explain.specs.Subjects.{AboutWhole, about_topic, topic_of}
 use Rattle.deb_refusals.specs.Explained.{explained_at_end, explained_once, explained_stream, whole_refused, why_run_refused}
-use Rattle.deb_refusals.specs.Given.{explanations_from, why_next_refused}
-use Rattle.deb_refusals.proofs.Steps.{behind_seam, ends_the_stream, goes_on_within, judged_are_short, lines_are, next_is, refused_stream, stream_is}
+use Rattle.deb_refusals.specs.Given.{explanations_after, why_next_refused}
+use Rattle.deb_refusals.proofs.Steps.{ends_the_stream, goes_on_within, judged_are_short, lines_are, next_is}
 
 -- ---- a refusal of a file as a whole
 
@@ -89,29 +88,29 @@ whole_if_ninth doc refusal line seen ninth = ap (λ about. record { refusal = re
 
 -- ---- a run of lines that is refused
 
-module _ (doc : Doc) (text : List ℕ) (before : List Entries) (several : is_single doc ≡ false) where
-  seen_is : seen_behind (rules_of doc) text before ≡ seen_in (next_answer text (length before))
-  seen_is = ap (λ t. cond (t && has_some before) None (seen_in (next_answer text (length before)))) several
+module _ (doc : Doc) (text : List ℕ) (k : ℕ) (before : List Entries) (several : is_single doc ≡ false) where
+  seen_is : seen_after (rules_of doc) text k before ≡ seen_in (next_answer text k)
+  seen_is = ap (λ t. cond (t && has_some before) None (seen_in (next_answer text k))) several
 
-  judged_is : lines_behind (rules_of doc) text before ≡ judged_by (next_answer text (length before)) (slice_get (paragraphs_within text) (length before))
-  judged_is = ap (λ t. cond (t && has_some before) None (judged_by (next_answer text (length before)) (slice_get (paragraphs_within text) (length before)))) several
+  judged_is : lines_after (rules_of doc) text k before ≡ judged_by (next_answer text k) (slice_get (paragraphs_within text) k)
+  judged_is = ap (λ t. cond (t && has_some before) None (judged_by (next_answer text k) (slice_get (paragraphs_within text) k))) several
 
   -- after the last paragraph nothing is seen
-  none_at_end : drop (length before) (paragraphs_within text) ≡ [] → (seen_in (next_answer text (length before)) ≡ None)
+  none_at_end : drop k (paragraphs_within text) ≡ [] → (seen_in (next_answer text k) ≡ None)
   none_at_end here = ap (λ left. seen_in (answer_of_first (line_beyond 1 file_limit text) left)) here ∙ go (line_beyond 1 file_limit text)
     where
       go : (o : Option ℕ) → seen_in (answer_of_first o []) ≡ None
       go None = refl
       go (Some line) = refl
 
-  none_judged_at_end : drop (length before) (paragraphs_within text) ≡ [] → lines_behind (rules_of doc) text before ≡ None
-  none_judged_at_end here = judged_is ∙ ap (λ left. judged_by (answer_of_first (line_beyond 1 file_limit text) left) (slice_get (paragraphs_within text) (length before))) here ∙ go (line_beyond 1 file_limit text)
+  none_judged_at_end : drop k (paragraphs_within text) ≡ [] → lines_after (rules_of doc) text k before ≡ None
+  none_judged_at_end here = judged_is ∙ ap (λ left. judged_by (answer_of_first (line_beyond 1 file_limit text) left) (slice_get (paragraphs_within text) k)) here ∙ go (line_beyond 1 file_limit text)
     where
-      go : (o : Option ℕ) → judged_by (answer_of_first o []) (slice_get (paragraphs_within text) (length before)) ≡ None
+      go : (o : Option ℕ) → judged_by (answer_of_first o []) (slice_get (paragraphs_within text) k) ≡ None
       go None = refl
       go (Some line) = refl
 
-  module _ (p : Paragraph) (more : List Paragraph) (here : drop (length before) (paragraphs_within text) ≡ p ∷ more) where
+  module _ (p : Paragraph) (more : List Paragraph) (here : drop k (paragraphs_within text) ≡ p ∷ more) where
     abbrev beyond : Option ℕ
     beyond = line_beyond 1 file_limit text
 
@@ -119,8 +118,8 @@ module _ (doc : Doc) (text : List ℕ) (before : List Entries) (several : is_sin
     long = line_too_long p.first paragraph_limit p.lines
 
     -- where no lines are judged, nothing is seen
-    none_seen : lines_behind (rules_of doc) text before ≡ None → seen_behind (rules_of doc) text before ≡ None
-    none_seen none = seen_is ∙ ap seen_in (next_is doc text before p more here several) ∙ go (paragraph_answer long beyond p) (sym (lines_are doc text before p more here several) ∙ none)
+    none_seen : lines_after (rules_of doc) text k before ≡ None → seen_after (rules_of doc) text k before ≡ None
+    none_seen none = seen_is ∙ ap seen_in (next_is doc text k before p more here several) ∙ go (paragraph_answer long beyond p) (sym (lines_are doc text k before p more here several) ∙ none)
       where
         go : (a : Result (Option Seen) Refusal) → judged_by a (Some p) ≡ None → seen_in a ≡ None
         go (Ok None) is = refl
@@ -128,8 +127,8 @@ module _ (doc : Doc) (text : List ℕ) (before : List Entries) (several : is_sin
         go (Err refusal) is = refl
 
     -- the lines that are judged are those of the paragraph
-    judged_same : (last : Paragraph) → lines_behind (rules_of doc) text before ≡ Some last → last ≡ p
-    judged_same last is = go (paragraph_answer long beyond p) (sym (lines_are doc text before p more here several) ∙ is)
+    judged_same : (last : Paragraph) → lines_after (rules_of doc) text k before ≡ Some last → last ≡ p
+    judged_same last is = go (paragraph_answer long beyond p) (sym (lines_are doc text k before p more here several) ∙ is)
       where
         either : (t : Bool) → cond t (Some p) None ≡ Some last → last ≡ p
         either true is = cc
@@ -141,63 +140,49 @@ module _ (doc : Doc) (text : List ℕ) (before : List Entries) (several : is_sin
         go (Err refusal) is = either (nat_le (number_of refusal.code) 7) is
 
     -- where they are, what is seen is what is judged of them
-    seen_of_run : lines_behind (rules_of doc) text before ≡ Some p → seen_behind (rules_of doc) text before ≡ seen_in (seen_from p.first (judged p.first p.lines))
+    seen_of_run : lines_after (rules_of doc) text k before ≡ Some p → seen_after (rules_of doc) text k before ≡ seen_in (seen_from p.first (judged p.first p.lines))
     seen_of_run is =
-        let short = judged_are_short doc text before p more here several p is in
-        seen_is ∙ ap seen_in (next_is doc text before p more here several ∙ ap (λ o. paragraph_answer o beyond p) short)
-        ∙ go (is_line (p.first + length p.lines) beyond) (sym (lines_are doc text before p more here several ∙ ap (λ o. judged_by (paragraph_answer o beyond p) (Some p)) short) ∙ is)
+        let short = judged_are_short doc text k before p more here several p is in
+        seen_is ∙ ap seen_in (next_is doc text k before p more here several ∙ ap (λ o. paragraph_answer o beyond p) short)
+        ∙ go (is_line (p.first + length p.lines) beyond) (sym (lines_are doc text k before p more here several ∙ ap (λ o. judged_by (paragraph_answer o beyond p) (Some p)) short) ∙ is)
       where
         go : (t : Bool) → judged_by (cond t (Err (record { code = code.FileTooLong; line = p.first + length p.lines })) (seen_from p.first (judged p.first p.lines))) (Some p) ≡ Some p → seen_in (cond t (Err (record { code = code.FileTooLong; line = p.first + length p.lines })) (seen_from p.first (judged p.first p.lines))) ≡ seen_in (seen_from p.first (judged p.first p.lines))
         go true e = absurd cc
         go false e = refl
 
-    why_of_run : (refusal : Refusal) → lines_behind (rules_of doc) text before ≡ Some p → why_next_refused doc text before refusal ≡ why_run_refused doc p refusal
+    why_of_run : (refusal : Refusal) → lines_after (rules_of doc) text k before ≡ Some p → why_next_refused doc text k before refusal ≡ why_run_refused doc p refusal
     why_of_run refusal is =
-        ap (λ last. explain_refusal doc refusal (line_judged refusal.line last) (seen_behind (rules_of doc) text before)) is
+        ap (λ last. explain_refusal doc refusal (line_judged refusal.line last) (seen_after (rules_of doc) text k before)) is
         ∙ ap (explain_refusal doc refusal (line_judged refusal.line (Some p))) (seen_of_run is)
 
   -- where no lines are judged, nothing is seen
-  nothing_seen : lines_behind (rules_of doc) text before ≡ None → seen_behind (rules_of doc) text before ≡ None
-  nothing_seen none = go (drop (length before) (paragraphs_within text)) refl
+  nothing_seen : lines_after (rules_of doc) text k before ≡ None → seen_after (rules_of doc) text k before ≡ None
+  nothing_seen none = go (drop k (paragraphs_within text)) refl
     where
-      go : (left : List Paragraph) → drop (length before) (paragraphs_within text) ≡ left → seen_behind (rules_of doc) text before ≡ None
+      go : (left : List Paragraph) → drop k (paragraphs_within text) ≡ left → seen_after (rules_of doc) text k before ≡ None
       go [] here = seen_is ∙ none_at_end here
       go (p ∷ more) here = none_seen p more here none
 
   -- a refusal after which the reader doesn't go on is about the file as a whole
-  why_at_end : (refusal : Refusal) → resumes doc (Some (Refused refusal)) (lines_behind (rules_of doc) text before) ≡ false → why_next_refused doc text before refusal ≡ whole_refused refusal
-  why_at_end refusal stays = go (lines_behind (rules_of doc) text before) refl (sym (ap (λ s. not s && refuses_paragraph (Some (Refused refusal)) (lines_behind (rules_of doc) text before)) several) ∙ stays)
+  why_at_end : (refusal : Refusal) → resumes doc (Some (Refused refusal)) (lines_after (rules_of doc) text k before) ≡ false → why_next_refused doc text k before refusal ≡ whole_refused refusal
+  why_at_end refusal stays = go (lines_after (rules_of doc) text k before) refl (sym (ap (λ s. not s && refuses_paragraph (Some (Refused refusal)) (lines_after (rules_of doc) text k before)) several) ∙ stays)
     where
       ninth : (t : Bool) → not t ≡ false → t ≡ true
       ninth true h = refl
       ninth false h = absurd cc
 
-      go : (last : Option Paragraph) → lines_behind (rules_of doc) text before ≡ last → refuses_paragraph (Some (Refused refusal)) (lines_behind (rules_of doc) text before) ≡ false → why_next_refused doc text before refusal ≡ whole_refused refusal
+      go : (last : Option Paragraph) → lines_after (rules_of doc) text k before ≡ last → refuses_paragraph (Some (Refused refusal)) (lines_after (rules_of doc) text k before) ≡ false → why_next_refused doc text k before refusal ≡ whole_refused refusal
       go None is h =
-          ap (λ last. explain_refusal doc refusal (line_judged refusal.line last) (seen_behind (rules_of doc) text before)) is
+          ap (λ last. explain_refusal doc refusal (line_judged refusal.line last) (seen_after (rules_of doc) text k before)) is
           ∙ ap (explain_refusal doc refusal None) (nothing_seen is)
           ∙ whole_if_none doc refusal
       go (Some p) is h = whole_if_ninth doc refusal _ _ (ninth (number_of refusal.code == 9) (sym (ap (refuses_paragraph (Some (Refused refusal))) is) ∙ h))
 
--- ---- the stream of a text, as part of a file
+-- ---- the stream of a file
 
 -- The file is explained by the paragraph after those that pass.
-pub explained_by_next : (doc : Doc) (text : List ℕ) (before : List Entries) (refusal : Refusal) → Follow (rules_of doc) text [] before → next_checked (rules_of doc) text before ≡ Err refusal → explanation_of doc text ≡ Some (why_next_refused doc text before refusal)
+pub explained_by_next : (doc : Doc) (text : List ℕ) (before : List Entries) (refusal : Refusal) → Follow (rules_of doc) text [] before → next_checked (rules_of doc) text before ≡ Err refusal → explanation_of doc text ≡ Some (why_next_refused doc text (length before) before refusal)
 explained_by_next doc text before refusal follow refused = ap (explanation_in (rules_of doc) (explain_refusal doc) text) (outcome-from_refusal (rules_of doc) text before refusal follow refused)
-
--- A refusal after which the reader doesn't go on is the last one.
-pub explained_last : (doc : Doc) (file text : List ℕ) (before : List Entries) (refusal : Refusal) → (is_single doc ≡ true → text ≡ file) → Follow (rules_of doc) text [] before → next_checked (rules_of doc) text before ≡ Err refusal → resumes doc (Some (Refused refusal)) (lines_behind (rules_of doc) text before) ≡ false → explanations_from doc file text before ≡ why_next_refused doc text before refusal ∷ []
-explained_last doc file text before refusal single follow refused stays =
-    ap (explained_stream doc (explanation_of doc file)) (ends_the_stream doc text before refusal refused stays) ∙ go (is_single doc) refl
-  where
-    go : (s : Bool) → is_single doc ≡ s → explained_at_end (is_single doc) (explanation_of doc file) (Some refusal) ≡ why_next_refused doc text before refusal ∷ []
-    go true is =
-        ap (λ s. explained_at_end s (explanation_of doc file) (Some refusal)) is
-        ∙ ap (λ t. explained_once (explanation_of doc t)) (sym (single is))
-        ∙ ap explained_once (explained_by_next doc text before refusal follow refused)
-    go false is =
-        ap (λ s. explained_at_end s (explanation_of doc file) (Some refusal)) is
-        ∙ ap (λ why. why ∷ []) (sym (why_at_end doc text before is refusal stays))
 
 -- the reader doesn't go on where one paragraph is asked for
 pub several_if_goes : (doc : Doc) (refusal : Refusal) (last : Option Paragraph) → resumes doc (Some (Refused refusal)) last ≡ true → is_single doc ≡ false
@@ -207,36 +192,43 @@ several_if_goes doc refusal last goes = go (is_single doc) refl
     go false is = is
     go true is = let e : false ≡ true = sym (ap (λ s. not s && refuses_paragraph (Some (Refused refusal)) last) is) ∙ goes in absurd cc
 
--- After another one the text without the run follows.
-pub explained_refused : (doc : Doc) (file text : List ℕ) (before : List Entries) (p : Paragraph) (other : List ℕ) (refusal : Refusal) → IsWithout text (length before) p other → next_checked (rules_of doc) text before ≡ Err refusal → lines_behind (rules_of doc) text before ≡ Some p → resumes doc (Some (Refused refusal)) (Some p) ≡ true → explanations_from doc file text before ≡ why_next_refused doc text before refusal ∷ explanations_from doc file other before
-explained_refused doc file text before p other refusal w refused lines goes =
-    let here = behind_seam text (length before) p other w in
-    let several = several_if_goes doc refusal (Some p) goes in
-    ap (explained_stream doc (explanation_of doc file)) (refused_is_left_out doc text before p other refusal w refused (goes_on_within doc text before p w.more refusal here lines goes))
-    ∙ ap (λ why. why ∷ explanations_from doc file other before) (sym (why_of_run doc text before several p w.more here refusal lines))
+module _ (doc : Doc) (text : List ℕ) (k : ℕ) (before : List Entries) (refusal : Refusal) (refused : next_after (rules_of doc) text k before ≡ Err refusal) where
+  -- A refusal after which the reader doesn't go on is the last one.
+  pub explained_last : (is_single doc ≡ true → (length before ≡ k) × Follow (rules_of doc) text [] before) → resumes doc (Some (Refused refusal)) (lines_after (rules_of doc) text k before) ≡ false → explanations_after doc text k before ≡ why_next_refused doc text k before refusal ∷ []
+  explained_last single stays =
+      ap (explained_stream doc (explanation_of doc text)) (ends_the_stream doc text k before refusal refused stays) ∙ go (is_single doc) refl
+    where
+      go : (s : Bool) → is_single doc ≡ s → explained_at_end (is_single doc) (explanation_of doc text) (Some refusal) ≡ why_next_refused doc text k before refusal ∷ []
+      go true is =
+          let at = (single is).0 in
+          ap (λ s. explained_at_end s (explanation_of doc text) (Some refusal)) is
+          ∙ ap explained_once (explained_by_next doc text before refusal (single is).1 (ap (λ n. next_after (rules_of doc) text n before) at ∙ refused))
+          ∙ ap (λ n. why_next_refused doc text n before refusal ∷ []) at
+      go false is =
+          ap (λ s. explained_at_end s (explanation_of doc text) (Some refusal)) is
+          ∙ ap (λ why. why ∷ []) (sym (why_at_end doc text k before is refusal stays))
 
--- A refusal is the next one of the stream, whether or not it is the last.
-pub explained_next : (doc : Doc) (file text : List ℕ) (before : List Entries) (refusal : Refusal) → (is_single doc ≡ true → text ≡ file) → Follow (rules_of doc) text [] before → next_checked (rules_of doc) text before ≡ Err refusal → (more : List WhyRefused) × (explanations_from doc file text before ≡ why_next_refused doc text before refusal ∷ more)
-unfolding refused_stream
-explained_next doc file text before refusal single follow refused = go (resumes doc (Some (Refused refusal)) (lines_behind (rules_of doc) text before)) refl
-  where
-    on : (last : Option Paragraph) → lines_behind (rules_of doc) text before ≡ last → is_single doc ≡ false → (left : List Paragraph) → drop (length before) (paragraphs_within text) ≡ left → resumes doc (Some (Refused refusal)) last ≡ true → (more : List WhyRefused) × (explanations_from doc file text before ≡ why_next_refused doc text before refusal ∷ more)
-    on None is several left here goes = let e : false ≡ true = sym (ap (λ s. not s && false) several) ∙ goes in absurd cc
-    on (Some last) is several [] here goes = let e : None ≡ Some last = sym (none_judged_at_end doc text before several here) ∙ is in absurd cc
-    on (Some last) is several (p ∷ more) here goes =
-        let same = judged_same doc text before several p more here last is in
-        let lines = is ∙ ap Some same in
-        let goes_on = goes_on_within doc text before p more refusal here lines (subst (λ q. resumes doc (Some (Refused refusal)) (Some q) ≡ true) same goes) in
-        within p more here lines goes_on several
-      where
-        within : (p : Paragraph) (more : List Paragraph) → drop (length before) (paragraphs_within text) ≡ p ∷ more → lines_behind (rules_of doc) text before ≡ Some p → is_end_under paragraph_limit (rules_of doc) p refusal ≡ false → is_single doc ≡ false → (more : List WhyRefused) × (explanations_from doc file text before ≡ why_next_refused doc text before refusal ∷ more)
-        within p more here lines goes_on several =
-            let behind = stream_behind_under paragraph_limit file_limit (rules_of doc) (line_beyond 1 file_limit text) (line_behind text) before more in (
-              explained_stream doc (explanation_of doc file) behind,
-              ap (explained_stream doc (explanation_of doc file)) (stream_is (rules_of doc) text before p more refusal here refused ∙ ap (λ t. cond t (ended_by (Some refusal)) (with_item (item_of p (Err refusal)) behind)) goes_on)
-                  ∙ ap (λ why. why ∷ explained_stream doc (explanation_of doc file) behind) (sym (why_of_run doc text before several p more here refusal lines)),
-            )
+  -- After another one the stream goes on.
+  pub explained_refused : resumes doc (Some (Refused refusal)) (lines_after (rules_of doc) text k before) ≡ true → (p : Paragraph) × (stream_after (rules_of doc) text k before ≡ with_item (item_of p (Err refusal)) (stream_after (rules_of doc) text (k + 1) before)) × (explanations_after doc text k before ≡ why_next_refused doc text k before refusal ∷ explanations_after doc text (k + 1) before)
+  explained_refused goes = on (lines_after (rules_of doc) text k before) refl (drop k (paragraphs_within text)) refl
+    where
+      several : is_single doc ≡ false
+      several = several_if_goes doc refusal _ goes
 
-    go : (t : Bool) → resumes doc (Some (Refused refusal)) (lines_behind (rules_of doc) text before) ≡ t → (more : List WhyRefused) × (explanations_from doc file text before ≡ why_next_refused doc text before refusal ∷ more)
-    go false stays = ([], explained_last doc file text before refusal single follow refused stays)
-    go true goes = on (lines_behind (rules_of doc) text before) refl (several_if_goes doc refusal _ goes) (drop (length before) (paragraphs_within text)) refl goes
+      on : (last : Option Paragraph) → lines_after (rules_of doc) text k before ≡ last → (left : List Paragraph) → drop k (paragraphs_within text) ≡ left → (p : Paragraph) × (stream_after (rules_of doc) text k before ≡ with_item (item_of p (Err refusal)) (stream_after (rules_of doc) text (k + 1) before)) × (explanations_after doc text k before ≡ why_next_refused doc text k before refusal ∷ explanations_after doc text (k + 1) before)
+      on None is left here = let e : false ≡ true = sym (ap (λ s. not s && false) several) ∙ ap (resumes doc (Some (Refused refusal))) (sym is) ∙ goes in absurd cc
+      on (Some last) is [] here = let e : None ≡ Some last = sym (none_judged_at_end doc text k before several here) ∙ is in absurd cc
+      on (Some last) is (p ∷ more) here =
+          let same = judged_same doc text k before several p more here last is in
+          let lines = is ∙ ap Some same in
+          let goes_on = goes_on_within doc text k before p more refusal here lines (ap (resumes doc (Some (Refused refusal))) (sym lines) ∙ goes) in
+          let stream = refused_next (rules_of doc) text k before p more refusal here refused goes_on in
+          (p, stream, ap (explained_stream doc (explanation_of doc text)) stream ∙ ap (λ why. why ∷ explanations_after doc text (k + 1) before) (sym (why_of_run doc text k before several p more here refusal lines)))
+
+  -- A refusal is the next one of the stream, whether or not it is the last.
+  pub explained_next : (is_single doc ≡ true → (length before ≡ k) × Follow (rules_of doc) text [] before) → (more : List WhyRefused) × (explanations_after doc text k before ≡ why_next_refused doc text k before refusal ∷ more)
+  explained_next single = go (resumes doc (Some (Refused refusal)) (lines_after (rules_of doc) text k before)) refl
+    where
+      go : (t : Bool) → resumes doc (Some (Refused refusal)) (lines_after (rules_of doc) text k before) ≡ t → (more : List WhyRefused) × (explanations_after doc text k before ≡ why_next_refused doc text k before refusal ∷ more)
+      go false stays = ([], explained_last single stays)
+      go true goes = (explanations_after doc text (k + 1) before, (explained_refused goes).2)

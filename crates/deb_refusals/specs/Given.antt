@@ -15,13 +15,12 @@ use Rattle.deb_base.specs.declared.refusal.Refusal.{Refusal}
 use Rattle.deb_syntax.specs.Judged.{line_judged}
 use Rattle.deb_syntax.specs.Lines.{Paragraph, file_limit}
 use Rattle.deb_syntax.specs.Meaning.{Entries}
-use Rattle.deb_control.specs.Checking.{CheckedState, FitsChecked, Follow}
+use Rattle.deb_control.specs.Checking.{CheckedState, FitsChecked, FollowGiven, all_pass}
 use Rattle.deb_control.specs.CheckedStates.{checked_state, doc_read, lines_checked}
 use Rattle.deb_control.specs.Documents.{rules_of}
-use Rattle.deb_control.specs.Refusals.{next_checked}
-use Rattle.deb_control.specs.Refused.{lines_behind, seen_behind}
-use Rattle.deb_control.specs.Resuming.{FitsWithout}
-use Rattle.deb_control.specs.Streams.{stream_from}
+use Rattle.deb_control.specs.Refusals.{Answered, next_given, passed_in}
+use Rattle.deb_control.specs.Refused.{lines_after, lines_given, seen_after, seen_given}
+use Rattle.deb_control.specs.Streams.{stream_after, stream_given}
 use Rattle.deb_control.specs.declared.checked.Checked.{Checked}
 use Rattle.deb_explain.specs.Explanations.{WhyRefused, explain_refusal, explanation_of}
 use Rattle.deb_explain.specs.Subjects.{AboutLine, AboutMissing}
@@ -58,53 +57,59 @@ pub record AreFirst (doc : Doc) (text : List ℕ) (done : List WhyRefused) : Typ
   pub all : explanations_of doc text ≡ done ++ more
   pub refusals : refusals_of doc text ≡ refusals_explained done ++ refusals_explained more
 
--- what is reported of the paragraph after those that pass, for this refusal
-abbrev pub why_next_refused : Doc → List ℕ → List Entries → Refusal → WhyRefused
-why_next_refused doc text before refusal =
+-- what is reported of the paragraph after the first `k`, of which these passed, for this refusal
+abbrev pub why_next_refused : Doc → List ℕ → ℕ → List Entries → Refusal → WhyRefused
+why_next_refused doc text k before refusal =
     explain_refusal doc refusal
-    (line_judged refusal.line (lines_behind (rules_of doc) text before))
-    (seen_behind (rules_of doc) text before)
+    (line_judged refusal.line (lines_after (rules_of doc) text k before))
+    (seen_after (rules_of doc) text k before)
 
--- What the refusals of the stream of a text after these paragraphs are about, as part of a file.
-abbrev pub explanations_from : Doc → List ℕ → List ℕ → List Entries → List WhyRefused
-explanations_from doc file text before =
-    explained_stream doc (explanation_of doc file) (stream_from (rules_of doc) text before)
+-- What the refusals of the stream after them are about.
+abbrev pub explanations_after : Doc → List ℕ → ℕ → List Entries → List WhyRefused
+explanations_after doc text k before =
+    explained_stream doc (explanation_of doc text) (stream_after (rules_of doc) text k before)
 
--- After these paragraphs of a text of as many bytes, its stream is what is left of the file: so
--- many paragraphs passed before it, and the refusals before it were these.
-pub record Remains (doc : Doc) (text other : List ℕ) (before : List Entries) (passed : ℕ)
+-- the same where this was answered of the first paragraphs
+abbrev pub why_given : Doc → List ℕ → List Answered → Refusal → WhyRefused
+why_given doc text answered refusal =
+    why_next_refused doc text (length answered) (passed_in answered) refusal
+
+abbrev pub explanations_given : Doc → List ℕ → List Answered → List WhyRefused
+explanations_given doc text answered =
+    explanations_after doc text (length answered) (passed_in answered)
+
+-- So many of the first paragraphs of a file passed, and the refusals of the others were these. None
+-- is refused where exactly one paragraph is asked for.
+pub record Remains (doc : Doc) (text : List ℕ) (answered : List Answered) (passed : ℕ)
     (done : List WhyRefused) : Type 0 where
-  pub bytes : length other ≡ length text
-  pub single : is_single doc ≡ true → other ≡ text
-  pub follow : Follow (rules_of doc) other [] before
-  pub whys : explanations_of doc text ≡ done ++ explanations_from doc text other before
+  pub single : is_single doc ≡ true → answered ≡ all_pass (passed_in answered)
+  pub follow : FollowGiven (rules_of doc) text [] answered
+  pub whys : explanations_of doc text ≡ done ++ explanations_given doc text answered
   pub total : passed_of doc text
-      ≡ passed + passed_among (stream_from (rules_of doc) other before).items
-  pub counted : passed ≡ length before
+      ≡ passed + passed_among (stream_given (rules_of doc) text answered).items
+  pub counted : passed ≡ length (passed_in answered)
 
--- The reader of checked paragraphs goes on there.
+-- The reader of checked paragraphs goes on after them.
 pub record Awaits (doc : Doc) (text : List ℕ) (state : CheckedState) (left : Option (List ℕ))
     (passed : ℕ) (done : List WhyRefused) : Type 0 where
-  pub other : List ℕ
-  pub before : List Entries
-  pub fits : FitsChecked doc other before state left
-  pub remains : Remains doc text other before passed done
+  pub answered : List Answered
+  pub fits : FitsChecked doc text answered state left
+  pub remains : Remains doc text answered passed done
 
 -- The next run there is refused for this. The reader of checked paragraphs shows its lines and
--- fields; where it can go on, that is with another text. The refusals before it were `front`.
+-- fields; where its lines were judged, it has passed. The refusals before it were `front`.
 pub record StandsAt (doc : Doc) (text : List ℕ) (refusal : Refusal) (state : CheckedState)
     (lines : Option Paragraph) (left : Option (List ℕ)) (passed : ℕ)
     (done : List WhyRefused) : Type 0 where
   pub front : List WhyRefused
-  pub other : List ℕ
-  pub before : List Entries
-  pub remains : Remains doc text other before passed front
-  pub refused : next_checked (rules_of doc) other before ≡ Err refusal
+  pub answered : List Answered
+  pub remains : Remains doc text answered passed front
+  pub refused : next_given (rules_of doc) text answered ≡ Err refusal
   pub fault : state.fault ≡ Some (Refused refusal)
-  pub seen : state.reader.current ≡ seen_behind (rules_of doc) other before
-  pub shown : lines ≡ lines_behind (rules_of doc) other before
-  pub without : IfSome lines (λ p. FitsWithout doc other before p state left)
-  pub is : done ≡ front ++ why_next_refused doc other before refusal ∷ []
+  pub seen : state.reader.current ≡ seen_given (rules_of doc) text answered
+  pub shown : lines ≡ lines_given (rules_of doc) text answered
+  pub past : IfSome lines (λ _. FitsChecked doc text (answered ++ Err refusal ∷ []) state left)
+  pub is : done ≡ front ++ why_given doc text answered refusal ∷ []
 
 -- All refusals were given.
 pub record HasAll (doc : Doc) (text : List ℕ) (passed : ℕ) (done : List WhyRefused)
@@ -208,13 +213,13 @@ answers : (doc : Doc) (text : List ℕ) (refusal : Refusal) (new : Refusals) (le
 answers doc text refusal new left done = (refl, refl, refl, refl, refl, refl)
 
 -- a line of the second paragraph, and a field that the first one lacks
-next_refused : (why_next_refused Packages (codes "Package: a\n\n# b\n") ([] ∷ [])
+next_refused : (why_next_refused Packages (codes "Package: a\n\n# b\n") 1 ([] ∷ [])
     (record { code = Comment; line = 3 })
     ≡ record {
       refusal = record { code = Comment; line = 3 };
       about = AboutLine (codes "# b");
     })
-    × (why_next_refused Packages (codes "Package: a\n") []
+    × (why_next_refused Packages (codes "Package: a\n") 0 []
     (record { code = MissingField; line = 1 })
     ≡ record {
       refusal = record { code = MissingField; line = 1 };
@@ -223,7 +228,18 @@ next_refused : (why_next_refused Packages (codes "Package: a\n\n# b\n") ([] ∷ 
 unfolding file_limit paragraph_limit is_utf8 chars encode kind_of kind_at known_row
 next_refused = (refl, refl)
 
+-- a line of the second paragraph, after a first one that was refused
+next_given_refused : (refusal : Refusal)
+    → why_given Packages (codes "# a\n\n# b\n") (Err refusal ∷ [])
+    (record { code = Comment; line = 3 })
+    ≡ record {
+      refusal = record { code = Comment; line = 3 };
+      about = AboutLine (codes "# b");
+    }
+unfolding file_limit paragraph_limit is_utf8 chars encode kind_of kind_at known_row
+next_given_refused refusal = refl
+
 -- at the start of a file they are those of the file
 from_start : (doc : Doc) (text : List ℕ)
-    → explanations_from doc text text [] ≡ explanations_of doc text
+    → explanations_given doc text [] ≡ explanations_of doc text
 from_start doc text = refl

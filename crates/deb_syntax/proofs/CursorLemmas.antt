@@ -1,5 +1,5 @@
 -- A file that is read by pieces: slices of its buffer, what a piece leaves of the text, and what is seen of it.
-use Rattle.deb_syntax.proofs.Common.{◌≡◌, ℕ, ◌+◌, ◌-◌, ◌≤◌, List, [], ◌++◌, Option, Some, None, length, take, drop, slice_range, IsTrue, refl, sym, ap, ◌∙◌, append_assoc, arith, length-drop, take-add, drop-take, drop-drop, length-take-le, Consumes, IsAtEnd, CursorState, cursor_state, buffer_of, start_of, Comes, FileCursor}
+use Rattle.deb_syntax.proofs.Common.{◌≡◌, ℕ, ◌+◌, ◌-◌, ◌≤◌, List, [], ◌++◌, Option, Some, None, length, take, drop, slice_range, refl, sym, ap, ◌∙◌, arith, length-drop, take-add, drop-take, drop-drop, length-take-le, Consumes, IsAtEnd, cursor_state, buffer_of, start_of, FileCursor}
 use Rattle.deb_syntax.specs.Lines.{file_limit}
 use Rattle.deb_syntax.proofs.Slices.{take-slice_range}
 
@@ -40,25 +40,15 @@ pub cursor_few : (cursor : FileCursor) → (cursor_state cursor).lines ≤ (curs
 cursor_few cursor = cursor.few
 
 -- what a reader has left after the bytes that were taken
-consumed_rest : (rest bytes : List ℕ) (left left_after : Option (List ℕ)) → left ≡ Some rest → Consumes left left_after bytes → (rest_after : List ℕ) × (left_after ≡ Some rest_after) × (rest ≡ bytes ++ rest_after)
+pub consumed_rest : (rest bytes : List ℕ) (left left_after : Option (List ℕ)) → left ≡ Some rest → Consumes left left_after bytes → (rest_after : List ℕ) × (left_after ≡ Some rest_after) × (rest ≡ bytes ++ rest_after)
 consumed_rest rest bytes None left_after e c = absurd (cc)
 consumed_rest rest bytes (Some xs) None e c = absurd c
 consumed_rest rest bytes (Some xs) (Some ys) e c =
     let same : rest ≡ xs = cc in
     (ys, refl, same ∙ c)
 
--- a piece that came: the unread bytes and what the reader has left are together as they were
-pub comes_whole : (before after : CursorState) (rest : List ℕ) (left left_after : Option (List ℕ)) → left ≡ Some rest → (come : Comes before left after left_after) → (rest_after : List ℕ) × (left_after ≡ Some rest_after) × (rest ≡ come.piece ++ rest_after) × (after.unread ++ rest_after ≡ before.unread ++ rest)
-comes_whole before after rest left left_after e come =
-    let next = consumed_rest rest come.piece left left_after e come.consumed in
-    (next.0, next.1, next.2, ap (λ zs. zs ++ next.0) come.unread ∙ append_assoc before.unread come.piece next.0 ∙ ap (λ zs. before.unread ++ zs) (sym next.2))
-
-at_end_rest : (rest : List ℕ) (left : Option (List ℕ)) → left ≡ Some rest → IsAtEnd left → rest ≡ []
+pub at_end_rest : (rest : List ℕ) (left : Option (List ℕ)) → left ≡ Some rest → IsAtEnd left → rest ≡ []
 at_end_rest rest None e h = absurd (cc)
 at_end_rest rest (Some xs) e h =
     let same : rest ≡ xs = cc in
     same ∙ h
-
--- the end: the reader has nothing left
-pub comes_end : (before after : CursorState) (rest : List ℕ) (left left_after : Option (List ℕ)) → left_after ≡ Some rest → Comes before left after left_after → IsTrue after.ended → rest ≡ []
-comes_end before after rest left left_after e come ended = at_end_rest rest left_after e (come.at_end ended)

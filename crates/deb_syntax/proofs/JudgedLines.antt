@@ -1,16 +1,14 @@
 -- The paragraph that was judged last is the next one of a text, where its lines are judged.
-use Rattle.deb_syntax.proofs.Common.{◌≡◌, ℕ, ◌+◌, ◌≤◌, cond-true, cond-false, List, [], ◌∷◌, ◌++◌, Option, Some, None, Result, Ok, Err, length, refl, sym, ap, ◌∙◌, subst, arith, IsTrue, IsSome, leb, le-leb, lt-leb, pieces_of, ParagraphTooLong, Fault, Refused, Memory, Read, Write, Refusal, Extent, IsExtentOf, IsNextRun, room_ahead, Seen, next_answer, paragraphs_within, CursorState, cursor_state, buffer_of, start_of, FileCursor, judged, Paragraph, paragraphs_of, State, passed_count, Answers, IsReadersFault, IsFaultOf, IsRefusalOfText, stands_within}
+use Rattle.deb_syntax.proofs.Common.{IfSome, take, ◌≡◌, ℕ, ◌+◌, ◌≤◌, cond-true, cond-false, List, [], ◌∷◌, ◌++◌, Option, Some, None, Result, Ok, Err, length, refl, sym, ap, ◌∙◌, subst, arith, IsTrue, leb, le-leb, lt-leb, pieces_of, ParagraphTooLong, Fault, Refused, Memory, Read, Write, Extent, IsExtentOf, Seen, next_answer, paragraphs_within, cursor_state, buffer_of, start_of, FileCursor, judged, Paragraph, paragraphs_of, State, passed_count, IsReadersFault, IsFaultOf, IsRefusalOfText, stands_within}
 use Rattle.std.specs.Prelude.{slice_get}
 use Rattle.deb_base.specs.Codes.{number_of}
-use Rattle.deb_syntax.specs.Lines.{file_limit}
-use Rattle.deb_syntax.specs.Judged.{is_of_line, judged_by, judged_behind, lines_standing, ShowsJudged, IsRefusalOfLength, IsFirstAhead, JudgesAhead, JudgesLines}
+use Rattle.deb_syntax.specs.Judged.{judged_by, lines_standing, ShowsJudged, IsRefusalOfLength, JudgesLines}
+use Rattle.deb_syntax.specs.Resuming.{HasPassed}
 use Rattle.deb_syntax.specs.declared.paragraphs.CurrentParagraph.{CurrentParagraph}
-use Rattle.deb_syntax.proofs.Advancing.{paragraphs_ahead, standing_bytes}
+use Rattle.deb_syntax.proofs.Advancing.{standing_bytes}
 use Rattle.deb_syntax.proofs.Faults.{readers_fault}
 use Rattle.deb_syntax.proofs.CursorLemmas.{unread_within}
 use Rattle.deb_syntax.proofs.JudgingLawsRefusals.{judged-refusal}
-use Rattle.deb_syntax.proofs.Passing.{IsCut}
-use Rattle.deb_syntax.proofs.SpansWithin.{within_test}
 
 slice_get-seam : {X : Type 0} (xs : List X) (x : X) (ys : List X) → slice_get (xs ++ x ∷ ys) (length xs) ≡ Some x
 slice_get-seam [] x ys = refl
@@ -40,35 +38,29 @@ module _ (mid : FileCursor) (buffer : List ℕ) (e : Extent) (from n : ℕ) (sam
       let room : from + e.end ≤ length buffer = omega (arith, at, x.end_within, unread_within mid, ap length same) in
       rw (le-leb from (from + e.end) (omega arith), le-leb (from + e.end) (length buffer) room, le-leb 1 n some) refl
 
-  -- it is the first of the text ahead
-  pub first_ahead : (text : List ℕ) (before : CursorState) → n ≡ before.lines + 1 → IsNextRun (before.lines + 1) (room_ahead before) text x.lines → IsFirstAhead text before (lines_standing buffer standing)
-  first_ahead text before is next =
-      let lines : x.lines ≡ (lines_standing buffer standing).lines = sym x.pieces ∙ ap pieces_of (sym (standing_bytes mid buffer e from [] same at x)) in
-      let one : record { first = before.lines + 1; lines = x.lines } ≡ lines_standing buffer standing
-      = ap (λ k. record { first = k; lines = x.lines }) (sym is) ∙ ap (λ ls. record { first = n; lines = ls }) lines in
-      record { more = next.more; next = next.next ∙ ap (λ p. p ∷ next.more) one }
+  -- they are those of the paragraph that was found
+  pub standing_passed : (text passed : List ℕ) (new : State) (left : Option (List ℕ)) (first : ℕ) → n ≡ first → HasPassed text passed (record { first = first; lines = pieces_of (take e.end (cursor_state mid).unread) }) new left → HasPassed text passed (lines_standing buffer standing) new left
+  standing_passed text passed new left first is h =
+      subst (λ k. HasPassed text passed (record { first = k; lines = (lines_standing buffer standing).lines }) new left) (sym is)
+      (subst (λ ls. HasPassed text passed (record { first = first; lines = ls }) new left) (ap pieces_of (sym (standing_bytes mid buffer e from [] same at x))) h)
 
 -- after what has passed, what was judged is the next paragraph
-module _ (text passed ahead : List ℕ) (cursor : CursorState) (cut : IsCut text passed ahead cursor.bytes cursor.lines) (small : cursor.bytes ≤ file_limit) where
-  next_found : (p : Paragraph) → IsFirstAhead ahead cursor p → slice_get (paragraphs_within text) (passed_count passed) ≡ Some p
-  next_found p first =
-      ap (λ ps. slice_get ps (passed_count passed)) (paragraphs_ahead text passed ahead cursor.bytes cursor.lines cut small p first.more first.next)
-      ∙ slice_get-seam (paragraphs_of passed) p first.more
+module _ (text passed : List ℕ) where
+  next_found : (p : Paragraph) (new : State) (left : Option (List ℕ)) → HasPassed text passed p new left → slice_get (paragraphs_within text) (passed_count passed) ≡ Some p
+  next_found p new left h = ap (λ ps. slice_get ps (passed_count passed)) h.next ∙ slice_get-seam (paragraphs_of passed) p h.more
 
-  pub shows_found : (T : Type 0) (a : T) (current : Option Seen) (last : Option Paragraph) (new : State) (left : Option (List ℕ)) → IsSome current → Answers text passed (Ok current) new left → JudgesLines (Ok a) last → JudgesAhead ahead cursor last → ShowsJudged text (passed_count passed) (Ok current) last
-  shows_found T a None last new left some answers lines first = absurd cc
-  shows_found T a (Some seen) None new left some answers lines first = absurd lines
-  shows_found T a (Some seen) (Some p) new left some answers lines first =
-      sym (ap (λ answer. judged_by answer (slice_get (paragraphs_within text) (passed_count passed))) answers.answer ∙ next_found p first)
+  pub shows_found : (seen : Seen) (p : Paragraph) (new : State) (left : Option (List ℕ)) → next_answer text (passed_count passed) ≡ Ok (Some seen) → HasPassed text passed p new left → ShowsJudged text (passed_count passed) (Ok (Some seen)) (Some p)
+  shows_found seen p new left answer h =
+      sym (ap (λ a. judged_by a (slice_get (paragraphs_within text) (passed_count passed))) answer ∙ next_found p new left h)
 
-  pub shows_refused : (T : Type 0) (fault : Fault) (last : Option Paragraph) (new : State) (left : Option (List ℕ)) → Answers text passed (Err fault) new left → JudgesLines {T = T} (Err fault) last → JudgesAhead ahead cursor last → ShowsJudged text (passed_count passed) (Err fault) last
-  shows_refused T Memory last new left answers lines first = tt
-  shows_refused T Read last new left answers lines first = tt
-  shows_refused T Write last new left answers lines first = absurd answers
-  shows_refused T (Refused refusal) None new left answers lines first =
+  pub shows_refused : (T : Type 0) (fault : Fault) (last : Option Paragraph) (new : State) (left : Option (List ℕ)) → IsReadersFault fault (λ refusal. next_answer text (passed_count passed) ≡ Err refusal) → JudgesLines {T = T} (Err fault) last → IfSome last (λ p. HasPassed text passed p new left) → ShowsJudged text (passed_count passed) (Err fault) last
+  shows_refused T Memory last new left answers lines h = tt
+  shows_refused T Read last new left answers lines h = tt
+  shows_refused T Write last new left answers lines h = absurd answers
+  shows_refused T (Refused refusal) None new left answers lines h =
       sym (ap (λ answer. judged_by answer (slice_get (paragraphs_within text) (passed_count passed))) answers ∙ cond-false (leb (number_of refusal.code) 7) _ _ (lt-leb (number_of refusal.code) 7 (omega (arith, lines.least))))
-  shows_refused T (Refused refusal) (Some p) new left answers lines first =
-      sym (ap (λ answer. judged_by answer (slice_get (paragraphs_within text) (passed_count passed))) answers ∙ cond-true (leb (number_of refusal.code) 7) _ _ (le-leb (number_of refusal.code) 7 lines) ∙ next_found p first)
+  shows_refused T (Refused refusal) (Some p) new left answers lines h =
+      sym (ap (λ answer. judged_by answer (slice_get (paragraphs_within text) (passed_count passed))) answers ∙ cond-true (leb (number_of refusal.code) 7) _ _ (le-leb (number_of refusal.code) 7 lines) ∙ next_found p new left h)
 
 -- where nothing was judged
 pub shows_none : (text passed : List ℕ) (fault : Fault) (last : Option Paragraph) → last ≡ None → IsReadersFault fault (λ refusal. next_answer text (passed_count passed) ≡ Err refusal) → IsReadersFault fault IsRefusalOfLength → ShowsJudged text (passed_count passed) (Err fault) last

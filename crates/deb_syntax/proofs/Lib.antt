@@ -4,15 +4,13 @@ pub mod AnswerLaws
 pub mod Boundaries
 pub mod Callers
 pub mod DistinctNames
-pub mod Dropping
-pub mod EndingSteps
-pub mod EndingWalks
 pub mod Endings
 pub mod Faults
 pub mod CursorLemmas
 pub mod FieldBytes
 pub mod FieldLines
 pub mod FieldTests
+pub mod Finding
 pub mod FirstLines
 pub mod JudgedLines
 pub mod Judgements
@@ -21,6 +19,7 @@ pub mod JudgingLawsMeaning
 pub mod JudgingLawsRefusals
 pub mod JudgingLawsSound
 pub mod JudgingLawsTexts
+pub mod KeptLines
 pub mod LawProofs
 pub mod LeftAnswers
 pub mod LineEnds
@@ -32,10 +31,12 @@ pub mod LinesOfPieces
 pub mod Lookups
 pub mod NameIds
 pub mod NameSets
+pub mod NextLines
 pub mod NextParagraph
 pub mod ParagraphLines
 pub mod Parts
 pub mod Passing
+pub mod Positions
 pub mod FieldSpanLemmas
 pub mod SpansWithin
 pub mod Resuming
@@ -43,8 +44,4 @@ pub mod Runs
 pub mod Slices
 pub mod StreamLaws
 pub mod Takings
-pub mod WalkingBlanks
-pub mod WalkingLines
-pub mod WalkingRuns
 pub mod WalkingSteps
-pub mod Without

@@ -1,80 +1,24 @@
 -- Where lines end: those of a run as it grows, those of a paragraph, and one after another.
-use Rattle.deb_syntax.proofs.Common.{zero, subst, IsUtf8, AllByRecursion, ◌≡◌, ℕ, ◌+◌, ◌-◌, ◌<◌, ◌≤◌, suc, nat_le, Bool, true, false, cond, eqb, eqb-true, le-leb, lt-leb, cases_lt, inl, inr, List, [], ◌∷◌, ◌++◌, length, take, drop, slice_index, get_or, slice_range, refl, sym, ap, ◌∙◌, arith, length-append, length-drop, take_all, take-append-drop, take-append-le, drop-drop, drop_all, drop_more, length-take-le, Line, newline, line_length, pieces_of, with_byte, with_newlines, StandInFront, RunStands, Stops, LineRun, Open, CursorState, DroppedLine, DropsLine}
+use Rattle.deb_syntax.proofs.Common.{zero, subst, IsUtf8, AllByRecursion, ◌≡◌, ℕ, ◌+◌, ◌-◌, ◌<◌, ◌≤◌, suc, nat_le, Bool, true, false, cond, eqb, eqb-true, le-leb, lt-leb, cases_lt, inl, inr, List, [], ◌∷◌, ◌++◌, length, take, drop, slice_index, get_or, slice_range, refl, sym, ap, ◌∙◌, arith, length-drop, drop-drop, drop_all, drop_more, length-take-le, Line, newline, line_length, pieces_of, with_byte, total_length}
 use Rattle.std.proofs.lemmas.List.{get_or-drop}
-use Rattle.deb_syntax.specs.LineEnds.{ends_from, line_ends, piece_ends}
-use Rattle.deb_syntax.proofs.EndingSteps.{open-front, open-length}
-use Rattle.deb_syntax.proofs.LinesLawsTexts.{lines_of-with_newlines}
-use Rattle.deb_syntax.proofs.WalkingLines.{front-step, length-with_newlines-step, pieces_of-front, pieces_of-with_newlines_and, take-front}
-use Rattle.deb_syntax.proofs.WalkingRuns.{Ended}
+use Rattle.deb_syntax.specs.LineEnds.{ends_from, piece_ends}
+use Rattle.deb_syntax.proofs.NextParagraph.{total-cons}
 
 -- one line more
-ends_from-push : (start : ℕ) (lines : List Line) (line : Line) → ends_from start (lines ++ line ∷ []) ≡ ends_from start lines ++ (start + length (with_newlines lines) + length line) ∷ []
+pub ends_from-push : (start : ℕ) (lines : List Line) (line : Line) → ends_from start (lines ++ line ∷ []) ≡ ends_from start lines ++ (start + total_length lines + length line) ∷ []
 ends_from-push start [] line = let e : start + length line ≡ start + 0 + length line = omega arith in ap (λ n. n ∷ []) e
 ends_from-push start (first ∷ lines) line =
-    let e : start + line_length first + length (with_newlines lines) + length line ≡ start + length (with_newlines (first ∷ lines)) + length line = omega (arith, length-append first (newline ∷ with_newlines lines)) in
+    let e : start + line_length first + total_length lines + length line ≡ start + total_length (first ∷ lines) + length line = omega (arith, total-cons first lines) in
     ap (λ l. (start + length first) ∷ l) (ends_from-push (start + line_length first) lines line ∙ ap (λ n. ends_from (start + line_length first) lines ++ n ∷ []) e)
 
 -- each line has one
-length-ends_from : (start : ℕ) (lines : List Line) → length (ends_from start lines) ≡ length lines
+pub length-ends_from : (start : ℕ) (lines : List Line) → length (ends_from start lines) ≡ length lines
 length-ends_from start [] = refl
 length-ends_from start (line ∷ lines) = ap suc (length-ends_from (start + line_length line) lines)
 
 -- there are as many ends as lines
 pub few_ends : (text ends : List ℕ) (lines : List Line) → ends ≡ piece_ends text → pieces_of text ≡ lines → length ends ≡ length lines
 few_ends text ends lines is pieces = ap length is ∙ length-ends_from 0 (pieces_of text) ∙ ap length pieces
-
--- whole lines at the start of a text
-line_ends-front : (text : List ℕ) (lines : List Line) (rest : List ℕ) (n : ℕ) → StandInFront text lines rest → n ≡ length (with_newlines lines) → line_ends (take n text) ≡ ends_from 0 lines
-line_ends-front text lines rest n h e =
-    ap (λ k. line_ends (take k text)) e ∙ ap line_ends (take-front text lines rest h) ∙ ap (ends_from 0) (lines_of-with_newlines lines h.lines)
-
--- the line after a run joins it
-pub line_ends-step : (text : List ℕ) (run : LineRun) (ends : List ℕ) → Ended text run → ends ≡ line_ends (take run.bytes text) → ends ++ (run.bytes + run.partial.len) ∷ [] ≡ line_ends (take (run.bytes + (run.partial.len + 1)) text)
-line_ends-step text run ends e is =
-    let h = e.stands in
-    let size = length-with_newlines-step e.lines e.seen in
-    let at : run.bytes + run.partial.len ≡ 0 + length (with_newlines e.lines) + length e.seen = omega (arith, h.bytes, h.describes.len) in
-    let bytes : run.bytes + (run.partial.len + 1) ≡ length (with_newlines (e.lines ++ e.seen ∷ [])) = omega (arith, h.bytes, h.describes.len) in
-    ap (λ l. l ++ (run.bytes + run.partial.len) ∷ []) (is ∙ line_ends-front text e.lines _ run.bytes h.front h.bytes)
-    ∙ ap (λ n. ends_from 0 e.lines ++ n ∷ []) at ∙ sym (ends_from-push 0 e.lines e.seen)
-    ∙ sym (line_ends-front text (e.lines ++ e.seen ∷ []) e.rest _ (front-step text e.lines e.seen e.rest h.front h.describes.line) bytes)
-
--- a prefix of what is seen is one of the text
-pub take-seen : (n room : ℕ) (text : List ℕ) → n ≤ length (take room text) → take n text ≡ take n (take room text)
-take-seen n room text le = ap (take n) (sym (take-append-drop room text)) ∙ take-append-le n (take room text) (drop room text) le
-
--- also where more comes after it
-pub take-more : (n : ℕ) (text after piece : List ℕ) → n ≤ length text → after ≡ text ++ piece → take n after ≡ take n text
-take-more n text after piece le is = ap (take n) is ∙ take-append-le n text piece le
-
--- the lines of a run are the pieces up to its last newline
-pub line_ends-closed : (text : List ℕ) (run : LineRun) (lines : List Line) (seen fresh : List ℕ) → RunStands text run lines seen fresh → 0 < run.bytes → line_ends (take run.bytes text) ≡ piece_ends (take (run.bytes - 1) text)
-line_ends-closed text run lines seen fresh h some =
-    line_ends-front text lines (seen ++ fresh) run.bytes h.front h.bytes
-    ∙ ap (ends_from 0) (sym (ap (λ k. pieces_of (take (k - 1) text)) h.bytes ∙ pieces_of-front text lines (seen ++ fresh) (λ none. absurd (omega (arith, some, h.bytes, ap (λ ls. length (with_newlines ls)) none))) h.front))
-
--- of two texts that begin alike
-pub take-less : (n : ℕ) (a b : List ℕ) → n ≤ length a → n ≤ length b → take n a ≡ take n b → take (n - 1) a ≡ take (n - 1) b
-take-less n a b la lb e =
-    take-seen (n - 1) n a (omega (arith, length-take-le n a la)) ∙ ap (take (n - 1)) e ∙ sym (take-seen (n - 1) n b (omega (arith, length-take-le n b lb)))
-
--- also where the line after them was dropped
-pub dropped-ends : (before after : CursorState) (run : LineRun) (s : Stops before.unread Open run) (dropped : DroppedLine) → DropsLine before run dropped after → (end : ℕ) → 0 < run.bytes → end ≡ run.bytes - 1 → line_ends (take run.bytes before.unread) ≡ piece_ends (take end after.unread)
-dropped-ends before after run s dropped d end some is =
-    line_ends-closed before.unread run s.lines s.seen s.fresh s.stands some
-    ∙ ap piece_ends (sym (take-less run.bytes after.unread before.unread d.within (omega (arith, open-length before.unread run s)) d.kept))
-    ∙ ap (λ n. piece_ends (take n after.unread)) (sym is)
-
--- with a last line after them that has no newline
-pub line_ends-last : (text : List ℕ) (run : LineRun) (ends : List ℕ) → Stops text Open run → ends ≡ line_ends (take run.bytes text) → ends ++ (run.bytes + run.partial.len) ∷ [] ≡ piece_ends (take (run.bytes + run.partial.len) text)
-line_ends-last text run ends s is =
-    let h = s.stands in
-    let front = open-front text run s in
-    let at : run.bytes + run.partial.len ≡ 0 + length (with_newlines s.lines) + length s.seen = omega (arith, h.bytes, h.describes.len) in
-    let whole : take (run.bytes + run.partial.len) text ≡ with_newlines s.lines ++ s.seen = take_all (run.bytes + run.partial.len) text (omega (arith, open-length text run s)) ∙ front.text in
-    ap (λ l. l ++ (run.bytes + run.partial.len) ∷ []) (is ∙ line_ends-front text s.lines _ run.bytes front h.bytes)
-    ∙ ap (λ n. ends_from 0 s.lines ++ n ∷ []) at ∙ sym (ends_from-push 0 s.lines s.seen)
-    ∙ ap (ends_from 0) (sym (ap pieces_of whole ∙ pieces_of-with_newlines_and s.lines s.seen front.lines h.describes.line))
 
 -- the pieces of a text from a line's begin on: there are none after the last one
 abbrev pub pieces_from : List ℕ → ℕ → List Line

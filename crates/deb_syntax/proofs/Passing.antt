@@ -1,8 +1,7 @@
 -- What passes of a text: blank lines, a paragraph, or all that is left.
-use Rattle.deb_syntax.proofs.Common.{◌≡◌, ◌≢◌, ℕ, ◌+◌, ◌⊎◌, inl, inr, true, List, [], ◌∷◌, ◌++◌, length, refl, sym, ap, ◌∙◌, append_assoc, arith, length-append, append-nil, Line, newline, AreBlank, AreNotBlank, lines_of, with_newlines, ends_line, ends_blank, IsClosed, paragraphs_from, paragraphs_of, StandInFront}
-use Rattle.deb_syntax.proofs.Boundaries.{lines_of-append, ends_line-both, ends_line-append}
-use Rattle.deb_syntax.proofs.LinesLawsTexts.{lines_of-with_newlines}
-use Rattle.deb_syntax.proofs.NextParagraph.{paragraphs_from-append, no_paragraph, next_paragraph, blank-ends, ends_blank-append}
+use Rattle.deb_syntax.proofs.Common.{◌≡◌, ◌≢◌, ℕ, ◌+◌, ◌⊎◌, inl, inr, true, List, [], ◌∷◌, ◌++◌, length, refl, sym, ap, ◌∙◌, append_assoc, arith, length-append, append-nil, Line, AreBlank, AreNotBlank, lines_of, ends_blank, IsClosed, paragraphs_from, paragraphs_of}
+use Rattle.deb_syntax.proofs.Boundaries.{lines_of-append, ends_line-both}
+use Rattle.deb_syntax.proofs.NextParagraph.{paragraphs_from-append, no_paragraph, next_paragraph, ends_blank-append}
 
 -- what has passed is closed, or nothing follows it
 abbrev pub IsBehind : (passed more : List ℕ) → Type 0
@@ -30,13 +29,6 @@ pub record IsCut (text passed ahead : List ℕ) (count lines_count : ℕ) : Type
 nothing : (a b : List ℕ) → a ++ b ≡ [] → (a ≡ []) × (b ≡ [])
 nothing [] b e = (refl, e)
 nothing (x ∷ a) b e = absurd cc
-
--- whole lines end a line
-pub ends_line-with_newlines : (lines : List Line) → ends_line (with_newlines lines) ≡ true
-ends_line-with_newlines [] = refl
-ends_line-with_newlines (line ∷ lines) =
-    let apart : line ++ newline ∷ with_newlines lines ≡ (line ++ newline ∷ []) ++ with_newlines lines = sym (append_assoc line (newline ∷ []) (with_newlines lines)) in
-    ap ends_line apart ∙ ends_line-both (line ++ newline ∷ []) (with_newlines lines) (ends_line-append [] line) (ends_line-with_newlines lines)
 
 -- closed lines and more of them
 pub closed_more : (passed more : List ℕ) → IsClosed passed → IsClosed more → IsClosed (passed ++ more)
@@ -71,32 +63,9 @@ module _ (text passed ahead : List ℕ) (bytes lines : ℕ) (cut : IsCut text pa
       paragraphs_behind passed front (elim cut.behind [ inl c ↦ inl c | inr none ↦ inr (nothing front more (sym is ∙ none)).0 ])
 
   -- blank lines before them
-  pub cut_blanks : (blanks : List Line) (more : List ℕ) → StandInFront ahead blanks more → AreBlank blanks → IsCut text (passed ++ with_newlines blanks) more (bytes + length (with_newlines blanks)) (lines + length blanks) × (paragraphs_of (passed ++ with_newlines blanks) ≡ paragraphs_of passed)
-  cut_blanks blanks more front blank =
-      let is = lines_of-with_newlines blanks front.lines in
-      let closed : IsClosed (with_newlines blanks) = (ends_line-with_newlines blanks, ap ends_blank is ∙ blank-ends blanks blank) in (
-        subst_lines (with_newlines blanks) is (cut_more (with_newlines blanks) more front.text (inl closed)),
-        front_paragraphs (with_newlines blanks) more front.text ∙ ap (λ ls. paragraphs_of passed ++ paragraphs_from (1 + length (lines_of passed)) ls) is
-            ∙ ap (λ ps. paragraphs_of passed ++ ps) (no_paragraph (1 + length (lines_of passed)) blanks blank) ∙ append-nil (paragraphs_of passed),
-      )
-    where
-      subst_lines : (front : List ℕ) → lines_of front ≡ blanks → IsCut text (passed ++ front) more (bytes + length front) (lines + length (lines_of front)) → IsCut text (passed ++ front) more (bytes + length front) (lines + length blanks)
-      subst_lines front is c = record { whole = c.whole; bytes = c.bytes; lines = ap (λ ls. lines + length ls) (sym is) ∙ c.lines; behind = c.behind }
-
-  -- only blank lines are left
-  pub cut_all : AreBlank (lines_of ahead) → IsCut text text [] (bytes + length ahead) (lines + length (lines_of ahead)) × (paragraphs_of text ≡ paragraphs_of passed)
-  cut_all blank =
-      let whole : passed ++ ahead ≡ text = sym cut.whole in
-      let c = cut_more ahead [] (sym (append-nil ahead)) (inr refl) in (
-        record {
-          whole = sym (append-nil text);
-          bytes = c.bytes ∙ ap length whole;
-          lines = c.lines ∙ ap (λ zs. length (lines_of zs)) whole;
-          behind = inr refl;
-        },
-        ap paragraphs_of cut.whole ∙ front_paragraphs ahead [] (sym (append-nil ahead))
-            ∙ ap (λ ps. paragraphs_of passed ++ ps) (no_paragraph (1 + length (lines_of passed)) (lines_of ahead) blank) ∙ append-nil (paragraphs_of passed),
-      )
+  pub blanks-passed : (front more : List ℕ) → ahead ≡ front ++ more → AreBlank (lines_of front) → paragraphs_of (passed ++ front) ≡ paragraphs_of passed
+  blanks-passed front more is blank =
+      front_paragraphs front more is ∙ ap (λ ps. paragraphs_of passed ++ ps) (no_paragraph (1 + length (lines_of passed)) (lines_of front) blank) ∙ append-nil (paragraphs_of passed)
 
   -- a paragraph, and blank lines after it
   pub paragraphs-passed : (front more : List ℕ) (line : Line) (run ending : List Line) → ahead ≡ front ++ more → lines_of front ≡ (line ∷ run) ++ ending → AreNotBlank (line ∷ run) → AreBlank ending → paragraphs_of (passed ++ front) ≡ paragraphs_of passed ++ record { first = lines + 1; lines = line ∷ run } ∷ []

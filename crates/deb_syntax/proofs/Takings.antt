@@ -1,5 +1,5 @@
 -- How much is taken of a reader: no more than what may be looked at, and one piece.
-use Rattle.deb_syntax.proofs.Common.{◌≡◌, ℕ, ◌+◌, ◌-◌, ◌<◌, ◌≤◌, Bool, true, false, cond, IsFalse, refl, sym, subst, ◌∙◌, List, Option, Some, None, length, ap, arith, length-append, length-drop, Consumes, file_limit, CursorState, piece_limit, Comes, PassesOn, room_of, had, Takes}
+use Rattle.deb_syntax.proofs.Common.{ℕ, ◌+◌, ◌-◌, ◌<◌, ◌≤◌, Bool, true, false, cond, IsFalse, refl, List, Option, Some, None, length, ap, arith, length-append, Consumes, file_limit, Takes}
 
 pub takes_none : (n m : ℕ) (left : Option (List ℕ)) → n ≤ m → Takes n left m left
 takes_none n m left le = record { shown = λ s. s; few = omega arith }
@@ -16,37 +16,10 @@ consumes_takes None left_after bytes c = record { shown = λ s. absurd cc; few =
 consumes_takes (Some xs) None bytes c = absurd c
 consumes_takes (Some xs) (Some ys) bytes c = record { shown = λ s. s; few = omega (arith, ap length c, length-append bytes ys) }
 
--- one piece came
-pub comes_takes : (cursor after : CursorState) (left left_after : Option (List ℕ)) → Comes cursor left after left_after → Takes (had cursor) left (had after) left_after
-comes_takes cursor after left left_after come =
-    takes_then _ _ _ _ _ _ _ _ (takes_none (had cursor) (had cursor) left (omega arith)) (consumes_takes left left_after come.piece come.consumed)
-    (omega (arith, come.bytes, ap length come.unread, length-append cursor.unread come.piece))
+-- how much may still come, where so much of a file has come
+abbrev pub still : ℕ → Bool → ℕ
+still n ended = ((file_limit + 1) - n) + cond ended 0 1
 
--- one piece came after bytes that may be looked at
-pub more-reach : (cursor after : CursorState) (left left_after : Option (List ℕ)) → cursor.bytes ≤ file_limit → length cursor.unread ≤ room_of cursor 0 → Comes cursor left after left_after → had after ≤ file_limit + piece_limit
-more-reach cursor after left left_after small le come = omega (arith, small, le, come.bytes, ap length come.unread, length-append cursor.unread come.piece, come.short)
-
--- unread bytes pass
-pub pass-had : (cursor after : CursorState) (n m : ℕ) → PassesOn cursor n n m after → n ≤ length cursor.unread → had after ≡ had cursor
-pass-had cursor after n m passes within = omega (arith, passes.bytes, ap length passes.unread, length-drop n cursor.unread)
-
--- how much may still come
-abbrev pub still : CursorState → ℕ
-still cursor = ((file_limit + 1) - had cursor) + cond cursor.ended 0 1
-
-pub still-less : (cursor after : CursorState) (left left_after : Option (List ℕ)) → cursor.bytes ≤ file_limit → length cursor.unread ≤ room_of cursor 0 → IsFalse cursor.ended → Comes cursor left after left_after → still after < still cursor
-still-less cursor after left left_after small le going come =
-    let now : still cursor ≡ ((file_limit + 1) - had cursor) + 1 = ap (λ t. ((file_limit + 1) - had cursor) + cond t 0 1) going in
-    subst (λ n. still after < n) (sym now) (go after.ended come.more)
-  where
-    grown : had after ≡ had cursor + length come.piece
-    grown = omega (arith, come.bytes, ap length come.unread, length-append cursor.unread come.piece)
-
-    go : (t : Bool) → (IsFalse t → 0 < length come.piece) → ((file_limit + 1) - had after) + cond t 0 1 < ((file_limit + 1) - had cursor) + 1
-    go true more = omega (arith, grown)
-    go false more = omega (arith, grown, more refl, small, le)
-
-pub pass-still : (cursor after : CursorState) (n m : ℕ) → PassesOn cursor n n m after → n ≤ length cursor.unread → still after ≡ still cursor
-pass-still cursor after n m passes within =
-    ap (λ k. ((file_limit + 1) - k) + cond after.ended 0 1) (pass-had cursor after n m passes within)
-    ∙ ap (λ t. ((file_limit + 1) - had cursor) + cond t 0 1) passes.ended
+pub still-less : (n k : ℕ) (ended : Bool) → n ≤ file_limit → (IsFalse ended → 0 < k) → still (n + k) ended < still n false
+still-less n k true small more = omega arith
+still-less n k false small more = omega (arith, more refl, small)

@@ -1,23 +1,18 @@
 -- What is in the buffer of a reader of paragraphs: the paragraph that was found last, and the
 -- line that is discarded.
-use Rattle.std.specs.Prelude.{◌≡◌, ◌≢◌, ◌⊎◌, ◌<◌, ◌≤◌, ◌++◌, Result, Ok, Err, ◌+◌, [], length, ℕ, ◌&&◌, Bool, true, nat_le, List, Option, Some, None, IsTrue, get_or, slice_range, false, ◌∷◌, codes, refl}
+use Rattle.std.specs.Prelude.{◌≡◌, ◌<◌, ◌≤◌, ◌+◌, [], length, ℕ, ◌&&◌, Bool, true, nat_le, List, Option, Some, None, IsTrue, get_or, slice_range, false, ◌∷◌, codes, refl}
 use Rattle.std.specs.Str.{is_utf8, chars}
 use lib.Utf8.{encode}
 use Rattle.std.specs.List.{list_all}
-use Rattle.deb_base.specs.Bodies.{Line, newline, paragraph_limit}
-use Rattle.deb_base.specs.Faults.{IsReadersFault}
+use Rattle.deb_base.specs.Bodies.{newline, paragraph_limit}
 use Rattle.deb_base.specs.Kinds.{known_row}
-use Rattle.deb_base.specs.declared.fault.Fault.{Fault}
 use Rattle.deb_base.specs.declared.known_fields.FieldId.{FieldId}
-use Rattle.deb_syntax.specs.Ahead.{left_answer, room_ahead, IsAhead, IsNextRun}
-use Rattle.deb_syntax.specs.Extents.{AreBlank, AreNotBlank}
-use Rattle.deb_syntax.specs.Judging.{judged}
 use Rattle.deb_syntax.specs.declared.field_span.FieldSpan.{FieldSpan}
 use Rattle.deb_syntax.specs.declared.paragraphs.CurrentParagraph.{CurrentParagraph}
 use Rattle.deb_syntax.specs.Answers.{Seen}
 use Rattle.deb_syntax.specs.Cursors.{CursorState}
 use Rattle.deb_syntax.specs.Fields.{are_fields, are_numbered}
-use Rattle.deb_syntax.specs.Lines.{lines_of, IsClosed, total_length, file_limit}
+use Rattle.deb_syntax.specs.Lines.{file_limit}
 use Rattle.deb_syntax.specs.FieldSpans.{fields_at, lies_within}
 
 -- what is in a buffer, with its fields in the spans
@@ -49,42 +44,6 @@ abbrev pub HidesLong : ℕ → CursorState → Type 0
 HidesLong overlong_len cursor = 0 < overlong_len
     → (paragraph_limit ≤ overlong_len) × EndsOverlong overlong_len cursor
 
--- what an answer shows that says where a paragraph is
-abbrev pub current_answer : List ℕ → List FieldSpan → Result CurrentParagraph Fault
-    → Result Seen Fault
-current_answer buffer spans (Ok at) = Ok (current_of buffer spans at)
-current_answer buffer spans (Err fault) = Err fault
-
--- The next paragraph of the text ahead, which has passed.
-pub record PassesNext (text : List ℕ) (before : CursorState) (seen : Seen) (after : CursorState)
-    (left : Option (List ℕ)) : Type 0 where
-  pub run : List Line
-  pub passed : List ℕ
-  pub ahead : List ℕ
-  pub ending : List Line
-  pub some : run ≢ []
-  pub not_blank : AreNotBlank run
-  pub short : total_length run ≤ paragraph_limit
-  pub first : seen.first ≡ before.lines + 1
-  pub fields : judged (before.lines + 1) run ≡ Ok seen.fields
-  pub next : IsNextRun (before.lines + 1) (room_ahead before) text run
-  pub whole : text ≡ passed ++ ahead
-  pub lines : lines_of passed ≡ run ++ ending
-  pub blank : AreBlank ending
-  pub one : length ending ≤ 1
-  pub closed : IsClosed passed ⊎ (ahead ≡ [])
-  pub again : IsAhead ahead [] after left
-  pub bytes : after.bytes ≡ before.bytes + length passed
-  pub counted : after.lines ≡ before.lines + length (lines_of passed)
-
--- What is reported of the paragraph that begins the text ahead.
-abbrev pub IsPassed : List ℕ → CursorState → Result Seen Fault → CursorState → Option (List ℕ)
-    → Type 0
-IsPassed text before (Ok seen) after left = PassesNext text before seen after left
-IsPassed text before (Err fault) after left =
-    IsReadersFault fault (λ refusal.
-    left_answer (before.lines + 1) (room_ahead before) text ≡ Err refusal)
-
 -- for the worked cases: a buffer in which bytes have passed and others are unread, and the spans
 -- of the fields of `A: 1`, ` 2` and `B:` in their paragraph
 abbrev buffer : List ℕ
@@ -105,14 +64,9 @@ two_fields = record {
       ∷ record { name = codes "B"; line = 7; body = [] } ∷ [];
 }
 
-paragraph_in_buffer : (current_of buffer two_spans
-    (record { from = 2; to = 12; first_line = 5 }) ≡ two_fields)
-    × (current_answer buffer two_spans (Ok (record { from = 2; to = 12; first_line = 5 }))
-    ≡ Ok two_fields)
-paragraph_in_buffer = (refl, refl)
-
-error_shown : (fault : Fault) → current_answer buffer two_spans (Err fault) ≡ Err fault
-error_shown fault = refl
+paragraph_in_buffer : current_of buffer two_spans (record { from = 2; to = 12; first_line = 5 })
+    ≡ two_fields
+paragraph_in_buffer = refl
 
 -- none, and one that is whole
 paragraphs_within_buffer : (stands_within buffer two_spans None ≡ true)

@@ -1,6 +1,6 @@
 -- The paragraph whose lines were judged last, and its lines by their numbers. Debian Policy 5.1;
 -- the limits and the order of the refusals are this project's own.
-use Rattle.std.specs.Prelude.{◌≡◌, ℕ, ◌+◌, ◌-◌, ◌≤◌, Bool, true, false, cond, List, [], ◌∷◌, nat_le, slice_get, slice_range, Option, Some, None, Result, Ok, Err, IfErr, codes, refl}
+use Rattle.std.specs.Prelude.{◌≡◌, ℕ, ◌-◌, ◌≤◌, Bool, true, false, cond, List, [], ◌∷◌, nat_le, slice_get, slice_range, Option, Some, None, Result, Ok, Err, IfErr, codes, refl}
 use Rattle.std.specs.Str.{is_utf8, chars}
 use lib.Utf8.{encode}
 use Rattle.std.proofs.Common.{arith}
@@ -11,10 +11,11 @@ use Rattle.deb_base.specs.declared.code.Code.{Code}
 use Rattle.deb_base.specs.declared.code.Code.TheVariants.{NoColon, DuplicateField, ParagraphTooLong, FileTooLong}
 use Rattle.deb_base.specs.declared.fault.Fault.{Fault}
 use Rattle.deb_base.specs.declared.refusal.Refusal.{Refusal}
-use Rattle.deb_syntax.specs.Answers.{Seen, next_answer, part_within, paragraphs_within}
-use Rattle.deb_syntax.specs.Ahead.{room_ahead}
-use Rattle.deb_syntax.specs.Cursors.{CursorState}
-use Rattle.deb_syntax.specs.Lines.{Paragraph, lines_of, paragraphs_from, file_limit}
+use Rattle.deb_syntax.specs.Answers.{Seen, next_answer, paragraphs_within}
+use Rattle.deb_syntax.specs.FieldSpans.{fields_at}
+use Rattle.deb_syntax.specs.Judging.{judged}
+use Rattle.deb_syntax.specs.Lines.{Paragraph, file_limit}
+use Rattle.deb_syntax.specs.declared.field_span.FieldSpan.{FieldSpan}
 use Rattle.deb_syntax.specs.declared.paragraphs.CurrentParagraph.{CurrentParagraph}
 
 -- whether a refusal with the code is one of a line: its number is from 1 to 7
@@ -59,17 +60,6 @@ pub record IsRefusalOfLength (refusal : Refusal) : Type 0 where
   pub most : number_of refusal.code ≤ 9
   pub line : 1 ≤ refusal.line
 
--- the paragraph is the first of the text ahead
-pub record IsFirstAhead (text : List ℕ) (before : CursorState) (p : Paragraph) : Type 0 where
-  pub more : List Paragraph
-  pub next : paragraphs_from (before.lines + 1) (lines_of (part_within (room_ahead before) text))
-      ≡ p ∷ more
-
--- What was judged of the text ahead, if anything was.
-abbrev pub JudgesAhead : List ℕ → CursorState → Option Paragraph → Type 0
-JudgesAhead text before None = Unit {0}
-JudgesAhead text before (Some p) = IsFirstAhead text before p
-
 abbrev pub IsErrOfLength : {T : Type 0} → Result T Fault → Type 0
 IsErrOfLength (Ok answer) = ⊥
 IsErrOfLength (Err fault) = IsReadersFault fault IsRefusalOfLength
@@ -79,6 +69,14 @@ abbrev pub JudgesLines : {T : Type 0} → Result T Fault → Option Paragraph �
 JudgesLines result None = IsErrOfLength result
 JudgesLines result (Some p) =
     IfErr result (λ fault. IsReadersFault fault (λ refusal. number_of refusal.code ≤ 7))
+
+-- where lines were judged without error, they are those of the paragraph, and have these fields
+abbrev pub JudgesFields : List ℕ → List FieldSpan → CurrentParagraph → Option CurrentParagraph
+    → Type 0
+JudgesFields buffer spans at last =
+    (last ≡ Some at)
+    × (judged at.first_line (lines_standing buffer at).lines
+    ≡ Ok (fields_at (slice_range buffer at.from at.to) spans))
 
 codes_of_lines : (is_of_line DuplicateField ≡ true) × (is_of_line NoColon ≡ true)
     × (is_of_line ParagraphTooLong ≡ false) × (is_of_line FileTooLong ≡ false)

@@ -9,6 +9,7 @@ pub mod Laws
 pub mod LineEnds
 pub mod Lines
 pub mod Meaning
+pub mod NextLines
 pub mod Paragraphs
 pub mod FieldSpans
 pub mod Raw
@@ -16,4 +17,3 @@ pub mod Reading
 pub mod Resuming
 pub mod Streams
 pub mod CurrentParagraphs
-pub mod Walking

@@ -47,9 +47,9 @@ end_answer new (Err fault) = Err fault
 -- source
 abbrev pub ShowsFirst : Result FirstLine Fault → ℕ → Bool → CursorState → Type 0
 ShowsFirst (Ok NoMore) overlong_len finished cursor = finished ≡ true
-ShowsFirst (Ok (Buffered partial)) overlong_len finished cursor =
-    (overlong_len ≡ 0) × (finished ≡ false) × KeepsLine partial cursor
-ShowsFirst (Ok (TooLong partial)) overlong_len finished cursor = (0 < overlong_len)
+ShowsFirst (Ok (Buffered end next)) overlong_len finished cursor =
+    (overlong_len ≡ 0) × (finished ≡ false) × KeepsLine end next cursor
+ShowsFirst (Ok (TooLong len)) overlong_len finished cursor = (0 < overlong_len)
     × (finished ≡ false)
 ShowsFirst (Err fault) overlong_len finished cursor = finished ≡ false
 

@@ -12,7 +12,7 @@ use Rattle.deb_base.specs.declared.refusal.Refusal.{Refusal}
 use Rattle.deb_base.specs.Reading.{TakesNoMore, piece_limit}
 use Rattle.deb_syntax.specs.declared.first.FirstLine.{FirstLine}
 use Rattle.deb_syntax.specs.declared.first.FirstLine.TheVariants.{NoMore, Buffered, TooLong}
-use Rattle.deb_syntax.specs.Ahead.{IsNear}
+use Rattle.deb_syntax.specs.NextLines.{IsNear}
 use Rattle.deb_syntax.specs.Answers.{Seen, paragraphs_within, next_answer, next_begin}
 use Rattle.deb_syntax.specs.Cursors.{CursorState}
 use Rattle.deb_syntax.specs.Fields.{IsShort}
@@ -125,8 +125,8 @@ Answers text passed (Err fault) new left =
 abbrev pub FindsFirst : (text passed : List ℕ) → Result FirstLine Fault → State → Option (List ℕ)
     → Type 0
 FindsFirst text passed (Ok NoMore) new left = GivesNone text passed new left
-FindsFirst text passed (Ok (Buffered partial)) new left = BeginsHere text passed new left
-FindsFirst text passed (Ok (TooLong partial)) new left = BeginsHere text passed new left
+FindsFirst text passed (Ok (Buffered end next)) new left = BeginsHere text passed new left
+FindsFirst text passed (Ok (TooLong len)) new left = BeginsHere text passed new left
 FindsFirst text passed (Err fault) new left =
     IsReadersFault fault (λ refusal.
     (next_answer text (passed_count passed) ≡ Err refusal)

@@ -1,20 +1,22 @@
 -- How a reader of paragraphs goes on after a paragraph with a refused line. Debian Policy
 -- 5.1; this project's own.
-use Rattle.std.specs.Prelude.{◌≡◌, ◌≢◌, ◌⊎◌, ℕ, ◌+◌, ◌≤◌, Bool, true, false, List, [], ◌∷◌, ◌++◌, length, Option, Some, None, codes, refl}
-use Rattle.deb_base.specs.Bodies.{Line, paragraph_limit}
+use Rattle.std.specs.Prelude.{◌≡◌, ◌≢◌, ℕ, ◌+◌, ◌≤◌, Bool, true, false, List, [], ◌∷◌, ◌++◌, length, take, Option, Some, None, IfSome, Result, Ok, Err, codes, refl}
+use Rattle.deb_base.specs.Bodies.{Line, paragraph_limit, pieces_of}
+use Rattle.deb_base.specs.Faults.{IsReadersFault}
 use Rattle.deb_base.specs.Reading.{piece_limit}
 use Rattle.deb_base.specs.declared.fault.Fault.{Fault}
 use Rattle.deb_base.specs.declared.fault.Fault.TheVariants.{Refused, Memory, Read, Write}
 use Rattle.deb_base.specs.declared.refusal.Refusal.{Refusal}
-use Rattle.deb_syntax.specs.Ahead.{IsAhead, left_answer, room_ahead}
-use Rattle.deb_syntax.specs.Answers.{line_beyond, next_answer, paragraphs_within, seen_from}
-use Rattle.deb_syntax.specs.Cursors.{CursorState}
-use Rattle.deb_syntax.specs.Extents.{AreBlank, AreNotBlank}
+use Rattle.deb_syntax.specs.Ahead.{passed_of}
+use Rattle.deb_syntax.specs.Answers.{Seen, line_beyond, next_answer, paragraphs_within, seen_from}
+use Rattle.deb_syntax.specs.Cursors.{CursorState, PassesOn}
+use Rattle.deb_syntax.specs.Extents.{AreBlank}
 use Rattle.deb_syntax.specs.Fields.{IsShort}
-use Rattle.deb_syntax.specs.Judged.{IsFirstAhead}
+use Rattle.deb_syntax.specs.Judged.{ShowsJudged}
 use Rattle.deb_syntax.specs.Judging.{judged}
 use Rattle.deb_syntax.specs.Lines.{Paragraph, IsClosed, file_limit, lines_of, paragraphs_of}
-use Rattle.deb_syntax.specs.Reading.{Fits, State, passed_count}
+use Rattle.deb_syntax.specs.Reading.{Answers, Fits, State, passed_count, state_from}
+use Rattle.deb_syntax.specs.declared.ending.Extent.{Extent}
 
 -- whether a reader can go on after this error, where these lines were judged last: it is a refusal,
 -- and lines were judged, so that it is of one of them
@@ -60,27 +62,31 @@ pub record IsWithout (text : List ℕ) (count : ℕ) (p : Paragraph) (other : Li
   pub lines : length (lines_of other) ≡ length (lines_of text)
   pub bytes : length other ≡ length text
 
--- The same of the text ahead, where the paragraph is its first.
-pub record PassesRun (text : List ℕ) (before : CursorState) (p : Paragraph) (after : CursorState)
-    (left : Option (List ℕ)) : Type 0 where
-  pub first : IsFirstAhead text before p
-  pub number : p.first ≡ before.lines + 1
-  pub answer : left_answer (before.lines + 1) (room_ahead before) text
-      ≡ seen_from p.first (judged p.first p.lines)
-  pub some : p.lines ≢ []
-  pub not_blank : AreNotBlank p.lines
-  pub short : IsShort p
-  pub passed : List ℕ
-  pub ahead : List ℕ
-  pub ending : List Line
-  pub whole : text ≡ passed ++ ahead
-  pub lines : lines_of passed ≡ p.lines ++ ending
-  pub blank : AreBlank ending
-  pub one : length ending ≤ 1
-  pub closed : IsClosed passed ⊎ (ahead ≡ [])
-  pub again : IsAhead ahead [] after left
-  pub bytes : after.bytes ≡ before.bytes + length passed
-  pub counted : after.lines ≡ before.lines + length (lines_of passed)
+-- What is said of the next paragraph of a text: the answer, which lines were judged, and that they
+-- have passed.
+pub record TellsNext (text passed : List ℕ) (answer : Result (Option Seen) Fault)
+    (last : Option Paragraph) (new : State) (left : Option (List ℕ)) : Type 0 where
+  pub answers : Answers text passed answer new left
+  pub judged : ShowsJudged text (passed_count passed) answer last
+  pub judged_passed : IfSome last (λ p. HasPassed text passed p new left)
+
+-- the answer on a text is this error, where it is a refusal
+abbrev pub AnswersFault : List ℕ → CursorState → Fault → Type 0
+AnswersFault text before fault =
+    IsReadersFault fault
+    (λ refusal. next_answer text (passed_count (passed_of text before)) ≡ Err refusal)
+
+-- What is answered of the paragraph that begins the unread bytes: once it is passed over it has
+-- passed; or why there is none.
+abbrev pub IsExtentAhead : List ℕ → CursorState → Result Extent Fault → CursorState
+    → Option (List ℕ) → Type 0
+IsExtentAhead text before (Ok e) mid left =
+    (after : CursorState) → PassesOn mid e.skip e.bytes e.lines after
+    → HasPassed text (passed_of text before) (record {
+      first = before.lines + 1;
+      lines = pieces_of (take e.end mid.unread);
+    }) (state_from after 0 false None None) left
+IsExtentAhead text before (Err fault) mid left = AnswersFault text before fault
 
 errors_to_go_on_after : (refusal : Refusal) (p : Paragraph) (last : Option Paragraph)
     → (is_resumable (Some (Refused refusal)) (Some p) ≡ true)

@@ -14,7 +14,6 @@
 //! - An error repeats at each later call, and a failed read is never taken for the end.
 #![tactic(auto)]
 
-mod dropped;
 mod ending;
 mod field_name;
 mod field_span;
@@ -23,13 +22,11 @@ mod first;
 mod folded_name;
 mod judge;
 pub mod laws;
-mod line_run;
+mod line;
 mod paragraphs;
-mod partial_line;
 mod raw;
 mod read_buffer;
 mod seen_names;
-mod skip;
 
 pub use file_cursor::FILE_LIMIT;
 pub use paragraphs::Paragraphs;

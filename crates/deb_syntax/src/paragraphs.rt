@@ -2,22 +2,22 @@
 
 ghost use Rattle.std.specs.Prelude.{◌≡◌, ◌+◌, ◌≤◌, ◌⊎◌, ℕ, List, [], Some, None, true, false, length, option_map, Option, IsTrue, IfErr, IfOk, IfSome, OnOk};
 ghost use Rattle.deb_base.specs.Reading.{piece_limit};
-ghost use Rattle.deb_syntax.specs.Ahead.{IsAhead, IsNear, KeepsLine};
+ghost use Rattle.deb_syntax.specs.Ahead.{At, KeepsLine, passed_of};
+ghost use Rattle.deb_syntax.specs.NextLines.{IsNear};
 ghost use Rattle.deb_syntax.specs.Cursors.{cursor_state, buffer_of, had, Takes};
-ghost use Rattle.deb_syntax.specs.Judged.{lines_standing, IsRefusalOfLength, JudgesAhead, JudgesLines};
+ghost use Rattle.deb_syntax.specs.Judged.{lines_standing, IsRefusalOfLength, JudgesFields, JudgesLines};
 ghost use Rattle.deb_syntax.specs.Lines.{file_limit};
-ghost use Rattle.deb_syntax.specs.Resuming.{HasPassed, PassesRun, is_resumable};
-ghost use Rattle.deb_syntax.specs.CurrentParagraphs.{HidesLong, stands_within, current_answer, IsPassed};
+ghost use Rattle.deb_syntax.specs.Resuming.{AnswersFault, HasPassed, TellsNext, is_resumable};
+ghost use Rattle.deb_syntax.specs.CurrentParagraphs.{HidesLong, stands_within};
 ghost use Rattle.deb_base.specs.Devices.{read_failures_after};
 ghost use Rattle.deb_base.specs.Faults.{IsReadersFault};
-ghost use Rattle.deb_syntax.specs.Reading.{IsRefusalOfText};
+ghost use Rattle.deb_syntax.specs.Reading.{IsRefusalOfText, state_from};
 
 use crate::ending::paragraph_extent;
 use crate::field_span::FieldSpan;
 use crate::file_cursor::{FILE_LIMIT, FileCursor};
 use crate::first::{FirstLine, first_line};
 use crate::judge::judge;
-use crate::partial_line::PartialLine;
 use crate::raw::Raw;
 use deb_base::{Code, Fault, Refusal, Source};
 use std::alloc::Global;
@@ -67,7 +67,7 @@ impl Paragraphs {
     ghost use Rattle.std.specs.Borrow.{sem};
     ghost use Rattle.std.specs.Io.BufRead.{Rests};
     ghost use Rattle.deb_syntax.specs.contracts.paragraphs.Paragraphs.{the_row};
-    ghost use Rattle.deb_syntax.specs.Reading.{moment_of, Fits, Answers, FindsFirst, KeepsErrors};
+    ghost use Rattle.deb_syntax.specs.Reading.{moment_of, Fits, FindsFirst, KeepsErrors};
     ghost use Rattle.deb_syntax.specs.Reading.{Advances, Begins, passed_count};
     ghost use Rattle.deb_syntax.specs.Paragraphs.{state_of, seen_of, answer_of, advance_answer};
     ghost use Rattle.deb_syntax.specs.Paragraphs.{end_answer, ShowsFirst, IsQuiet};
@@ -308,8 +308,8 @@ impl Paragraphs {
     {
         match self.find_first(reader) {
             Ok(FirstLine::NoMore) => Ok(None),
-            Ok(FirstLine::Buffered(_)) => Ok(Some(self.cursor.lines() + 1)),
-            Ok(FirstLine::TooLong(_)) => Ok(Some(self.cursor.lines() + 1)),
+            Ok(FirstLine::Buffered { .. }) => Ok(Some(self.cursor.lines() + 1)),
+            Ok(FirstLine::TooLong { .. }) => Ok(Some(self.cursor.lines() + 1)),
             Err(fault) => Err(fault),
         }
     }
@@ -335,11 +335,11 @@ impl Paragraphs {
     {
         match self.find_first(reader) {
             Ok(FirstLine::NoMore) => Ok(false),
-            Ok(FirstLine::TooLong(_)) => Err(Fault::Refused(Refusal {
+            Ok(FirstLine::TooLong { .. }) => Err(Fault::Refused(Refusal {
                 code: Code::ParagraphTooLong,
                 line: self.cursor.lines() + 1,
             })),
-            Ok(FirstLine::Buffered(partial)) => match self.find_end(partial, reader) {
+            Ok(FirstLine::Buffered { end, next }) => match self.find_end(end, next, reader) {
                 Ok(()) => Ok(true),
                 Err(fault) => Err(fault),
             },
@@ -374,20 +374,19 @@ impl Paragraphs {
             return Ok(FirstLine::NoMore);
         }
         if self.overlong_len > 0 {
-            return Ok(FirstLine::TooLong(PartialLine {
-                len: self.overlong_len as usize,
-                blank: false,
-            }));
+            return Ok(FirstLine::TooLong {
+                len: self.overlong_len,
+            });
         }
         match first_line(&mut self.cursor, reader) {
             Ok(FirstLine::NoMore) => {
                 self.finished = true;
                 Ok(FirstLine::NoMore)
             }
-            Ok(FirstLine::Buffered(partial)) => Ok(FirstLine::Buffered(partial)),
-            Ok(FirstLine::TooLong(partial)) => {
-                self.overlong_len = partial.len as u64;
-                Ok(FirstLine::TooLong(partial))
+            Ok(FirstLine::Buffered { end, next }) => Ok(FirstLine::Buffered { end, next }),
+            Ok(FirstLine::TooLong { len }) => {
+                self.overlong_len = len;
+                Ok(FirstLine::TooLong { len })
             }
             Err(fault) => {
                 // Nothing that is unread is asked for again.
@@ -398,24 +397,16 @@ impl Paragraphs {
     }
 
     /// Finds the end of the paragraph that begins the unread bytes, judges it and passes it.
-    fn find_end<R: Source>(&mut self, partial: PartialLine, reader: &mut R) -> Result<(), Fault>
+    fn find_end<R: Source>(&mut self, end: usize, next: usize, reader: &mut R) -> Result<(), Fault>
         requires no_overlong { self.old.overlong_len ≡ 0 }
         requires unfinished { self.old.finished ≡ false }
         requires none { self.old.current ≡ None }
         requires unjudged { self.old.judged ≡ None }
-        requires line { KeepsLine partial (cursor_state self.old.cursor) }
-        ensures answers { (text passed : List ℕ)
+        requires line { KeepsLine end next (cursor_state self.old.cursor) }
+        ensures tells { (text passed : List ℕ)
             → Fits text passed (state_of self.old) (R.left reader.old)
-            → Answers text passed (end_answer (state_of self.new) result) (state_of self.new)
-            (R.left reader.new) }
-        ensures judged { (text passed : List ℕ)
-            → Fits text passed (state_of self.old) (R.left reader.old)
-            → ShowsJudged text (passed_count passed)
-            (end_answer (state_of self.new) result) (judged_last self.new) }
-        ensures judged_passed { (text passed : List ℕ)
-            → Fits text passed (state_of self.old) (R.left reader.old)
-            → IfSome (judged_last self.new)
-            (λ p. HasPassed text passed p (state_of self.new) (R.left reader.new)) }
+            → TellsNext text passed (end_answer (state_of self.new) result)
+            (judged_last self.new) (state_of self.new) (R.left reader.new) }
         ensures found { OnOk result (IsSome (state_of self.new).current) }
         ensures unfinished { self.new.finished ≡ false }
         ensures no_overlong { self.new.overlong_len ≡ 0 }
@@ -431,7 +422,8 @@ impl Paragraphs {
         let (spans, ends) = (&mut self.spans, &mut self.ends);
         match pass_paragraph(
             &mut self.cursor,
-            partial,
+            end,
+            next,
             reader,
             spans,
             ends,
@@ -456,34 +448,30 @@ impl Paragraphs {
 /// was found, `judged` is where its lines are, and it has passed, also if a line of it is refused.
 fn pass_paragraph<R: Source>(
     cursor: &mut FileCursor,
-    partial: PartialLine,
+    end: usize,
+    next: usize,
     reader: &mut R,
     spans: &mut Vec<FieldSpan>,
     ends: &mut Vec<u32>,
     judged: &mut Option<CurrentParagraph>,
 ) -> Result<CurrentParagraph, Fault>
     requires unjudged { judged.old ≡ None }
-    requires line { KeepsLine partial (cursor_state cursor.old) }
-    requires reach { (cursor_state cursor.old).bytes + length (cursor_state cursor.old).unread
-        ≤ file_limit + piece_limit }
+    requires line { KeepsLine end next (cursor_state cursor.old) }
     ensures stands { IfOk result (λ at. IsTrue (stands_within (buffer_of cursor.new) spans.new.items
         (Some at))) }
     ensures judges { IsTrue (stands_within (buffer_of cursor.new) [] judged.new) }
     ensures lines { JudgesLines result (option_map (lines_standing (buffer_of cursor.new))
         judged.new) }
-    ensures judged { (text : List ℕ) → IsAhead text [] (cursor_state cursor.old) (R.left reader.old)
-        → JudgesAhead text (cursor_state cursor.old)
-        (option_map (lines_standing (buffer_of cursor.new)) judged.new) }
-    ensures near { OnOk result (length (cursor_state cursor.new).unread ≤ piece_limit) }
+    ensures fields { IfOk result (λ at. JudgesFields (buffer_of cursor.new) spans.new.items at
+        judged.new) }
     ensures judged_near { IfSome judged.new
         (λ _. length (cursor_state cursor.new).unread ≤ piece_limit) }
-    ensures passes { (text : List ℕ) → IsAhead text [] (cursor_state cursor.old) (R.left reader.old)
-        → IfSome judged.new (λ at. PassesRun text (cursor_state cursor.old)
-        (lines_standing (buffer_of cursor.new) at) (cursor_state cursor.new) (R.left reader.new)) }
-    ensures ahead { (text : List ℕ) → IsAhead text [] (cursor_state cursor.old) (R.left reader.old)
-        → IsPassed text (cursor_state cursor.old) (current_answer
-        (buffer_of cursor.new) spans.new.items
-        result) (cursor_state cursor.new) (R.left reader.new) }
+    ensures passes { (text : List ℕ) → At text [] (cursor_state cursor.old) (R.left reader.old)
+        → IfSome judged.new (λ at. HasPassed text (passed_of text (cursor_state cursor.old))
+        (lines_standing (buffer_of cursor.new) at) (state_from (cursor_state cursor.new) 0 false
+        None None) (R.left reader.new)) }
+    ensures refused { (text : List ℕ) → At text [] (cursor_state cursor.old) (R.left reader.old)
+        → IfErr result (AnswersFault text (cursor_state cursor.old)) }
     ensures reads_at_most { Takes (had (cursor_state cursor.old)) (R.left reader.old)
         (file_limit + piece_limit) (R.left reader.new) }
     ensures fault { IfErr result (λ fault. IsReadersFault fault IsRefusalOfText) }
@@ -491,7 +479,7 @@ fn pass_paragraph<R: Source>(
         ≡ read_failures_after (R.failures reader.old) result }
     ensures source_untouched { IsTrue (cursor_state cursor.old).ended → reader.new ≡ reader.old }
 {
-    let extent = paragraph_extent(cursor, partial, reader, ends)?;
+    let extent = paragraph_extent(cursor, end, next, reader, ends)?;
     let (from, first_line) = (cursor.start(), cursor.lines() + 1);
     let current = CurrentParagraph {
         from,

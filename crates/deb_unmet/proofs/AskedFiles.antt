@@ -1,190 +1,152 @@
 -- What is known of the lines that were written while a file is read, and at its end.
-use Rattle.std.proofs.Common.{◌≡◌, ℕ, ◌+◌, Bool, true, ◌&&◌, List, [], ◌∷◌, ◌++◌, length, map, Option, Some, Ok, Err, refl, sym, ap, ◌∙◌, subst, append_assoc, append-nil, arith}
+use Rattle.std.proofs.Common.{◌≡◌, ℕ, ◌+◌, Bool, true, ◌&&◌, List, [], ◌∷◌, ◌++◌, length, map, Option, Ok, Err, refl, sym, ap, ◌∙◌, subst, append_assoc, append-nil, arith}
 use Rattle.std.proofs.KnownBytes.{Appends-nil, Appends-trans}
-use Rattle.std.proofs.lemmas.List.{length_push}
 use Rattle.std.specs.Io.KnownBytes.{Appends}
 use Rattle.deb_base.specs.Devices.{AppendsFront}
 use Rattle.deb_base.specs.declared.fault.Fault.{Fault}
 use Rattle.deb_base.specs.declared.fault.Fault.TheVariants.{Refused, Memory, Read, Write}
 use Rattle.deb_base.proofs.Writes.{AppendsFront-then}
+use Rattle.deb_syntax.specs.Answers.{Seen, next_answer}
 use Rattle.deb_syntax.specs.Fields.{Field}
-use Rattle.deb_syntax.specs.Meaning.{Entries, entries_of}
-use Rattle.deb_field.specs.ValueLaws.{value_law}
-use Rattle.deb_field.specs.Values.{ValueMeaning, value_text, SpellsValue}
-use Rattle.deb_base.specs.declared.doc.Doc.{Doc}
+use Rattle.deb_field.specs.Values.{ValueMeaning}
 use Rattle.deb_control.specs.Calls.{IfCutOff, IfRefused, IfWriteFailed}
-use Rattle.deb_control.specs.Checking.{AnswersChecked, CheckedState, FitsChecked, HasChecked, GivesPassing, GivesEnd, Passing}
-use Rattle.deb_control.specs.Documents.{Meaning, rules_of}
+use Rattle.deb_control.specs.Documents.{Meaning}
+use Rattle.deb_control.specs.GivenParagraphs.{AreNext, bodies_seen}
 use Rattle.deb_control.specs.Pairs.{Pairwise}
 use Rattle.deb_control.specs.Paragraphs.{AreValuesOf}
-use Rattle.deb_control.specs.Refusals.{outcome}
-use Rattle.deb_control.specs.ValueFiles.{ValueEntries, SpellsEntry, SpellsEntries, body_under}
-use Rattle.deb_control.proofs.CheckedSoFar.{is_all_of, refused_behind, refused_then}
-use Rattle.deb_control.proofs.FollowedParagraphs.{outcome-from_end, outcome-starts}
-use Rattle.deb_control.proofs.ReadAlone.{read-alone}
-use Rattle.deb_control.proofs.ValueBodies.{bodies_of-spelled, one_list}
+use Rattle.deb_control.specs.ValueFiles.{ValueEntries}
+use Rattle.deb_control.proofs.CheckedSoFar.{refused_then}
+use Rattle.deb_control.proofs.GivenValues.{accepted-given, pairwise-length, pairwise-push, spelled-given}
+use Rattle.deb_control.proofs.ShownSoFar.{ShownAll, ShownFront, ShownRefused}
 use Rattle.deb_unmet.specs.Asked.{doc_of}
 use Rattle.deb_unmet.specs.Asking.{PutsLines}
-use Rattle.deb_unmet.specs.Files.{Asks, lines_of, lines_from, file_lines, is_nothing, WritesLines, WritesUnmet, WritesRefused, WritesRead, WritesSome}
-use Rattle.deb_unmet.specs.Spelled.{fields_after, fields_of_seen}
+use Rattle.deb_unmet.specs.Files.{Asks, WritesFront, WritesLines, WritesRead, WritesRefused, WritesSome, WritesUnmet, is_nothing, lines_from, lines_of}
+use Rattle.deb_unmet.specs.Spelled.{fields_of_seen}
 use Rattle.deb_unmet.specs.declared.asking.Summary.{Summary}
 
--- The first paragraphs of the file were given, so many, and exactly their lines were written.
-pub record HasAsked (asks : Asks) (text : List ℕ) (state : CheckedState) (left old new : Option (List ℕ)) (count : ℕ) (empty : Bool) : Type 0 where
-  pub checked : HasChecked (doc_of asks.asked) text state left
-  pub lines : WritesLines asks text checked.before old new
-  pub before_counted : length checked.before ≡ count
-  pub counted : length lines.values ≡ count
-  pub empty_is : empty ≡ is_nothing (file_lines asks text lines.values)
+-- the lines of paragraphs that were given after so many
+abbrev pub lines_given : Asks → ℕ → List Seen → Meaning → List ℕ
+lines_given asks n (seen ∷ given) (values ∷ more) = lines_of asks (n + 1) seen.fields values ++ lines_given asks (n + 1) given more
+lines_given asks n given values = []
 
-pub none_asked : (asks : Asks) (text : List ℕ) (state : CheckedState) (left held : Option (List ℕ)) → FitsChecked (doc_of asks.asked) text [] state left → HasAsked asks text state left held held 0 true
-none_asked asks text state left held fits = record {
-  checked = record { before = []; fits = fits };
-  lines = record { values = []; are = tt; written = Appends-nil held };
-  before_counted = refl;
-  counted = refl;
-  empty_is = refl;
-}
+lines_given-push : (asks : Asks) (n : ℕ) (given : List Seen) (values : Meaning) (seen : Seen) (more : ValueEntries ValueMeaning) → length values ≡ length given → lines_given asks n (given ++ seen ∷ []) (values ++ more ∷ []) ≡ lines_given asks n given values ++ lines_of asks (n + length given + 1) seen.fields more
+lines_given-push asks n [] [] seen more same = append-nil (lines_of asks (n + 1) seen.fields more) ∙ ap (λ k. lines_of asks (k + 1) seen.fields more) (omega arith)
+lines_given-push asks n [] (v ∷ values) seen more same = absurd (omega (arith, same))
+lines_given-push asks n (first ∷ given) [] seen more same = absurd (omega (arith, same))
+lines_given-push asks n (first ∷ given) (v ∷ values) seen more same =
+    ap (λ l. lines_of asks (n + 1) first.fields v ++ l) (lines_given-push asks (n + 1) given values seen more (omega (arith, same)))
+    ∙ sym (append_assoc (lines_of asks (n + 1) first.fields v) (lines_given asks (n + 1) given values) (lines_of asks (n + 1 + length given + 1) seen.fields more))
+    ∙ ap (λ k. (lines_of asks (n + 1) first.fields v ++ lines_given asks (n + 1) given values) ++ lines_of asks (k + 1) seen.fields more) (omega arith)
 
-pairwise-push : {A B : Type 0} (R : A → B → Type 0) (xs : List A) (ys : List B) (x : A) (y : B) → Pairwise R xs ys → R x y → Pairwise R (xs ++ x ∷ []) (ys ++ y ∷ [])
-pairwise-push R [] [] x y all one = (one, tt)
-pairwise-push R [] (b ∷ ys) x y all one = absurd all
-pairwise-push R (a ∷ xs) [] x y all one = absurd all
-pairwise-push R (a ∷ xs) (b ∷ ys) x y all one = (all.0, pairwise-push R xs ys x y all.1 one)
+-- they are those of the file
+given-lines : (asks : Asks) (text : List ℕ) (n : ℕ) (given : List Seen) (values : Meaning) → length values ≡ length given → AreNext text n given → lines_given asks n given values ≡ lines_from asks text n values
+given-lines asks text n [] [] same next = refl
+given-lines asks text n [] (v ∷ values) same next = absurd (omega (arith, same))
+given-lines asks text n (seen ∷ given) [] same next = refl
+given-lines asks text n (seen ∷ given) (v ∷ values) same next =
+    ap (λ f. lines_of asks (n + 1) f v ++ lines_given asks (n + 1) given values) (sym (ap fields_of_seen next.0))
+    ∙ ap (λ l. lines_of asks (n + 1) (fields_of_seen (next_answer text n)) v ++ l) (given-lines asks text (n + 1) given values (omega (arith, same)) next.1)
+
+-- Exactly the lines of these paragraphs were written.
+pub record HasAsked (asks : Asks) (old new : Option (List ℕ)) (empty : Bool) (given : List Seen) : Type 0 where
+  pub values : Meaning
+  pub are : Pairwise (AreValuesOf (doc_of asks.asked)) given values
+  pub written : Appends old new (lines_given asks 0 given values)
+  pub is_empty : empty ≡ is_nothing (lines_given asks 0 given values)
+
+pub none_asked : (asks : Asks) (held : Option (List ℕ)) → HasAsked asks held held true []
+none_asked asks held = record { values = []; are = tt; written = Appends-nil held; is_empty = refl }
 
 nothing-both : (xs ys : List ℕ) → is_nothing (xs ++ ys) ≡ (is_nothing xs && is_nothing ys)
 nothing-both [] ys = refl
 nothing-both (x ∷ xs) ys = refl
 
--- the lines of the paragraph after so many
-abbrev lines_at : Asks → List ℕ → ℕ → ValueEntries ValueMeaning → List ℕ
-lines_at asks text n values = lines_of asks (n + 1) (fields_after text n) values
+module _ {asks : Asks} {old held : Option (List ℕ)} {empty : Bool} {given : List Seen} (has : HasAsked asks old held empty given) where
+  same_length : length has.values ≡ length given
+  same_length = pairwise-length (AreValuesOf (doc_of asks.asked)) given has.values has.are
 
-lines-push : (asks : Asks) (text : List ℕ) (n : ℕ) (values : Meaning) (more : ValueEntries ValueMeaning) → lines_from asks text n (values ++ more ∷ []) ≡ lines_from asks text n values ++ lines_at asks text (n + length values) more
-lines-push asks text n [] more = append-nil (lines_at asks text n more) ∙ ap (λ k. lines_at asks text k more) (omega arith)
-lines-push asks text n (first ∷ values) more =
-    ap (λ l. lines_at asks text n first ++ l) (lines-push asks text (n + 1) values more)
-    ∙ sym (append_assoc (lines_at asks text n first) (lines_from asks text (n + 1) values) (lines_at asks text (n + 1 + length values) more))
-    ∙ ap (λ k. (lines_at asks text n first ++ lines_from asks text (n + 1) values) ++ lines_at asks text k more) (omega arith)
+  -- the same as lines of the file
+  written_of : {text : List ℕ} → AreNext text 0 given → WritesLines asks text (map (bodies_seen (doc_of asks.asked)) given) old held
+  written_of {text} next = record {
+    values = has.values;
+    are = spelled-given (doc_of asks.asked) given has.values has.are;
+    written = subst (Appends old held) (given-lines asks text 0 given has.values same_length next) has.written;
+  }
 
--- the lines of one more paragraph follow
-file_lines-push : (asks : Asks) (text : List ℕ) (values : Meaning) (more : ValueEntries ValueMeaning) (count : ℕ) (fields : List Field) → length values ≡ count → fields_after text count ≡ fields → file_lines asks text (values ++ more ∷ []) ≡ file_lines asks text values ++ lines_of asks (count + 1) fields more
-file_lines-push asks text values more count fields counted is =
-    lines-push asks text 0 values more ∙ ap (λ k. file_lines asks text values ++ lines_at asks text k more) (omega (arith, counted))
-    ∙ ap (λ f. file_lines asks text values ++ lines_of asks (count + 1) f more) is
+  -- one paragraph more
+  module _ (seen : Seen) (values : ValueEntries ValueMeaning) (are : AreValuesOf (doc_of asks.asked) seen values) (fields : List Field) (same : fields ≡ seen.fields) (count : ℕ) (counted : length given ≡ count) where
+    from_start : 0 + length given ≡ count
+    from_start = omega (arith, counted)
 
--- the fields of the paragraph that was given are those of the file's
-fields_given : (doc : Doc) (text : List ℕ) (before : List Entries) (given : Passing) (new : CheckedState) (left : Option (List ℕ)) (count : ℕ) (fields : List Field) → GivesPassing doc text before given new left → length before ≡ count → fields ≡ given.seen.fields → fields_after text count ≡ fields
-fields_given doc text before given new left count fields gives counted same =
-    ap (fields_after text) (sym counted) ∙ ap fields_of_seen gives.seen ∙ sym same
+    more_is : lines_given asks 0 (given ++ seen ∷ []) (has.values ++ values ∷ []) ≡ lines_given asks 0 given has.values ++ lines_of asks (count + 1) fields values
+    more_is = lines_given-push asks 0 given has.values seen values same_length ∙ ap (λ k. lines_given asks 0 given has.values ++ lines_of asks (k + 1) seen.fields values) from_start ∙ ap (λ f. lines_given asks 0 given has.values ++ lines_of asks (count + 1) f values) (sym same)
 
--- the canonical bodies of a paragraph spell its values
-spelled : (doc : Doc) (text : List ℕ) (before : List Entries) (given : Passing) (new : CheckedState) (left : Option (List ℕ)) (values : ValueEntries ValueMeaning) → (gives : GivesPassing doc text before given new left) → AreValuesOf doc given.seen values → Pairwise (SpellsEntry (SpellsValue doc)) gives.entries values
-spelled doc text before given new left values gives are =
-    let same : Ok (map (body_under value_text) values) ≡ Ok gives.entries = sym are.passes ∙ gives.built in
-    let entries : map (body_under value_text) values ≡ gives.entries = cc in
-    subst (λ e. Pairwise (SpellsEntry (SpellsValue doc)) e values) entries
-    (bodies_of-spelled ValueMeaning (SpellsValue doc) value_text (value_law doc) (entries_of given.seen.fields ∷ []) (values ∷ []) (are.spelled, tt)).0
+    more_are : Pairwise (AreValuesOf (doc_of asks.asked)) (given ++ seen ∷ []) (has.values ++ values ∷ [])
+    more_are = pairwise-push (AreValuesOf (doc_of asks.asked)) given has.values seen values has.are are
 
--- one paragraph more
-pub one_asked : (asks : Asks) (text : List ℕ) (state new : CheckedState) (left after old held writes : Option (List ℕ)) (count : ℕ) (empty one all : Bool) (values : ValueEntries ValueMeaning) (given : Passing) (fields : List Field)
-    → (has : HasAsked asks text state left old held count empty) → GivesPassing (doc_of asks.asked) text has.checked.before given new after → AreValuesOf (doc_of asks.asked) given.seen values
-    → fields ≡ given.seen.fields → Appends held writes (lines_of asks (count + 1) fields values) → one ≡ is_nothing (lines_of asks (count + 1) fields values) → all ≡ (empty && one)
-    → HasAsked asks text new after old writes (count + 1) all
-one_asked asks text state new left after old held writes count empty one all values given fields has gives are same put one_is all_is =
-    let before = has.lines.values in
-    let lines = lines_of asks (count + 1) fields values in
-    let is = fields_given (doc_of asks.asked) text has.checked.before given new after count fields gives has.before_counted same in
-    let more : file_lines asks text (before ++ values ∷ []) ≡ file_lines asks text before ++ lines = file_lines-push asks text before values count fields has.counted is in
-    record {
-      checked = record { before = has.checked.before ++ gives.entries ∷ []; fits = gives.again };
-      lines = record {
-        values = before ++ values ∷ [];
-        are = pairwise-push (Pairwise (SpellsEntry (SpellsValue (doc_of asks.asked)))) has.checked.before before gives.entries values has.lines.are (spelled (doc_of asks.asked) text has.checked.before given new after values gives are);
-        written = subst (Appends old writes) (sym more) (Appends-trans old held writes (file_lines asks text before) lines has.lines.written put);
-      };
-      before_counted = omega (arith, length_push has.checked.before gives.entries, has.before_counted);
-      counted = omega (arith, length_push before values, has.counted);
-      empty_is = all_is ∙ ap (λ b. b && one) has.empty_is ∙ ap (λ b. is_nothing (file_lines asks text before) && b) one_is ∙ sym (nothing-both (file_lines asks text before) lines) ∙ ap is_nothing (sym more);
+    pub one_asked : (writes : Option (List ℕ)) (one all : Bool) → PutsLines asks (count + 1) fields values (Ok one) held writes → all ≡ (empty && one) → HasAsked asks old writes all (given ++ seen ∷ [])
+    one_asked writes one all puts all_is = record {
+      values = has.values ++ values ∷ [];
+      are = more_are;
+      written = subst (Appends old writes) (sym more_is) (Appends-trans old held writes _ _ has.written puts.0);
+      is_empty = all_is ∙ ap (λ b. b && one) has.is_empty ∙ ap (λ b. is_nothing (lines_given asks 0 given has.values) && b) puts.1
+          ∙ sym (nothing-both (lines_given asks 0 given has.values) (lines_of asks (count + 1) fields values)) ∙ ap is_nothing (sym more_is);
     }
 
--- there is no further paragraph
-pub all_asked : (asks : Asks) (text : List ℕ) (state new : CheckedState) (left after old held : Option (List ℕ)) (summary : Summary) → (has : HasAsked asks text state left old held summary.paragraphs summary.is_empty) → GivesEnd (doc_of asks.asked) text has.checked.before new after → WritesUnmet asks text summary old held
-all_asked asks text state new left after old held summary has end =
-    let doc = doc_of asks.asked in
-    let all = is_all_of doc text has.checked.before (outcome-from_end (rules_of doc) text has.checked.before has.checked.fits.given end.answer) in
-    let means = all.accepted.means in
-    let same : has.lines.values ≡ all.meaning =
-    one_list ValueMeaning (SpellsValue doc) value_text (value_law doc) has.checked.before has.lines.values all.meaning has.lines.are
-    (subst (λ bodies. SpellsEntries (SpellsValue doc) bodies all.meaning) all.bodies (bodies_of-spelled ValueMeaning (SpellsValue doc) value_text (value_law doc) means.bodies all.meaning means.spelled)) in
-    record {
-      meaning = all.meaning;
-      accepted = all.accepted;
-      count = ap length (sym same) ∙ has.counted;
-      written = subst (λ m. Appends old held (file_lines asks text m)) same has.lines.written;
-      is_empty = has.empty_is ∙ ap (λ m. is_nothing (file_lines asks text m)) same;
+    -- or a front of its lines
+    asked_front : {text : List ℕ} (writes : Option (List ℕ)) → AppendsFront held writes (lines_of asks (count + 1) fields values) → AreNext text 0 (given ++ seen ∷ []) → WritesFront asks text (map (bodies_seen (doc_of asks.asked)) (given ++ seen ∷ [])) old writes
+    asked_front {text} writes put next = record {
+      values = has.values ++ values ∷ [];
+      are = spelled-given (doc_of asks.asked) (given ++ seen ∷ []) (has.values ++ values ∷ []) more_are;
+      written = subst (AppendsFront old writes) (sym more_is ∙ given-lines asks text 0 (given ++ seen ∷ []) (has.values ++ values ∷ []) (pairwise-length (AreValuesOf (doc_of asks.asked)) (given ++ seen ∷ []) (has.values ++ values ∷ []) more_are) next)
+          (AppendsFront-then old held writes _ _ has.written put);
     }
 
--- the file is refused after them
-pub asked_refused : (asks : Asks) (text : List ℕ) (state new : CheckedState) (left after old held : Option (List ℕ)) (count : ℕ) (empty : Bool) (fault : Fault) → (has : HasAsked asks text state left old held count empty) → AnswersChecked (doc_of asks.asked) text has.checked.before (Err fault) new after → IfRefused {T = Summary} (Err fault) (λ refusal. WritesRefused asks text refusal old held)
-asked_refused asks text state new left after old held count empty fault has answer =
-    let doc = doc_of asks.asked in
-    refused_then Summary (λ refusal. outcome (rules_of doc) text ≡ record { passed = has.checked.before; refusal = Some refusal }) (λ refusal. WritesRefused asks text refusal old held) fault
-    (λ refusal is. record { refused = ap (λ o. o.refusal) is; lines = subst (λ bodies. WritesLines asks text bodies old held) (ap (λ o. o.passed) (sym is)) has.lines })
-    (refused_behind Summary doc text state new left after fault has.checked answer)
-
--- an error of another kind comes after them
-pub asked_read : (asks : Asks) (text : List ℕ) (state : CheckedState) (left old held : Option (List ℕ)) (count : ℕ) (empty : Bool) → HasAsked asks text state left old held count empty → WritesRead asks text old held
-asked_read asks text state left old held count empty has =
-    let fits = has.checked.fits in
-    let rules = rules_of (doc_of asks.asked) in
-    let starts = outcome-starts rules text has.checked.before fits.given in
-    let behind = fits.fits.overlong ++ (state.reader.unread ++ fits.fits.rest) in
-    record {
-      read = fits.passed;
-      behind = behind;
-      whole = fits.fits.whole;
-      closed = fits.fits.closed;
-      first = has.checked.before;
-      more = starts.0;
-      passed = starts.1;
-      all = fits.paragraphs;
-      alone = read-alone rules text fits.passed behind has.checked.before fits.fits.whole fits.paragraphs fits.given fits.fits.closed;
-      lines = has.lines;
+    pub failed_after : (text : List ℕ) (writes : Option (List ℕ)) (fault : Fault) → PutsLines asks (count + 1) fields values (Err fault) held writes → ShownFront (doc_of asks.asked) text (given ++ seen ∷ []) → IfWriteFailed {T = Summary} (Err fault) (WritesSome asks text old writes)
+    failed_after text writes (Refused refusal) puts shown = tt
+    failed_after text writes Memory puts shown = tt
+    failed_after text writes Read puts shown = tt
+    failed_after text writes Write puts shown = record {
+      first = map (bodies_seen (doc_of asks.asked)) (given ++ seen ∷ []);
+      more = shown.more;
+      passed = shown.passed;
+      lines = asked_front writes puts shown.next;
     }
 
--- the write of the next one's lines fails
-pub asked_failed : (asks : Asks) (text : List ℕ) (state new : CheckedState) (left after old held writes : Option (List ℕ)) (count : ℕ) (empty : Bool) (values : ValueEntries ValueMeaning) (given : Passing) (fields : List Field)
-    → (has : HasAsked asks text state left old held count empty) → GivesPassing (doc_of asks.asked) text has.checked.before given new after → AreValuesOf (doc_of asks.asked) given.seen values
-    → fields ≡ given.seen.fields → AppendsFront held writes (lines_of asks (count + 1) fields values) → WritesSome asks text old writes
-asked_failed asks text state new left after old held writes count empty values given fields has gives are same put =
-    let before = has.lines.values in
-    let lines = lines_of asks (count + 1) fields values in
-    let is = fields_given (doc_of asks.asked) text has.checked.before given new after count fields gives has.before_counted same in
-    let first = has.checked.before ++ gives.entries ∷ [] in
-    let starts = outcome-starts (rules_of (doc_of asks.asked)) text first gives.again.given in
-    record {
-      first = first;
-      more = starts.0;
-      passed = starts.1;
-      lines = record {
-        values = before ++ values ∷ [];
-        are = pairwise-push (Pairwise (SpellsEntry (SpellsValue (doc_of asks.asked)))) has.checked.before before gives.entries values has.lines.are (spelled (doc_of asks.asked) text has.checked.before given new after values gives are);
-        written = subst (AppendsFront old writes) (sym (file_lines-push asks text before values count fields has.counted is)) (AppendsFront-then old held writes (file_lines asks text before) lines has.lines.written put);
-      };
-    }
+  -- there is no further paragraph
+  pub all_asked : (text : List ℕ) (count : ℕ) → length given ≡ count → ShownAll (doc_of asks.asked) text given → WritesUnmet asks text (record { paragraphs = count; is_empty = empty }) old held
+  all_asked text count counted shown = record {
+    meaning = has.values;
+    accepted = accepted-given (doc_of asks.asked) text given has.values shown has.are;
+    count = same_length ∙ counted;
+    written = subst (Appends old held) (given-lines asks text 0 given has.values same_length shown.next) has.written;
+    is_empty = has.is_empty ∙ ap is_nothing (given-lines asks text 0 given has.values same_length shown.next);
+  }
+
+  -- the file is refused after them
+  pub asked_refused : (text : List ℕ) (fault : Fault) → IfRefused {T = Summary} (Err fault) (ShownRefused (doc_of asks.asked) text given) → IfRefused {T = Summary} (Err fault) (λ refusal. WritesRefused asks text refusal old held)
+  asked_refused text fault refused =
+      refused_then Summary (ShownRefused (doc_of asks.asked) text given) (λ refusal. WritesRefused asks text refusal old held) fault
+      (λ refusal shown. record { refused = ap (λ o. o.refusal) shown.is; lines = subst (λ bodies. WritesLines asks text bodies old held) (ap (λ o. o.passed) (sym shown.is)) (written_of shown.next) }) refused
+
+  -- a fault of another kind comes after them
+  pub asked_read : (text : List ℕ) → ShownFront (doc_of asks.asked) text given → WritesRead asks text old held
+  asked_read text shown = record {
+    read = shown.read;
+    behind = shown.behind;
+    whole = shown.whole;
+    closed = shown.closed;
+    first = map (bodies_seen (doc_of asks.asked)) given;
+    more = shown.more;
+    passed = shown.passed;
+    all = shown.all;
+    alone = shown.alone;
+    lines = written_of shown.next;
+  }
 
 -- out of memory before anything of its lines was written
-pub cut_after : (asks : Asks) (text : List ℕ) (old held writes : Option (List ℕ)) (count : ℕ) (fields : List Field) (values : ValueEntries ValueMeaning) (fault : Fault) → PutsLines asks (count + 1) fields values (Err fault) held writes → WritesRead asks text old held → IfCutOff {T = Summary} (Err fault) (WritesRead asks text old writes)
-cut_after asks text old held writes count fields values (Refused refusal) puts read = tt
-cut_after asks text old held writes count fields values Memory puts read = subst (WritesRead asks text old) puts read
-cut_after asks text old held writes count fields values Read puts read = absurd puts
-cut_after asks text old held writes count fields values Write puts read = tt
-
-pub failed_after : (asks : Asks) (text : List ℕ) (state new : CheckedState) (left after old held writes : Option (List ℕ)) (count : ℕ) (empty : Bool) (values : ValueEntries ValueMeaning) (given : Passing) (fields : List Field) (fault : Fault)
-    → (has : HasAsked asks text state left old held count empty) → GivesPassing (doc_of asks.asked) text has.checked.before given new after → AreValuesOf (doc_of asks.asked) given.seen values
-    → fields ≡ given.seen.fields → PutsLines asks (count + 1) fields values (Err fault) held writes → IfWriteFailed {T = Summary} (Err fault) (WritesSome asks text old writes)
-failed_after asks text state new left after old held writes count empty values given fields (Refused refusal) has gives are same puts = tt
-failed_after asks text state new left after old held writes count empty values given fields Memory has gives are same puts = tt
-failed_after asks text state new left after old held writes count empty values given fields Read has gives are same puts = tt
-failed_after asks text state new left after old held writes count empty values given fields Write has gives are same puts = asked_failed asks text state new left after old held writes count empty values given fields has gives are same puts
+pub cut_after : (asks : Asks) (text : List ℕ) (old held writes : Option (List ℕ)) (number : ℕ) (fields : List Field) (values : ValueEntries ValueMeaning) (fault : Fault) → PutsLines asks number fields values (Err fault) held writes → WritesRead asks text old held → IfCutOff {T = Summary} (Err fault) (WritesRead asks text old writes)
+cut_after asks text old held writes number fields values (Refused refusal) puts read = tt
+cut_after asks text old held writes number fields values Memory puts read = subst (WritesRead asks text old) puts read
+cut_after asks text old held writes number fields values Read puts read = absurd puts
+cut_after asks text old held writes number fields values Write puts read = tt

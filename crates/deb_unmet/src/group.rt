@@ -134,8 +134,8 @@ struct Readings {
 }
 
 impl Readings {
-    /// The readings with the only alternative of a relation more; none if that surely applies and is
-    /// met.
+    /// The readings with the only alternative of a relation more; none if that surely applies and
+    /// is met.
     fn with_only(self, question: &Question<'_>, relation: &Relation<'_>) -> Option<Readings>
         ensures { (a : Meaning) → relation_of relation.now ≡ (a ∷ []) ∷ [] → result
             ≡ unless_met (applies_by (environment_of question.now.environment.now) a)

@@ -24,7 +24,8 @@ use Rattle.deb_control.proofs.DocumentRules.{document_rules}
 use Rattle.debctl_ffi.specs.Blanks.{AreBlankLines, DropsBlanks, is_closing}
 use Rattle.debctl_ffi.specs.Alike.{AnswerAlike}
 use Rattle.debctl_ffi.specs.Feeds.{ArePassing, HasRead, ReadsAll, ReadsToEnd, Refuses, RefusesOn}
-use Rattle.debctl_ffi.specs.Fields.{AreNext}
+use Rattle.deb_control.specs.GivenParagraphs.{AreNext}
+use Rattle.deb_control.proofs.FollowedParagraphs.{all-follow, follow-all}
 use Rattle.debctl_ffi.specs.declared.field.Tables.{Tables}
 use Rattle.debctl_ffi.specs.declared.answer.Answer.{Answer}
 use Rattle.deb_base.specs.declared.refusal.Refusal.{Refusal}
@@ -193,7 +194,7 @@ has_read-alike doc u old new more given state alike full read =
             ended = λ e. absurd (not_empty fits.rest some (fits.ended e));
             finished = λ e. absurd (last_not_empty fits.overlong state.reader.unread fits.rest some (fits.finished e));
           };
-          given = follow-alike (rules_of doc) ((u ++ old) ++ more) ((u ++ new) ++ more) (alike.checked doc more) [] read.checked.before checked.given;
+          given = all-follow (rules_of doc) ((u ++ new) ++ more) [] read.checked.before (follow-alike (rules_of doc) ((u ++ old) ++ more) ((u ++ new) ++ more) (alike.checked doc more) [] read.checked.before (follow-all (rules_of doc) ((u ++ old) ++ more) [] read.checked.before checked.given));
           paragraphs = checked.paragraphs;
           counted = checked.counted;
           bytes = checked.bytes;

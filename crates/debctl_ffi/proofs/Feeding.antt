@@ -1,7 +1,7 @@
 -- What was read of a text that goes on: its paragraphs are the first of each longer text.
 use Rattle.std.proofs.Common.{◌≡◌, ℕ, zero, suc, ◌+◌, ◌-◌, ◌<◌, ◌≤◌, ◌==◌, ◌⊎◌, inl, inr, Bool, true, false, cond, List, [], ◌∷◌, ◌++◌, length, drop, nat_le, Option, Some, None, Ok, Err, IfSome, refl, sym, ap, ◌∙◌, subst, append_assoc, arith}
 use Rattle.std.specs.List.{AllByRecursion}
-use Rattle.std.proofs.lemmas.List.{length-append}
+use Rattle.std.proofs.lemmas.List.{length-append, length-map}
 use Rattle.deb_base.specs.Bodies.{Line, is_blank, paragraph_limit}
 use Rattle.deb_base.specs.declared.doc.Doc.{Doc}
 use Rattle.deb_base.specs.declared.code.Code.TheVariants.{FileTooLong}
@@ -13,10 +13,11 @@ use Rattle.deb_syntax.proofs.LeftAnswers.{left-paragraphs}
 use Rattle.deb_syntax.proofs.Parts.{line_beyond-append}
 use Rattle.deb_control.specs.Checking.{CheckedState, Follow}
 use Rattle.deb_control.specs.Documents.{rules_of}
-use Rattle.deb_control.specs.Refusals.{answer_behind, line_behind, next_checked}
+use Rattle.deb_control.specs.Refusals.{Answered, answer_behind, line_behind, next_checked}
 use Rattle.deb_control.specs.Rules.{Rules}
 use Rattle.deb_control.proofs.Passing.{answer-from_passes, answer_of_first-cons, passes-from_answer, seen-parts}
-use Rattle.debctl_ffi.specs.Fields.{AreNext}
+use Rattle.deb_control.specs.GivenParagraphs.{AreNext}
+use Rattle.deb_control.proofs.FollowedParagraphs.{all-follow, follow-all}
 use Rattle.debctl_ffi.specs.Feeds.{HasRead}
 
 -- an element, and what is after it, whatever follows
@@ -156,7 +157,7 @@ has_read-more doc text more given state rest some short read =
     let whole : text ++ more ≡ passed ++ (behind ++ more) = ap (λ t. t ++ more) fits.whole ∙ append_assoc passed behind more in
     let parts : behind ++ more ≡ fits.overlong ++ (state.reader.unread ++ (fits.rest ++ more)) =
     append_assoc fits.overlong (state.reader.unread ++ fits.rest) more ∙ ap (λ b. fits.overlong ++ b) (append_assoc state.reader.unread fits.rest more) in
-    let all : length (paragraphs_from 1 (lines_of passed)) ≡ length read.checked.before = checked.paragraphs in
+    let all : length (paragraphs_from 1 (lines_of passed)) ≡ length read.checked.before = checked.paragraphs ∙ length-map {B = Answered} read.checked.before (λ e. Ok e) in
     record {
       checked = record {
         before = read.checked.before;
@@ -175,9 +176,9 @@ has_read-more doc text more given state rest some short read =
             ended = λ e. absurd (not_empty fits.rest left (fits.ended e));
             finished = λ e. absurd (last_not_empty fits.overlong state.reader.unread fits.rest left (fits.finished e));
           };
-          given = subst (λ t. Follow (rules_of doc) t [] read.checked.before) (sym whole)
+          given = all-follow (rules_of doc) (text ++ more) [] read.checked.before (subst (λ t. Follow (rules_of doc) t [] read.checked.before) (sym whole)
               (follow-other (rules_of doc) passed behind (behind ++ more) closed within [] read.checked.before (omega (arith, all))
-              (subst (λ t. Follow (rules_of doc) t [] read.checked.before) fits.whole checked.given));
+              (subst (λ t. Follow (rules_of doc) t [] read.checked.before) fits.whole (follow-all (rules_of doc) text [] read.checked.before checked.given))));
           paragraphs = checked.paragraphs;
           counted = checked.counted;
           bytes = checked.bytes;

@@ -1,18 +1,18 @@
 -- What is known of the paragraphs that were read after others, and of the tables of their fields.
 use Rattle.std.proofs.Common.{◌≡◌, ℕ, ◌+◌, ◌-◌, ◌^◌, ◌<◌, ◌≤◌, ◌==◌, ◌⊎◌, inl, inr, min, Bool, true, false, List, [], ◌∷◌, ◌++◌, length, Option, None, Some, IfOk, Result, Ok, Err, refl, sym, ap, ◌∙◌, subst, append_assoc, append-nil, arith}
-use Rattle.std.proofs.lemmas.List.{length-append, length_push}
+use Rattle.std.proofs.lemmas.List.{length-append, length-map, length_push}
 use Rattle.deb_base.specs.declared.doc.Doc.{Doc}
 use Rattle.deb_base.specs.declared.fault.Fault.{Fault}
 use Rattle.deb_base.specs.declared.refusal.Refusal.{Refusal}
 use Rattle.deb_syntax.specs.Answers.{Seen, next_answer}
 use Rattle.deb_syntax.specs.Lines.{file_limit}
 use Rattle.deb_control.specs.Calls.{IfRefused}
-use Rattle.deb_control.specs.Checking.{AnswersChecked, CheckedMoment, CheckedState, Checks, GivesEnd, GivesPassing, Passing}
+use Rattle.deb_control.specs.Checking.{AnswersChecked, CheckedMoment, CheckedState, Checks, GivesEnd, GivesPassing, Passing, all_pass}
 use Rattle.deb_control.specs.Documents.{rules_of}
-use Rattle.deb_control.specs.Refusals.{outcome}
-use Rattle.deb_control.proofs.CheckedSoFar.{all_checked, refused_behind, refused_then}
-use Rattle.deb_control.proofs.FollowedParagraphs.{outcome-from_end}
-use Rattle.debctl_ffi.proofs.FieldsSoFar.{next-push, numbered_from-push}
+use Rattle.deb_control.specs.Refusals.{Answered, outcome}
+use Rattle.deb_control.proofs.CheckedSoFar.{again_all, all_checked, count_all, outcome_at_end, refused_behind, refused_then}
+use Rattle.deb_control.proofs.ShownSoFar.{next-push}
+use Rattle.debctl_ffi.proofs.FieldsSoFar.{numbered_from-push}
 use Rattle.debctl_ffi.specs.Blanks.{DropsBlanks}
 use Rattle.debctl_ffi.specs.KeptTexts.{kept_text}
 use Rattle.debctl_ffi.specs.declared.kept.Kept.{Kept}
@@ -26,13 +26,14 @@ use Rattle.debctl_ffi.specs.declared.answer.Answer.{Answer}
 use Rattle.debctl_ffi.proofs.Feeding.{has_read-more}
 use Rattle.debctl_ffi.specs.declared.reader.Reader.{Reader}
 use Rattle.deb_control.specs.CheckedStates.{checked_state, doc_read}
-use Rattle.debctl_ffi.specs.Fields.{AreNext, Numbered, numbered, numbered_from}
+use Rattle.deb_control.specs.GivenParagraphs.{AreNext}
+use Rattle.debctl_ffi.specs.Fields.{Numbered, numbered, numbered_from}
 use Rattle.debctl_ffi.specs.Tables.{HasTables}
 use Rattle.debctl_ffi.specs.declared.field.Tables.{Tables}
 
 module _ (doc : Doc) (text : List ℕ) (given fresh : List Seen) (state new : CheckedState) (left after : Option (List ℕ)) (tables : Tables) (count : ℕ) (reading : Reading doc text given fresh state left tables count) where
   -- one paragraph more
-  pub reads-one : (pushed : Tables) (passing : Passing) → new.fault ≡ None → GivesPassing doc text reading.read.checked.before passing new after
+  pub reads-one : (pushed : Tables) (passing : Passing) → new.fault ≡ None → GivesPassing doc text (all_pass reading.read.checked.before) passing new after
       → ((shown : List Numbered) → HasTables tables shown → HasTables pushed (shown ++ numbered (count + 1) passing.seen.fields))
       → Reading doc text given (fresh ++ passing.seen ∷ []) new after pushed (count + 1)
   reads-one pushed passing sound gives push =
@@ -44,8 +45,8 @@ module _ (doc : Doc) (text : List ℕ) (given fresh : List Seen) (state new : Ch
       record {
         sound = sound;
         read = record {
-          checked = record { before = before ++ gives.entries ∷ []; fits = gives.again };
-          next = subst (AreNext text 0) all (next-push text 0 so_far seen reading.read.next (subst (λ k. next_answer text k ≡ Ok (Some seen)) (omega (arith, reading.read.counted)) gives.seen));
+          checked = record { before = before ++ gives.entries ∷ []; fits = again_all before gives };
+          next = subst (AreNext text 0) all (next-push text 0 so_far seen reading.read.next (subst (λ k. next_answer text k ≡ Ok (Some seen)) (omega (arith, reading.read.counted, length-map {B = Answered} before (λ e. Ok e))) gives.seen));
           counted = ap length (sym all) ∙ length_push so_far seen ∙ ap (λ n. n + 1) reading.read.counted ∙ sym (length_push before gives.entries);
         };
         shows = subst (HasTables pushed) (ap (λ k. numbered_from (length given + 1) fresh ++ numbered k seen.fields) (sym at) ∙ sym (numbered_from-push (length given + 1) fresh seen)) (push (numbered_from (length given + 1) fresh) reading.shows);
@@ -53,19 +54,19 @@ module _ (doc : Doc) (text : List ℕ) (given fresh : List Seen) (state new : Ch
       }
 
   -- there is no further one
-  pub reads-all : GivesEnd doc text reading.read.checked.before new after → ReadsAll doc text given fresh tables count
+  pub reads-all : GivesEnd doc text (all_pass reading.read.checked.before) new after → ReadsAll doc text given fresh tables count
   reads-all end =
       let checked = reading.read.checked in
       record {
-        has = all_checked doc text state new left after count checked (checked.fits.counted ∙ sym (reading.counted ∙ reading.read.counted)) end;
+        has = all_checked doc text state new left after count checked (count_all checked.before checked.fits ∙ sym (reading.counted ∙ reading.read.counted)) end;
         all = record {
           next = reading.read.next;
-          passed = reading.read.counted ∙ ap (λ o. length o.passed) (sym (outcome-from_end (rules_of doc) text checked.before checked.fits.given end.answer));
+          passed = reading.read.counted ∙ ap (λ o. length o.passed) (sym (outcome_at_end doc text checked.before checked.fits end));
         };
         shows = reading.shows;
       }
 
-  pub reads-end : new.fault ≡ None → GivesEnd doc text reading.read.checked.before new after → Reading doc text given fresh new after tables count
+  pub reads-end : new.fault ≡ None → GivesEnd doc text (all_pass reading.read.checked.before) new after → Reading doc text given fresh new after tables count
   reads-end sound end = record {
     sound = sound;
     read = record {
@@ -78,7 +79,7 @@ module _ (doc : Doc) (text : List ℕ) (given fresh : List Seen) (state new : Ch
   }
 
   -- the file is refused after these
-  pub refuses : (fault : Fault) → AnswersChecked doc text reading.read.checked.before (Err fault) new after → IfRefused {T = Bool} (Err fault) (λ refusal. Refuses doc text given fresh refusal tables)
+  pub refuses : (fault : Fault) → AnswersChecked doc text (all_pass reading.read.checked.before) (Err fault) new after → IfRefused {T = Bool} (Err fault) (λ refusal. Refuses doc text given fresh refusal tables)
   refuses fault answer =
       refused_then Bool (λ refusal. outcome (rules_of doc) text ≡ record { passed = reading.read.checked.before; refusal = Some refusal }) (λ refusal. Refuses doc text given fresh refusal tables) fault
       (λ refusal is. record {
@@ -93,7 +94,7 @@ pub count_more : (doc : Doc) (text : List ℕ) (given fresh : List Seen) (before
     → {passing : Passing} → Checks doc before (Ok (Some passing)) after → min (count + 1) (2 ^ 64 - 1) ≡ count + 1
 unfolding file_limit
 count_more doc text given fresh before after tables count reading checks =
-    omega (arith, checks.count, checks.few, reading.counted, reading.read.counted, reading.read.checked.fits.counted)
+    omega (arith, checks.count, checks.few, reading.counted, reading.read.counted, count_all reading.read.checked.before reading.read.checked.fits)
 
 -- after some
 pub refuses-on : (doc : Doc) (text : List ℕ) (given fresh : List Seen) (tables : Tables) (fault : Fault) → IfRefused {T = Bool} (Err fault) (λ refusal. Refuses doc text given fresh refusal tables) → IfRefused {T = Bool} (Err fault) (λ refusal. RefusesOn doc text given refusal tables)

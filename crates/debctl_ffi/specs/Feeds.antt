@@ -16,7 +16,8 @@ use Rattle.deb_control.specs.Refusals.{outcome}
 use Rattle.debctl_ffi.specs.Alike.{AnswerAlike}
 use Rattle.debctl_ffi.specs.Answers.{HasStatus, counting, plain, refusing}
 use Rattle.debctl_ffi.specs.Documents.{IsNoKind, kind_number}
-use Rattle.debctl_ffi.specs.Fields.{AreNext, numbered_from}
+use Rattle.deb_control.specs.GivenParagraphs.{AreNext}
+use Rattle.debctl_ffi.specs.Fields.{numbered_from}
 use Rattle.debctl_ffi.specs.KeptTexts.{kept_text}
 use Rattle.debctl_ffi.specs.Tables.{HasTables}
 use Rattle.debctl_ffi.specs.declared.answer.Answer.{Answer}

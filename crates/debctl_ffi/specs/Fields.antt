@@ -1,12 +1,13 @@
 -- What is shown to a program in C of the fields of a file: Debian Policy 5.1. The form of the
 -- tables is this project's own.
-use Rattle.std.specs.Prelude.{◌≡◌, ◌⊎◌, ℕ, ◌+◌, ◌<◌, List, [], ◌∷◌, ◌++◌, length, map, Some, Ok, codes, refl}
+use Rattle.std.specs.Prelude.{◌≡◌, ◌⊎◌, ℕ, ◌+◌, ◌<◌, List, [], ◌∷◌, ◌++◌, length, map, Some, codes, refl}
 use Rattle.deb_base.specs.declared.doc.Doc.{Doc}
 use Rattle.deb_base.specs.declared.refusal.Refusal.{Refusal}
-use Rattle.deb_syntax.specs.Answers.{Seen, next_answer}
+use Rattle.deb_syntax.specs.Answers.{Seen}
 use Rattle.deb_syntax.specs.Fields.{Field}
 use Rattle.deb_control.specs.Calls.{HasParagraphs}
 use Rattle.deb_control.specs.Documents.{refusal_of, rules_of}
+use Rattle.deb_control.specs.GivenParagraphs.{AreNext}
 use Rattle.deb_control.specs.Refusals.{outcome}
 use Rattle.debctl_ffi.specs.Answers.{counting, refusing}
 use Rattle.debctl_ffi.specs.Buffers.{Gives}
@@ -31,12 +32,6 @@ numbered_from n (seen ∷ more) = numbered n seen.fields ++ numbered_from (n + 1
 -- the fields of the first paragraphs of a file, which are numbered from 1
 abbrev pub file_fields : List Seen → List Numbered
 file_fields paragraphs = numbered_from 1 paragraphs
-
--- These are the answers after the first `n` paragraphs: each is the next paragraph of the file.
-abbrev pub AreNext : List ℕ → ℕ → List Seen → Type 0
-AreNext text n [] = Unit {0}
-AreNext text n (seen ∷ more) =
-    (next_answer text n ≡ Ok (Some seen)) × AreNext text (n + 1) more
 
 -- These are the fields of the paragraphs of the file that pass: of all, or of those before the
 -- first that fails.

@@ -1,6 +1,6 @@
-use Rattle.deb_control.proofs.Common.{◌∙◌, ◌+◌, None, Some, ap, arith, err_from_is_err_and}
+use Rattle.deb_control.proofs.Common.{◌∙◌, ◌+◌, None, Some, all_pass, ap, arith, err_from_is_err_and}
 use Rattle.deb_syntax.specs.Lines.{file_limit}
-use Rattle.deb_control.proofs.CheckedSoFar.{goes_on, all_checked}
+use Rattle.deb_control.proofs.CheckedSoFar.{goes_on, all_checked, count_all}
 use Rattle.deb_control.proofs.Checks.{few-totals}
 use Rattle.deb_control.proofs.ReadingOn.{reads-none, reads-ok, reads-err}
 use Rattle.deb_control.proofs.checking.count_rest.Goals as goal
@@ -18,7 +18,7 @@ returns-then-not-branch-clause-ok g c = λ text before fits.
     let reads = c.loop-count.invariant.reads in
     let so_far = (reads.files text (record { before = before; fits = fits })).given in
     let goes = goes_on _ _ _ _ reads.sound (rw (c.if-not-branch.true, reads.doc) at c.in_ok-advance.ensures.passes.checks) in
-    all_checked _ text _ _ _ _ _ so_far (c.loop-count.invariant.count ∙ ap (λ n. n + c.loop-count.count) fits.counted) (goes.answers text so_far.before so_far.fits)
+    all_checked _ text _ _ _ _ _ so_far (c.loop-count.invariant.count ∙ ap (λ n. n + c.loop-count.count) (count_all before fits)) (goes.answers text (all_pass so_far.before) so_far.fits)
 
 pub returns-then-not-branch-clause-on : goal.returns-then-not-branch-clause-on
 returns-then-not-branch-clause-on g c =

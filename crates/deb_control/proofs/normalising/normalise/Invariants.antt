@@ -1,14 +1,10 @@
-use Rattle.deb_control.proofs.Common.{◌≡◌, ◌≤◌, ◌+◌, ℕ, List, Some, None, file_limit, checked_state}
-use Rattle.deb_control.proofs.CheckedSoFar.{HasWritten}
+use Rattle.deb_control.proofs.Common.{◌≡◌, Appends, shown}
+use Rattle.deb_control.proofs.ShownSoFar.{ShownSoFar}
+use Rattle.deb_control.proofs.WrittenSoFar.{text_given}
 use Rattle.deb_control.proofs.normalising.normalise.Given as goal
 
 abbrev pub invariant-loop-count : goal.invariant-loop-count
 invariant-loop-count g l = record {
-  doc : l.checked.doc ≡ l.fn.doc;
-  fault : (checked_state l.checked).fault ≡ None;
-  reads : g.R.Source.failures l.reader ≡ g.R.Source.failures l.initial.reader;
+  shown : ShownSoFar l.fn.doc (shown (g.R.Source.left l.initial.reader) (g.R.Source.failures l.initial.reader)) (λ given. Appends (g.W.Sink.held l.initial.writer) (g.W.Sink.held l.writer) (text_given l.fn.doc given)) l.checked (shown (g.R.Source.left l.reader) (g.R.Source.failures l.reader)) l.count;
   writes : g.W.Sink.failures l.writer ≡ g.W.Sink.failures l.initial.writer;
-  count : (checked_state l.checked).count ≡ l.count;
-  few : (checked_state l.checked).count ≤ file_limit + 1;
-  text : (text : List ℕ) → g.R.Source.left l.initial.reader ≡ Some text → HasWritten l.fn.doc text (checked_state l.checked) (g.R.Source.left l.reader) (g.W.Sink.held l.initial.writer) (g.W.Sink.held l.writer);
 }

@@ -1,13 +1,6 @@
-use Rattle.std.proofs.Common.{◌≡◌, ℕ, List, None, Some}
-use Rattle.deb_control.specs.Checking.{HasChecked}
-use Rattle.deb_control.specs.CheckedStates.{checked_state, doc_read}
+use Rattle.deb_control.specs.ReadingOn.{shown}
+use Rattle.deb_control.proofs.ShownSoFar.{ShownSoFar}
 use Rattle.deb_explain.proofs.explaining.explain.Given as goal
 
 abbrev pub invariant-loop-count : goal.invariant-loop-count
-invariant-loop-count g l = record {
-  doc : doc_read l.checked ≡ l.doc;
-  fault : (checked_state l.checked).fault ≡ None;
-  reads : g.R.Source.failures l.reader ≡ g.R.Source.failures l.initial.reader;
-  count : (checked_state l.checked).count ≡ l.count;
-  text : (text : List ℕ) → g.R.Source.left l.initial.reader ≡ Some text → HasChecked l.doc text (checked_state l.checked) (g.R.Source.left l.reader);
-}
+invariant-loop-count g l = ShownSoFar l.doc (shown (g.R.Source.left l.initial.reader) (g.R.Source.failures l.initial.reader)) (λ given. Unit {0}) l.checked (shown (g.R.Source.left l.reader) (g.R.Source.failures l.reader)) l.count

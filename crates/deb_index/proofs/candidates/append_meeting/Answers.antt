@@ -2,7 +2,7 @@
 use Rattle.std.proofs.Common.{option_copied}
 use Rattle.deb_relation.specs.Environments.{environment_of}
 use Rattle.deb_relation.specs.Views.{alternative_of}
-use Rattle.deb_index.specs.Indexes.{packages_of}
+use Rattle.deb_index.specs.Indexes.{number_in, packages_of}
 use Rattle.deb_index.specs.Named.{has_name, provides}
 use Rattle.deb_index.proofs.Joined.{asked-among}
 use Rattle.deb_index.proofs.Offered.{offered-among, on_ok}
@@ -11,7 +11,7 @@ use Rattle.deb_index.proofs.candidates.append_meeting.Goals as goal
 
 pub returns-in-Some : goal.returns-in-Some
 returns-in-Some c =
-    on_ok (λ is k. offered-among (environment_of c.args.environment.now) (alternative_of c.args.alternative.now) (packages_of c.args.index.now) c.in-Some.offers.now c.in-Some.ensures (option_copied c.qualifier.result) c.qualifier.ensures c.args.numbers.now.items c.append_offering.new.numbers.items k (is k))
+    on_ok (λ is k. offered-among (environment_of c.args.environment.now) (alternative_of c.args.alternative.now) (packages_of c.args.index.now) (number_in c.args.index.now) c.in-Some.offers.now c.in-Some.ensures (option_copied c.qualifier.result) c.qualifier.ensures c.args.numbers.now.items c.append_offering.new.numbers.items k (is k))
     c.append_offering.result c.append_offering.ensures
 
 pub append_asked-requires : goal.append_asked-requires

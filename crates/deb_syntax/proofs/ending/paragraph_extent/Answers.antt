@@ -1,135 +1,120 @@
-use Rattle.deb_syntax.proofs.Common.{◌∙◌, ◌-◌, ◌≤◌, take, room_ahead, length, Ok, Err, refl, sym, ap, subst, arith, false≢true, cursor_state, had, IsEnd, Open, Blank, OverLimit, Extent}
+use Rattle.deb_syntax.proofs.Common.{◌≡◌, ◌∙◌, ◌++◌, ◌∷◌, ◌+◌, ℕ, [], Ok, Err, Code, Refused, FileTooLong, ParagraphTooLong, Extent, sym, ap, subst, arith, length, length-append, take, cursor_state, IsNextLine, lines_of, next_answer, passed_count, passed_of}
 use Rattle.deb_base.specs.Bodies.{paragraph_limit}
-use Rattle.deb_syntax.proofs.Endings.{ends-found}
-use Rattle.deb_syntax.proofs.EndingWalks.{walks-start, walks-more, same-ahead, sees-ahead, sees-unread, seen-stops, unread-stops, blank-some, stop-blank, stop-blank-ahead, stop-long-ahead, stop-beyond-ahead}
-use Rattle.deb_syntax.proofs.EndingSteps.{open-length, stops-few}
-use Rattle.deb_syntax.proofs.WalkingLines.{length-front}
+use Rattle.deb_syntax.specs.Lines.{file_limit}
+use Rattle.deb_syntax.specs.LineEnds.{ends_from}
 use Rattle.deb_syntax.proofs.CursorLemmas.{cursor_small}
-use Rattle.deb_syntax.proofs.Takings.{takes_none, takes_more, takes_then, comes_takes, more-reach, still-less}
-use Rattle.deb_syntax.specs.LineEnds.{line_ends, piece_ends}
-use Rattle.deb_syntax.proofs.LineEnds.{line_ends-closed, take-more, take-seen}
+use Rattle.deb_syntax.proofs.Endings.{ahead_blank, ahead_ended, extent_blank, extent_ended, extent_from, kept_pieces, refused_cut, refused_overlong}
+use Rattle.deb_syntax.proofs.LineEnds.{length-ends_from}
+use Rattle.deb_syntax.proofs.KeptLines.{keeps_more, keeps_open-line}
+use Rattle.deb_syntax.proofs.Positions.{at_more}
+use Rattle.deb_syntax.proofs.Takings.{consumes_takes, takes_then}
+use Rattle.deb_syntax.proofs.ending.paragraph_extent.Goals.{in-Cut, in-Overlong}
 use Rattle.deb_syntax.proofs.ending.paragraph_extent.Goals as goal
 
-pub pieces-init : goal.pieces-init
-pieces-init g c = record {
-  walks = walks-start (cursor_state c.args.cursor.now) (g.R.Source.left c.args.reader.now) c.args.partial c.requires.line;
-  ends = c.clear.ensures.items;
-  takes = takes_none _ _ _ (omega arith);
-  taken = takes_none _ _ _ c.requires.reach;
-  counted = refl;
-  quiet = λ e. (e, refl);
-}
-
-pub visible-visible-requires : goal.visible-visible-requires
-visible-visible-requires g c = omega (arith, cursor_small c.pieces.cursor)
-
-pub ended_behind-requires-clause-some : goal.ended_behind-requires-clause-some
-ended_behind-requires-clause-some g c =
-    blank-some (cursor_state c.pieces.cursor) c.in_ok-scan.scan.run
-    (seen-stops (cursor_state c.pieces.cursor) c.visible-visible.result c.in_ok-scan.scan.stop Blank c.in_ok-scan.scan.run c.visible-visible.ensures c.in-Blank.is c.in_ok-scan.ensures.stops)
-
-pub ended_behind-requires-clause-lines : goal.ended_behind-requires-clause-lines
+pub next_line-requires-clause-short : goal.next_line-requires-clause-short
 unfolding paragraph_limit
-ended_behind-requires-clause-lines g c = omega (arith, stops-few _ _ _ c.in_ok-scan.ensures.stops, c.in_ok-scan.ensures.stops.stands.short)
+next_line-requires-clause-short g c = omega (arith, c.walk.invariant.keeps.high, c.walk.invariant.keeps.short)
+
+pub walk-preserved : goal.walk-preserved
+walk-preserved g c =
+    let before = cursor_state c.walk.cursor in
+    let mid = cursor_state c.next_line.new.cursor in
+    let left = g.R.Source.left c.walk.reader in
+    let left_after = g.R.Source.left c.next_line.new.reader in
+    let counts = c.in_ok-end.ensures.counts in
+    let keeps = c.walk.invariant.keeps in
+    let same = c.walk.invariant.same in
+    let line = subst (λ r. IsNextLine c.walk.kept before left r mid left_after) c.in-Whole.is c.in_ok-end.ensures.line in
+    let r = line.0 in
+    let more = keeps_more c.walk.kept before left mid left_after r (keeps_open-line c.walk.kept before left mid left_after c.walk.last keeps r) c.in-Whole.end c.in-Whole.next keeps.within keeps.not_blank line.1 line.2 line.3 line.4 line.5 counts.bytes in
+    record {
+      keeps = more.0;
+      ends = ap (λ zs. zs ++ c.in-Whole.end ∷ []) (c.in_ok-push.ensures.items ∙ c.walk.invariant.ends) ∙ sym more.1;
+      same = record { bytes = counts.bytes ∙ same.bytes; lines = counts.lines ∙ same.lines };
+      stays = λ text a. at_more text [] before mid left left_after (c.walk.invariant.stays text a) counts r.came r.consumed line.5;
+      takes = takes_then _ _ _ _ _ _ _ _ c.walk.invariant.takes (consumes_takes left left_after r.came r.consumed) (omega (arith, counts.bytes, ap length line.5, length-append before.unread r.came));
+      counted = c.in_ok-end.ensures.fault_iff_device_failed ∙ c.walk.invariant.counted;
+      quiet = λ e. let q = c.walk.invariant.quiet e in (counts.ended q.0, c.in_ok-end.ensures.source_untouched q.0 ∙ q.1);
+    }
+
+pub overflow_add-result : goal.overflow_add-result
+unfolding file_limit
+overflow_add-result g c =
+    let line = subst (λ r. IsNextLine c.walk.kept (cursor_state c.walk.cursor) (g.R.Source.left c.walk.reader) r (cursor_state c.next_line.new.cursor) (g.R.Source.left c.next_line.new.reader)) c.in-Blank.is c.in_ok-end.ensures.line in
+    omega (arith, line.3, line.0.room)
 
 pub returns-in-Blank-clause-found : goal.returns-in-Blank-clause-found
 returns-in-Blank-clause-found g c =
-    let state = cursor_state c.pieces.cursor in
-    let s = seen-stops state c.visible-visible.result c.in_ok-scan.scan.stop Blank c.in_ok-scan.scan.run c.visible-visible.ensures c.in-Blank.is c.in_ok-scan.ensures.stops in
-    ends-found _ _ state (stop-blank state c.in_ok-scan.scan.run s c.ended_behind.result (omega (arith, c.pieces.invariant.walks.near, c.in_ok-scan.ensures.further)) c.ended_behind.ensures)
+    let before = cursor_state c.walk.cursor in
+    let mid = cursor_state c.next_line.new.cursor in
+    let left = g.R.Source.left c.walk.reader in
+    let left_after = g.R.Source.left c.next_line.new.reader in
+    let line = subst (λ r. IsNextLine c.walk.kept before left r mid left_after) c.in-Blank.is c.in_ok-end.ensures.line in
+    let number : c.len.result ≡ length (lines_of (take c.walk.kept before.unread)) = omega (arith, c.len.ensures, c.push.new.self.ok.0, ap length (c.in_ok-push.ensures.items ∙ c.walk.invariant.ends), length-ends_from 0 (lines_of (take c.walk.kept before.unread))) in
+    let extent : ℕ → Extent = λ n. record { end = c.walk.last; skip = c.in-Blank.next; bytes = c.walk.kept + c.in-Blank.bytes; lines = n + 1 } in
+    extent_blank c.walk.last c.walk.kept before mid left left_after c.walk.invariant.keeps c.in_ok-end.ensures.counts _ _ (extent c.len.result) line (ap extent number)
 
 pub returns-in-Blank-clause-ahead : goal.returns-in-Blank-clause-ahead
 returns-in-Blank-clause-ahead g c = λ text a.
-    let state = cursor_state c.pieces.cursor in
-    let w = c.pieces.invariant.walks in
-    let s = seen-stops state c.visible-visible.result c.in_ok-scan.scan.stop Blank c.in_ok-scan.scan.run c.visible-visible.ensures c.in-Blank.is c.in_ok-scan.ensures.stops in
-    same-ahead text (cursor_state c.args.cursor.now) state state (g.R.Source.left c.pieces.reader) (Ok c.ended_behind.result) w.counts
-    (stop-blank-ahead state c.in_ok-scan.scan.run s text (g.R.Source.left c.pieces.reader) c.ended_behind.result (stop-blank state c.in_ok-scan.scan.run s c.ended_behind.result (omega (arith, c.pieces.invariant.walks.near, c.in_ok-scan.ensures.further)) c.ended_behind.ensures) (ap (λ (e : Extent). e.skip) c.ended_behind.ensures) (w.ahead text a))
-
-pub refused-requires : goal.refused-requires
-unfolding paragraph_limit
-refused-requires g c =
-    omega (arith, stops-few _ _ _ c.in_ok-scan.ensures.stops, c.in_ok-scan.ensures.stops.stands.short, c.pieces.cursor.few, c.pieces.cursor.small)
-
-pub returns-in-OverLimit-clause-ahead : goal.returns-in-OverLimit-clause-ahead
-returns-in-OverLimit-clause-ahead g c = λ text a.
-    let state = cursor_state c.pieces.cursor in
-    let w = c.pieces.invariant.walks in
-    same-ahead text (cursor_state c.args.cursor.now) state state (g.R.Source.left c.pieces.reader) (Err c.refused.result) w.counts
-    (stop-long-ahead state c.in_ok-scan.scan.run
-    (seen-stops state c.visible-visible.result c.in_ok-scan.scan.stop OverLimit c.in_ok-scan.scan.run c.visible-visible.ensures c.in-OverLimit.is c.in_ok-scan.ensures.stops)
-    text (g.R.Source.left c.pieces.reader) c.refused.result c.refused.ensures (w.ahead text a))
-
-pub extent_beyond-requires-clause-full : goal.extent_beyond-requires-clause-full
-unfolding paragraph_limit
-extent_beyond-requires-clause-full g c =
-    let state = cursor_state c.pieces.cursor in
-    let tail = subst (IsEnd state 0) c.in-More.is c.visible-visible.ensures.tail in
-    let size = ap length (sees-unread state c.visible-visible.result c.visible-visible.ensures tail.0) in
-    omega (arith, size, c.if-is_full.true)
-
-pub returns-in-More-clause-ahead : goal.returns-in-More-clause-ahead
-returns-in-More-clause-ahead g c = λ text a.
-    let w = c.pieces.invariant.walks in
-    same-ahead text (cursor_state c.args.cursor.now) (cursor_state c.pieces.cursor) (cursor_state c.extent_beyond.new.cursor) _ _ w.counts
-    (c.extent_beyond.ensures.ahead text (w.ahead text a))
-
-pub pieces-smaller : goal.pieces-smaller
-pieces-smaller g c =
-    let tail = subst (IsEnd (cursor_state c.pieces.cursor) 0) c.in-More-2.is c.visible-visible.ensures.tail in
-    still-less (cursor_state c.pieces.cursor) _ _ _ (cursor_small c.pieces.cursor) tail.0 tail.1 c.in_ok-fill-in-More-2.ensures.taken
-
-pub pieces-preserved : goal.pieces-preserved
-pieces-preserved g c =
-    let state = cursor_state c.pieces.cursor in
-    let tail = subst (IsEnd state 0) c.in-More-2.is c.visible-visible.ensures.tail in
-    let stops = unread-stops state c.visible-visible.result c.in_ok-scan.scan.stop Open c.in_ok-scan.scan.run c.visible-visible.ensures tail.0 c.in-Open.is c.in_ok-scan.ensures.stops in
-    let takes = takes_then _ _ _ _ (had (cursor_state c.fill.new.self)) _ _ _ c.pieces.invariant.takes (comes_takes _ _ _ _ c.in_ok-fill-in-More-2.ensures.taken) (omega arith) in
-    record {
-      walks = walks-more (cursor_state c.args.cursor.now) (g.R.Source.left c.args.reader.now) c.pieces.run c.in_ok-scan.scan.run state (cursor_state c.fill.new.self)
-          (g.R.Source.left c.pieces.reader) (g.R.Source.left c.fill.new.reader) c.pieces.invariant.walks
-          stops
-          (omega (arith, tail.0)) c.in_ok-fill-in-More-2.ensures.taken;
-      ends = c.in_ok-scan.ensures.ends
-          ∙ ap (λ zs. line_ends (take c.in_ok-scan.scan.run.bytes zs)) (sees-unread state c.visible-visible.result c.visible-visible.ensures tail.0)
-          ∙ ap line_ends (sym (take-more c.in_ok-scan.scan.run.bytes state.unread _ _ (omega (arith, open-length state.unread c.in_ok-scan.scan.run stops)) c.in_ok-fill-in-More-2.ensures.taken.unread));
-      takes = takes;
-      taken = takes_more _ _ _ _ _ _ takes (omega arith) (more-reach state (cursor_state c.fill.new.self) (g.R.Source.left c.pieces.reader) (g.R.Source.left c.fill.new.reader) (cursor_small c.pieces.cursor) tail.0 c.in_ok-fill-in-More-2.ensures.taken);
-      counted = c.in_ok-fill-in-More-2.ensures.counted ∙ c.pieces.invariant.counted;
-      quiet = λ e. absurd (false≢true (sym tail.1 ∙ (c.pieces.invariant.quiet e).0));
-    }
-
-pub returns-in-Eof-clause-ahead : goal.returns-in-Eof-clause-ahead
-returns-in-Eof-clause-ahead g c = λ text a.
-    let w = c.pieces.invariant.walks in
-    same-ahead text (cursor_state c.args.cursor.now) (cursor_state c.pieces.cursor) (cursor_state c.pieces.cursor) _ _ w.counts
-    (c.ended_by_file.ensures.ahead text _ (w.ahead text a))
-
-pub refused-requires-in-Limit : goal.refused-requires-in-Limit
-unfolding paragraph_limit
-refused-requires-in-Limit g c =
-    omega (arith, stops-few _ _ _ c.in_ok-scan.ensures.stops, c.in_ok-scan.ensures.stops.stands.short, c.pieces.cursor.few, c.pieces.cursor.small)
-
-pub returns-in-Limit-clause-ahead : goal.returns-in-Limit-clause-ahead
-returns-in-Limit-clause-ahead g c = λ text a.
-    let state = cursor_state c.pieces.cursor in
-    let w = c.pieces.invariant.walks in
-    let tail = subst (IsEnd state 0) c.in-Limit.is c.visible-visible.ensures.tail in
-    same-ahead text (cursor_state c.args.cursor.now) state state (g.R.Source.left c.pieces.reader) (Err c.refused-in-Limit.result) w.counts
-    (stop-beyond-ahead state c.in_ok-scan.scan.run
-    (seen-stops state c.visible-visible.result c.in_ok-scan.scan.stop Open c.in_ok-scan.scan.run c.visible-visible.ensures c.in-Open.is c.in_ok-scan.ensures.stops)
-    (omega (arith, tail)) text (g.R.Source.left c.pieces.reader) c.refused-in-Limit.result c.refused-in-Limit.ensures (w.ahead text a))
+    let before = cursor_state c.walk.cursor in
+    let mid = cursor_state c.next_line.new.cursor in
+    let left = g.R.Source.left c.walk.reader in
+    let left_after = g.R.Source.left c.next_line.new.reader in
+    let line = subst (λ r. IsNextLine c.walk.kept before left r mid left_after) c.in-Blank.is c.in_ok-end.ensures.line in
+    let number : c.len.result ≡ length (lines_of (take c.walk.kept before.unread)) = omega (arith, c.len.ensures, c.push.new.self.ok.0, ap length (c.in_ok-push.ensures.items ∙ c.walk.invariant.ends), length-ends_from 0 (lines_of (take c.walk.kept before.unread))) in
+    let extent : ℕ → Extent = λ n. record { end = c.walk.last; skip = c.in-Blank.next; bytes = c.walk.kept + c.in-Blank.bytes; lines = n + 1 } in
+    extent_from text (cursor_state c.args.cursor.now) before mid left_after (Ok (extent c.len.result)) c.walk.invariant.same
+    (ahead_blank c.walk.last c.walk.kept before mid left left_after c.walk.invariant.keeps c.in_ok-end.ensures.counts text (c.walk.invariant.stays text a) (cursor_small c.walk.cursor) _ _ (extent c.len.result) line (ap extent number))
 
 pub returns-in-Blank-clause-ends : goal.returns-in-Blank-clause-ends
 returns-in-Blank-clause-ends g c =
-    let state = cursor_state c.pieces.cursor in
-    let run = c.in_ok-scan.scan.run in
-    let s = seen-stops state c.visible-visible.result c.in_ok-scan.scan.stop Blank run c.visible-visible.ensures c.in-Blank.is c.in_ok-scan.ensures.stops in
-    let room = room_ahead state in
-    let size = length-front (take room state.unread) s.lines _ s.stands.front in
-    let short : run.bytes - 1 ≤ length (take room state.unread) = omega (arith, s.stands.bytes) in
-    c.in_ok-scan.ensures.ends
-    ∙ ap (λ zs. line_ends (take run.bytes zs)) (sees-ahead state c.visible-visible.result c.visible-visible.ensures)
-    ∙ line_ends-closed (take room state.unread) run s.lines s.seen s.fresh s.stands (blank-some state run s)
-    ∙ ap piece_ends (sym (take-seen (run.bytes - 1) room state.unread short))
-    ∙ ap (λ (e : Extent). piece_ends (take e.end state.unread)) (sym c.ended_behind.ensures)
+    let before = cursor_state c.walk.cursor in
+    let mid = cursor_state c.next_line.new.cursor in
+    let left = g.R.Source.left c.walk.reader in
+    let left_after = g.R.Source.left c.next_line.new.reader in
+    let line = subst (λ r. IsNextLine c.walk.kept before left r mid left_after) c.in-Blank.is c.in_ok-end.ensures.line in
+    c.in_ok-push.ensures.items ∙ c.walk.invariant.ends ∙ ap (ends_from 0) (sym (kept_pieces c.walk.last c.walk.kept before mid left left_after c.walk.invariant.keeps c.in_ok-end.ensures.counts line.4.kept_same))
+
+pub returns-in-Ended-clause-found : goal.returns-in-Ended-clause-found
+returns-in-Ended-clause-found g c =
+    let before = cursor_state c.walk.cursor in
+    let mid = cursor_state c.next_line.new.cursor in
+    let left = g.R.Source.left c.walk.reader in
+    let left_after = g.R.Source.left c.next_line.new.reader in
+    let line = subst (λ r. IsNextLine c.walk.kept before left r mid left_after) c.in-Ended.is c.in_ok-end.ensures.line in
+    let number : c.len-in-Ended.result ≡ length (lines_of (take c.walk.kept before.unread)) = omega (arith, c.len-in-Ended.ensures, c.push.new.self.ok.0, ap length (c.in_ok-push.ensures.items ∙ c.walk.invariant.ends), length-ends_from 0 (lines_of (take c.walk.kept before.unread))) in
+    let extent : ℕ → Extent = λ n. record { end = c.walk.last; skip = c.walk.kept; bytes = c.walk.kept; lines = n } in
+    extent_ended c.walk.last c.walk.kept before mid left left_after c.walk.invariant.keeps c.in_ok-end.ensures.counts (extent c.len-in-Ended.result) line (ap extent number)
+
+pub returns-in-Ended-clause-ahead : goal.returns-in-Ended-clause-ahead
+returns-in-Ended-clause-ahead g c = λ text a.
+    let before = cursor_state c.walk.cursor in
+    let mid = cursor_state c.next_line.new.cursor in
+    let left = g.R.Source.left c.walk.reader in
+    let left_after = g.R.Source.left c.next_line.new.reader in
+    let line = subst (λ r. IsNextLine c.walk.kept before left r mid left_after) c.in-Ended.is c.in_ok-end.ensures.line in
+    let number : c.len-in-Ended.result ≡ length (lines_of (take c.walk.kept before.unread)) = omega (arith, c.len-in-Ended.ensures, c.push.new.self.ok.0, ap length (c.in_ok-push.ensures.items ∙ c.walk.invariant.ends), length-ends_from 0 (lines_of (take c.walk.kept before.unread))) in
+    let extent : ℕ → Extent = λ n. record { end = c.walk.last; skip = c.walk.kept; bytes = c.walk.kept; lines = n } in
+    extent_from text (cursor_state c.args.cursor.now) before mid left_after (Ok (extent c.len-in-Ended.result)) c.walk.invariant.same
+    (ahead_ended c.walk.last c.walk.kept before mid left left_after c.walk.invariant.keeps c.in_ok-end.ensures.counts text (c.walk.invariant.stays text a) (cursor_small c.walk.cursor) (extent c.len-in-Ended.result) line (ap extent number))
+
+pub returns-clause-ahead : goal.returns-clause-ahead
+returns-clause-ahead g c = λ text a.
+    let before = cursor_state c.walk.cursor in
+    let mid = cursor_state c.next_line.new.cursor in
+    let left = g.R.Source.left c.walk.reader in
+    let left_after = g.R.Source.left c.next_line.new.reader in
+    let counts = c.in_ok-end.ensures.counts in
+    let keeps = c.walk.invariant.keeps in
+    let at = c.walk.invariant.stays text a in
+    let small = cursor_small c.walk.cursor in
+    let number : c.len-2.result ≡ length (lines_of (take c.walk.kept before.unread)) = omega (arith, c.len-2.ensures, c.push.new.self.ok.0, ap length (c.in_ok-push.ensures.items ∙ c.walk.invariant.ends), length-ends_from 0 (lines_of (take c.walk.kept before.unread))) in
+    let n = c.lines.result + c.len-2.result + 1 in
+    let n_is : n ≡ before.lines + length (lines_of (take c.walk.kept before.unread)) + 1 = omega (arith, number, c.lines.ensures, counts.lines) in
+    let answer : Code → Type 0 = λ code. next_answer text (passed_count (passed_of text (cursor_state c.args.cursor.now))) ≡ Err (record { code = code; line = n }) in
+    elim c.match-branch-3.branch [
+      | in-Overlong w ↦ subst answer (sym w.code-is) (extent_from text (cursor_state c.args.cursor.now) before mid left_after (Err (Refused (record { code = ParagraphTooLong; line = n }))) c.walk.invariant.same
+          (refused_overlong c.walk.last c.walk.kept before mid left left_after keeps counts text at small _ _ n (subst (λ r. IsNextLine c.walk.kept before left r mid left_after) w.in-Overlong.is c.in_ok-end.ensures.line) n_is))
+      | in-Cut w ↦ subst answer (sym w.code-is) (extent_from text (cursor_state c.args.cursor.now) before mid left_after (Err (Refused (record { code = FileTooLong; line = n }))) c.walk.invariant.same
+          (refused_cut c.walk.last c.walk.kept before mid left left_after keeps counts text at small n (subst (λ r. IsNextLine c.walk.kept before left r mid left_after) w.in-Cut.is c.in_ok-end.ensures.line) n_is))
+    ]

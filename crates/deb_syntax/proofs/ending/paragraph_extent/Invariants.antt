@@ -1,19 +1,18 @@
-use Rattle.deb_syntax.proofs.Common.{◌≡◌, ◌+◌, take, IsTrue, file_limit, cursor_state, piece_limit, had, Takes}
+use Rattle.deb_syntax.proofs.Common.{◌≡◌, ◌-◌, ◌++◌, ◌∷◌, ℕ, List, [], take, IsTrue, At, KeepsLines, SameCounts, cursor_state, had, paragraph_limit, Takes}
 use Rattle.deb_syntax.specs.LineEnds.{line_ends}
-use Rattle.deb_syntax.proofs.EndingWalks.{Walks}
-use Rattle.deb_syntax.proofs.Takings.{still}
 use Rattle.deb_syntax.proofs.ending.paragraph_extent.Given as goal
 
--- nothing has passed, lines can be taken from there on, the ends of those before are listed, no more was taken than one piece too much, and no read has failed
-abbrev pub invariant-pieces : goal.invariant-pieces
-invariant-pieces g l = record {
-  walks : Walks (cursor_state l.fn.cursor) (g.R.Source.left l.fn.reader) l.run (cursor_state l.cursor) (g.R.Source.left l.reader);
-  ends : l.ends.items ≡ line_ends (take l.run.bytes (cursor_state l.cursor).unread);
+-- nothing has passed, these lines are kept, the ends of those before the last are listed, and no read has failed
+abbrev pub invariant-walk : goal.invariant-walk
+invariant-walk g l = record {
+  keeps : KeepsLines l.last l.kept (cursor_state l.cursor);
+  ends : l.ends.items ++ l.last ∷ [] ≡ line_ends (take l.kept (cursor_state l.cursor).unread);
+  same : SameCounts (cursor_state l.fn.cursor) (cursor_state l.cursor);
+  stays : (text : List ℕ) → At text [] (cursor_state l.fn.cursor) (g.R.Source.left l.fn.reader) → At text [] (cursor_state l.cursor) (g.R.Source.left l.reader);
   takes : Takes (had (cursor_state l.fn.cursor)) (g.R.Source.left l.fn.reader) (had (cursor_state l.cursor)) (g.R.Source.left l.reader);
-  taken : Takes (had (cursor_state l.fn.cursor)) (g.R.Source.left l.fn.reader) (file_limit + piece_limit) (g.R.Source.left l.reader);
   counted : g.R.Source.failures l.reader ≡ g.R.Source.failures l.fn.reader;
-  quiet : IsTrue l.fn.cursor.ended → IsTrue l.cursor.ended × (l.reader ≡ l.fn.reader);
+  quiet : IsTrue (cursor_state l.fn.cursor).ended → IsTrue (cursor_state l.cursor).ended × (l.reader ≡ l.fn.reader);
 }
 
-abbrev pub decreases-pieces : goal.decreases-pieces
-decreases-pieces g l = still (cursor_state l.cursor)
+abbrev pub decreases-walk : goal.decreases-walk
+decreases-walk g l = paragraph_limit - l.kept

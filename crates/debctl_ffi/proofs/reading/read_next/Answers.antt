@@ -1,6 +1,7 @@
 use Rattle.std.proofs.Common.{◌≡◌, ◌∙◌, ◌+◌, Some}
 use Rattle.std.proofs.lemmas.Result.{err_from_is_err_and}
 use Rattle.deb_control.specs.CheckedStates.{passing_judged}
+use Rattle.deb_control.specs.Checking.{all_pass}
 use Rattle.deb_control.proofs.CheckedSoFar.{answers_on, goes_on, sound_on}
 use Rattle.debctl_ffi.proofs.Readings.{reads-all, reads-end, reads-one, refuses, count_more}
 use Rattle.debctl_ffi.proofs.reading.read_next.Goals as goal
@@ -31,7 +32,7 @@ returns-clause-reads g c = λ text given fresh reading.
     record {
       next = λ e. (
         given_now,
-        rw number (reads-one _ text given fresh _ _ _ _ _ _ reading _ _ (sound_on _ _ _ _ reading.sound passes) (checks.answers text reading.read.checked.before reading.read.checked.fits)
+        rw number (reads-one _ text given fresh _ _ _ _ _ _ reading _ _ (sound_on _ _ _ _ reading.sound passes) (checks.answers text (all_pass reading.read.checked.before) reading.read.checked.fits)
             (λ shown has. rw (← same, ← number) (c.in_ok-push.ensures shown has))),
       );
       none = λ e. absurd (cc);

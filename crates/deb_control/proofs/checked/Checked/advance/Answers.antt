@@ -28,7 +28,7 @@ returns-in-Err-clause-passes g c =
     }
 
 pub returns-in-Err-clause-lines : goal.returns-in-Err-clause-lines
-returns-in-Err-clause-lines g c = rw c.in_default.is (λ text before fits. c.in-Err.ensures.lines _ _ text before fits)
+returns-in-Err-clause-lines g c = rw c.in_default.is (λ text answered fits. c.in-Err.ensures.lines _ _ text answered fits)
 
-pub returns-in-Err-clause-without : goal.returns-in-Err-clause-without
-returns-in-Err-clause-without g c = rw c.in_default.is (λ text before fits. c.in-Err.ensures.without _ _ _ _ text before fits)
+pub returns-in-Err-clause-refused : goal.returns-in-Err-clause-refused
+returns-in-Err-clause-refused g c = rw c.in_default.is (λ text answered fits. c.in-Err.ensures.refused _ _ _ _ text answered fits)

@@ -2,7 +2,7 @@ use Rattle.std.proofs.Common.{◌||◌, option_copied, refl, sym, ap, ◌∙◌}
 use Rattle.std.specs.List.{list_any}
 use Rattle.deb_relation.specs.Environments.{environment_of}
 use Rattle.deb_relation.specs.Views.{alternative_of}
-use Rattle.deb_index.specs.Indexes.{packages_of}
+use Rattle.deb_index.specs.Indexes.{number_in, packages_of}
 use Rattle.deb_index.specs.Meeting.{meets}
 use Rattle.deb_index.specs.Named.{has_name, numbers_of, passes_at, provides}
 use Rattle.deb_index.proofs.Offered.{some-offered}
@@ -11,7 +11,7 @@ use Rattle.deb_index.proofs.SomeMeets.{meets_found}
 use Rattle.deb_index.proofs.index.Index.meets.Goals as goal
 
 pub returns-in-Some : goal.returns-in-Some
-returns-in-Some c = c.some_is_of.ensures ∙ some-offered (environment_of c.args.environment.now) (alternative_of c.args.alternative.now) (packages_of c.args.self.now) c.in-Some.offers.now c.in-Some.ensures (option_copied c.qualifier.result) c.qualifier.ensures
+returns-in-Some c = c.some_is_of.ensures ∙ some-offered (environment_of c.args.environment.now) (alternative_of c.args.alternative.now) (packages_of c.args.self.now) (number_in c.args.self.now) c.in-Some.offers.now c.in-Some.ensures (option_copied c.qualifier.result) c.qualifier.ensures
 
 pub some_meets-requires : goal.some_meets-requires
 some_meets-requires c = rw c.packages.ensures (numbers-listed (has_name c.name-name.result.now) (packages_of c.args.self.now))

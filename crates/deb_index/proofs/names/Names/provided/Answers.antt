@@ -13,7 +13,7 @@ loop-index-preserved c =
       lists = c.in_ok-put_provided.ensures.lists;
       numbers = λ name.
           numbers_step (listed_by store.bytes.items store.entries.items) (provides name) c.deref-record-items.result.now store.records.items c.loop-index.index _ _ _ c.loop-index-test.true
-          c.deref-record-items.ensures.value (c.loop-index.invariant.numbers name) (rw (c.provides-text.ensures, c.entries.ensures) at c.in_ok-put_provided.ensures.put name);
+          c.deref-record-items.ensures.value (c.loop-index.invariant.numbers name) (rw (c.deref.ensures.value, c.entries-entries.ensures) at c.in_ok-put_provided.ensures.put name);
     }
 
 pub returns : goal.returns

@@ -1,5 +1,6 @@
 use Rattle.deb_syntax.proofs.Common.{◌+◌, Ok, Err, option_map, Refused, ParagraphTooLong, buffer_of, refl, sym, ap, ◌∙◌, read_failures_after, cursor_state, state_of}
-use Rattle.deb_syntax.proofs.Advancing.{answers_behind, takes_text, dropped_answer, is_line_refusal, some_no_end, if_seen}
+use Rattle.deb_syntax.proofs.Advancing.{answers_behind, takes_text, is_line_refusal, some_no_end, if_seen}
+use Rattle.deb_syntax.proofs.Finding.{dropped_answer}
 use Rattle.deb_syntax.proofs.Faults.{readers_fault}
 use Rattle.deb_syntax.proofs.CursorLemmas.{cursor_small}
 use Rattle.deb_syntax.proofs.JudgedLines.{is_length_refusal, length_is_text, shows_behind, shows_end, shows_none}
@@ -39,7 +40,7 @@ pub returns-in-Ok-clause-advances : goal.returns-in-Ok-clause-advances
 returns-in-Ok-clause-advances g c = record {
   answers = λ text passed fits.
       let b = rw c.in-Ok-Buffered.field-0-is at (c.in-Ok-Buffered.ensures.first text passed fits) in
-      answers_behind text passed b.passed_now (Ok (state_of c.find_end.new.self).current) (state_of c.find_end.new.self) (g.R.Source.left c.find_end.new.reader) b.passes (c.in-Ok.ensures.answers text b.passed_now b.again);
+      answers_behind text passed b.passed_now (Ok (state_of c.find_end.new.self).current) (state_of c.find_end.new.self) (g.R.Source.left c.find_end.new.reader) b.passes (c.in-Ok.ensures.tells text b.passed_now b.again).answers;
   taken = λ text passed fits. let b = rw c.in-Ok-Buffered.field-0-is at (c.in-Ok-Buffered.ensures.first text passed fits) in takes_text text b.passed_now _ _ _ b.again c.in-Ok.ensures.reads_at_most;
   counted = c.in-Ok.ensures.fault_iff_device_failed ∙ c.in-Ok-Buffered.ensures.fault_iff_device_failed;
   fault = tt;
@@ -53,7 +54,7 @@ pub returns-in-Err-find_end-clause-advances : goal.returns-in-Err-find_end-claus
 returns-in-Err-find_end-clause-advances g c = record {
   answers = λ text passed fits.
       let b = rw c.in-Ok-Buffered.field-0-is at (c.in-Ok-Buffered.ensures.first text passed fits) in
-      answers_behind text passed b.passed_now (Err c.in-Err-find_end.fault) (state_of c.find_end.new.self) (g.R.Source.left c.find_end.new.reader) b.passes (c.in-Err-find_end.ensures.answers text b.passed_now b.again);
+      answers_behind text passed b.passed_now (Err c.in-Err-find_end.fault) (state_of c.find_end.new.self) (g.R.Source.left c.find_end.new.reader) b.passes (c.in-Err-find_end.ensures.tells text b.passed_now b.again).answers;
   taken = λ text passed fits. let b = rw c.in-Ok-Buffered.field-0-is at (c.in-Ok-Buffered.ensures.first text passed fits) in takes_text text b.passed_now _ _ _ b.again c.in-Err-find_end.ensures.reads_at_most;
   counted = c.in-Err-find_end.ensures.fault_iff_device_failed ∙ ap (λ n. read_failures_after {T = Unit {0}} n (Err c.in-Err-find_end.fault)) c.in-Ok-Buffered.ensures.fault_iff_device_failed;
   fault = c.in-Err-find_end.ensures.fault;
@@ -90,12 +91,12 @@ returns-in-Ok-TooLong-clause-judged g c = λ text passed fits.
 pub returns-in-Ok-clause-judged : goal.returns-in-Ok-clause-judged
 returns-in-Ok-clause-judged g c = λ text passed fits.
     let b = rw c.in-Ok-Buffered.field-0-is at (c.in-Ok-Buffered.ensures.first text passed fits) in
-    shows_behind text passed b.passed_now (Ok (state_of c.find_end.new.self).current) _ b.passes (c.in-Ok.ensures.judged text b.passed_now b.again)
+    shows_behind text passed b.passed_now (Ok (state_of c.find_end.new.self).current) _ b.passes (c.in-Ok.ensures.tells text b.passed_now b.again).judged
 
 pub returns-in-Err-find_end-clause-judged : goal.returns-in-Err-find_end-clause-judged
 returns-in-Err-find_end-clause-judged g c = λ text passed fits.
     let b = rw c.in-Ok-Buffered.field-0-is at (c.in-Ok-Buffered.ensures.first text passed fits) in
-    shows_behind text passed b.passed_now (Err c.in-Err-find_end.fault) _ b.passes (c.in-Err-find_end.ensures.judged text b.passed_now b.again)
+    shows_behind text passed b.passed_now (Err c.in-Err-find_end.fault) _ b.passes (c.in-Err-find_end.ensures.tells text b.passed_now b.again).judged
 
 pub returns-in-Err-clause-judged : goal.returns-in-Err-clause-judged
 returns-in-Err-clause-judged g c = λ text passed fits.
@@ -104,9 +105,9 @@ returns-in-Err-clause-judged g c = λ text passed fits.
 pub returns-in-Ok-clause-judged_passed : goal.returns-in-Ok-clause-judged_passed
 returns-in-Ok-clause-judged_passed g c = λ text passed fits.
     let b = rw c.in-Ok-Buffered.field-0-is at (c.in-Ok-Buffered.ensures.first text passed fits) in
-    judged_behind_blanks text passed b.passed_now _ _ _ b.passes (c.in-Ok.ensures.judged_passed text b.passed_now b.again)
+    judged_behind_blanks text passed b.passed_now _ _ _ b.passes (c.in-Ok.ensures.tells text b.passed_now b.again).judged_passed
 
 pub returns-in-Err-find_end-clause-judged_passed : goal.returns-in-Err-find_end-clause-judged_passed
 returns-in-Err-find_end-clause-judged_passed g c = λ text passed fits.
     let b = rw c.in-Ok-Buffered.field-0-is at (c.in-Ok-Buffered.ensures.first text passed fits) in
-    judged_behind_blanks text passed b.passed_now _ _ _ b.passes (c.in-Err-find_end.ensures.judged_passed text b.passed_now b.again)
+    judged_behind_blanks text passed b.passed_now _ _ _ b.passes (c.in-Err-find_end.ensures.tells text b.passed_now b.again).judged_passed

@@ -1,0 +1,29 @@
+use Rattle.deb_syntax.proofs.Common.{◌∙◌, ◌++◌, sym, arith}
+use Rattle.deb_base.specs.Bodies.{paragraph_limit}
+use Rattle.deb_syntax.proofs.KeptLines.{no_elements}
+use Rattle.deb_syntax.proofs.line.ended_line.Goals as goal
+
+pub overflow_add-kept : goal.overflow_add-kept
+overflow_add-kept c = omega (arith, c.requires.len, c.with-line.ensures.len)
+
+pub returns-then-bytes-eq0 : goal.returns-then-bytes-eq0
+returns-then-bytes-eq0 c = λ bytes d.
+    let w = c.with-line.ensures.describes bytes d in
+    (no_elements (bytes ++ c.args.part.now) (omega (arith, w.len, c.if-bytes-eq0.true)), omega (arith, c.if-bytes-eq0.true))
+
+pub returns-then-is_blank : goal.returns-then-is_blank
+returns-then-is_blank c = λ bytes d.
+    let w = c.with-line.ensures.describes bytes d in
+    (sym (c.is_blank.ensures _ w) ∙ c.if-is_blank.true, omega (arith, c.if-bytes-eq0.false), omega (arith, w.len), omega arith)
+
+pub returns-then-kept-line : goal.returns-then-kept-line
+unfolding paragraph_limit
+returns-then-kept-line c = λ bytes d.
+    let w = c.with-line.ensures.describes bytes d in
+    (sym (c.is_blank.ensures _ w) ∙ c.if-is_blank.false, omega (arith, w.len, c.if-kept-line.true), omega arith, omega arith)
+
+pub returns-else-kept-line : goal.returns-else-kept-line
+unfolding paragraph_limit
+returns-else-kept-line c = λ bytes d.
+    let w = c.with-line.ensures.describes bytes d in
+    (sym (c.is_blank.ensures _ w) ∙ c.if-is_blank.false, omega (arith, w.len, c.if-kept-line.false), w.len, omega arith)
