@@ -126,19 +126,36 @@ fn versions_as_spelled(rt: HostRuntime) -> Result<(), Fail> {
     assert!(rt; hello.spelled_version() == b"1".as_slice());
     assert!(rt; world.version() == b"1.0".as_slice());
     assert!(rt; world.spelled_version() == b"1.0-0".as_slice());
-    let question = Question::parse(rt.alloc(), b"amd64", &[], ASKED)?;
-    let detailed = index.ask_why_with(rt.alloc(), &question, VersionText::Spelled)?;
-    let mut writer = Slow::new(rt.alloc(), 7, 1_000, Then::Fails);
-    let mut out = Output::new(&mut writer);
-    assert!(rt; detailed.write_with(VersionText::Spelled, &mut out) == Ok(()));
-    assert!(rt; writer.held.as_slice() == SPELLED);
-    let question = Question::parse(rt.alloc(), b"amd64", &[], b"world")?;
-    let report = index.ask(rt.alloc(), &question)?;
-    let mut writer = Slow::new(rt.alloc(), 7, 1_000, Then::Fails);
-    let mut out = Output::new(&mut writer);
-    assert!(rt; report.write_with(VersionText::Spelled, &mut out) == Ok(()));
-    assert!(rt; writer.held.as_slice() == b"met world\n 2 world 1.0-0 all\n".as_slice());
     Ok(())
+}
+
+#[test]
+fn reports_as_spelled(rt: HostRuntime) -> Result<(), Fail> {
+    let held = written_as_spelled(rt.alloc(), HELLO, b"world")?;
+    assert!(rt; held.as_slice() == b"met world\n 2 world 1.0-0 all\n".as_slice());
+    let held = reasons_as_spelled(rt.alloc(), HELLO, ASKED)?;
+    assert!(rt; held.as_slice() == SPELLED);
+    Ok(())
+}
+
+/// The text of a report on a file, with the versions as the file spells them.
+fn written_as_spelled(alloc: Global, file: &[u8], asked: &[u8]) -> Result<Vec<u8>, Fail> {
+    let index = Index::read(alloc, &mut Input::new(file))?;
+    let question = Question::parse(alloc, b"amd64", &[], asked)?;
+    let report = index.ask(alloc, &question)?;
+    let mut writer = Slow::new(alloc, 7, 1_000, Then::Fails);
+    report.write_with(VersionText::Spelled, &mut Output::new(&mut writer))?;
+    Ok(writer.held)
+}
+
+/// The same with the reasons.
+fn reasons_as_spelled(alloc: Global, file: &[u8], asked: &[u8]) -> Result<Vec<u8>, Fail> {
+    let index = Index::read(alloc, &mut Input::new(file))?;
+    let question = Question::parse(alloc, b"amd64", &[], asked)?;
+    let report = index.ask_why_with(alloc, &question, VersionText::Spelled)?;
+    let mut writer = Slow::new(alloc, 7, 1_000, Then::Fails);
+    report.write_with(VersionText::Spelled, &mut Output::new(&mut writer))?;
+    Ok(writer.held)
 }
 
 /// Two packages: the first with entries of Provides that provide nothing, one of them in the
@@ -176,20 +193,36 @@ const ITSELF: &[u8] =
 
 #[test]
 fn looked_up(rt: HostRuntime) -> Result<(), Fail> {
+    let index = Index::read(rt.alloc(), &mut Input::new(HELLO))?;
+    assert!(rt; index.packages(b"hello") == [1].as_slice());
+    assert!(rt; index.packages(b"world") == [2].as_slice());
+    assert!(rt; index.providers(b"vv") == [1, 2].as_slice());
+    assert!(rt; index.providers(b"hello").is_empty());
+    for name in [b"hell".as_slice(), b"helloo", b"v", b"vvv", b"VV", b""] {
+        assert!(rt; is_unknown(&index, name));
+    }
+    Ok(())
+}
+
+#[test]
+fn looked_up_in_one_package(rt: HostRuntime) -> Result<(), Fail> {
     let one = [1].as_slice();
     let index = Index::read(rt.alloc(), &mut Input::new(ITSELF))?;
     assert!(rt; index.packages(b"aa") == one && index.packages(b"vv").is_empty());
     assert!(rt; index.providers(b"aa") == one && index.providers(b"vv") == one);
-    let index = Index::read(rt.alloc(), &mut Input::new(HELLO))?;
-    assert!(rt; index.packages(b"hello") == one && index.packages(b"world") == [2].as_slice());
-    assert!(rt; index.providers(b"vv") == [1, 2].as_slice());
-    assert!(rt; index.providers(b"hello").is_empty());
-    for name in [b"hell".as_slice(), b"helloo", b"v", b"vvv", b"VV", b""] {
-        assert!(rt; index.packages(name).is_empty() && index.providers(name).is_empty());
-    }
-    let index = Index::read(rt.alloc(), &mut Input::new(b"".as_slice()))?;
-    assert!(rt; index.packages(b"aa").is_empty() && index.providers(b"aa").is_empty());
     Ok(())
+}
+
+#[test]
+fn looked_up_in_none(rt: HostRuntime) -> Result<(), Fail> {
+    let index = Index::read(rt.alloc(), &mut Input::new(b"".as_slice()))?;
+    assert!(rt; is_unknown(&index, b"aa"));
+    Ok(())
+}
+
+/// Whether no package has or provides this name.
+fn is_unknown(index: &Index, name: &[u8]) -> bool {
+    index.packages(name).is_empty() && index.providers(name).is_empty()
 }
 
 /// Only an entry of Provides that is a name alone, or with a version, is a provider.
