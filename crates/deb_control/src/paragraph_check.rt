@@ -208,7 +208,7 @@ pub(crate) fn value_of<'a>(
 }
 
 /// Returns the kind of a field's values.
-fn kind_of_field(doc: Doc, field: &RawField<'_>) -> Kind
+pub(crate) fn kind_of_field(doc: Doc, field: &RawField<'_>) -> Kind
     ensures { result ≡ kind_of doc (canonical_name field.now.name.now) }
 {
     field.id.kind(doc)
@@ -227,7 +227,7 @@ fn fault_at(fault: ValueFault, line: u64) -> Fault
 }
 
 /// Whether the paragraph has each field that a document of this kind requires.
-fn has_required(doc: Doc, paragraph: &Raw<'_>) -> bool
+pub(crate) fn has_required(doc: Doc, paragraph: &Raw<'_>) -> bool
     ensures { result ≡ have_names (fields_of paragraph.now) (required doc) }
 {
     has_fields(paragraph, required_fields(doc))
