@@ -1,3 +1,3 @@
-pub mod Explanations
+pub mod Refusing
 mod NamedFields
 pub mod Sources

@@ -6,5 +6,3 @@ pub mod Texts
 pub mod Explanations
 pub mod KindCases
 pub mod Shown
-pub mod AllExplanations
-pub mod Laws

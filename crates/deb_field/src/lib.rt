@@ -40,5 +40,4 @@ pub use relation::RelationField;
 pub use source::SourceName;
 pub use text::{Line, Text};
 pub use value::{Value, ValueFault};
-pub use version::parse_version;
 pub use words::Words;

@@ -34,7 +34,6 @@ mod list_order;
 mod lists;
 mod name;
 mod name_byte;
-mod name_run;
 mod operator;
 mod profile_list;
 mod relation;

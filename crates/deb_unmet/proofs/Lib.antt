@@ -1,7 +1,8 @@
 pub mod AskedFiles
 pub mod Readings
 pub mod Meanings
+pub mod Values
 pub mod Groups
 pub mod Decided
-pub mod ParagraphLines
+pub mod Headings
 pub mod SpelledVersions

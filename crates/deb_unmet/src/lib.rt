@@ -17,7 +17,6 @@ mod asked;
 mod asking;
 mod group;
 pub mod laws;
-mod lines;
 mod paragraph;
 mod trouble;
 

@@ -23,7 +23,6 @@
 
 mod canonical;
 mod canonical_version;
-mod component;
 mod components;
 mod cut;
 mod fault;

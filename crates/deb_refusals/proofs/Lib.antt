@@ -1,0 +1,13 @@
+pub mod Steps
+pub mod NoLines
+pub mod Singles
+pub mod Accepted
+pub mod Telling
+pub mod Counts
+pub mod Firsts
+pub mod Giving
+pub mod Writing
+pub mod Renumbered
+pub mod RemainingLines
+pub mod Remaining
+pub mod Ascending

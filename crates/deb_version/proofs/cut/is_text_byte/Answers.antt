@@ -1,0 +1,13 @@
+use Rattle.deb_version.proofs.Common.{◌≡◌, ℕ, ◌<◌, true, not, nat_eq, get_or, List, refl, arith}
+use Rattle.deb_version.specs.declared.cut.TheConstants.{TEXT_BYTES}
+use Rattle.deb_version.specs.Fronts.{is_text_byte}
+use Rattle.deb_version.proofs.ByteTables.{agree_at, agree_below}
+use Rattle.deb_version.proofs.cut.is_text_byte.Goals as goal
+
+from_table : (table : List ℕ) (b : ℕ) → b < 256 → agree_below (λ k. not (nat_eq (get_or table k 0) 45)) is_text_byte 256 ≡ true
+    → not (nat_eq (get_or table b 0) 45) ≡ is_text_byte b
+from_table table b lt h = agree_at _ _ 256 h b lt
+
+pub returns : goal.returns
+unfolding agree_below
+returns c = from_table TEXT_BYTES c.args.byte (omega arith) refl
